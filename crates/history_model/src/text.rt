@@ -1,0 +1,51 @@
+// A text that stands inside another value: contracts see its bytes.
+ghost use Rattle.std.specs.Prelude.{◌≡◌, ℕ, List, IfOk};
+ghost use Rattle.std.specs.String.{string_bytes};
+
+use std::alloc::{AllocError, Global};
+use std::marker::Model;
+
+/// A text of an event, a reply or a definition. To a contract it is its bytes of UTF-8.
+#[derive(Debug, Drop)]
+pub struct Text {
+    inner: String,
+}
+
+impl Model for Text {
+    ghost Value = { List ℕ };
+
+    ghost view = { λ t. string_bytes t.inner };
+}
+
+impl Text {
+    /// The text that the string holds.
+    pub fn new(inner: String) -> Text
+        ensures { result ≡ string_bytes inner }
+    {
+        Text { inner }
+    }
+
+    /// A copy of this text.
+    pub fn copy_of(alloc: Global, text: &str) -> Result<Text, AllocError>
+        ensures { IfOk result (λ copied. copied ≡ text.now) }
+    {
+        let mut inner = String::new(alloc);
+        inner.push_str(text)?;
+        Ok(Text { inner })
+    }
+
+    /// The text.
+    pub fn as_str(&self) -> &str
+        ensures { result.now ≡ self.now }
+    {
+        self.inner.as_str()
+    }
+
+    /// The string that holds the text.
+    pub fn into_string(self) -> String
+        ensures { string_bytes result ≡ self }
+    {
+        let Text { inner } = self;
+        inner
+    }
+}
