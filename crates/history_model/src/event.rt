@@ -2,6 +2,13 @@
 use crate::text::Text;
 use crate::{Ended, Obs, Reading};
 
+/// A label's setting, made by `enable` and `disable`: it decides over the definition's `Disabled`.
+#[derive(Debug, Drop)]
+pub struct Setting {
+    pub label: Text,
+    pub disabled: bool,
+}
+
 /// An event of the launcher, as a line of a journal tells it. `bind` and `store` are the outside's answers; they count
 /// only where a load has sockets, and where a setting is written.
 #[derive(Debug, Drop)]

@@ -8,7 +8,7 @@ mod event;
 pub mod laws;
 mod text;
 
-pub use event::Event;
+pub use event::{Event, Setting};
 pub use text::Text;
 
 /// A reading of the clocks: milliseconds that never fall, and seconds of Unix time.
