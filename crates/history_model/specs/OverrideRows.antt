@@ -1,8 +1,8 @@
 -- Worked examples of overrides (launchctl(1): enable, disable, load -w and -F, unload -w; launchd.plist(5): Disabled). Each is
 -- a theorem that computes.
-use Rattle.std.specs.Prelude.{◌≡◌, true, false, List, [], ◌∷◌, None, refl, codes}
+use Rattle.std.specs.Prelude.{◌≡◌, true, false, [], ◌∷◌, refl, codes}
 use Rattle.std.specs.Fmt.{digits}
-use Rattle.history_model.specs.declared.Act.TheVariants.{Spawn, Gone}
+use Rattle.history_model.specs.declared.Act.TheVariants.{Gone}
 use Rattle.history_model.specs.declared.Refusal.TheVariants.{BadRequest, AlreadyLoaded, Disabled, StoreRefused}
 use Rattle.history_model.specs.Items.{Definition}
 use Rattle.history_model.specs.Clock.{no_definition}

@@ -1,7 +1,7 @@
 -- Worked examples of one job: how it is stopped (launchctl(1): stop, kickstart; launchd.plist(5): ExitTimeOut). Each is a
 -- theorem that computes.
 use Rattle.std.specs.Prelude.{◌≡◌, true, false, [], ◌∷◌, Some, None, refl}
-use Rattle.history_model.specs.declared.Ended.TheVariants.{Code, Signal}
+use Rattle.history_model.specs.declared.Ended.TheVariants.{Signal}
 use Rattle.history_model.specs.declared.Act.TheVariants.{Spawn, Term, Kill}
 use Rattle.history_model.specs.declared.Ask.TheVariants.{Stop, Unload, Kickstart}
 use Rattle.history_model.specs.declared.Answer.TheVariants.{Termed, Killed}
