@@ -2,15 +2,16 @@
 use crate::text::Text;
 use crate::{Ended, Obs, Reading};
 
-/// A label's setting, made by `enable` and `disable`: it decides over the definition's `Disabled`.
+/// A label's setting, made by `enable` and `disable` and by `-w` of load and unload (launchctl(1)): it decides over the
+/// definition's `Disabled`, and needs no loaded job.
 #[derive(Debug, Drop)]
 pub struct Setting {
     pub label: Text,
     pub disabled: bool,
 }
 
-/// An event of the launcher, as a line of a journal tells it. `bind` and `store` are the outside's answers; they count
-/// only where a load has sockets, and where a setting is written.
+/// An event of the launcher, as a line of a journal tells it (launchctl(1) for what a control client asks). `bind` and `store`
+/// are the outside's answers; they count only where a load has sockets, and where a setting is written.
 #[derive(Debug, Drop)]
 pub enum Event {
     /// A definition's JSON text is handed in. `w` also enables the label; with `force` a disabled one is loaded too.
@@ -27,9 +28,11 @@ pub enum Event {
         w: bool,
         store: bool,
     },
+    /// A demand, unless the job runs.
     Start {
         job: Text,
     },
+    /// The job's run is to be ended: TERM, and KILL after ExitTimeOut.
     Stop {
         job: Text,
     },
@@ -38,19 +41,25 @@ pub enum Event {
         job: Text,
         k: bool,
     },
+    /// The label is to be loaded from now on, whatever its definition says.
     Enable {
         job: Text,
         store: bool,
     },
+    /// The label is not to be loaded from now on.
     Disable {
         job: Text,
         store: bool,
     },
+    /// A row for each loaded job is asked for.
     List,
+    /// What is known of one job is asked for.
     Print {
         job: Text,
     },
+    /// Every job is to be removed, and no further one loaded.
     Shutdown,
+    /// The clocks were read.
     Clock(Reading),
     /// A look at a path.
     Saw {
@@ -67,30 +76,36 @@ pub enum Event {
         job: Text,
         conn: u64,
     },
+    /// The child of the run was started, under this process id.
     Spawned {
         job: Text,
         run: u64,
         pid: u32,
     },
+    /// The child of the run could not be started.
     SpawnRefused {
         job: Text,
         run: u64,
     },
+    /// TERM was sent to the run's child, or could not be.
     Termed {
         job: Text,
         run: u64,
         ok: bool,
     },
+    /// KILL was sent to the run's child, or could not be.
     Killed {
         job: Text,
         run: u64,
         ok: bool,
     },
+    /// The run's child was waited for.
     Ended {
         job: Text,
         run: u64,
         how: Ended,
     },
+    /// The system refused to wait for the run's child, which keeps its process id.
     WaitRefused {
         job: Text,
         run: u64,

@@ -1,4 +1,5 @@
-// The data of a job's past: readings, orders, answers, ends and refusals. Its definitions are in specs/.
+// The words that every layer speaks: readings, orders, answers, ends, refusals and events. What they mean is said by the
+// definitions in specs/, which are read in the order of docs/DEFINITIONS.md; module `laws` states what follows from them.
 #![tactic(auto)]
 
 ghost use Rattle.std.specs.Prelude.{◌≡◌};
@@ -11,14 +12,17 @@ mod text;
 pub use event::{Event, Setting};
 pub use text::Text;
 
-/// A reading of the clocks: milliseconds that never fall, and seconds of Unix time.
+/// A reading of the clocks. `up` counts milliseconds and never falls (at most `MAX_UP`); `wall` counts seconds of Unix time
+/// and may be set back (at most `MAX_WALL`).
 #[derive(Clone, Copy, Debug, PartialEq, Eq)]
 pub struct Reading {
     pub up: u64,
     pub wall: u64,
 }
 
-/// An entry of a calendar. A part that is absent matches everything.
+/// An entry of StartCalendarInterval (launchd.plist(5)): minute 0 to 59, hour 0 to 23, day 1 to 31, weekday 0 to 7 (0 and 7
+/// are Sunday), month 1 to 12. A key that is absent matches everything; of a day and a weekday that both stand one suffices
+/// (crontab(5)).
 #[derive(Clone, Copy, Debug, PartialEq, Eq)]
 pub struct Entry {
     pub minute: Option<u8>,
@@ -28,7 +32,7 @@ pub struct Entry {
     pub month: Option<u8>,
 }
 
-/// A minute of civil time. Weekdays count from Sunday as 0.
+/// A minute of civil time, its seconds dropped. Months and days count from 1, weekdays from Sunday as 0.
 #[derive(Clone, Copy, Debug, PartialEq, Eq)]
 pub struct CivilMinute {
     pub year: i16,
@@ -39,20 +43,28 @@ pub struct CivilMinute {
     pub weekday: u8,
 }
 
-/// What is wrong with a definition.
+/// What is wrong with a definition. Texts write the variant's name.
 #[derive(Clone, Copy, Debug, PartialEq, Eq)]
 pub enum Reason {
+    /// The bytes are no JSON text (RFC 8259).
     NotJson,
+    /// The text is no object.
     NotObject,
+    /// A key that must stand does not.
     Missing,
+    /// The value is of another kind than the key's.
     WrongKind,
+    /// The value is past its bounds, or has not the form of the key's values.
     OutOfRange,
+    /// The text, or the list, is too long.
     TooLong,
+    /// The text is no label.
     BadLabel,
+    /// The key, or the value, is one that this launcher refuses, since to ignore it would change who or where the job is.
     Unsupported,
 }
 
-/// The keys of a definition that a fault names; `NoKey` is written `-`.
+/// The keys of a definition that a fault names (launchd.plist(5)). Texts write them as the manual page does, `NoKey` as `-`.
 #[derive(Clone, Copy, Debug, PartialEq, Eq)]
 pub enum KeyName {
     NoKey,
@@ -82,7 +94,9 @@ pub enum KeyName {
     RootDirectory,
 }
 
-/// What was seen at a path.
+/// What was seen at a path: whether it exists, whether it is a directory that is not empty, and its stamp, which differs where
+/// the path was changed (its time of modification in nanoseconds). Follows launchd.plist(5), WatchPaths, QueueDirectories and
+/// PathState.
 #[derive(Clone, Copy, Debug, PartialEq, Eq)]
 pub struct Obs {
     pub present: bool,
@@ -90,14 +104,15 @@ pub struct Obs {
     pub stamp: u64,
 }
 
-/// How a run ended. `Signal(0)` is a signal whose number is unknown.
+/// How a run ended: with an exit code, or by a signal. `Signal(0)` is a signal whose number is unknown.
 #[derive(Clone, Copy, Debug, PartialEq, Eq)]
 pub enum Ended {
     Code(u8),
     Signal(u8),
 }
 
-/// What a job orders.
+/// What a job orders: the spawn of its next run, with the connection that it carries if one waits; TERM or KILL for its child's
+/// run; the close of a connection that waits where the job leaves; and that it is gone.
 #[derive(Clone, Copy, Debug, PartialEq, Eq)]
 pub enum Act {
     Spawn { run: u64, conn: Option<u64> },
@@ -107,7 +122,7 @@ pub enum Act {
     Gone,
 }
 
-/// The number under which a table holds a loaded job.
+/// The number under which a table holds a loaded job. It stands for the job's label.
 pub type JobNo = u32;
 
 /// An order, and the number of the job that gives it.
@@ -117,18 +132,19 @@ pub struct Order {
     pub act: Act,
 }
 
-/// What a control client asks of a job.
+/// What a control client asks of a job (launchctl(1): start, stop, unload, kickstart; shutdown is this project's own).
 #[derive(Clone, Copy, Debug, PartialEq, Eq)]
 pub enum Ask {
     Start,
     Stop,
     Unload,
     Shutdown,
-    /// A start; with the flag also an end of the run, by KILL.
+    /// A start; with the flag (-k) also an end of the present run, by KILL at once.
     Kickstart(bool),
 }
 
-/// The answer to an order.
+/// The answer to an order: a spawn succeeded, with the process id of the child (at least 1), or was refused; TERM or KILL was
+/// sent (`ok`), or could not be.
 #[derive(Clone, Copy, Debug, PartialEq, Eq)]
 pub enum Answer {
     Spawned { run: u64, pid: u32 },
@@ -137,28 +153,46 @@ pub enum Answer {
     Killed { run: u64, ok: bool },
 }
 
-/// Why an event is refused.
+/// Why an event is refused. After each of them jobs, settings, readings and timers are as they were. The codes and their order
+/// are this project's own.
 #[derive(Clone, Copy, Debug, PartialEq, Eq)]
 pub enum Refusal {
+    /// A growth was refused.
     NoMemory,
+    /// The line is no event, a name is no label, or a process id is 0.
     BadRequest,
+    /// No job of this label is loaded.
     NoSuchJob,
+    /// A job of this label is loaded.
     AlreadyLoaded,
+    /// The label is disabled, and neither -w nor -F stands.
     Disabled,
+    /// The job is being removed.
     Removing,
+    /// There is neither a child nor an awaited spawn to stop.
     NotRunning,
+    /// The definition is refused: what is wrong, and with which key.
     BadDefinition(Reason, KeyName),
+    /// The setting could not be stored.
     StoreRefused,
+    /// 1,024 jobs are loaded.
     TooManyJobs,
+    /// A socket of the job could not be bound.
     SocketRefused,
+    /// 64 connections of the job wait.
     TooManyConnections,
+    /// The event comes out of turn: an answer that is not awaited, an end of a run that is not the child, a connection that does
+    /// not wait, or whose number was used.
     Stale,
+    /// `up` has fallen, or the reading is past its bounds.
     ClockRefused,
+    /// A shutdown was accepted.
     ShuttingDown,
 }
 
 impl Refusal {
-    /// The code by which outcomes, replies and exit statuses tell this refusal.
+    /// The code by which outcomes, replies and exit statuses tell this refusal, from 1 to 15; 0 tells that there is none.
+    /// Takes no memory.
     pub fn code(&self) -> u8
         ensures { result ≡ refusal_code self.now }
     {
@@ -182,16 +216,16 @@ impl Refusal {
     }
 }
 
-/// What an event is answered: a refusal, or none and a text. The text is empty at a refusal; the writers of lines put
-/// the refusal's own text there.
+/// What an event is answered: a refusal, or none and a text. The text is empty at a refusal; the writers of lines put the
+/// refusal's own text there.
 #[derive(Debug, Drop)]
 pub struct Reply {
     pub refusal: Option<Refusal>,
     pub text: Text,
 }
 
-/// The greatest `up` of a reading.
+/// The greatest `up` of a reading, in milliseconds.
 pub const MAX_UP: u64 = 9_000_000_000_000_000;
 
-/// The greatest `wall` of a reading.
+/// The greatest `wall` of a reading, in seconds of Unix time.
 pub const MAX_WALL: u64 = 250_000_000_000;

@@ -18,14 +18,14 @@ impl Model for Text {
 }
 
 impl Text {
-    /// The text that the string holds.
+    /// The text that the string holds. Takes no memory.
     pub fn new(inner: String) -> Text
         ensures { result ≡ string_bytes inner }
     {
-        Text { inner }
+        Self { inner }
     }
 
-    /// A copy of this text.
+    /// A copy of this text. `AllocError` where memory for it was refused; the given text is only read.
     pub fn copy_of(alloc: Global, text: &str) -> Result<Text, AllocError>
         ensures { IfOk result (λ copied. copied ≡ text.now) }
     {
@@ -34,14 +34,14 @@ impl Text {
         Ok(Text { inner })
     }
 
-    /// The text.
+    /// The text, lent. Takes no memory.
     pub fn as_str(&self) -> &str
         ensures { result.now ≡ self.now }
     {
         self.inner.as_str()
     }
 
-    /// The string that holds the text.
+    /// The string that holds the text, handed out. Takes no memory.
     pub fn into_string(self) -> String
         ensures { string_bytes result ≡ self }
     {
