@@ -17,22 +17,33 @@ unthrottled = record no_definition { run_at_load = true; throttle_interval = 0 }
 -- ---- TERM, then KILL
 
 -- KILL comes where the timeout has passed since TERM
-pub stopped : play (load unthrottled ∷ spawned 1 ∷ read 1000 ∷ Asked Stop ∷ Answered (Termed 1 true) ∷ read 20999 ∷ read 21000 ∷ Answered (Killed 1 true) ∷ ended 1 (Signal 9) ∷ [])
+pub stopped : play (
+    load unthrottled ∷ spawned 1 ∷ read 1000 ∷ Asked Stop ∷ Answered (Termed 1 true) ∷ read 20999 ∷ read 21000 ∷ Answered (Killed 1 true)
+    ∷ ended 1 (Signal 9) ∷ []
+    )
     ≡ gives (Spawn 1 None) ∷ none ∷ none ∷ gives (Term 1) ∷ none ∷ none ∷ gives (Kill 1) ∷ none ∷ none ∷ []
 stopped = refl
 
 -- a refused TERM is given again after a second, and KILL counts from the first
-pub refused_term : play (load unthrottled ∷ spawned 1 ∷ read 1000 ∷ Asked Stop ∷ Answered (Termed 1 false) ∷ read 1999 ∷ read 2000 ∷ Answered (Termed 1 true) ∷ read 20999 ∷ read 21000 ∷ [])
+pub refused_term : play (
+    load unthrottled ∷ spawned 1 ∷ read 1000 ∷ Asked Stop ∷ Answered (Termed 1 false) ∷ read 1999 ∷ read 2000 ∷ Answered (Termed 1 true) ∷ read 20999
+    ∷ read 21000 ∷ []
+    )
     ≡ gives (Spawn 1 None) ∷ none ∷ none ∷ gives (Term 1) ∷ none ∷ none ∷ gives (Term 1) ∷ none ∷ none ∷ gives (Kill 1) ∷ []
 refused_term = refl
 
 -- with a timeout of 0 no KILL comes
-pub no_timeout : play (load (record no_definition { run_at_load = true; exit_timeout = 0 }) ∷ spawned 1 ∷ Asked Stop ∷ Answered (Termed 1 true) ∷ read 1000000000 ∷ [])
+pub no_timeout : play (
+    load (record no_definition { run_at_load = true; exit_timeout = 0 }) ∷ spawned 1 ∷ Asked Stop ∷ Answered (Termed 1 true) ∷ read 1000000000 ∷ []
+    )
     ≡ gives (Spawn 1 None) ∷ none ∷ gives (Term 1) ∷ none ∷ none ∷ []
 no_timeout = refl
 
 -- an unknown signal is no crash where the run was told to end
-pub told_to_end : play (load (record no_definition { run_at_load = true; crashed = Some true }) ∷ spawned 1 ∷ Asked Stop ∷ Answered (Termed 1 true) ∷ ended 1 (Signal 0) ∷ read 10000 ∷ [])
+pub told_to_end : play (
+    load (record no_definition { run_at_load = true; crashed = Some true }) ∷ spawned 1 ∷ Asked Stop ∷ Answered (Termed 1 true) ∷ ended 1 (Signal 0)
+    ∷ read 10000 ∷ []
+    )
     ≡ gives (Spawn 1 None) ∷ none ∷ gives (Term 1) ∷ none ∷ none ∷ none ∷ []
 told_to_end = refl
 
@@ -44,12 +55,17 @@ late_answer = refl
 -- ---- kickstart
 
 -- a kickstart of a running job is nothing; with -k the child gets KILL at once, and the job starts anew
-pub struck : play (load unthrottled ∷ spawned 1 ∷ read 500 ∷ Asked (Kickstart false) ∷ Asked (Kickstart true) ∷ Answered (Killed 1 true) ∷ ended 1 (Signal 9) ∷ [])
+pub struck : play (
+    load unthrottled ∷ spawned 1 ∷ read 500 ∷ Asked (Kickstart false) ∷ Asked (Kickstart true) ∷ Answered (Killed 1 true) ∷ ended 1 (Signal 9) ∷ []
+    )
     ≡ gives (Spawn 1 None) ∷ none ∷ none ∷ none ∷ gives (Kill 1) ∷ none ∷ gives (Spawn 2 None) ∷ []
 struck = refl
 
 -- a refused KILL is given again after a second, no TERM comes between, and the throttle is obeyed
-pub refused_kill : play (load (record no_definition { run_at_load = true }) ∷ spawned 1 ∷ read 1000 ∷ Asked (Kickstart true) ∷ Answered (Killed 1 false) ∷ Asked Stop ∷ read 1999 ∷ read 2000 ∷ Answered (Killed 1 true) ∷ ended 1 (Signal 9) ∷ read 10000 ∷ [])
+pub refused_kill : play (
+    load (record no_definition { run_at_load = true }) ∷ spawned 1 ∷ read 1000 ∷ Asked (Kickstart true) ∷ Answered (Killed 1 false) ∷ Asked Stop
+    ∷ read 1999 ∷ read 2000 ∷ Answered (Killed 1 true) ∷ ended 1 (Signal 9) ∷ read 10000 ∷ []
+    )
     ≡ gives (Spawn 1 None) ∷ none ∷ none ∷ gives (Kill 1) ∷ none ∷ none ∷ none ∷ gives (Kill 1) ∷ none ∷ none ∷ gives (Spawn 2 None) ∷ []
 refused_kill = refl
 
@@ -59,7 +75,10 @@ pub struck_without_timeout : play (load (record no_definition { run_at_load = tr
 struck_without_timeout = refl
 
 -- a run that is struck while its spawn is awaited gets KILL once it is there, and its successor comes
-pub struck_while_awaited : play (load no_definition ∷ Asked (Kickstart false) ∷ Asked (Kickstart true) ∷ spawned 1 ∷ Answered (Killed 1 true) ∷ ended 1 (Signal 9) ∷ read 10000 ∷ [])
+pub struck_while_awaited : play (
+    load no_definition ∷ Asked (Kickstart false) ∷ Asked (Kickstart true) ∷ spawned 1 ∷ Answered (Killed 1 true) ∷ ended 1 (Signal 9) ∷ read 10000
+    ∷ []
+    )
     ≡ none ∷ gives (Spawn 1 None) ∷ none ∷ gives (Kill 1) ∷ none ∷ none ∷ gives (Spawn 2 None) ∷ []
 struck_while_awaited = refl
 
