@@ -1,0 +1,17 @@
+-- Bytes that are a JSON text, as RFC 8259 says and `serde_json` reads: UTF-8, nested at most 127 deep.
+use Rattle.std.specs.Prelude.{ℕ, List, Option, None, Result, if◌then◌else◌}
+use Rattle.std.specs.Str.{is_utf8}
+use Rattle.serde_json.specs.Data.{Data}
+use Rattle.serde_json.specs.Read.{read}
+use Rattle.history_model.specs.declared.Reason.TheVariants.{NotJson}
+use Rattle.history_model.specs.declared.KeyName.TheVariants.{NoKey}
+use Rattle.history_model.specs.Machine.{Fault}
+use Rattle.job_defs.specs.Faults.{bad, or_fault}
+
+-- the value that the bytes are, if they are one
+abbrev pub json_in : List ℕ → Option Data
+json_in bytes = if is_utf8 bytes then read bytes else None
+
+-- the value that the bytes are, or the fault of a definition
+abbrev pub json_at : List ℕ → Result Data Fault
+json_at bytes = or_fault (json_in bytes) (bad NotJson NoKey)

@@ -1,0 +1,250 @@
+//! A definition that was read, and what it says of each key.
+
+ghost use Rattle.std.specs.Prelude.{◌≡◌, ◌≤◌, IfSome, option_map};
+ghost use Rattle.job_defs.specs.Definitions.{has_sockets};
+
+use crate::parts::{Demand, Launch, Pace, PathState, Socket, Surroundings, Variable};
+use history_model::{Entry, Text};
+use std::marker::Model;
+
+/// A job's definition, read from JSON by [`read_def`](crate::read_def). The keys and their meaning are those of
+/// launchd.plist(5), but for what is said here.
+#[derive(Debug, Drop)]
+pub struct Def {
+    pub(crate) launch: Launch,
+    pub(crate) demand: Demand,
+    pub(crate) pace: Pace,
+    pub(crate) surroundings: Surroundings,
+    pub(crate) sockets: Vec<Socket>,
+    pub(crate) not_acted_on: Vec<Text>,
+}
+
+impl Model for Def {
+    ghost use Rattle.std.specs.Prelude.{◌≤◌, IfSome};
+    ghost use Rattle.job_defs.specs.Described.{Described};
+
+    ghost Value = { Described };
+
+    ghost view = { λ d. record {
+      label = d.launch.label;
+      program = d.launch.program;
+      arguments = d.launch.arguments.items;
+      run_at_load = d.launch.run_at_load;
+      launch_only_once = d.launch.launch_only_once;
+      disabled = d.launch.disabled;
+      keep_alive = d.demand.keep.always;
+      successful_exit = d.demand.keep.successful_exit;
+      crashed = d.demand.keep.crashed;
+      path_state = d.demand.keep.path_state.items;
+      watch_paths = d.demand.watch_paths.items;
+      queue_directories = d.demand.queue_directories.items;
+      start_interval = d.demand.start_interval;
+      calendar = d.demand.calendar.items;
+      throttle_interval = d.pace.throttle_interval;
+      exit_time_out = d.pace.exit_time_out;
+      environment = d.surroundings.environment.items;
+      working_directory = d.surroundings.working_directory;
+      standard_in_path = d.surroundings.standard_in_path;
+      standard_out_path = d.surroundings.standard_out_path;
+      standard_error_path = d.surroundings.standard_error_path;
+      sockets = d.sockets.items;
+      not_acted_on = d.not_acted_on.items;
+    } };
+
+    ghost invariant = { λ d. IfSome d.demand.start_interval (λ seconds. (1 ≤ seconds) × (seconds ≤ 31536000))
+        × (d.pace.throttle_interval ≤ 86400) × (d.pace.exit_time_out ≤ 86400) };
+}
+
+impl Def {
+    /// `Label`: the job's name, which no other loaded job has. 1 to 255 bytes; [`is_label`](crate::is_label) says which.
+    pub fn label(&self) -> &str
+        ensures { result.now ≡ self.now.label }
+    {
+        self.launch.label.as_str()
+    }
+
+    /// `Program`: the executable, also the child's argv[0]. Where the key is absent, the first of `ProgramArguments`.
+    pub fn program(&self) -> &str
+        ensures { result.now ≡ self.now.program }
+    {
+        self.launch.program.as_str()
+    }
+
+    /// `ProgramArguments` after its first element: the child's arguments after argv[0]. At most 255; none where the key
+    /// is absent.
+    pub fn arguments(&self) -> &[Text]
+        ensures { result.now ≡ self.now.arguments }
+    {
+        self.launch.arguments.as_slice()
+    }
+
+    /// `RunAtLoad`: the job is started once when it is loaded. Absent: no.
+    pub fn run_at_load(&self) -> bool
+        ensures { result ≡ self.now.run_at_load }
+    {
+        self.launch.run_at_load
+    }
+
+    /// `LaunchOnlyOnce`: one spawn that succeeds is the last of a load. Absent: no.
+    pub fn launch_only_once(&self) -> bool
+        ensures { result ≡ self.now.launch_only_once }
+    {
+        self.launch.launch_only_once
+    }
+
+    /// `Disabled`: a hint not to load the job, over which `enable` and `disable` of launchctl(1) decide. Absent: no.
+    pub fn disabled(&self) -> bool
+        ensures { result ≡ self.now.disabled }
+    {
+        self.launch.disabled
+    }
+
+    /// `KeepAlive` is `true`: the job is to run at all times. So does an `OnDemand` of `false` without `KeepAlive`.
+    /// Absent: no.
+    pub fn keep_alive(&self) -> bool
+        ensures { result ≡ self.now.keep_alive }
+    {
+        self.demand.keep.always
+    }
+
+    /// `KeepAlive.SuccessfulExit`: the job is wanted after an end with status 0 (`true`), or after any other end
+    /// (`false`). It implies `RunAtLoad`. Absent: it is no condition.
+    pub fn successful_exit(&self) -> Option<bool>
+        ensures { result ≡ self.now.successful_exit }
+    {
+        self.demand.keep.successful_exit
+    }
+
+    /// `KeepAlive.Crashed`: the job is wanted after an end by a signal of a crash (`true`), or after any other end
+    /// (`false`). Absent: it is no condition.
+    pub fn crashed(&self) -> Option<bool>
+        ensures { result ≡ self.now.crashed }
+    {
+        self.demand.keep.crashed
+    }
+
+    /// `KeepAlive.PathState`, in byte order of the paths: the job is wanted while one of them was last seen as it says.
+    /// Together with `WatchPaths` and `QueueDirectories` at most 64. Absent: none.
+    pub fn path_state(&self) -> &[PathState]
+        ensures { result.now ≡ self.now.path_state }
+    {
+        self.demand.keep.path_state.as_slice()
+    }
+
+    /// `WatchPaths`: the job is started once when one of them changes. Absent: none.
+    pub fn watch_paths(&self) -> &[Text]
+        ensures { result.now ≡ self.now.watch_paths }
+    {
+        self.demand.watch_paths.as_slice()
+    }
+
+    /// `QueueDirectories`: the job is wanted while one of them holds a file. Absent: none.
+    pub fn queue_directories(&self) -> &[Text]
+        ensures { result.now ≡ self.now.queue_directories }
+    {
+        self.demand.queue_directories.as_slice()
+    }
+
+    /// `StartInterval`, in seconds: the job is started each time that so many are over, counted from the load. 1 to
+    /// 31,536,000. Absent: never.
+    pub fn start_interval(&self) -> Option<u32>
+        ensures value { result ≡ self.now.start_interval }
+        ensures range { IfSome self.now.start_interval (λ seconds. (1 ≤ seconds) × (seconds ≤ 31536000)) }
+    {
+        self.demand.start_interval
+    }
+
+    /// `StartCalendarInterval`: the job is started in each civil minute that an entry matches, as crontab(5) says it.
+    /// At most 64. Absent: never.
+    pub fn calendar(&self) -> &[Entry]
+        ensures { result.now ≡ self.now.calendar }
+    {
+        self.demand.calendar.as_slice()
+    }
+
+    /// `ThrottleInterval`, in seconds: two spawns are at least so far apart. 0 to 86,400; 0 means no throttle. Absent:
+    /// 10.
+    pub fn throttle_interval(&self) -> u32
+        ensures value { result ≡ self.now.throttle_interval }
+        ensures range { self.now.throttle_interval ≤ 86400 }
+    {
+        self.pace.throttle_interval
+    }
+
+    /// `ExitTimeOut`, in seconds: how long after TERM a child that is being stopped gets KILL. 0 to 86,400; 0 means
+    /// never. Absent: 20.
+    pub fn exit_time_out(&self) -> u32
+        ensures value { result ≡ self.now.exit_time_out }
+        ensures range { self.now.exit_time_out ≤ 86400 }
+    {
+        self.pace.exit_time_out
+    }
+
+    /// `EnvironmentVariables`, in byte order of the names: what the child's environment has beside the launcher's. A
+    /// value that is no string is left out. At most 128. Absent: none.
+    pub fn environment(&self) -> &[Variable]
+        ensures { result.now ≡ self.now.environment }
+    {
+        self.surroundings.environment.as_slice()
+    }
+
+    /// `WorkingDirectory`: the child's. Absent: the launcher's.
+    pub fn working_directory(&self) -> Option<&str>
+        ensures { option_map (λ path. path.now) result ≡ self.now.working_directory }
+    {
+        text_in(&self.surroundings.working_directory)
+    }
+
+    /// `StandardInPath`: what the child reads. Absent: the null device.
+    pub fn standard_in_path(&self) -> Option<&str>
+        ensures { option_map (λ path. path.now) result ≡ self.now.standard_in_path }
+    {
+        text_in(&self.surroundings.standard_in_path)
+    }
+
+    /// `StandardOutPath`: where the child's output is appended. Absent: the null device.
+    pub fn standard_out_path(&self) -> Option<&str>
+        ensures { option_map (λ path. path.now) result ≡ self.now.standard_out_path }
+    {
+        text_in(&self.surroundings.standard_out_path)
+    }
+
+    /// `StandardErrorPath`: where the child's errors are appended. Absent: the null device.
+    pub fn standard_error_path(&self) -> Option<&str>
+        ensures { option_map (λ path. path.now) result ≡ self.now.standard_error_path }
+    {
+        text_in(&self.surroundings.standard_error_path)
+    }
+
+    /// `Sockets`: where connections are waited for, in byte order of the sockets' names. At most 8. Absent: none.
+    pub fn sockets(&self) -> &[Socket]
+        ensures { result.now ≡ self.now.sockets }
+    {
+        self.sockets.as_slice()
+    }
+
+    /// Whether there is a socket.
+    pub fn has_sockets(&self) -> bool
+        ensures { result ≡ has_sockets self.now }
+    {
+        !self.sockets.is_empty()
+    }
+
+    /// The keys of the definition that nothing acts on, in byte order and each once. A key of a dictionary has a dot
+    /// before it and the key that holds the dictionary, as in `KeepAlive.NetworkState`; of a socket the socket's name
+    /// stands between them.
+    pub fn not_acted_on(&self) -> &[Text]
+        ensures { result.now ≡ self.now.not_acted_on }
+    {
+        self.not_acted_on.as_slice()
+    }
+}
+
+fn text_in(text: &Option<Text>) -> Option<&str>
+    ensures { option_map (λ found. found.now) result ≡ text.now }
+{
+    match text {
+        Some(text) => Some(text.as_str()),
+        None => None,
+    }
+}

@@ -1,0 +1,32 @@
+//! Why bytes are no definition.
+
+ghost use Rattle.std.specs.Prelude.{◌≡◌};
+ghost use Rattle.job_defs.specs.declared.fault.DefFault.TheVariants.{NoMemory};
+
+use history_model::{KeyName, Reason};
+use std::alloc::{AllocError, AllocFailed};
+
+/// Why bytes were not read as a definition.
+#[derive(Clone, Copy, Debug, PartialEq, Eq)]
+pub enum DefFault {
+    /// The first fault of the definition, and the key that has it.
+    Bad { reason: Reason, key: KeyName },
+    /// Memory ran out. This tells nothing of the definition.
+    NoMemory,
+}
+
+impl From<AllocError> for DefFault {
+    ghost from_gives = { λ _ fault. fault ≡ NoMemory };
+
+    fn from(_error: AllocError) -> DefFault {
+        DefFault::NoMemory
+    }
+}
+
+impl<T: Drop> From<AllocFailed<T>> for DefFault {
+    ghost from_gives = { λ _ fault. fault ≡ NoMemory };
+
+    fn from(_failed: AllocFailed<T>) -> DefFault {
+        DefFault::NoMemory
+    }
+}

@@ -1,0 +1,76 @@
+//! The parts of a definition, each for some rows of the table of keys.
+
+use history_model::{Entry, Text};
+
+/// A condition of `KeepAlive.PathState`: the job is wanted while something is at the path (`present`), or while nothing
+/// is.
+#[derive(Debug, Drop)]
+pub struct PathState {
+    pub path: Text,
+    pub present: bool,
+}
+
+/// A variable of the child's environment.
+#[derive(Debug, Drop)]
+pub struct Variable {
+    pub name: Text,
+    pub value: Text,
+}
+
+/// A stream socket that waits for connections.
+#[derive(Debug, Drop)]
+pub struct Socket {
+    pub address: Address,
+}
+
+/// Where a socket waits.
+#[derive(Debug, Drop)]
+pub enum Address {
+    /// The path of a Unix socket.
+    Unix(Text),
+    /// An IPv4 address, first byte first, and a TCP port of at least 1.
+    Inet { host: [u8; 4], port: u16 },
+}
+
+#[derive(Debug, Drop)]
+pub(crate) struct Launch {
+    pub(crate) label: Text,
+    pub(crate) program: Text,
+    pub(crate) arguments: Vec<Text>,
+    pub(crate) run_at_load: bool,
+    pub(crate) launch_only_once: bool,
+    pub(crate) disabled: bool,
+}
+
+/// What `KeepAlive` and `OnDemand` say.
+#[derive(Debug, Drop)]
+pub(crate) struct Keep {
+    pub(crate) always: bool,
+    pub(crate) successful_exit: Option<bool>,
+    pub(crate) crashed: Option<bool>,
+    pub(crate) path_state: Vec<PathState>,
+}
+
+#[derive(Debug, Drop)]
+pub(crate) struct Demand {
+    pub(crate) keep: Keep,
+    pub(crate) watch_paths: Vec<Text>,
+    pub(crate) queue_directories: Vec<Text>,
+    pub(crate) start_interval: Option<u32>,
+    pub(crate) calendar: Vec<Entry>,
+}
+
+#[derive(Clone, Copy, Debug, PartialEq, Eq)]
+pub(crate) struct Pace {
+    pub(crate) throttle_interval: u32,
+    pub(crate) exit_time_out: u32,
+}
+
+#[derive(Debug, Drop)]
+pub(crate) struct Surroundings {
+    pub(crate) environment: Vec<Variable>,
+    pub(crate) working_directory: Option<Text>,
+    pub(crate) standard_in_path: Option<Text>,
+    pub(crate) standard_out_path: Option<Text>,
+    pub(crate) standard_error_path: Option<Text>,
+}
