@@ -1,1 +1,5 @@
+pub mod Counts
+pub mod Each
+pub mod Hosts
 pub mod IsText
+pub mod Gathered

@@ -1,8 +1,8 @@
 -- What a machine of jobs takes of a definition.
-use Rattle.std.specs.Prelude.{ℕ, ◌==◌, Bool, not, List, map, length}
+use Rattle.std.specs.Prelude.{ℕ, Bool, List, map}
 use Rattle.history_model.specs.Items.{Definition}
 use Rattle.history_model.specs.Machine.{Given}
-use Rattle.job_defs.specs.Described.{Described}
+use Rattle.job_defs.specs.Described.{Described, has_some}
 use Rattle.job_defs.specs.declared.parts.PathState.{PathState}
 
 abbrev pub path_wish : PathState → List ℕ × Bool
@@ -10,7 +10,7 @@ path_wish wish = (wish.path, wish.present)
 
 -- there is at least one socket
 abbrev pub has_sockets : Described → Bool
-has_sockets d = not (length d.sockets == 0)
+has_sockets d = has_some d.sockets
 
 -- what decides when the job runs
 abbrev pub definition : Described → Definition

@@ -2,3 +2,11 @@ pub mod Described
 pub mod Definitions
 pub mod Faults
 pub mod Json
+pub mod Names
+pub mod Kinds
+pub mod Conditions
+pub mod Calendars
+pub mod Sockets
+pub mod Ignored
+pub mod Table
+pub mod Seen

@@ -27,8 +27,8 @@ impl Model for Def {
 
     ghost view = { λ d. record {
       label = d.launch.label;
-      program = d.launch.program;
-      arguments = d.launch.arguments.items;
+      program = d.launch.command.program;
+      arguments = d.launch.command.arguments.items;
       run_at_load = d.launch.run_at_load;
       launch_only_once = d.launch.launch_only_once;
       disabled = d.launch.disabled;
@@ -67,7 +67,7 @@ impl Def {
     pub fn program(&self) -> &str
         ensures { result.now ≡ self.now.program }
     {
-        self.launch.program.as_str()
+        self.launch.command.program.as_str()
     }
 
     /// `ProgramArguments` after its first element: the child's arguments after argv[0]. At most 255; none where the key
@@ -75,7 +75,7 @@ impl Def {
     pub fn arguments(&self) -> &[Text]
         ensures { result.now ≡ self.now.arguments }
     {
-        self.launch.arguments.as_slice()
+        self.launch.command.arguments.as_slice()
     }
 
     /// `RunAtLoad`: the job is started once when it is loaded. Absent: no.

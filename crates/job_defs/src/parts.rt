@@ -32,11 +32,17 @@ pub enum Address {
     Inet { host: [u8; 4], port: u16 },
 }
 
+/// What is run: the executable, and the arguments after argv[0].
+#[derive(Debug, Drop)]
+pub(crate) struct Command {
+    pub(crate) program: Text,
+    pub(crate) arguments: Vec<Text>,
+}
+
 #[derive(Debug, Drop)]
 pub(crate) struct Launch {
     pub(crate) label: Text,
-    pub(crate) program: Text,
-    pub(crate) arguments: Vec<Text>,
+    pub(crate) command: Command,
     pub(crate) run_at_load: bool,
     pub(crate) launch_only_once: bool,
     pub(crate) disabled: bool,

@@ -1,0 +1,10 @@
+use Rattle.std.proofs.Common.{◌≡◌, drop, vec_len}
+use Rattle.serde_json.specs.View.{items_view}
+use Rattle.job_defs.specs.Kinds.{each_item, path_at}
+use Rattle.job_defs.proofs.Each.{with_front}
+use Rattle.job_defs.proofs.demand.each_path.Given as goal
+
+abbrev pub invariant-loop-item : goal.invariant-loop-item
+invariant-loop-item l =
+    (vec_len l.paths ≡ l.item-index)
+    × (with_front l.paths.items (each_item (path_at l.key) (items_view (drop l.item-index l.items))) ≡ each_item (path_at l.key) (items_view l.items))

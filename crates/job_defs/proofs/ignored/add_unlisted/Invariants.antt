@@ -1,0 +1,9 @@
+use Rattle.std.proofs.Common.{◌≡◌}
+use Rattle.serde_json.specs.View.{members_view}
+use Rattle.job_defs.specs.Ignored.{with_names, unlisted}
+use Rattle.job_defs.specs.Seen.{names_of}
+use Rattle.job_defs.proofs.ignored.add_unlisted.Given as goal
+
+abbrev pub invariant-loop-name : goal.invariant-loop-name
+invariant-loop-name l =
+    with_names (names_of l.names) (unlisted (members_view l.name-iterator)) ≡ with_names (names_of l.fn.names) (unlisted (members_view l.members.entries))

@@ -1,0 +1,9 @@
+use Rattle.std.proofs.Common.{◌≡◌}
+use Rattle.serde_json.specs.View.{members_view}
+use Rattle.job_defs.specs.Kinds.{each_member}
+use Rattle.job_defs.specs.Table.{variable_in}
+use Rattle.job_defs.proofs.Each.{with_front}
+use Rattle.job_defs.proofs.surroundings.each_variable.Given as goal
+
+abbrev pub invariant-loop-name : goal.invariant-loop-name
+invariant-loop-name l = with_front l.variables.items (each_member variable_in (members_view l.name-iterator)) ≡ each_member variable_in (members_view l.members.entries)

@@ -1,0 +1,53 @@
+-- `KeepAlive` of launchd.plist(5): a boolean, or a dictionary of conditions. The conditions are gone through in byte
+-- order. One that is not here never holds and is no fault.
+use Rattle.std.specs.Prelude.{ℕ, List, [], ◌∷◌, Bool, false, not, nat_lt, Result, Ok, Err, Option, Some, None, if◌then◌else◌}
+use Rattle.serde_json.specs.Data.{Data}
+use Rattle.serde_json.specs.Events.{members_len}
+use Rattle.serde_json.specs.Find.{get, as_bool}
+use Rattle.history_model.specs.declared.Reason.TheVariants.{TooLong}
+use Rattle.history_model.specs.declared.KeyName.TheVariants.{KeepAlive}
+use Rattle.history_model.specs.Machine.{Fault}
+use Rattle.history_model.specs.Texts.{key_text}
+use Rattle.job_defs.specs.declared.parts.PathState.{PathState}
+use Rattle.job_defs.specs.Faults.{bad, ◌>>=◌}
+use Rattle.job_defs.specs.Names.{Key, crashed, path_state, successful_exit}
+use Rattle.job_defs.specs.Kinds.{bool_at, object_at, filled, each_member, where_given, optional}
+
+pub record Keep : Type 0 where
+  pub always : Bool
+  pub successful_exit : Option Bool
+  pub crashed : Option Bool
+  pub path_state : List PathState
+
+abbrev pub unconditional : Bool → Keep
+unconditional always = record { always = always; successful_exit = None; crashed = None; path_state = [] }
+
+-- a path, and whether something is to be there
+unfoldable pub path_state_in : Key → Data → Result (List PathState) Fault
+path_state_in name d = do
+  path ← filled 1024 KeepAlive name
+  present ← bool_at KeepAlive d
+  Ok (record { path = path; present = present } ∷ [])
+
+unfoldable pub path_state_at : Data → Result (List PathState) Fault
+path_state_at d = do
+  paths ← object_at KeepAlive d
+  if nat_lt 64 (members_len paths) then Err (bad TooLong KeepAlive) else each_member path_state_in paths
+
+unfoldable pub conditions_at : Data → Result Keep Fault
+conditions_at d = do
+  conditions ← object_at KeepAlive d
+  after_crash ← optional (bool_at KeepAlive) (get crashed d)
+  paths ← where_given path_state_at [] (get path_state d)
+  after_success ← optional (bool_at KeepAlive) (get successful_exit d)
+  Ok (record { always = false; successful_exit = after_success; crashed = after_crash; path_state = paths })
+
+unfoldable pub keep_at : Data → Result Keep Fault
+keep_at d = keep_by (as_bool d) d where
+  keep_by : Option Bool → Data → Result Keep Fault
+  keep_by (Some always) d = Ok (unconditional always)
+  keep_by None d = conditions_at d
+
+-- without `KeepAlive`, an `OnDemand` of false keeps the job alive
+unfoldable pub keep_row : Bool → Data → Result Keep Fault
+keep_row on_demand d = where_given keep_at (unconditional (not on_demand)) (get (key_text KeepAlive) d)

@@ -1,0 +1,85 @@
+//! `StartCalendarInterval`: an entry, or an array of entries.
+
+ghost use Rattle.std.specs.Prelude.{◌≡◌};
+ghost use Rattle.serde_json.specs.View.{view, items_view};
+ghost use Rattle.job_defs.specs.Faults.{Gives};
+ghost use Rattle.job_defs.specs.Kinds.{each_item};
+ghost use Rattle.job_defs.specs.Calendars.{part, entry_at, calendar_at, calendar_row};
+
+use crate::fault::DefFault;
+use crate::kinds::{integer_of, members_or_one_of, object_of};
+use crate::names::{DAY, HOUR, MINUTE, MONTH, WEEKDAY, key_name};
+use history_model::{Entry, KeyName, Reason};
+use serde_json::Value;
+use std::alloc::Global;
+
+#[tactic(auto, unfolding(crate::specs::Calendars::calendar_row))]
+pub(crate) fn calendar_row_of(alloc: Global, def: &Value) -> Result<Vec<Entry>, DefFault>
+    ensures { Gives (λ calendar. calendar.items) result (calendar_row (view def.now)) }
+{
+    match def.get(key_name(KeyName::StartCalendarInterval)) {
+        Some(found) => calendar_of(alloc, found),
+        None => Ok(Vec::new(alloc)),
+    }
+}
+
+#[tactic(auto, using(crate::proofs::Counts::items_count), unfolding(crate::specs::Calendars::calendar_at))]
+fn calendar_of(alloc: Global, found: &Value) -> Result<Vec<Entry>, DefFault>
+    ensures { Gives (λ calendar. calendar.items) result (calendar_at (view found.now)) }
+{
+    let entries = members_or_one_of(found);
+    if entries.len() > 64 {
+        return Err(DefFault::Bad {
+            reason: Reason::TooLong,
+            key: KeyName::StartCalendarInterval,
+        });
+    }
+    each_entry(alloc, entries)
+}
+
+fn each_entry(alloc: Global, items: &[Value]) -> Result<Vec<Entry>, DefFault>
+    ensures { Gives (λ calendar. calendar.items) result (each_item entry_at (items_view items.now)) }
+{
+    let mut calendar = Vec::new(alloc);
+    for item in items {
+        calendar.push(entry_of(item)?)?;
+    }
+    Ok(calendar)
+}
+
+#[tactic(auto, unfolding(crate::specs::Calendars::entry_at))]
+fn entry_of(found: &Value) -> Result<Entry, DefFault>
+    ensures { Gives (λ entry. entry) result (entry_at (view found.now)) }
+{
+    object_of(found, KeyName::StartCalendarInterval)?;
+    let day = part_of(found, DAY, 1, 31)?;
+    let hour = part_of(found, HOUR, 0, 23)?;
+    let minute = part_of(found, MINUTE, 0, 59)?;
+    let month = part_of(found, MONTH, 1, 12)?;
+    let weekday = part_of(found, WEEKDAY, 0, 7)?;
+    Ok(Entry {
+        minute,
+        hour,
+        day,
+        weekday,
+        month,
+    })
+}
+
+#[tactic(auto, unfolding(crate::specs::Calendars::part))]
+fn part_of(entry: &Value, name: &str, low: u8, high: u8) -> Result<Option<u8>, DefFault>
+    ensures { Gives (λ n. n) result (part low high name.now (view entry.now)) }
+{
+    match entry.get(name) {
+        Some(found) => {
+            let n = integer_of(
+                found,
+                KeyName::StartCalendarInterval,
+                u32::from(low),
+                u32::from(high),
+            )?;
+            Ok(Some(n as u8))
+        }
+        None => Ok(None),
+    }
+}

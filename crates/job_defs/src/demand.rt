@@ -1,0 +1,104 @@
+//! When a job runs, and how fast: the rows from `OnDemand` to `ExitTimeOut`.
+
+ghost use Rattle.std.specs.Prelude.{◌≡◌, ◌≤◌, ◌+◌, length, vec_len, IfOk, IfSome};
+ghost use Rattle.serde_json.specs.View.{view, items_view};
+ghost use Rattle.job_defs.specs.Faults.{Gives};
+ghost use Rattle.job_defs.specs.Kinds.{each_item, path_at};
+ghost use Rattle.job_defs.specs.Table.{paths_at, paths_row, demand_at, pace_at};
+ghost use Rattle.job_defs.specs.Seen.{demand_of, pace_of};
+
+use crate::calendars::calendar_row_of;
+use crate::conditions::keep_row_of;
+use crate::fault::DefFault;
+use crate::kinds::{array_of, filled_of};
+use crate::names::key_name;
+use crate::parts::{Demand, Pace};
+use crate::rows::{PATH_LIMIT, bool_row_of, integer_row_of, optional_integer_of};
+use history_model::{KeyName, Reason, Text};
+use serde_json::Value;
+use std::alloc::Global;
+
+#[tactic(auto, unfolding(crate::specs::Table::demand_at))]
+pub(crate) fn demand_row(alloc: Global, def: &Value) -> Result<Demand, DefFault>
+    ensures value { Gives demand_of result (demand_at (view def.now)) }
+    ensures range { IfOk result (λ demand. IfSome demand.start_interval (λ seconds. (1 ≤ seconds) × (seconds ≤ 31536000))) }
+{
+    let on_demand = bool_row_of(def, KeyName::OnDemand, true)?;
+    let keep = keep_row_of(alloc, on_demand, def)?;
+    let before = keep.path_state.len();
+    let watch_paths = paths_row_of(alloc, before, def, KeyName::WatchPaths)?;
+    let before = before + watch_paths.len();
+    let queue_directories = paths_row_of(alloc, before, def, KeyName::QueueDirectories)?;
+    let start_interval = optional_integer_of(def, KeyName::StartInterval, 1, 31_536_000)?;
+    let calendar = calendar_row_of(alloc, def)?;
+    Ok(Demand {
+        keep,
+        watch_paths,
+        queue_directories,
+        start_interval,
+        calendar,
+    })
+}
+
+#[tactic(auto, unfolding(crate::specs::Table::pace_at))]
+pub(crate) fn pace_row(def: &Value) -> Result<Pace, DefFault>
+    ensures value { Gives pace_of result (pace_at (view def.now)) }
+    ensures range { IfOk result (λ pace. (pace.throttle_interval ≤ 86400) × (pace.exit_time_out ≤ 86400)) }
+{
+    let throttle_interval = integer_row_of(def, KeyName::ThrottleInterval, 0, 86_400, 10)?;
+    let exit_time_out = integer_row_of(def, KeyName::ExitTimeOut, 0, 86_400, 20)?;
+    Ok(Pace {
+        throttle_interval,
+        exit_time_out,
+    })
+}
+
+/// A list of paths, where the definition had so many before.
+#[tactic(auto, unfolding(crate::specs::Table::paths_row))]
+fn paths_row_of(
+    alloc: Global,
+    before: usize,
+    def: &Value,
+    key: KeyName,
+) -> Result<Vec<Text>, DefFault>
+    requires { before ≤ 64 }
+    ensures value { Gives (λ paths. paths.items) result (paths_row before key (view def.now)) }
+    ensures count { IfOk result (λ paths. before + vec_len paths ≤ 64) }
+{
+    match def.get(key_name(key)) {
+        Some(found) => paths_of(alloc, before, found, key),
+        None => Ok(Vec::new(alloc)),
+    }
+}
+
+#[tactic(auto, using(crate::proofs::Counts::items_count), unfolding(crate::specs::Table::paths_at))]
+fn paths_of(
+    alloc: Global,
+    before: usize,
+    found: &Value,
+    key: KeyName,
+) -> Result<Vec<Text>, DefFault>
+    requires { before ≤ 64 }
+    ensures value { Gives (λ paths. paths.items) result (paths_at before key (view found.now)) }
+    ensures count { IfOk result (λ paths. before + vec_len paths ≤ 64) }
+{
+    let items = array_of(found, key)?;
+    if items.len() > 64 - before {
+        return Err(DefFault::Bad {
+            reason: Reason::TooLong,
+            key,
+        });
+    }
+    each_path(alloc, items, key)
+}
+
+fn each_path(alloc: Global, items: &[Value], key: KeyName) -> Result<Vec<Text>, DefFault>
+    ensures value { Gives (λ paths. paths.items) result (each_item (path_at key) (items_view items.now)) }
+    ensures count { IfOk result (λ paths. vec_len paths ≡ length items.now) }
+{
+    let mut paths = Vec::new(alloc);
+    for item in items {
+        paths.push(Text::copy_of(alloc, filled_of(item, key, PATH_LIMIT)?)?)?;
+    }
+    Ok(paths)
+}

@@ -1,0 +1,131 @@
+//! What is run: the rows from `Label` to `Disabled`.
+
+ghost use Rattle.std.specs.Prelude.{◌≡◌, None, Some};
+ghost use Rattle.serde_json.specs.View.{view, items_view};
+ghost use Rattle.job_defs.specs.Faults.{Gives};
+ghost use Rattle.job_defs.specs.Kinds.{each_item};
+ghost use Rattle.job_defs.specs.Table.{label_row, word_at, command_in, command_at, command_row, launch_at};
+ghost use Rattle.job_defs.specs.Seen.{command_of, launch_of};
+
+use crate::fault::DefFault;
+use crate::kinds::{array_of, filled_of, plain_of, text_of};
+use crate::label::is_label;
+use crate::names::key_name;
+use crate::parts::{Command, Launch};
+use crate::rows::{bool_row_of, optional_text_of, required_of};
+use history_model::{KeyName, Reason, Text};
+use serde_json::Value;
+use std::alloc::Global;
+
+/// The longest executable or argument, in bytes.
+const WORD_LIMIT: usize = 4096;
+
+#[tactic(auto, unfolding(crate::specs::Table::launch_at))]
+pub(crate) fn launch_row(alloc: Global, def: &Value) -> Result<Launch, DefFault>
+    ensures { Gives launch_of result (launch_at (view def.now)) }
+{
+    let label = label_row_of(alloc, def)?;
+    let program = optional_text_of(alloc, def, KeyName::Program, WORD_LIMIT)?;
+    let command = command_row_of(alloc, program, def)?;
+    let run_at_load = bool_row_of(def, KeyName::RunAtLoad, false)?;
+    let launch_only_once = bool_row_of(def, KeyName::LaunchOnlyOnce, false)?;
+    let disabled = bool_row_of(def, KeyName::DisabledKey, false)?;
+    Ok(Launch {
+        label,
+        command,
+        run_at_load,
+        launch_only_once,
+        disabled,
+    })
+}
+
+#[tactic(auto, unfolding(crate::specs::Table::label_row))]
+fn label_row_of(alloc: Global, def: &Value) -> Result<Text, DefFault>
+    ensures { Gives (λ label. label) result (label_row (view def.now)) }
+{
+    let text = text_of(required_of(def, KeyName::Label)?, KeyName::Label)?;
+    if !is_label(text) {
+        return Err(DefFault::Bad {
+            reason: Reason::BadLabel,
+            key: KeyName::Label,
+        });
+    }
+    Ok(Text::copy_of(alloc, text)?)
+}
+
+#[tactic(auto, unfolding(crate::specs::Table::command_row))]
+fn command_row_of(alloc: Global, program: Option<Text>, def: &Value) -> Result<Command, DefFault>
+    ensures { Gives command_of result (command_row program (view def.now)) }
+{
+    match (def.get(key_name(KeyName::ProgramArguments)), program) {
+        (Some(found), program) => command_of(alloc, program, found),
+        (None, Some(program)) => Ok(Command {
+            program,
+            arguments: Vec::new(alloc),
+        }),
+        (None, None) => Err(DefFault::Bad {
+            reason: Reason::Missing,
+            key: KeyName::ProgramArguments,
+        }),
+    }
+}
+
+#[tactic(auto, using(crate::proofs::Counts::items_count), unfolding(crate::specs::Table::command_at))]
+fn command_of(alloc: Global, program: Option<Text>, found: &Value) -> Result<Command, DefFault>
+    ensures { Gives command_of result (command_at program (view found.now)) }
+{
+    let words = array_of(found, KeyName::ProgramArguments)?;
+    if words.len() > 256 {
+        return Err(DefFault::Bad {
+            reason: Reason::TooLong,
+            key: KeyName::ProgramArguments,
+        });
+    }
+    match program {
+        Some(program) => command_beside(alloc, program, words),
+        None => command_alone(alloc, words),
+    }
+}
+
+/// With `Program`, the first word is checked and not used.
+#[tactic(auto, unfolding(crate::specs::Table::command_in))]
+fn command_beside(alloc: Global, program: Text, words: &[Value]) -> Result<Command, DefFault>
+    ensures { Gives command_of result (command_in (Some program) (items_view words.now)) }
+{
+    let arguments = match words.split_first() {
+        Some((first, rest)) => {
+            plain_of(first, KeyName::ProgramArguments, WORD_LIMIT)?;
+            words_of(alloc, rest)?
+        }
+        None => Vec::new(alloc),
+    };
+    Ok(Command { program, arguments })
+}
+
+/// Without `Program`, the first word is the executable.
+#[tactic(auto, unfolding(crate::specs::Table::command_in))]
+fn command_alone(alloc: Global, words: &[Value]) -> Result<Command, DefFault>
+    ensures { Gives command_of result (command_in None (items_view words.now)) }
+{
+    let Some((first, rest)) = words.split_first() else {
+        return Err(DefFault::Bad {
+            reason: Reason::Missing,
+            key: KeyName::ProgramArguments,
+        });
+    };
+    let first = filled_of(first, KeyName::ProgramArguments, WORD_LIMIT)?;
+    let program = Text::copy_of(alloc, first)?;
+    let arguments = words_of(alloc, rest)?;
+    Ok(Command { program, arguments })
+}
+
+fn words_of(alloc: Global, items: &[Value]) -> Result<Vec<Text>, DefFault>
+    ensures { Gives (λ words. words.items) result (each_item word_at (items_view items.now)) }
+{
+    let mut words = Vec::new(alloc);
+    for item in items {
+        let word = plain_of(item, KeyName::ProgramArguments, WORD_LIMIT)?;
+        words.push(Text::copy_of(alloc, word)?)?;
+    }
+    Ok(words)
+}

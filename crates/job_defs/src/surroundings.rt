@@ -1,0 +1,109 @@
+//! What is around a child: the rows from `EnvironmentVariables` to `StandardErrorPath`.
+
+ghost use Rattle.std.specs.Prelude.{◌≡◌};
+ghost use Rattle.std.specs.List.{list_any};
+ghost use Rattle.std.specs.Option.{option_to_list};
+ghost use Rattle.serde_json.specs.View.{view, members_view};
+ghost use Rattle.serde_json.specs.Find.{as_str};
+ghost use Rattle.job_defs.specs.Faults.{Gives};
+ghost use Rattle.job_defs.specs.Kinds.{each_member};
+ghost use Rattle.job_defs.specs.Table.{is_equals, variable_in, variable_by, environment_at, environment_row, surroundings_at};
+ghost use Rattle.job_defs.specs.Seen.{surroundings_of};
+
+use crate::fault::DefFault;
+use crate::kinds::{filled_text, object_of, plain_text};
+use crate::names::key_name;
+use crate::parts::{Surroundings, Variable};
+use crate::rows::optional_path_of;
+use history_model::{KeyName, Reason, Text};
+use serde_json::{Map, Value};
+use std::alloc::Global;
+
+#[tactic(auto, unfolding(crate::specs::Table::surroundings_at))]
+pub(crate) fn surroundings_row(alloc: Global, def: &Value) -> Result<Surroundings, DefFault>
+    ensures { Gives surroundings_of result (surroundings_at (view def.now)) }
+{
+    let environment = environment_row_of(alloc, def)?;
+    let working_directory = optional_path_of(alloc, def, KeyName::WorkingDirectory)?;
+    let standard_in_path = optional_path_of(alloc, def, KeyName::StandardInPath)?;
+    let standard_out_path = optional_path_of(alloc, def, KeyName::StandardOutPath)?;
+    let standard_error_path = optional_path_of(alloc, def, KeyName::StandardErrorPath)?;
+    Ok(Surroundings {
+        environment,
+        working_directory,
+        standard_in_path,
+        standard_out_path,
+        standard_error_path,
+    })
+}
+
+#[tactic(auto, unfolding(crate::specs::Table::environment_row))]
+fn environment_row_of(alloc: Global, def: &Value) -> Result<Vec<Variable>, DefFault>
+    ensures { Gives (λ variables. variables.items) result (environment_row (view def.now)) }
+{
+    match def.get(key_name(KeyName::EnvironmentVariables)) {
+        Some(found) => environment_of(alloc, found),
+        None => Ok(Vec::new(alloc)),
+    }
+}
+
+#[tactic(auto, using(crate::proofs::Counts::members_count), unfolding(crate::specs::Table::environment_at))]
+fn environment_of(alloc: Global, found: &Value) -> Result<Vec<Variable>, DefFault>
+    ensures { Gives (λ variables. variables.items) result (environment_at (view found.now)) }
+{
+    let members = object_of(found, KeyName::EnvironmentVariables)?;
+    if members.len() > 128 {
+        return Err(DefFault::Bad {
+            reason: Reason::TooLong,
+            key: KeyName::EnvironmentVariables,
+        });
+    }
+    each_variable(alloc, members)
+}
+
+fn each_variable(alloc: Global, members: &Map<String, Value>) -> Result<Vec<Variable>, DefFault>
+    ensures { Gives (λ variables. variables.items) result (each_member variable_in (members_view members.now.entries)) }
+{
+    let mut variables = Vec::new(alloc);
+    for (name, value) in members.iter() {
+        if let Some(variable) = variable_of(alloc, name.as_str(), value)? {
+            variables.push(variable)?;
+        }
+    }
+    Ok(variables)
+}
+
+/// A variable; None where its value is no string.
+#[tactic(auto, unfolding(crate::specs::Table::variable_in))]
+fn variable_of(alloc: Global, name: &str, value: &Value) -> Result<Option<Variable>, DefFault>
+    ensures { Gives (λ variable. option_to_list variable) result (variable_in name.now (view value.now)) }
+{
+    let name = filled_text(name, KeyName::EnvironmentVariables, 255)?;
+    if has_equals(name) {
+        return Err(DefFault::Bad {
+            reason: Reason::OutOfRange,
+            key: KeyName::EnvironmentVariables,
+        });
+    }
+    valued(alloc, name, value)
+}
+
+#[tactic(auto, unfolding(crate::specs::Table::variable_by))]
+fn valued(alloc: Global, name: &str, value: &Value) -> Result<Option<Variable>, DefFault>
+    ensures { Gives (λ variable. option_to_list variable) result (variable_by name.now (as_str (view value.now))) }
+{
+    let Some(value) = value.as_str() else {
+        return Ok(None);
+    };
+    let value = plain_text(value, KeyName::EnvironmentVariables, 4096)?;
+    Ok(Some(Variable {
+        name: Text::copy_of(alloc, name)?,
+        value: Text::copy_of(alloc, value)?,
+    }))
+}
+
+fn has_equals(name: &str) -> bool
+    ensures { result ≡ list_any is_equals name.now }
+{
+    name.as_bytes().contains(&b'=')
+}
