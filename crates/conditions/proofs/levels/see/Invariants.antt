@@ -1,0 +1,7 @@
+use Rattle.std.proofs.Common.{◌≡◌}
+use Rattle.conditions.specs.States.{after_sight}
+use Rattle.history_model.proofs.Written.{written}
+use Rattle.conditions.proofs.levels.see.Given as goal
+
+abbrev pub invariant-loop-state : goal.invariant-loop-state
+invariant-loop-state l = l.state-items ≡ written (after_sight l.path l.obs) l.state-index l.fn.states.items

@@ -1,0 +1,15 @@
+-- The paths on whose presence a condition rests.
+use Rattle.std.specs.Prelude.{ℕ, Bool, cond, List, Option, Some}
+use Rattle.history_model.specs.declared.Obs.{Obs}
+use Rattle.history_model.specs.Demands.{is_same_path}
+use Rattle.conditions.specs.declared.levels.State.{State}
+
+abbrev pub wanted_of : State → List ℕ × Bool
+wanted_of s = (s.path, s.present)
+
+abbrev pub sight_of : State → Option Obs
+sight_of s = s.last
+
+-- after this was seen at this path
+abbrev pub after_sight : List ℕ → Obs → State → State
+after_sight path obs s = record s { last = cond (is_same_path s.path path) (Some obs) s.last }

@@ -1,0 +1,182 @@
+// KeepAlive: true, or its conditions.
+ghost use Rattle.std.specs.Prelude.{◌≡◌, ◌==◌, ℕ, List, [], ◌∷◌, map, ◌++◌, Some, None, Bool, IfOk, OnOk};
+ghost use Rattle.std.specs.List.{list_any};
+ghost use Rattle.history_model.specs.Items.{History, Loaded, Saw, RunEnded};
+ghost use Rattle.history_model.specs.Runs.{is_stopping_order};
+ghost use Rattle.history_model.specs.Levels.{is_crash_end, is_success, agrees, presence_holds};
+ghost use Rattle.history_model.specs.ByFacts.{any_seen, seen_after};
+ghost use Rattle.conditions.specs.Kept.{end_holds_of};
+ghost use Rattle.conditions.specs.States.{wanted_of, sight_of, after_sight};
+ghost use Rattle.job_defs.specs.Definitions.{definition, path_wish};
+
+use history_model::{Ended, Obs, Reading, Text};
+use job_defs::{Def, PathState};
+use std::alloc::{AllocError, Global};
+use std::marker::Model;
+
+/// A path on whose presence a condition rests, and what was last seen there.
+#[derive(Drop)]
+pub struct State {
+    path: Text,
+    present: bool,
+    last: Option<Obs>,
+}
+
+/// What KeepAlive says, and what its conditions look at.
+#[derive(Drop)]
+pub struct Conditions {
+    keep_alive: bool,
+    successful_exit: Option<bool>,
+    crashed: Option<bool>,
+    states: Vec<State>,
+    last_end: Option<(u64, Ended)>,
+    has_crashed: bool,
+}
+
+impl Model for Conditions {
+    ghost use Rattle.conditions.specs.Kept.{Kept};
+
+    ghost Value = { Kept };
+
+    ghost use Rattle.std.specs.Prelude.{map};
+    ghost use Rattle.conditions.specs.States.{wanted_of, sight_of};
+
+    ghost view = { λ c. record {
+      keep_alive = c.keep_alive;
+      successful_exit = c.successful_exit;
+      crashed = c.crashed;
+      path_state = map wanted_of c.states.items;
+      seen = map sight_of c.states.items;
+      ended = c.last_end;
+      has_crashed = c.has_crashed;
+    } };
+}
+
+impl Conditions {
+    ghost use Rattle.conditions.specs.Kept.{Kept, kept_of, conditions_hold, holds_by};
+    ghost use Rattle.conditions.specs.States.{wanted_of, sight_of, after_sight};
+
+    /// The conditions of a definition, before any end and any sight.
+    pub fn new(alloc: Global, def: &Def) -> Result<Conditions, AllocError>
+        ensures { IfOk result (λ c. (at : Reading) → c ≡ kept_of (Loaded (definition def.now) at ∷ [])) }
+    {
+        Ok(Conditions {
+            keep_alive: def.keep_alive(),
+            successful_exit: def.successful_exit(),
+            crashed: def.crashed(),
+            states: states_of(alloc, def.path_state())?,
+            last_end: None,
+            has_crashed: false,
+        })
+    }
+
+    /// Takes in what was seen at a path.
+    pub fn saw(&mut self, path: &str, obs: Obs)
+        ensures step { self.new ≡ record self.old { seen = seen_after (λ s. s.0) self.old.path_state path.now obs self.old.seen } }
+        ensures past { (past : History) → self.old ≡ kept_of past → self.new ≡ kept_of (Saw path.now obs ∷ past) }
+    {
+        see(&mut self.states, path, obs);
+    }
+
+    /// Takes in how a run ended, and whether TERM or KILL was ordered for it.
+    pub fn ended(&mut self, run: u64, how: Ended, is_told: bool)
+        ensures step { self.new ≡ record self.old { ended = Some (run, how); has_crashed = is_crash_end is_told how } }
+        ensures past { (past : History) → self.old ≡ kept_of past → is_told ≡ list_any (is_stopping_order run) past →
+            self.new ≡ kept_of (RunEnded run how ∷ past) }
+    {
+        self.last_end = Some((run, how));
+        self.has_crashed = match how {
+            Ended::Code(_) => false,
+            Ended::Signal(n) => matches!(n, 3..=8 | 11 | 31) || (n == 0 && !is_told),
+        };
+    }
+
+    /// Whether KeepAlive is true, or one of its conditions holds.
+    pub fn holds(&self) -> bool
+        ensures step { result ≡ holds_by self.now }
+        ensures past { (past : History) → self.now ≡ kept_of past → result ≡ conditions_hold past }
+    {
+        let of_end = end_holds(
+            self.successful_exit,
+            self.crashed,
+            self.last_end,
+            self.has_crashed,
+        );
+        let of_paths = self.path_holds();
+        self.keep_alive || of_end || of_paths
+    }
+
+    /// Whether a path was last seen as its condition wants it.
+    fn path_holds(&self) -> bool
+        ensures { result ≡ any_seen (λ state. presence_holds state.1) self.now.path_state self.now.seen }
+    {
+        any_holds(self.states.as_slice())
+    }
+
+    /// The last end, with its run.
+    pub fn last_end(&self) -> Option<(u64, Ended)>
+        ensures { result ≡ self.now.ended }
+    {
+        self.last_end
+    }
+}
+
+fn states_of(alloc: Global, listed: &[PathState]) -> Result<Vec<State>, AllocError>
+    ensures wanted { IfOk result (λ v. map wanted_of v.items ≡ map path_wish listed.now) }
+    ensures unseen { IfOk result (λ v. map sight_of v.items ≡ map (λ _. None) listed.now) }
+{
+    let mut states = Vec::new(alloc);
+    for state in listed {
+        states.push(State {
+            path: Text::copy_of(alloc, state.path.as_str())?,
+            present: state.present,
+            last: None,
+        })?;
+    }
+    Ok(states)
+}
+
+fn see(states: &mut Vec<State>, path: &str, obs: Obs)
+    ensures { states.new.items ≡ map (after_sight path.now obs) states.old.items }
+{
+    for state in states.iter_mut() {
+        if state.path.as_str() == path {
+            state.last = Some(obs);
+        }
+    }
+}
+
+/// Whether a condition on the last end holds.
+fn end_holds(
+    successful_exit: Option<bool>,
+    crashed: Option<bool>,
+    last_end: Option<(u64, Ended)>,
+    has_crashed: bool,
+) -> bool
+    ensures { result ≡ end_holds_of successful_exit crashed has_crashed last_end }
+{
+    match last_end {
+        None => false,
+        Some((_, how)) => {
+            agrees(successful_exit, matches!(how, Ended::Code(0))) || agrees(crashed, has_crashed)
+        }
+    }
+}
+
+/// Whether a value is given, and is this one.
+fn agrees(wanted: Option<bool>, value: bool) -> bool
+    ensures { result ≡ agrees wanted value }
+{
+    match wanted {
+        None => false,
+        Some(wanted) => wanted == value,
+    }
+}
+
+fn any_holds(states: &[State]) -> bool
+    ensures { result ≡ list_any (λ s. presence_holds s.present s.last) states.now }
+{
+    states
+        .iter()
+        .any(|s| s.last.is_some_and(|obs| obs.present == s.present))
+}

@@ -1,0 +1,13 @@
+-- The facts give the least moment to come of each past that they stand for.
+use Rattle.std.proofs.Common.{sym, ap, ◌∙◌}
+use Rattle.history_model.specs.Coming.{next_by}
+use Rattle.history_model.proofs.Coming.{next-by}
+use Rattle.job_core.specs.State.{CoreState}
+use Rattle.job_core.proofs.JobCore.next_moment.Goals as goal
+
+pub returns : goal.returns
+returns c = λ past keeps present.
+    c.next_moment.ensures
+    ∙ ap (λ (s : CoreState). next_by s.facts c.args.now.up) c.self.view_is
+    ∙ (λ i. next_by (keeps.same i) (present i).up)
+    ∙ sym (next-by past keeps.lawful)

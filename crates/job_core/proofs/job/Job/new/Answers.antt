@@ -1,0 +1,43 @@
+-- Each part begins as the definition says.
+use Rattle.std.proofs.Common.{◌≡◌, ◌∙◌, ap, sym, false, ◌||◌, None, is_some}
+use Rattle.job_core.specs.Sights.{unseen}
+use Rattle.job_core.specs.Fields.{facts}
+use Rattle.job_core.proofs.Looked.{or-false}
+use Rattle.pace.specs.Paces.{no_ends}
+use Rattle.job_core.proofs.job.Job.new.Goals as goal
+use Rattle.job_core.proofs.job.Job.new.Goals.{then-run_at_load, else-run_at_load}
+
+pub returns : goal.returns
+returns c =
+    let run = c.args.def.now.run_at_load in
+    let exit = is_some c.args.def.now.successful_exit in
+    let told = c.run_at_load.ensures in
+    let fires : c.if-run_at_load.fires ≡ ((run || exit) || false) =
+    (elim c.if-run_at_load.branch [
+      | then-run_at_load w ↦ w.fires-is ∙ w.if-run_at_load.true ∙ sym (ap (λ b. b || exit) (sym told ∙ w.if-run_at_load.true))
+      | else-run_at_load w ↦ w.fires-is ∙ w.is_some-fires.ensures ∙ ap is_some w.successful_exit.ensures ∙ sym (ap (λ b. b || exit) (sym told ∙ w.if-run_at_load.false))
+    ]) ∙ sym (or-false (run || exit)) in
+    λ i. facts (record {
+      run_at_load = c.run_at_load-2.ensures i;
+      launch_only_once = c.launch_only_once.ensures i;
+      has_sockets = c.has_sockets.ensures i;
+      disabled = c.disabled.ensures i;
+      calendar = (c.in_ok-calendar.ensures ∙ c.calendar.ensures) i;
+      conditions = c.in_ok-conditions.ensures c.args.at i;
+      watches = (c.in_ok-watches.ensures ∙ ap unseen c.watch_paths.ensures) i;
+      queues = (c.in_ok-queues.ensures ∙ ap unseen c.queue_directories.ensures) i;
+      waiting = c.in_ok-waiting.ensures i;
+      last_number = None;
+      interval = (c.new-interval.ensures ∙ ap (λ s. record { seconds = s; load_up = c.args.at.up }) c.start_interval.ensures.value) i;
+      throttle = (c.new-throttle.ensures ∙ ap (λ s. record { seconds = s; order = None; refusal = None }) c.throttle_interval.ensures.value) i;
+      ending = (c.new-ending.ensures ∙ ap no_ends c.exit_time_out.ensures.value) i;
+      is_told_to_end = false;
+      runs = 0;
+      child = None;
+      awaited = None;
+      has_demand = fires i;
+      has_new_demand = fires i;
+      spawned_before = false;
+      stops = false;
+      removes = false;
+    })

@@ -1,0 +1,7 @@
+use Rattle.std.proofs.Common.{◌≡◌}
+use Rattle.history_model.proofs.Written.{written}
+use Rattle.job_core.specs.Listed.{queue_after}
+use Rattle.job_core.proofs.paths.see.Given as goal
+
+abbrev pub invariant-loop-directory : goal.invariant-loop-directory
+invariant-loop-directory l = l.directory-items ≡ written (queue_after l.path l.obs) l.directory-index l.fn.listed.items

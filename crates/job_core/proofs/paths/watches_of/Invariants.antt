@@ -1,0 +1,9 @@
+use Rattle.std.proofs.Common.{◌≡◌, map, take, None}
+use Rattle.job_core.specs.Listed.{watched_path, watched_sight}
+use Rattle.job_core.proofs.paths.watches_of.Given as goal
+
+abbrev pub invariant-loop-path : goal.invariant-loop-path
+invariant-loop-path l = record {
+  paths : map watched_path l.listed.items ≡ take l.path-index l.paths;
+  unseen : map watched_sight l.listed.items ≡ map (λ _. None) (take l.path-index l.paths);
+}

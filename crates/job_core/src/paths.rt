@@ -1,0 +1,161 @@
+// The paths that a job lists, each with what is kept of it.
+ghost use Rattle.std.specs.Prelude.{◌≡◌, ℕ, List, [], ◌∷◌, map, ◌++◌, ◌&&◌, Option, Some, None, IfOk};
+ghost use Rattle.std.specs.List.{list_any};
+ghost use Rattle.history_model.specs.Demands.{is_same_path, differs};
+ghost use Rattle.history_model.specs.Levels.{queue_holds};
+ghost use Rattle.history_model.specs.ByFacts.{any_seen, seen_after};
+ghost use Rattle.job_core.specs.Listed.{watched_path, watched_sight, after_sight, queue_path, queue_sight, queue_after};
+
+use conditions::{Queue, Watch};
+use history_model::{Obs, Text};
+use std::alloc::{AllocError, Global};
+use std::marker::Model;
+
+#[derive(Drop)]
+pub struct Watched {
+    path: Text,
+    watch: Watch,
+}
+
+/// The watched paths: to a contract, the paths and what was last seen at each.
+#[derive(Drop)]
+pub struct Watches {
+    listed: Vec<Watched>,
+}
+
+impl Model for Watches {
+    ghost use Rattle.job_core.specs.Sights.{Sights};
+
+    ghost Value = { Sights };
+
+    ghost use Rattle.std.specs.Prelude.{map};
+    ghost use Rattle.job_core.specs.Listed.{watched_path, watched_sight};
+
+    ghost view = { λ w. record { paths = map watched_path w.listed.items; seen = map watched_sight w.listed.items } };
+}
+
+impl Watches {
+    ghost use Rattle.job_core.specs.Sights.{Sights, unseen};
+
+    pub fn new(alloc: Global, paths: &[Text]) -> Result<Watches, AllocError>
+        ensures { IfOk result (λ w. w ≡ unseen paths.now) }
+    {
+        Ok(Watches {
+            listed: watches_of(alloc, paths)?,
+        })
+    }
+
+    /// Takes in what was seen at a path, and tells whether that makes a demand.
+    pub fn saw(&mut self, path: &str, obs: Obs) -> bool
+        ensures fires { result ≡ any_seen (λ watched before. is_same_path watched path.now && differs obs before) self.old.paths self.old.seen }
+        ensures seen { self.new ≡ record self.old { seen = seen_after (λ p. p) self.old.paths path.now obs self.old.seen } }
+    {
+        watch(&mut self.listed, path, obs)
+    }
+}
+
+fn watches_of(alloc: Global, paths: &[Text]) -> Result<Vec<Watched>, AllocError>
+    ensures paths { IfOk result (λ v. map watched_path v.items ≡ paths.now) }
+    ensures unseen { IfOk result (λ v. map watched_sight v.items ≡ map (λ _. None) paths.now) }
+{
+    let mut listed = Vec::new(alloc);
+    for path in paths {
+        listed.push(Watched {
+            path: Text::copy_of(alloc, path.as_str())?,
+            watch: Watch::new(),
+        })?;
+    }
+    Ok(listed)
+}
+
+fn watch(listed: &mut Vec<Watched>, path: &str, obs: Obs) -> bool
+    ensures fires { result ≡ list_any (λ w. is_same_path w.path path.now && differs obs w.watch) listed.old.items }
+    ensures seen { listed.new.items ≡ map (after_sight path.now obs) listed.old.items }
+{
+    let mut fires = false;
+    for watched in listed.iter_mut() {
+        if watched.path.as_str() == path {
+            let differs = watched.watch.saw(obs);
+            fires = fires || differs;
+        }
+    }
+    fires
+}
+
+#[derive(Drop)]
+pub struct QueueDirectory {
+    path: Text,
+    queue: Queue,
+}
+
+/// The queue directories: to a contract, the paths and what was last seen at each.
+#[derive(Drop)]
+pub struct Queues {
+    listed: Vec<QueueDirectory>,
+}
+
+impl Model for Queues {
+    ghost use Rattle.job_core.specs.Sights.{Sights};
+
+    ghost Value = { Sights };
+
+    ghost use Rattle.std.specs.Prelude.{map};
+    ghost use Rattle.job_core.specs.Listed.{queue_path, queue_sight};
+
+    ghost view = { λ q. record { paths = map queue_path q.listed.items; seen = map queue_sight q.listed.items } };
+}
+
+impl Queues {
+    ghost use Rattle.job_core.specs.Sights.{Sights, unseen};
+
+    pub fn new(alloc: Global, paths: &[Text]) -> Result<Queues, AllocError>
+        ensures { IfOk result (λ q. q ≡ unseen paths.now) }
+    {
+        Ok(Queues {
+            listed: queues_of(alloc, paths)?,
+        })
+    }
+
+    pub fn saw(&mut self, path: &str, obs: Obs)
+        ensures { self.new ≡ record self.old { seen = seen_after (λ p. p) self.old.paths path.now obs self.old.seen } }
+    {
+        see(&mut self.listed, path, obs);
+    }
+
+    /// Whether a directory was last seen with something in it.
+    pub fn holds(&self) -> bool
+        ensures { result ≡ any_seen (λ path. queue_holds) self.now.paths self.now.seen }
+    {
+        any_holds(self.listed.as_slice())
+    }
+}
+
+fn queues_of(alloc: Global, paths: &[Text]) -> Result<Vec<QueueDirectory>, AllocError>
+    ensures paths { IfOk result (λ v. map queue_path v.items ≡ paths.now) }
+    ensures unseen { IfOk result (λ v. map queue_sight v.items ≡ map (λ _. None) paths.now) }
+{
+    let mut listed = Vec::new(alloc);
+    for path in paths {
+        listed.push(QueueDirectory {
+            path: Text::copy_of(alloc, path.as_str())?,
+            queue: Queue::new(),
+        })?;
+    }
+    Ok(listed)
+}
+
+fn see(listed: &mut Vec<QueueDirectory>, path: &str, obs: Obs)
+    ensures { listed.new.items ≡ map (queue_after path.now obs) listed.old.items }
+{
+    for directory in listed.iter_mut() {
+        if directory.path.as_str() == path {
+            directory.queue.saw(obs);
+        }
+    }
+}
+
+fn any_holds(listed: &[QueueDirectory]) -> bool
+    ensures { result ≡ list_any (λ q. queue_holds q.queue) listed.now }
+{
+    listed.iter().any(|q| q.queue.holds())
+}

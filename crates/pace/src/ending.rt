@@ -1,0 +1,180 @@
+// How a run is ended: TERM first, then KILL.
+ghost use Rattle.std.specs.Prelude.{◌≡◌, ◌≤◌, ℕ, ◌*◌, ◌||◌, ◌&&◌, not, nat_lt, Bool, true, false, Some, None, if◌then◌else◌};
+ghost use Rattle.history_model.specs.Search.{or_else};
+ghost use Rattle.history_model.specs.Due.{is_over};
+ghost use Rattle.history_model.specs.ByFacts.{is_newest_within};
+ghost use Rattle.history_model.specs.Coming.{sooner, coming_after, is_from};
+
+use crate::{RETRY, coming_after, sooner};
+use history_model::MAX_UP;
+use std::marker::Model;
+
+/// What a run is told by.
+#[derive(Clone, Copy, Debug, PartialEq, Eq)]
+pub enum Signal {
+    Term,
+    Kill,
+}
+
+/// What was ordered to end the present run, and how that was answered.
+#[derive(Drop)]
+pub struct Ending {
+    timeout: u32,
+    first_term: Option<u64>,
+    term_refusal: Option<u64>,
+    kill_refusal: Option<u64>,
+    is_term_done: bool,
+    is_kill_done: bool,
+    is_struck: bool,
+}
+
+impl Model for Ending {
+    ghost use Rattle.std.specs.Option.{ForSome};
+    ghost use Rattle.std.specs.Prelude.{◌≤◌};
+    ghost use Rattle.history_model.specs.declared.TheConstants.{MAX_UP};
+    ghost use Rattle.pace.specs.Paces.{Ends};
+
+    ghost Value = { Ends };
+
+    ghost view = { λ e. record {
+      timeout = e.timeout;
+      term_ordered = e.first_term;
+      term_refused = e.term_refusal;
+      kill_refused = e.kill_refusal;
+      is_term_done = e.is_term_done;
+      is_kill_done = e.is_kill_done;
+      strikes = e.is_struck;
+    } };
+
+    ghost invariant = { λ e. ForSome e.first_term (λ u. u ≤ MAX_UP) × ForSome e.term_refusal (λ u. u ≤ MAX_UP) × ForSome e.kill_refusal (λ u. u ≤ MAX_UP) };
+}
+
+impl Ending {
+    ghost use Rattle.pace.specs.Paces.{Ends, no_ends};
+    ghost use Rattle.pace.specs.Told.{done_after};
+
+    pub fn new(timeout: u32) -> Ending
+        ensures { result ≡ no_ends timeout }
+    {
+        Ending {
+            timeout,
+            first_term: None,
+            term_refusal: None,
+            kill_refusal: None,
+            is_term_done: false,
+            is_kill_done: false,
+            is_struck: false,
+        }
+    }
+
+    /// The next run begins.
+    pub fn next_run(&mut self)
+        ensures { self.new ≡ no_ends self.old.timeout }
+    {
+        *self = Ending::new(self.timeout);
+    }
+
+    /// A TERM was ordered.
+    pub fn termed_at(&mut self, up: u64)
+        requires { up ≤ MAX_UP }
+        ensures { self.new ≡ record self.old { term_ordered = or_else self.old.term_ordered (Some up) } }
+    {
+        self.first_term = self.first_term.or(Some(up));
+    }
+
+    pub fn term_refused(&mut self, up: u64)
+        requires { up ≤ MAX_UP }
+        ensures { self.new ≡ record self.old { term_refused = Some up } }
+    {
+        self.term_refusal = Some(up);
+    }
+
+    pub fn kill_refused(&mut self, up: u64)
+        requires { up ≤ MAX_UP }
+        ensures { self.new ≡ record self.old { kill_refused = Some up } }
+    {
+        self.kill_refusal = Some(up);
+    }
+
+    /// An order was answered ok.
+    pub fn answered(&mut self, signal: Signal)
+        ensures { self.new ≡ done_after signal self.old }
+    {
+        match signal {
+            Signal::Term => self.is_term_done = true,
+            Signal::Kill => self.is_kill_done = true,
+        }
+    }
+
+    /// A kickstart asks for KILL at once.
+    pub fn struck(&mut self)
+        ensures { self.new ≡ record self.old { strikes = true } }
+    {
+        self.is_struck = true;
+    }
+
+    /// No kickstart asks for it any more.
+    pub fn spared(&mut self)
+        ensures { self.new ≡ record self.old { strikes = false } }
+    {
+        self.is_struck = false;
+    }
+
+    pub fn is_struck(&self) -> bool
+        ensures { result ≡ self.now.strikes }
+    {
+        self.is_struck
+    }
+
+    /// The least moment from which TERM may be ordered for a stopped run.
+    pub fn term_at(&self) -> Option<u64>
+        ensures { (up : ℕ) → is_from result up
+            ≡ (not self.now.strikes && not self.now.is_kill_done && (not self.now.is_term_done && not (is_newest_within RETRY up self.now.term_refused))) }
+    {
+        if self.is_struck || self.is_term_done || self.is_kill_done {
+            return None;
+        }
+        Some(self.term_refusal.map_or(0, |up| up + RETRY))
+    }
+
+    /// The least moment from which KILL may be ordered for a stopped run.
+    pub fn kill_at(&self) -> Option<u64>
+        ensures { (up : ℕ) → is_from result up
+            ≡ ((self.now.strikes || (nat_lt 0 self.now.timeout && is_over (1000 * self.now.timeout) up self.now.term_ordered))
+            && (not self.now.is_kill_done && not (is_newest_within RETRY up self.now.kill_refused))) }
+    {
+        if self.is_kill_done {
+            return None;
+        }
+        let over = if self.is_struck {
+            0
+        } else if self.timeout > 0 {
+            self.first_term? + 1_000 * u64::from(self.timeout)
+        } else {
+            return None;
+        };
+        match self.kill_refusal {
+            None => Some(over),
+            Some(up) => Some(over.max(up + RETRY)),
+        }
+    }
+
+    /// The least moment after this one at which a time to end is over, or a refusal stops being too near.
+    pub fn next_moment(&self, up: u64) -> Option<u64>
+        ensures { result ≡ sooner (if nat_lt 0 self.now.timeout then coming_after up (1000 * self.now.timeout) self.now.term_ordered else None)
+            (sooner (coming_after up RETRY self.now.term_refused) (coming_after up RETRY self.now.kill_refused)) }
+    {
+        let over = if self.timeout > 0 {
+            coming_after(up, 1_000 * u64::from(self.timeout), self.first_term)
+        } else {
+            None
+        };
+        sooner(
+            over,
+            sooner(
+                coming_after(up, RETRY, self.term_refusal),
+                coming_after(up, RETRY, self.kill_refusal),
+            ),
+        )
+    }
+}

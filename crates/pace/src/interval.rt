@@ -1,0 +1,75 @@
+// Demands that come again and again.
+ghost use Rattle.std.specs.Prelude.{◌≡◌, ◌<◌, ◌≤◌, ℕ, ◌+◌, ◌*◌, ◌/◌, ◌^◌, Some, IfSome};
+ghost use Rattle.std.specs.Option.{ForSome};
+ghost use Rattle.history_model.specs.Clock.{crosses_interval};
+ghost use Rattle.history_model.specs.Coming.{coming_period};
+
+use history_model::MAX_UP;
+use std::marker::Model;
+
+/// A demand each so many seconds after the load, if there is such a number.
+#[derive(Drop)]
+pub struct Interval {
+    seconds: Option<u32>,
+    load_up: u64,
+}
+
+impl Model for Interval {
+    ghost use Rattle.std.specs.Option.{ForSome};
+    ghost use Rattle.std.specs.Prelude.{◌<◌, ◌≤◌};
+    ghost use Rattle.history_model.specs.declared.TheConstants.{MAX_UP};
+    ghost use Rattle.pace.specs.Paces.{Every};
+
+    ghost Value = { Every };
+
+    ghost view = { λ i. record { seconds = i.seconds; load_up = i.load_up } };
+
+    ghost invariant = { λ i. ForSome i.seconds (λ n. 0 < n) × (i.load_up ≤ MAX_UP) };
+}
+
+impl Interval {
+    pub fn new(seconds: Option<u32>, load_up: u64) -> Interval
+        requires positive { ForSome seconds (λ n. 0 < n) }
+        requires in_range { load_up ≤ MAX_UP }
+        ensures { result ≡ record { seconds = seconds; load_up = load_up } }
+    {
+        Interval { seconds, load_up }
+    }
+
+    /// Whether a whole number of periods since the load lies after the previous moment, and not after this one.
+    pub fn crossed(&self, previous: u64, up: u64) -> bool
+        ensures { result ≡ crosses_interval self.now.seconds self.now.load_up previous up }
+    {
+        match self.seconds {
+            None => false,
+            Some(seconds) => {
+                let period = 1_000 * u64::from(seconds);
+                previous.saturating_sub(self.load_up) / period
+                    < up.saturating_sub(self.load_up) / period
+            }
+        }
+    }
+
+    /// The next end of a period.
+    pub fn next_moment(&self, up: u64) -> Option<u64>
+        requires { up ≤ MAX_UP }
+        ensures value { result ≡ coming_period self.now.seconds self.now.load_up up }
+    {
+        let seconds = self.seconds?;
+        Some(self.load_up + period_end(1_000 * u64::from(seconds), up.saturating_sub(self.load_up)))
+    }
+}
+
+/// How long after the load the period ends that runs.
+fn period_end(period: u64, elapsed: u64) -> u64
+    requires positive { 0 < period }
+    requires small { period < 2 ^ 43 }
+    requires in_range { elapsed ≤ MAX_UP }
+    ensures value { result ≡ period * (elapsed / period + 1) }
+    ensures later { elapsed < result }
+    ensures least { (k : ℕ) → elapsed < period * k → result ≤ period * k }
+    ensures bound { result ≤ elapsed + period }
+{
+    let whole = elapsed / period;
+    period * whole + period
+}

@@ -1,0 +1,41 @@
+// When a job's orders may come: the interval between demands, the wait between spawns, and the end of a run.
+#![tactic(auto)]
+
+ghost use Rattle.std.specs.Prelude.{◌≡◌, ◌≤◌, ◌+◌, ◌^◌, ◌<◌};
+ghost use Rattle.std.specs.Option.{ForSome};
+ghost use Rattle.history_model.specs.Coming.{sooner, coming_after};
+
+mod ending;
+mod interval;
+mod throttle;
+
+pub use ending::{Ending, Signal};
+use history_model::MAX_UP;
+pub use interval::Interval;
+pub use throttle::Throttle;
+
+/// Milliseconds from a refused order to the next.
+const RETRY: u64 = 1_000;
+
+/// The lesser of two moments.
+fn sooner(a: Option<u64>, b: Option<u64>) -> Option<u64>
+    ensures { result ≡ sooner a b }
+{
+    match (a, b) {
+        (None, b) => b,
+        (a, None) => a,
+        (Some(a), Some(b)) => Some(a.min(b)),
+    }
+}
+
+/// A moment so many milliseconds after this one, where it is still to come.
+fn coming_after(up: u64, wait: u64, moment: Option<u64>) -> Option<u64>
+    requires wait { wait < 2 ^ 43 }
+    requires moment { ForSome moment (λ u. u ≤ MAX_UP) }
+    ensures { result ≡ coming_after up wait moment }
+{
+    match moment {
+        Some(moment) if up < moment + wait => Some(moment + wait),
+        _ => None,
+    }
+}

@@ -1,0 +1,83 @@
+// How near together spawns may be ordered.
+ghost use Rattle.std.specs.Prelude.{◌≡◌, ◌≤◌, ℕ, ◌*◌, ◌||◌, nat_lt, Some, None};
+ghost use Rattle.history_model.specs.ByFacts.{is_newest_within};
+ghost use Rattle.history_model.specs.Coming.{sooner, coming_after};
+
+use crate::{RETRY, coming_after, sooner};
+use history_model::MAX_UP;
+use std::marker::Model;
+
+/// When spawns were ordered and refused last.
+#[derive(Drop)]
+pub struct Throttle {
+    seconds: u32,
+    last_order: Option<u64>,
+    last_refusal: Option<u64>,
+}
+
+impl Model for Throttle {
+    ghost use Rattle.std.specs.Option.{ForSome};
+    ghost use Rattle.std.specs.Prelude.{◌≤◌};
+    ghost use Rattle.history_model.specs.declared.TheConstants.{MAX_UP};
+    ghost use Rattle.pace.specs.Paces.{Spacing};
+
+    ghost Value = { Spacing };
+
+    ghost view = { λ t. record { seconds = t.seconds; order = t.last_order; refusal = t.last_refusal } };
+
+    ghost invariant = { λ t. ForSome t.last_order (λ u. u ≤ MAX_UP) × ForSome t.last_refusal (λ u. u ≤ MAX_UP) };
+}
+
+impl Throttle {
+    pub fn new(seconds: u32) -> Throttle
+        ensures { result ≡ record { seconds = seconds; order = None; refusal = None } }
+    {
+        Throttle {
+            seconds,
+            last_order: None,
+            last_refusal: None,
+        }
+    }
+
+    /// A spawn was ordered.
+    pub fn ordered(&mut self, up: u64)
+        requires { up ≤ MAX_UP }
+        ensures { self.new ≡ record self.old { order = Some up } }
+    {
+        self.last_order = Some(up);
+    }
+
+    /// A spawn was refused.
+    pub fn refused(&mut self, up: u64)
+        requires { up ≤ MAX_UP }
+        ensures { self.new ≡ record self.old { refusal = Some up } }
+    {
+        self.last_refusal = Some(up);
+    }
+
+    /// The least moment from which no order and no refusal is too near.
+    pub fn free_at(&self) -> u64
+        ensures { (up : ℕ) → nat_lt up result
+            ≡ (is_newest_within (1000 * self.now.seconds) up self.now.order || is_newest_within RETRY up self.now.refusal) }
+    {
+        let of_order = match self.last_order {
+            None => 0,
+            Some(up) => up + 1_000 * u64::from(self.seconds),
+        };
+        let of_refusal = match self.last_refusal {
+            None => 0,
+            Some(up) => up + RETRY,
+        };
+        of_order.max(of_refusal)
+    }
+
+    /// The least moment after this one at which an order or a refusal stops being too near.
+    pub fn next_moment(&self, up: u64) -> Option<u64>
+        ensures { result ≡ sooner (coming_after up (1000 * self.now.seconds) self.now.order) (coming_after up RETRY self.now.refusal) }
+    {
+        sooner(
+            coming_after(up, 1_000 * u64::from(self.seconds), self.last_order),
+            coming_after(up, RETRY, self.last_refusal),
+        )
+    }
+}

@@ -1,0 +1,113 @@
+// The connections that wait for a run.
+ghost use Rattle.std.specs.Prelude.{◌≡◌, ◌==◌, ◌<◌, ◌≤◌, ◌↔◌, ℕ, [], ◌∷◌, ◌++◌, drop, filter, length, not, nat_lt, IfOk, IfErr, OnOk, OnErr, IsOk, IsTrue, slice_get, None};
+ghost use Rattle.std.specs.List.{list_any};
+ghost use Rattle.history_model.specs.Search.{first};
+
+use std::alloc::{AllocError, Global};
+use std::marker::Model;
+
+/// How many connections wait at most.
+pub const MAX_WAITING: usize = 64;
+
+/// The queue has no room for one more.
+#[derive(Clone, Copy, Debug, PartialEq, Eq)]
+pub struct Full;
+
+/// Connections in order of arrival: to a contract, the list of their numbers.
+#[derive(Drop)]
+pub struct Waiting {
+    conns: Vec<u64>,
+}
+
+impl Model for Waiting {
+    ghost use Rattle.std.specs.Prelude.{List, ℕ, ◌≤◌, length, vec_capacity};
+
+    ghost Value = { List ℕ };
+
+    ghost view = { λ w. w.conns.items };
+
+    ghost invariant = { λ w. (64 ≤ vec_capacity w.conns) × (length w.conns.items ≤ 64) };
+}
+
+impl Waiting {
+    /// No connection, and room for as many as ever wait.
+    pub fn new(alloc: Global) -> Result<Waiting, AllocError>
+        ensures { IfOk result (λ w. w ≡ []) }
+    {
+        let conns = Vec::with_capacity(alloc, MAX_WAITING)?;
+        Ok(Waiting { conns })
+    }
+
+    /// Adds a connection.
+    pub fn came(&mut self, conn: u64) -> Result<(), Full>
+        ensures room { IsOk result ↔ (length self.old < MAX_WAITING) }
+        ensures ok { OnOk result (self.new ≡ self.old ++ conn ∷ []) }
+        ensures err { OnErr result (self.new ≡ self.old) }
+    {
+        if self.conns.len() >= MAX_WAITING {
+            return Err(Full);
+        }
+        // The room is there since `new`.
+        match self.conns.push(conn) {
+            Ok(()) => Ok(()),
+            Err(_) => unreachable!(),
+        }
+    }
+
+    /// Takes a connection out, and tells whether it waited.
+    pub fn left(&mut self, conn: u64) -> bool
+        ensures waited { result ≡ list_any (λ c. c == conn) self.old }
+        ensures rest { self.new ≡ filter (λ c. not (conn == c)) self.old }
+    {
+        let waited = self.conns.iter().any(|c| *c == conn);
+        self.conns.retain(|c| conn != *c);
+        waited
+    }
+
+    /// Whether the connection waits.
+    pub fn contains(&self, conn: u64) -> bool
+        ensures { result ≡ list_any (λ c. c == conn) self.now }
+    {
+        self.conns.iter().any(|c| *c == conn)
+    }
+
+    /// The connection that came first.
+    pub fn first(&self) -> Option<u64>
+        ensures { result ≡ first self.now }
+    {
+        self.conns.first().copied()
+    }
+
+    /// Takes out the connection that came first.
+    pub fn take(&mut self) -> Option<u64>
+        ensures taken { result ≡ first self.old }
+        ensures rest { self.new ≡ drop 1 self.old }
+    {
+        if self.conns.is_empty() {
+            return None;
+        }
+        Some(self.conns.remove(0))
+    }
+
+    /// The connection at a position, counted from 0.
+    pub fn get(&self, position: usize) -> Option<u64>
+        ensures value { result ≡ slice_get self.now position }
+        ensures few { MAX_WAITING ≤ position → result ≡ None }
+    {
+        self.conns.get(position).copied()
+    }
+
+    /// How many connections wait.
+    pub fn len(&self) -> usize
+        ensures count { result ≡ length self.now }
+        ensures bound { result ≤ MAX_WAITING }
+    {
+        self.conns.len()
+    }
+
+    pub fn is_empty(&self) -> bool
+        ensures { IsTrue result ↔ (self.now ≡ []) }
+    {
+        self.conns.is_empty()
+    }
+}
