@@ -1,9 +1,12 @@
-// How a run is ended: TERM first, then KILL.
+//! How a run is ended: TERM first, and KILL once `ExitTimeOut` of launchd.plist(5) is over; or KILL at once, where
+//! `kickstart -k` of launchctl(1) asked for it.
+
 ghost use Rattle.std.specs.Prelude.{◌≡◌, ◌≤◌, ℕ, ◌*◌, ◌||◌, ◌&&◌, not, nat_lt, Bool, true, false, Some, None, if◌then◌else◌};
 ghost use Rattle.history_model.specs.Search.{or_else};
 ghost use Rattle.history_model.specs.Due.{is_over};
 ghost use Rattle.history_model.specs.ByFacts.{is_newest_within};
 ghost use Rattle.history_model.specs.Coming.{sooner, coming_after, is_from};
+ghost use Rattle.pace.specs.Next.{IsNext};
 
 use crate::{RETRY, coming_after, sooner};
 use history_model::MAX_UP;
@@ -52,7 +55,9 @@ impl Model for Ending {
 impl Ending {
     ghost use Rattle.pace.specs.Paces.{Ends, no_ends};
     ghost use Rattle.pace.specs.Told.{done_after};
+    ghost use Rattle.pace.specs.Next.{IsEndMoment};
 
+    /// The end of a run for which nothing was ordered. The timeout is in seconds from TERM to KILL; 0 means no KILL.
     pub fn new(timeout: u32) -> Ending
         ensures { result ≡ no_ends timeout }
     {
@@ -67,14 +72,14 @@ impl Ending {
         }
     }
 
-    /// The next run begins.
+    /// The next run begins: nothing was ordered to end it.
     pub fn next_run(&mut self)
         ensures { self.new ≡ no_ends self.old.timeout }
     {
         *self = Ending::new(self.timeout);
     }
 
-    /// A TERM was ordered.
+    /// A TERM was ordered. The timeout counts from the first one.
     pub fn termed_at(&mut self, up: u64)
         requires { up ≤ MAX_UP }
         ensures { self.new ≡ record self.old { term_ordered = or_else self.old.term_ordered (Some up) } }
@@ -82,6 +87,7 @@ impl Ending {
         self.first_term = self.first_term.or(Some(up));
     }
 
+    /// A TERM was answered with a refusal.
     pub fn term_refused(&mut self, up: u64)
         requires { up ≤ MAX_UP }
         ensures { self.new ≡ record self.old { term_refused = Some up } }
@@ -89,6 +95,7 @@ impl Ending {
         self.term_refusal = Some(up);
     }
 
+    /// A KILL was answered with a refusal.
     pub fn kill_refused(&mut self, up: u64)
         requires { up ≤ MAX_UP }
         ensures { self.new ≡ record self.old { kill_refused = Some up } }
@@ -96,7 +103,7 @@ impl Ending {
         self.kill_refusal = Some(up);
     }
 
-    /// An order was answered ok.
+    /// A TERM or a KILL was answered ok: it is not given again.
     pub fn answered(&mut self, signal: Signal)
         ensures { self.new ≡ done_after signal self.old }
     {
@@ -113,20 +120,22 @@ impl Ending {
         self.is_struck = true;
     }
 
-    /// No kickstart asks for it any more.
+    /// No kickstart asks for it any more, since the run is over or was not spawned.
     pub fn spared(&mut self)
         ensures { self.new ≡ record self.old { strikes = false } }
     {
         self.is_struck = false;
     }
 
+    /// Whether a kickstart asks for KILL.
     pub fn is_struck(&self) -> bool
         ensures { result ≡ self.now.strikes }
     {
         self.is_struck
     }
 
-    /// The least moment from which TERM may be ordered for a stopped run.
+    /// The least moment from which TERM may be ordered for a run that is being stopped; none where it was answered ok,
+    /// or KILL was, or a kickstart asks for KILL. That KILL may be due too is left aside.
     pub fn term_at(&self) -> Option<u64>
         ensures { (up : ℕ) → is_from result up
             ≡ (not self.now.strikes && not self.now.is_kill_done && (not self.now.is_term_done && not (is_newest_within RETRY up self.now.term_refused))) }
@@ -137,7 +146,8 @@ impl Ending {
         Some(self.term_refusal.map_or(0, |up| up + RETRY))
     }
 
-    /// The least moment from which KILL may be ordered for a stopped run.
+    /// The least moment from which KILL may be ordered for a run that is being stopped, or that a kickstart struck; none
+    /// where it was answered ok, or where no time to end runs.
     pub fn kill_at(&self) -> Option<u64>
         ensures { (up : ℕ) → is_from result up
             ≡ ((self.now.strikes || (nat_lt 0 self.now.timeout && is_over (1000 * self.now.timeout) up self.now.term_ordered))
@@ -159,22 +169,21 @@ impl Ending {
         }
     }
 
-    /// The least moment after this one at which a time to end is over, or a refusal stops being too near.
+    /// The next moment at which the time to end is over, or a refused TERM or KILL stops being too near.
     pub fn next_moment(&self, up: u64) -> Option<u64>
-        ensures { result ≡ sooner (if nat_lt 0 self.now.timeout then coming_after up (1000 * self.now.timeout) self.now.term_ordered else None)
+        ensures value { result ≡ sooner (if nat_lt 0 self.now.timeout then coming_after up (1000 * self.now.timeout) self.now.term_ordered else None)
             (sooner (coming_after up RETRY self.now.term_refused) (coming_after up RETRY self.now.kill_refused)) }
+        ensures next { IsNext (IsEndMoment self.now) up result }
     {
         let over = if self.timeout > 0 {
             coming_after(up, 1_000 * u64::from(self.timeout), self.first_term)
         } else {
             None
         };
-        sooner(
-            over,
-            sooner(
-                coming_after(up, RETRY, self.term_refusal),
-                coming_after(up, RETRY, self.kill_refusal),
-            ),
-        )
+        let of_refusals = sooner(
+            coming_after(up, RETRY, self.term_refusal),
+            coming_after(up, RETRY, self.kill_refusal),
+        );
+        sooner(over, of_refusals)
     }
 }

@@ -1,13 +1,15 @@
-// Demands that come again and again.
-ghost use Rattle.std.specs.Prelude.{◌≡◌, ◌<◌, ◌≤◌, ℕ, ◌+◌, ◌*◌, ◌/◌, ◌^◌, Some, IfSome};
+//! Demands that come again and again: `StartInterval` of launchd.plist(5).
+
+ghost use Rattle.std.specs.Prelude.{◌≡◌, ◌<◌, ◌≤◌, ◌↔◌, ℕ, ◌+◌, ◌*◌, ◌/◌, ◌^◌, IsTrue};
 ghost use Rattle.std.specs.Option.{ForSome};
 ghost use Rattle.history_model.specs.Clock.{crosses_interval};
 ghost use Rattle.history_model.specs.Coming.{coming_period};
+ghost use Rattle.pace.specs.Next.{IsNext};
 
 use history_model::MAX_UP;
 use std::marker::Model;
 
-/// A demand each so many seconds after the load, if there is such a number.
+/// A demand each so many seconds after the load, if the definition has an interval.
 #[derive(Drop)]
 pub struct Interval {
     seconds: Option<u32>,
@@ -28,6 +30,9 @@ impl Model for Interval {
 }
 
 impl Interval {
+    ghost use Rattle.pace.specs.Next.{IsPeriodEnd};
+
+    /// The interval of a job that was loaded at this moment. None: no demand ever.
     pub fn new(seconds: Option<u32>, load_up: u64) -> Interval
         requires positive { ForSome seconds (λ n. 0 < n) }
         requires in_range { load_up ≤ MAX_UP }
@@ -36,9 +41,11 @@ impl Interval {
         Interval { seconds, load_up }
     }
 
-    /// Whether a whole number of periods since the load lies after the previous moment, and not after this one.
+    /// Whether a reading makes a demand: an end of a period lies after the previous reading, and not after this one.
+    /// However many lie there, as after a sleep, they are one demand.
     pub fn crossed(&self, previous: u64, up: u64) -> bool
-        ensures { result ≡ crosses_interval self.now.seconds self.now.load_up previous up }
+        ensures value { result ≡ crosses_interval self.now.seconds self.now.load_up previous up }
+        ensures period { IsTrue result ↔ ((m : ℕ) × IsPeriodEnd self.now m × (previous < m) × (m ≤ up)) }
     {
         match self.seconds {
             None => false,
@@ -50,10 +57,11 @@ impl Interval {
         }
     }
 
-    /// The next end of a period.
+    /// The next end of a period, if there is an interval.
     pub fn next_moment(&self, up: u64) -> Option<u64>
         requires { up ≤ MAX_UP }
         ensures value { result ≡ coming_period self.now.seconds self.now.load_up up }
+        ensures next { IsNext (IsPeriodEnd self.now) up result }
     {
         let seconds = self.seconds?;
         Some(self.load_up + period_end(1_000 * u64::from(seconds), up.saturating_sub(self.load_up)))

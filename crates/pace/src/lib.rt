@@ -1,4 +1,6 @@
-// When a job's orders may come: the interval between demands, the wait between spawns, and the end of a run.
+//! When a job's orders may come: the interval between its demands, the wait between its spawns, and the end of a run.
+//! Moments are milliseconds of `up`; periods, throttles and timeouts are seconds, as launchd.plist(5) gives them. No
+//! call takes memory, and none is refused.
 #![tactic(auto)]
 
 ghost use Rattle.std.specs.Prelude.{◌≡◌, ◌≤◌, ◌+◌, ◌^◌, ◌<◌};

@@ -1,13 +1,15 @@
-// How near together spawns may be ordered.
+//! How near together spawns may be ordered: `ThrottleInterval` of launchd.plist(5).
+
 ghost use Rattle.std.specs.Prelude.{◌≡◌, ◌≤◌, ℕ, ◌*◌, ◌||◌, nat_lt, Some, None};
 ghost use Rattle.history_model.specs.ByFacts.{is_newest_within};
 ghost use Rattle.history_model.specs.Coming.{sooner, coming_after};
+ghost use Rattle.pace.specs.Next.{IsNext};
 
 use crate::{RETRY, coming_after, sooner};
 use history_model::MAX_UP;
 use std::marker::Model;
 
-/// When spawns were ordered and refused last.
+/// When a spawn was last ordered, and last refused.
 #[derive(Drop)]
 pub struct Throttle {
     seconds: u32,
@@ -29,6 +31,9 @@ impl Model for Throttle {
 }
 
 impl Throttle {
+    ghost use Rattle.pace.specs.Next.{IsSpawnMoment};
+
+    /// The throttle of a job of which no spawn was ordered.
     pub fn new(seconds: u32) -> Throttle
         ensures { result ≡ record { seconds = seconds; order = None; refusal = None } }
     {
@@ -47,7 +52,7 @@ impl Throttle {
         self.last_order = Some(up);
     }
 
-    /// A spawn was refused.
+    /// A spawn was answered with a refusal.
     pub fn refused(&mut self, up: u64)
         requires { up ≤ MAX_UP }
         ensures { self.new ≡ record self.old { refusal = Some up } }
@@ -55,7 +60,7 @@ impl Throttle {
         self.last_refusal = Some(up);
     }
 
-    /// The least moment from which no order and no refusal is too near.
+    /// The least moment from which no spawn order lies less than the throttle back, and no refusal less than a second.
     pub fn free_at(&self) -> u64
         ensures { (up : ℕ) → nat_lt up result
             ≡ (is_newest_within (1000 * self.now.seconds) up self.now.order || is_newest_within RETRY up self.now.refusal) }
@@ -71,9 +76,10 @@ impl Throttle {
         of_order.max(of_refusal)
     }
 
-    /// The least moment after this one at which an order or a refusal stops being too near.
+    /// The next moment at which the last order or the last refusal stops being too near.
     pub fn next_moment(&self, up: u64) -> Option<u64>
-        ensures { result ≡ sooner (coming_after up (1000 * self.now.seconds) self.now.order) (coming_after up RETRY self.now.refusal) }
+        ensures value { result ≡ sooner (coming_after up (1000 * self.now.seconds) self.now.order) (coming_after up RETRY self.now.refusal) }
+        ensures next { IsNext (IsSpawnMoment self.now) up result }
     {
         sooner(
             coming_after(up, 1_000 * u64::from(self.seconds), self.last_order),

@@ -1,0 +1,20 @@
+use Rattle.std.proofs.Common.{ℕ, ◌+◌, ◌*◌, ◌/◌, ◌-◌, ◌<◌, ◌≤◌, sym, ap, subst, ◌∙◌, rules}
+use Rattle.pace.specs.Paces.{Every}
+use Rattle.pace.proofs.Periods.{next-period}
+use Rattle.pace.proofs.interval.Interval.next_moment.Goals as goal
+
+pub returns-clause-next : goal.returns-clause-next
+returns-clause-next c =
+    let some : 0 < c.in_ok-seconds.seconds = search rules in
+    let r = c.period_end.result in
+    let from = c.from.ensures in
+    let elapsed = c.saturating_sub.ensures in
+    next-period c.in_ok-seconds.seconds c.self.inside.load_up some c.args.up r
+    (c.period_end.ensures.value
+    ∙ ap (λ f. 1000 * f * (c.saturating_sub.result / (1000 * f) + 1)) from
+    ∙ ap (λ e. 1000 * c.in_ok-seconds.seconds * (e / (1000 * c.in_ok-seconds.seconds) + 1)) elapsed)
+    (subst (λ e. e < r) elapsed c.period_end.ensures.later)
+    (subst (λ (f : ℕ). (k : ℕ) → c.args.up - c.self.inside.load_up < 1000 * f * k → r ≤ 1000 * f * k) from
+    (subst (λ (e : ℕ). (k : ℕ) → e < 1000 * c.from.result * k → r ≤ 1000 * c.from.result * k) elapsed c.period_end.ensures.least))
+    c.args.self.now.seconds (sym c.in_ok-seconds.was ∙ ap (λ (e : Every). e.seconds) c.self.view_is)
+    c.args.self.now.load_up (ap (λ (e : Every). e.load_up) c.self.view_is)
