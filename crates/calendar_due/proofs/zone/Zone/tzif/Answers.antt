@@ -1,0 +1,12 @@
+use Rattle.std.proofs.Common.{refl}
+use Rattle.calendar_due.specs.Rules.{offsets}
+use Rattle.calendar_due.proofs.zone.Zone.tzif.Goals as goal
+
+pub returns-in-Ok-clause-zone : goal.returns-in-Ok-clause-zone
+unfolding offsets
+returns-in-Ok-clause-zone c = record {
+  table = c.in-Ok.table;
+  read = c.in-Ok.ensures.value;
+  agrees = c.in-Ok.ensures.agrees;
+  offsets = refl;
+}

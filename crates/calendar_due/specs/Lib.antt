@@ -1,0 +1,4 @@
+pub mod Minute
+pub mod Offsets
+pub mod Zone
+pub mod Rules

@@ -1,0 +1,155 @@
+//! A zone that is handed in, the civil minute that its clock shows, and the minutes that a step of the clock crosses.
+ghost use Rattle.std.specs.Prelude.{◌≡◌, ◌≤◌, ◌↔◌, ◌+ℤ◌, ◌⊎◌, ◌<◌, Err, map, length, IsOk, IsErr, IsSome, IfOk, IfErr};
+ghost use Rattle.jiff_core.specs.Calendar.{IsWithin};
+ghost use Rattle.jiff_core.specs.DateTime.{civil_nanos, civil_seconds};
+ghost use Rattle.jiff_core.specs.Timestamp.{nanos_of_seconds};
+ghost use Rattle.jiff_tz.specs.PosixReader.{read_whole};
+ghost use Rattle.history_model.specs.Calendar.{crossed};
+ghost use Rattle.calendar_due.specs.Minute.{shown_minute};
+ghost use Rattle.calendar_due.specs.Offsets.{always, clock_seconds};
+ghost use Rattle.calendar_due.specs.Rules.{offsets, minute_at};
+ghost use Rattle.calendar_due.specs.Zone.{IsOfRule, IsOfTable, IsUnreadable, IsBadFile};
+
+use history_model::CivilMinute;
+use jiff::civil::DateTime;
+use jiff::tz::{Offset, TimeZone, Tzif};
+use jiff::{Error, Timestamp};
+use std::alloc::{AllocError, Global};
+
+/// The rules of a civil clock. Contracts see a zone by `offsets`, the seconds by which its clock is ahead of UTC, and by
+/// `minute_at`, the civil minute that it shows, both at each second of Unix time.
+#[derive(Drop)]
+pub struct Zone {
+    rules: Rules,
+}
+
+#[derive(Drop)]
+enum Rules {
+    Plain(TimeZone<'static>),
+    Table(Tzif),
+}
+
+/// Why no zone was made.
+#[derive(Clone, Copy, Debug, PartialEq, Eq, Drop)]
+pub enum ZoneFault {
+    /// Memory ran out.
+    NoMemory,
+    /// What was handed in is past a limit, or describes no zone.
+    BadZone,
+}
+
+const LONGEST_FILE: usize = 65_536;
+
+const DAYS_400: u64 = 34_560_000;
+
+impl Zone {
+    /// The zone whose clock is always that many seconds ahead of UTC, negative west of it. BadZone past 86,399 either way.
+    /// Takes no memory.
+    pub fn fixed(seconds: i32) -> Result<Zone, ZoneFault>
+        ensures succeeds { IsOk result ↔ IsWithin 86_399 seconds }
+        ensures zone { IfOk result (λ zone. offsets zone ≡ always seconds) }
+        ensures fault { IfErr result (λ e. e ≡ ZoneFault.BadZone) }
+    {
+        if !(-86_399..=86_399).contains(&seconds) {
+            return Err(ZoneFault::BadZone);
+        }
+        match Offset::from_seconds(seconds) {
+            Ok(offset) => Ok(Zone {
+                rules: Rules::Plain(TimeZone::fixed(offset)),
+            }),
+            Err(_) => Err(ZoneFault::BadZone),
+        }
+    }
+
+    /// The zone of a POSIX rule, as `EST5EDT,M3.2.0,M11.1.0` (POSIX, Base Definitions, 8.3, variable TZ). BadZone where
+    /// the text is no such rule: a name of a zone, as `Europe/Paris`, is none. Takes no memory.
+    pub fn posix(text: &str) -> Result<Zone, ZoneFault>
+        ensures succeeds { IsOk result ↔ IsSome (read_whole text.now) }
+        ensures zone { IfOk result (λ zone. IsOfRule text.now (offsets zone)) }
+        ensures fault { IfErr result (λ e. e ≡ ZoneFault.BadZone) }
+    {
+        match TimeZone::posix(text) {
+            Ok(zone) => Ok(Zone {
+                rules: Rules::Plain(zone),
+            }),
+            Err(_) => Err(ZoneFault::BadZone),
+        }
+    }
+
+    /// The zone of the bytes of a zone file (RFC 9636). BadZone past 65,536 bytes, where the bytes are no zone file, and
+    /// where the file's footer does not agree with its last row. NoMemory where the table found no room.
+    pub fn tzif(alloc: Global, bytes: &[u8]) -> Result<Zone, ZoneFault>
+        ensures long { 65_536 < length bytes.now → result ≡ Err ZoneFault.BadZone }
+        ensures unreadable { IsUnreadable bytes.now → result ≡ Err ZoneFault.BadZone }
+        ensures bad { result ≡ Err ZoneFault.BadZone → IsBadFile bytes.now }
+        ensures zone { IfOk result (λ zone. IsOfTable bytes.now (offsets zone)) }
+    {
+        if bytes.len() > LONGEST_FILE {
+            return Err(ZoneFault::BadZone);
+        }
+        match Tzif::parse(alloc, None, bytes) {
+            Ok(table) => Ok(Zone {
+                rules: Rules::Table(table),
+            }),
+            Err(Error::OutOfMemory) => Err(ZoneFault::NoMemory),
+            Err(_) => Err(ZoneFault::BadZone),
+        }
+    }
+
+    // What a clock in this zone shows at a second of Unix time.
+    fn shown_at(&self, seconds: u64) -> DateTime
+        requires { seconds ≤ 250_000_000_000 }
+        ensures { civil_seconds result ≡ clock_seconds (offsets self.now) seconds }
+    {
+        let Ok(instant) = Timestamp::from_second(seconds as i64) else {
+            unreachable!()
+        };
+        match &self.rules {
+            Rules::Plain(zone) => zone.to_datetime(instant),
+            Rules::Table(table) => TimeZone::tzif(table).to_datetime(instant),
+        }
+    }
+
+    /// What a clock in this zone shows that many seconds after 1970-01-01T00:00:00 UTC, its seconds dropped. The caller's
+    /// condition: at most 250,000,000,000 seconds, in the year 9892. Takes no memory.
+    pub fn civil_minute(&self, seconds: u64) -> CivilMinute
+        requires { seconds ≤ 250_000_000_000 }
+        ensures { result ≡ minute_at self.now seconds }
+    {
+        minute_of(self.shown_at(seconds))
+    }
+
+    /// What a clock in this zone shows at each whole minute of Unix time after `previous` and up to `now`, both in seconds,
+    /// in rising order. Of a step of more than 400 days only the last 400 count. A civil minute that the clock skips is
+    /// not there, and one that it shows twice is there twice. The caller's condition: `now` is at most 250,000,000,000.
+    pub fn crossed(
+        &self,
+        alloc: Global,
+        previous: u64,
+        now: u64,
+    ) -> Result<Vec<CivilMinute>, AllocError>
+        requires { now ≤ 250_000_000_000 }
+        ensures { IfOk result (λ minutes. minutes.items ≡ map (minute_at self.now) (crossed previous now)) }
+    {
+        let last_before = (previous / 60).max(now.saturating_sub(DAYS_400) / 60);
+        let mut minutes = Vec::new(alloc);
+        for k in last_before..now / 60 {
+            minutes.push(self.civil_minute((k + 1) * 60))?;
+        }
+        Ok(minutes)
+    }
+}
+
+// The datetime with its seconds dropped.
+fn minute_of(shown: DateTime) -> CivilMinute
+    ensures { result ≡ shown_minute (civil_seconds shown) }
+{
+    CivilMinute {
+        year: shown.year(),
+        month: shown.month().unsigned_abs(),
+        day: shown.day().unsigned_abs(),
+        hour: shown.hour().unsigned_abs(),
+        minute: shown.minute().unsigned_abs(),
+        weekday: shown.weekday().to_sunday_zero_offset().unsigned_abs(),
+    }
+}
