@@ -2,3 +2,4 @@ pub mod Minute
 pub mod Offsets
 pub mod Zone
 pub mod Rules
+pub mod Changes

@@ -1,7 +1,7 @@
 //! Which entries of a calendar match a civil minute.
-ghost use Rattle.std.specs.Prelude.{◌≡◌};
+ghost use Rattle.std.specs.Prelude.{◌≡◌, ℕ, map};
 ghost use Rattle.std.specs.List.{list_any};
-ghost use Rattle.history_model.specs.Calendar.{matches as entry_matches, allows, is_weekday, allows_day};
+ghost use Rattle.history_model.specs.Calendar.{Zone, matches as entry_matches, allows, is_weekday, allows_day, crossed, calendar_fires};
 
 use history_model::{CivilMinute, Entry};
 
@@ -19,12 +19,21 @@ impl Calendar {
 
     /// Some entry matches some of the minutes. The search ends at the first minute that is matched. Takes no memory.
     pub fn fires(entries: &[Entry], minutes: &[CivilMinute]) -> bool
-        ensures { result ≡ list_any (λ minute. list_any (λ entry. entry_matches entry minute) entries.now) minutes.now }
+        ensures any { result ≡ list_any (λ minute. list_any (λ entry. entry_matches entry minute) entries.now) minutes.now }
+        ensures fires { (zone : Zone) (previous now : ℕ) → minutes.now ≡ map zone (crossed previous now) →
+            result ≡ calendar_fires zone entries.now previous now }
     {
-        minutes
-            .iter()
-            .any(|minute| Calendar::matches(entries, minute))
+        !entries.is_empty() && is_any_matched(entries, minutes)
     }
+}
+
+// Some entry matches some of the minutes.
+fn is_any_matched(entries: &[Entry], minutes: &[CivilMinute]) -> bool
+    ensures { result ≡ list_any (λ minute. list_any (λ entry. entry_matches entry minute) entries.now) minutes.now }
+{
+    minutes
+        .iter()
+        .any(|minute| Calendar::matches(entries, minute))
 }
 
 // The entry matches the minute.

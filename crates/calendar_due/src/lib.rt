@@ -3,6 +3,7 @@
 #![tactic(auto)]
 
 mod calendar;
+pub mod laws;
 mod zone;
 
 pub use calendar::Calendar;

@@ -1,0 +1,50 @@
+//! What holds of every clock and every step of it. The functions do nothing: their contracts are the laws.
+ghost use Rattle.std.specs.Prelude.{◌≡◌, ◌≢◌, ◌<◌, ◌%◌, ◌↔◌, ◌⊎◌, ℕ, ℤ, pos, true, ◌+ℤ◌, ◌≤ℤ◌, ◌<ℤ◌, neg_ℤ, List, [], ◌∷◌, map, Contains};
+ghost use Rattle.std.specs.List.Sorted.{IsStrictlyIncreasing};
+ghost use Rattle.history_model.specs.Calendar.{crossed, matches, calendar_fires};
+ghost use Rattle.history_model.specs.declared.Entry.{Entry};
+ghost use Rattle.calendar_due.specs.Minute.{shown_minute};
+ghost use Rattle.calendar_due.specs.Offsets.{Offsets, shown_by};
+ghost use Rattle.history_model.specs.declared.CivilMinute.{CivilMinute};
+ghost use Rattle.calendar_due.specs.Changes.{IsCrossed, IsChange, IsSkipped, IsRepeated, AreShowings, start_of};
+
+/// The crossed minutes are the multiples of 60 after the previous reading, up to this one and of the last 400 days, each
+/// once and in rising order.
+pub fn crossed_minutes_are_a_set()
+    ensures members { (previous now m : ℕ) → Contains (crossed previous now) m ↔ IsCrossed previous now m }
+    ensures rising { (previous now : ℕ) → IsStrictlyIncreasing (crossed previous now) }
+{}
+
+/// The date and the time of a civil minute are those of the second at which the clock began to show it: the fields count
+/// up to it, and the clock is less than a minute past it.
+pub fn a_civil_minute_tells_its_second()
+    ensures begun { (shown : ℤ) → neg_ℤ (pos 93_599) ≤ℤ shown → start_of (shown_minute shown) ≤ℤ shown }
+    ensures within { (shown : ℤ) → neg_ℤ (pos 93_599) ≤ℤ shown → shown <ℤ (start_of (shown_minute shown) +ℤ pos 60) }
+{}
+
+/// A civil minute in a gap is shown at no second, so no step of the clock crosses it.
+pub fn a_minute_in_a_gap_never_fires()
+    ensures shown { (ahead : Offsets) (change : ℕ) (before after : ℤ) (at : CivilMinute) →
+        IsChange ahead change before after → IsSkipped change before after at →
+        (m : ℕ) → shown_by ahead m ≢ at }
+    ensures crossed { (ahead : Offsets) (change : ℕ) (before after : ℤ) (at : CivilMinute) →
+        IsChange ahead change before after → IsSkipped change before after at →
+        (previous now : ℕ) → ¬ Contains (map (shown_by ahead) (crossed previous now)) at }
+{}
+
+/// A civil minute in a fold is shown from two seconds on, and at no third whole minute. An entry that matches it fires
+/// where a step of the clock crosses the first, and again where one crosses the second.
+pub fn a_minute_in_a_fold_fires_twice()
+    ensures two { (ahead : Offsets) (change first second : ℕ) (before after : ℤ) (at : CivilMinute) →
+        IsChange ahead change before after → IsRepeated change before after at → AreShowings first second before after at →
+        (first < second) × (shown_by ahead first ≡ at) × (shown_by ahead second ≡ at) }
+    ensures only { (ahead : Offsets) (change first second : ℕ) (before after : ℤ) (at : CivilMinute) →
+        IsChange ahead change before after → IsRepeated change before after at → AreShowings first second before after at →
+        first % 60 ≡ 0 → second % 60 ≡ 0 →
+        (m : ℕ) → m % 60 ≡ 0 → shown_by ahead m ≡ at → (m ≡ first) ⊎ (m ≡ second) }
+    ensures fires { (ahead : Offsets) (change first second : ℕ) (before after : ℤ) (at : CivilMinute) →
+        IsChange ahead change before after → IsRepeated change before after at → AreShowings first second before after at →
+        (entry : Entry) (previous now : ℕ) → matches entry at ≡ true →
+        IsCrossed previous now first ⊎ IsCrossed previous now second →
+        calendar_fires (shown_by ahead) (entry ∷ []) previous now ≡ true }
+{}
