@@ -4,6 +4,8 @@
 
 mod calendar;
 pub mod laws;
+#[cfg(test)]
+mod tests;
 mod zone;
 
 pub use calendar::Calendar;
