@@ -6,6 +6,7 @@ ghost use Rattle.history_model.specs.declared.Entry.{Entry};
 ghost use Rattle.calendar_due.specs.Minute.{shown_minute};
 ghost use Rattle.calendar_due.specs.Offsets.{Offsets, shown_by};
 ghost use Rattle.history_model.specs.declared.CivilMinute.{CivilMinute};
+ghost use Rattle.calendar_due.specs.Zone.{IsOfRule};
 ghost use Rattle.calendar_due.specs.Changes.{IsCrossed, IsChange, IsSkipped, IsRepeated, AreShowings, start_of};
 
 /// The crossed minutes are the multiples of 60 after the previous reading, up to this one and of the last 400 days, each
@@ -20,6 +21,11 @@ pub fn crossed_minutes_are_a_set()
 pub fn a_civil_minute_tells_its_second()
     ensures begun { (shown : ℤ) → neg_ℤ (pos 93_599) ≤ℤ shown → start_of (shown_minute shown) ≤ℤ shown }
     ensures within { (shown : ℤ) → neg_ℤ (pos 93_599) ≤ℤ shown → shown <ℤ (start_of (shown_minute shown) +ℤ pos 60) }
+{}
+
+/// A text is one rule only: whatever zone is made of it, its clock is the same.
+pub fn a_text_has_one_clock()
+    ensures { (text : List ℕ) (one other : Offsets) → IsOfRule text one → IsOfRule text other → one ≡ other }
 {}
 
 /// A civil minute in a gap is shown at no second, so no step of the clock crosses it.

@@ -4,6 +4,8 @@ ghost use Rattle.jiff_core.specs.Calendar.{IsWithin};
 ghost use Rattle.jiff_core.specs.DateTime.{civil_nanos, civil_seconds};
 ghost use Rattle.jiff_core.specs.Timestamp.{nanos_of_seconds};
 ghost use Rattle.jiff_tz.specs.PosixReader.{read_whole};
+ghost use Rattle.jiff_tz.specs.Tzif.{HasBadRule};
+ghost use Rattle.jiff_tz.specs.TzifReader.{read_tzif};
 ghost use Rattle.history_model.specs.Calendar.{crossed};
 ghost use Rattle.calendar_due.specs.Minute.{shown_minute};
 ghost use Rattle.calendar_due.specs.Offsets.{always, clock_seconds};
@@ -81,6 +83,7 @@ impl Zone {
     pub fn tzif(alloc: Global, bytes: &[u8]) -> Result<Zone, ZoneFault>
         ensures long { 65_536 < length bytes.now → result ≡ Err ZoneFault.BadZone }
         ensures unreadable { IsUnreadable bytes.now → result ≡ Err ZoneFault.BadZone }
+        ensures bad_rule { HasBadRule (read_tzif bytes.now) → IsErr result }
         ensures bad { result ≡ Err ZoneFault.BadZone → IsBadFile bytes.now }
         ensures zone { IfOk result (λ zone. IsOfTable bytes.now (offsets zone)) }
     {

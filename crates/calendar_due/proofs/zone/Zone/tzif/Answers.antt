@@ -1,5 +1,6 @@
 use Rattle.std.proofs.Common.{refl}
 use Rattle.calendar_due.specs.Rules.{offsets}
+use Rattle.calendar_due.proofs.RuleLemmas.{agrees-not-bad}
 use Rattle.calendar_due.proofs.zone.Zone.tzif.Goals as goal
 
 pub returns-in-Ok-clause-zone : goal.returns-in-Ok-clause-zone
@@ -10,3 +11,6 @@ returns-in-Ok-clause-zone c = record {
   agrees = c.in-Ok.ensures.agrees;
   offsets = refl;
 }
+
+pub returns-in-Ok-clause-bad_rule : goal.returns-in-Ok-clause-bad_rule
+returns-in-Ok-clause-bad_rule c = λ bad. absurd (agrees-not-bad c.in-Ok.table _ c.in-Ok.ensures.value c.in-Ok.ensures.agrees bad)
