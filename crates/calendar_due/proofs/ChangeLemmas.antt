@@ -1,15 +1,15 @@
 -- What a change of the clock skips and repeats.
-use Rattle.std.proofs.Common.{◌≡◌, ◌≢◌, ◌<◌, ◌≤◌, ◌⊎◌, inl, inr, ℕ, zero, suc, ◌+◌, ◌-◌, ◌*◌, ◌/◌, ◌%◌, ℤ, pos, negsuc, neg_ℤ, ◌+ℤ◌, ◌-ℤ◌, ◌*ℤ◌, ◌≤ℤ◌, ◌<ℤ◌, unsigned_abs, refl, sym, ap, ◌∙◌, subst, arith}
+use Rattle.std.proofs.Common.{◌≡◌, ◌≢◌, ◌<◌, ◌≤◌, ◌⊎◌, inl, inr, ℕ, zero, suc, ◌+◌, ◌-◌, ◌*◌, ◌/◌, ◌%◌, ℤ, pos, negsuc, neg_ℤ, ◌+ℤ◌, ◌-ℤ◌, ◌*ℤ◌, ◌≤ℤ◌, ◌<ℤ◌, unsigned_abs, refl, ap, ◌∙◌, subst, arith}
 use Rattle.std.proofs.lemmas.Bool.Decides.{leb_tells}
 use Rattle.std.specs.Int.{int_div_euclid, int_rem_euclid}
 use Rattle.jiff.proofs.SpanFacts.{signed_arith}
-use Rattle.jiff_core.specs.Calendar.{IsWithin, days_of_years, days_of_months, days_from_civil, day_count, day_of_year}
+use Rattle.jiff_core.specs.Calendar.{IsWithin, days_of_years, days_of_months, days_from_civil, day_count}
 use Rattle.jiff_core.proofs.CalendarLemmas.{days_from_civil-day_count, days_of_months-zero}
 use Rattle.jiff_tz.specs.Year.{years_within, year_of_day}
 use Rattle.history_model.specs.declared.CivilMinute.{CivilMinute}
 use Rattle.calendar_due.specs.Minute.{months_within, place_in_year, shown_minute}
 use Rattle.calendar_due.specs.Offsets.{Offsets, clock_seconds, shown_by}
-use Rattle.calendar_due.specs.Changes.{IsChange, IsSkipped, IsRepeated, AreShowings, IsCrossed, start_of}
+use Rattle.calendar_due.specs.Changes.{IsChange, IsSkipped, IsRepeated, AreShowings, start_of}
 
 -- the years that fit have no more days than that
 years_fit : (n count : ℕ) → days_of_years (years_within n count) ≤ count

@@ -1,6 +1,5 @@
 -- What a rule says settles what it gives: two rules of one text give the same at each instant.
-use Rattle.std.proofs.Common.{◌≡◌, ℕ, ℤ, ◌*ℤ◌, ◌+ℤ◌, ◌-ℤ◌, ◌&&◌, ◌||◌, int_lt, List, Bool, Option, Some, None, option_map, map, subst, IfSome, refl, sym, ap, ap₂, ◌∙◌, inl, inr, if◌then◌else◌, get_or, length, ◌-◌, Ok, false, true}
-use Rattle.std.proofs.lemmas.Bool.{cases_Bool}
+use Rattle.std.proofs.Common.{◌≡◌, ℕ, ℤ, ◌*ℤ◌, ◌+ℤ◌, ◌-ℤ◌, ◌&&◌, ◌||◌, int_lt, List, Bool, Option, Some, None, option_map, map, subst, IfSome, refl, sym, ap, ap₂, ◌∙◌, if◌then◌else◌, get_or, length, ◌-◌, Ok, false, true}
 use Rattle.jiff_core.specs.Timestamp.{nanos_of_seconds}
 use Rattle.jiff_core.specs.declared.Offset.{Offset}
 use Rattle.jiff_tz.specs.Abbreviation.{abbreviation_text}
@@ -13,7 +12,7 @@ use Rattle.jiff_tz.specs.declared.posix.DayTime.{DayTime}
 use Rattle.jiff_tz.specs.declared.posix.Dst.{Dst}
 use Rattle.jiff_tz.specs.declared.posix.TimeZone.{TimeZone}
 use Rattle.jiff_tz.specs.declared.tzif.Tzif.{Tzif}
-use Rattle.jiff_tz.specs.PosixText.{DstText, TzText, tz_view, dst_view, day_time_view}
+use Rattle.jiff_tz.specs.PosixText.{tz_view, dst_view, day_time_view}
 use Rattle.jiff_tz.specs.PosixRule.{match_some, clamp_to, first_nanosecond, last_nanosecond, nanos_per_day, rule_day, rule_nanos, utc_window, saturating_add, int_same, in_window, dst_at_by, dst_info, info_at, dst_at, offset_at as rule_offset}
 use Rattle.std.proofs.Math.Path.{fun_ext}
 use Rattle.calendar_due.specs.Offsets.{Offsets, nanos_at}
@@ -22,7 +21,7 @@ use Rattle.jiff_tz.specs.Year.{year_of_nanos}
 use Rattle.jiff_tz.specs.Tzif.{HasBadRule, RuleAgrees, tzif_view}
 use Rattle.jiff_tz.specs.TzifReader.{Parsed, TzifText}
 use Rattle.jiff_tz.specs.TzifText.{TransitionText, transition_text, no_row}
-use Rattle.jiff_tz.specs.TzifAgree.{FooterAgrees, RowAgrees}
+use Rattle.jiff_tz.specs.TzifAgree.{FooterAgrees}
 
 -- a moment of the year, by its day and time
 same_moment : (y : ℤ) (a b : DayTime) (seconds also : ℤ) → day_time_view a ≡ day_time_view b → seconds ≡ also → rule_nanos y a seconds ≡ rule_nanos y b also

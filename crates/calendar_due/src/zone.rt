@@ -135,7 +135,8 @@ impl Zone {
         ensures { IfOk result (λ minutes. minutes.items ≡ map (minute_at self.now) (crossed previous now)) }
     {
         let last_before = (previous / 60).max(now.saturating_sub(DAYS_400) / 60);
-        let mut minutes = Vec::new(alloc);
+        let count = (now / 60).saturating_sub(last_before);
+        let mut minutes = Vec::with_capacity(alloc, count as usize)?;
         for k in last_before..now / 60 {
             minutes.push(self.civil_minute((k + 1) * 60))?;
         }

@@ -1,4 +1,4 @@
-use Rattle.std.proofs.Common.{◌≡◌, ◌∙◌, false, length, sym, ap, not}
+use Rattle.std.proofs.Common.{◌≡◌, ◌∙◌, length, sym, ap, not}
 use Rattle.std.proofs.lemmas.Bool.Decides.{Decides-eqb}
 use Rattle.calendar_due.proofs.CalendarLemmas.{nothing_matches, found-calendar_fires}
 use Rattle.calendar_due.proofs.calendar.Calendar.fires.Goals as goal
