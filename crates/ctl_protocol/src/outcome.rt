@@ -1,0 +1,152 @@
+//! Writes the lines of outcomes and of replies.
+
+ghost use Rattle.std.specs.Prelude.{◌≡◌, IfOk};
+ghost use Rattle.serde_json.specs.Data.{array};
+ghost use Rattle.serde_json.specs.View.{view};
+ghost use Rattle.ctl_protocol.specs.Objects.{line_of, plain_object};
+ghost use Rattle.ctl_protocol.specs.Outcomes.{answered, order_members, orders_data, orders_of, outcome_object, outcome_text, reply_object, reply_text};
+
+use crate::object::{Cell, line_from, members_of, object_of};
+use crate::texts::refusal_text;
+use history_model::{Act, Reply};
+use serde_json::{Value, put};
+use std::alloc::{AllocError, Global};
+
+fn order_value(alloc: Global, job: &str, act: Act) -> Result<Value, AllocError>
+    ensures { IfOk result (λ v. view v ≡ plain_object (order_members (job.now, act))) }
+{
+    let job = ("job", Cell::Text(job));
+    match act {
+        Act::Spawn { run, conn: None } => object_of(
+            alloc,
+            &[
+                job,
+                ("order", Cell::Text("spawn")),
+                ("run", Cell::Count(run)),
+            ],
+        ),
+        Act::Spawn {
+            run,
+            conn: Some(conn),
+        } => object_of(
+            alloc,
+            &[
+                ("conn", Cell::Count(conn)),
+                job,
+                ("order", Cell::Text("spawn")),
+                ("run", Cell::Count(run)),
+            ],
+        ),
+        Act::Term { run } => object_of(
+            alloc,
+            &[
+                job,
+                ("order", Cell::Text("term")),
+                ("run", Cell::Count(run)),
+            ],
+        ),
+        Act::Kill { run } => object_of(
+            alloc,
+            &[
+                job,
+                ("order", Cell::Text("kill")),
+                ("run", Cell::Count(run)),
+            ],
+        ),
+        Act::Close { conn } => object_of(
+            alloc,
+            &[
+                ("conn", Cell::Count(conn)),
+                job,
+                ("order", Cell::Text("close")),
+            ],
+        ),
+        Act::Gone => object_of(alloc, &[job, ("order", Cell::Text("gone"))]),
+    }
+}
+
+fn orders_value(alloc: Global, orders: &[(&str, Act)]) -> Result<Value, AllocError>
+    ensures { IfOk result (λ v. view v ≡ array (orders_data (orders_of orders.now))) }
+{
+    let mut values = Vec::new(alloc);
+    for (job, act) in orders {
+        values.push(order_value(alloc, job, *act)?)?;
+    }
+    Ok(Value::Array(values))
+}
+
+fn outcome_value(
+    alloc: Global,
+    code: u8,
+    text: &str,
+    orders: &[(&str, Act)],
+) -> Result<Value, AllocError>
+    ensures { IfOk result (λ v. view v ≡ outcome_object code text.now (orders_of orders.now)) }
+{
+    let list = orders_value(alloc, orders)?;
+    let mut map = members_of(
+        alloc,
+        &[
+            ("code", Cell::Count(code as u64)),
+            ("text", Cell::Text(text)),
+        ],
+    )?;
+    put(&mut map, alloc, "orders", list)?;
+    Ok(Value::Object(map))
+}
+
+fn outcome_from(
+    alloc: Global,
+    code: u8,
+    text: &str,
+    orders: &[(&str, Act)],
+) -> Result<Vec<u8>, AllocError>
+    ensures { IfOk result (λ line. line.items ≡ line_of (outcome_object code text.now (orders_of orders.now))) }
+{
+    let value = outcome_value(alloc, code, text, orders)?;
+    line_from(alloc, &value)
+}
+
+/// The line of an event's outcome, with its newline: the reply's code (0 where there is no refusal), the orders with
+/// their jobs' labels, and the text, which is the refusal's own where there is one. `Err` says only that memory ran out.
+pub fn outcome_line(
+    alloc: Global,
+    reply: &Reply,
+    orders: &[(&str, Act)],
+) -> Result<Vec<u8>, AllocError>
+    ensures { IfOk result (λ line. line.items ≡ outcome_text (answered reply.now (orders_of orders.now))) }
+{
+    match reply.refusal {
+        None => outcome_from(alloc, 0, reply.text.as_str(), orders),
+        Some(refusal) => {
+            let text = refusal_text(alloc, refusal)?;
+            outcome_from(alloc, refusal.code(), text.as_str(), orders)
+        }
+    }
+}
+
+fn reply_from(alloc: Global, code: u8, text: &str) -> Result<Vec<u8>, AllocError>
+    ensures { IfOk result (λ line. line.items ≡ line_of (reply_object code text.now)) }
+{
+    let value = object_of(
+        alloc,
+        &[
+            ("code", Cell::Count(code as u64)),
+            ("text", Cell::Text(text)),
+        ],
+    )?;
+    line_from(alloc, &value)
+}
+
+/// The line of a reply to a control client, with its newline. `Err` says only that memory ran out.
+pub fn reply_line(alloc: Global, reply: &Reply) -> Result<Vec<u8>, AllocError>
+    ensures { IfOk result (λ line. line.items ≡ reply_text reply.now) }
+{
+    match reply.refusal {
+        None => reply_from(alloc, 0, reply.text.as_str()),
+        Some(refusal) => {
+            let text = refusal_text(alloc, refusal)?;
+            reply_from(alloc, refusal.code(), text.as_str())
+        }
+    }
+}
