@@ -9,7 +9,7 @@ ghost use Rattle.ctl_protocol.specs.declared.members.ReadFault.TheVariants.{NoMe
 use crate::target::{is_label, label_named};
 use history_model::Text;
 use serde_json::{Map, Value};
-use std::alloc::{AllocError, Global};
+use std::alloc::{AllocError, AllocFailed, Global};
 use thiserror::Error;
 
 /// Why a line was not read.
@@ -27,6 +27,14 @@ impl From<AllocError> for ReadFault {
     ghost from_gives = { λ _ e. e ≡ NoMemory };
 
     fn from(_e: AllocError) -> ReadFault {
+        ReadFault::NoMemory
+    }
+}
+
+impl<T: Drop> From<AllocFailed<T>> for ReadFault {
+    ghost from_gives = { λ _ e. e ≡ NoMemory };
+
+    fn from(_e: AllocFailed<T>) -> ReadFault {
         ReadFault::NoMemory
     }
 }
@@ -156,7 +164,8 @@ fn all_are_keys(form: Form, members: &Map<String, Value>, keys: &[&str], answers
     true
 }
 
-fn is_among(key: &str, keys: &[&str]) -> bool
+/// Whether the key is one of these.
+pub(crate) fn is_among(key: &str, keys: &[&str]) -> bool
     ensures { result ≡ among (names_of keys.now) key.now }
 {
     for name in keys {
