@@ -1,5 +1,5 @@
 -- What is written has no float.
-use Rattle.std.proofs.Common.{◌≡◌, ℕ, List, [], ◌∷◌, ◌++◌, map, Bool, false, ◌||◌, Some, None, refl, ap, ◌∙◌, sym, codes, arith}
+use Rattle.std.proofs.Common.{◌≡◌, ℕ, List, [], ◌∷◌, ◌++◌, map, Bool, false, ◌||◌, Some, None, refl, ap, ◌∙◌, sym, codes, arith, if◌then◌else◌}
 use Rattle.std.specs.Ordering.{nat_cmp, match_ordering}
 use Rattle.std.specs.Cmp.Lexicographic.{slice_cmp}
 use Rattle.std.specs.declared.cmp.Ordering.{Ordering}
@@ -8,6 +8,9 @@ use Rattle.serde_json.specs.Data.{Data, Members, no_members, member, object, arr
 use Rattle.serde_json.specs.Written.{has_float, members_have_float, items_have_float}
 use Rattle.ctl_protocol.specs.Objects.{Plain, text, flag, count, plain_data, with_members, plain_object}
 use Rattle.history_model.specs.declared.Act.{Act}
+use Rattle.ctl_protocol.specs.declared.members.Form.{Form}
+use Rattle.ctl_protocol.specs.Members.{tag_of, has_answers}
+use Rattle.ctl_protocol.specs.Journal.{row_object}
 use Rattle.ctl_protocol.specs.Outcomes.{order_members, orders_data, outcome_object, reply_object}
 
 none_of : (a b : Bool) → a ≡ false → b ≡ false → (a || b) ≡ false
@@ -54,3 +57,7 @@ outcome_no_float code said orders = rw (orders_no_float orders) refl
 
 pub reply_no_float : (code : ℕ) (said : List ℕ) → has_float (reply_object code said) ≡ false
 reply_no_float code said = object_no_float ((codes "code", count code) ∷ (codes "text", text said) ∷ [])
+
+pub row_no_float : (form : Form) (name : List ℕ) (row answers : List (List ℕ × Plain)) → has_float (row_object form name row answers) ≡ false
+row_no_float form name row answers =
+    with_no_float _ (if has_answers form then answers else []) (with_no_float _ row (with_no_float no_members ((tag_of form, text name) ∷ []) refl))

@@ -9,7 +9,8 @@ use Rattle.history_model.specs.Labels.{is_label}
 use Rattle.ctl_protocol.specs.declared.header.Header.{Header}
 use Rattle.ctl_protocol.specs.declared.header.ZoneText.{ZoneText}
 use Rattle.ctl_protocol.specs.declared.header.ZoneText.TheVariants.{Posix, Offset, File}
-use Rattle.ctl_protocol.specs.Members.{◌>>=◌, json_of, number_key, is_among}
+use Rattle.job_defs.specs.Json.{json_in}
+use Rattle.ctl_protocol.specs.Members.{◌>>=◌, number_key, is_among}
 
 -- ---- bytes in lower case hexadecimal
 
@@ -109,7 +110,7 @@ header_row d = if has_header_keys d then (do
 
 -- the header that a line is
 unfoldable pub header_at : List ℕ → Option Header
-header_at line = json_of line >>= header_row
+header_at line = json_in line >>= header_row
 
 -- ---- for loops: with what came before
 

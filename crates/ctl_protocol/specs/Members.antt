@@ -2,9 +2,8 @@
 use Rattle.std.specs.Prelude.{◌≡◌, ℕ, List, [], ◌∷◌, map, Bool, true, false, ◌&&◌, ◌||◌, Result, Ok, Err, Option, Some, None, option_and_then, if◌then◌else◌, codes}
 use Rattle.std.specs.Borrow.{Bor}
 use Rattle.std.specs.List.{list_any}
-use Rattle.std.specs.Str.{is_utf8, bytes_eq}
+use Rattle.std.specs.Str.{bytes_eq}
 use Rattle.serde_json.specs.Data.{Data, Members, no_members, member}
-use Rattle.serde_json.specs.Read.{read}
 use Rattle.serde_json.specs.Find.{get, as_str, as_bool, as_number, as_u64, as_object}
 use Rattle.history_model.specs.Labels.{is_label}
 use Rattle.ctl_protocol.specs.declared.members.ReadFault.{ReadFault}
@@ -29,10 +28,6 @@ Gives view (Err e) given = Fails e given
 
 abbrev pub Reads : {X : Type 0} → Result X ReadFault → Option X → Type 0
 Reads result given = Gives (λ x. x) result given
-
--- the JSON value (RFC 8259) that the bytes are
-abbrev pub json_of : List ℕ → Option Data
-json_of bytes = if is_utf8 bytes then read bytes else None
 
 unfoldable pub text_key : List ℕ → Data → Option (List ℕ)
 text_key key d = option_and_then as_str (get key d)

@@ -37,3 +37,6 @@ plain_of (cells.Count n) = count n
 
 abbrev pub plains_of : List (Bor (List ℕ) × Cell) → List (List ℕ × Plain)
 plains_of members = map (λ m. (m.0.now, plain_of m.1)) members
+
+abbrev pub flags_of : List (Bor (List ℕ) × Bool) → List (List ℕ × Plain)
+flags_of flags = map (λ f. (f.0.now, flag f.1)) flags

@@ -11,7 +11,8 @@ use Rattle.history_model.specs.declared.event.Event.{Event}
 use Rattle.history_model.specs.declared.event.Event.TheVariants as events
 use Rattle.ctl_protocol.specs.declared.members.Form.{Form}
 use Rattle.ctl_protocol.specs.declared.members.Form.TheVariants as forms
-use Rattle.ctl_protocol.specs.Members.{◌>>=◌, json_of, text_key, number_key, flag_key, flag_or, label_key, target_key, has_only, tag_of}
+use Rattle.job_defs.specs.Json.{json_in}
+use Rattle.ctl_protocol.specs.Members.{◌>>=◌, text_key, number_key, flag_key, flag_or, label_key, target_key, has_only, tag_of}
 
 -- ---- what clients ask
 
@@ -175,13 +176,13 @@ told_row name d =
 -- the event that a line of a journal tells
 unfoldable pub event_at : List ℕ → Option Event
 event_at line = do
-  d ← json_of line
+  d ← json_in line
   name ← text_key (tag_of forms.Event) d
   told_row name d
 
 -- the event that a request asks for; the outside's answers count as given
 unfoldable pub request_at : List ℕ → Option Event
 request_at line = do
-  d ← json_of line
+  d ← json_in line
   name ← text_key (tag_of forms.Request) d
   asked_row name forms.Request d

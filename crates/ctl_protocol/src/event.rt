@@ -8,7 +8,7 @@ ghost use Rattle.ctl_protocol.specs.Members.{Reads};
 ghost use Rattle.ctl_protocol.specs.Rows.{event_at, request_at, asked_row, told_row, load_row, unload_row, job_row, target_row, setting_row, kickstart_row, bare_row, clock_row, saw_row, sight_keys, has_saw_keys as saw_keys, connection_row, pid_key, spawned_row, run_row, answer_row, byte_key, end_key, ended_row};
 
 use crate::members::{
-    Form, ReadFault, flag_in, flag_or_in, has_only_keys, json_in, label_in, number_in, target_in,
+    Form, ReadFault, flag_in, flag_or_in, has_only_keys, json_line, label_in, number_in, target_in,
     text_in,
 };
 use history_model::{Ended, Event, Obs, Reading, Text};
@@ -337,7 +337,7 @@ fn told_in(alloc: Global, name: &str, line: &Value) -> Result<Event, ReadFault>
 pub fn read_event(alloc: Global, line: &[u8]) -> Result<Event, ReadFault>
     ensures { Reads result (event_at line.now) }
 {
-    let line = json_in(alloc, line)?;
+    let line = json_line(alloc, line)?;
     let name = text_in(&line, Form::Event.tag())?;
     told_in(alloc, name, &line)
 }
@@ -348,7 +348,7 @@ pub fn read_event(alloc: Global, line: &[u8]) -> Result<Event, ReadFault>
 pub fn read_request(alloc: Global, line: &[u8]) -> Result<Event, ReadFault>
     ensures { Reads result (request_at line.now) }
 {
-    let line = json_in(alloc, line)?;
+    let line = json_line(alloc, line)?;
     let name = text_in(&line, Form::Request.tag())?;
     asked_in(alloc, name, Form::Request, &line)
 }

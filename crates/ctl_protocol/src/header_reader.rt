@@ -7,9 +7,9 @@ ghost use Rattle.ctl_protocol.specs.Headers.{are_among, bytes_of_hex, digit_of, 
 ghost use Rattle.ctl_protocol.specs.Members.{Gives, Reads, names_of};
 
 use crate::header::{Header, Settings, ZoneFile, ZoneText};
-use crate::members::{ReadFault, is_among, json_in, number_in};
-use crate::target::is_label;
+use crate::members::{ReadFault, is_among, json_line, number_in};
 use history_model::{MAX_UP, MAX_WALL, Reading, Setting, Text};
+use job_defs::is_label;
 use serde_json::{Map, Value};
 use std::alloc::Global;
 
@@ -211,6 +211,6 @@ fn header_in(alloc: Global, line: &Value) -> Result<Header, ReadFault>
 pub fn read_header(alloc: Global, line: &[u8]) -> Result<Header, ReadFault>
     ensures { Reads result (header_at line.now) }
 {
-    let line = json_in(alloc, line)?;
+    let line = json_line(alloc, line)?;
     header_in(alloc, &line)
 }

@@ -1,13 +1,15 @@
 //! The members of a line's object, by key and kind.
 
 ghost use Rattle.std.specs.Prelude.{◌≡◌};
+ghost use Rattle.job_defs.specs.Json.{json_in};
 ghost use Rattle.serde_json.specs.View.{view, members_view};
-ghost use Rattle.ctl_protocol.specs.Members.{Gives, Reads, json_of, text_key, number_key, flag_key, flag_or, label_key, target_key, has_only, names_of, tag_of, members_are};
+ghost use Rattle.ctl_protocol.specs.Members.{Gives, Reads, text_key, number_key, flag_key, flag_or, label_key, target_key, has_only, names_of, tag_of, members_are};
 ghost use Rattle.ctl_protocol.specs.Members.{is_among as among};
 ghost use Rattle.ctl_protocol.specs.declared.members.ReadFault.TheVariants.{NoMemory};
 
-use crate::target::{is_label, label_named};
+use crate::target::label_named;
 use history_model::Text;
+use job_defs::{is_label, json_value};
 use serde_json::{Map, Value};
 use std::alloc::{AllocError, AllocFailed, Global};
 use thiserror::Error;
@@ -59,13 +61,12 @@ impl Form {
 }
 
 /// The JSON value that the bytes are.
-pub(crate) fn json_in(alloc: Global, bytes: &[u8]) -> Result<Value, ReadFault>
-    ensures { Gives view result (json_of bytes.now) }
+pub(crate) fn json_line(alloc: Global, bytes: &[u8]) -> Result<Value, ReadFault>
+    ensures { Gives view result (json_in bytes.now) }
 {
-    match Value::from_slice(alloc, bytes) {
-        Ok(value) => Ok(value),
-        Err(e) if e.is_memory() => Err(ReadFault::NoMemory),
-        Err(_) => Err(ReadFault::BadRequest),
+    match json_value(alloc, bytes)? {
+        Some(value) => Ok(value),
+        None => Err(ReadFault::BadRequest),
     }
 }
 

@@ -1,10 +1,9 @@
 //! JSON objects of plain members, and how a value is written as a line.
 
-ghost use Rattle.std.specs.Prelude.{◌≡◌, IfOk, false};
-ghost use Rattle.serde_json.specs.Data.{no_members};
+ghost use Rattle.std.specs.Prelude.{◌≡◌, IfOk, OnOk, false};
 ghost use Rattle.serde_json.specs.View.{view, members_view};
 ghost use Rattle.serde_json.specs.Written.{has_float};
-ghost use Rattle.ctl_protocol.specs.Objects.{line_of, with_members, plain_data, plain_of, plains_of, plain_object};
+ghost use Rattle.ctl_protocol.specs.Objects.{flags_of, line_of, with_members, plain_data, plain_of, plains_of, plain_object};
 
 use serde_json::{Map, Value, put};
 use std::alloc::{AllocError, Global};
@@ -27,26 +26,42 @@ fn cell_value(alloc: Global, cell: Cell<'_>) -> Result<Value, AllocError>
     }
 }
 
-/// The members at their places, in byte order of keys.
-pub(crate) fn members_of(
+/// Puts the members at their places, in byte order of keys.
+pub(crate) fn put_all(
+    map: &mut Map<String, Value>,
     alloc: Global,
     members: &[(&str, Cell<'_>)],
-) -> Result<Map<String, Value>, AllocError>
-    ensures { IfOk result (λ m. members_view m.entries ≡ with_members no_members (plains_of members.now)) }
+) -> Result<(), AllocError>
+    ensures { OnOk result (members_view map.new.entries ≡ with_members (members_view map.old.entries) (plains_of members.now)) }
 {
-    let mut map = Map::new(alloc);
     for (key, cell) in members {
         let value = cell_value(alloc, *cell)?;
-        put(&mut map, alloc, key, value)?;
+        put(map, alloc, key, value)?;
     }
-    Ok(map)
+    Ok(())
+}
+
+/// Puts flags at their places, in byte order of keys.
+pub(crate) fn put_flags(
+    map: &mut Map<String, Value>,
+    alloc: Global,
+    flags: &[(&str, bool)],
+) -> Result<(), AllocError>
+    ensures { OnOk result (members_view map.new.entries ≡ with_members (members_view map.old.entries) (flags_of flags.now)) }
+{
+    for (key, set) in flags {
+        put(map, alloc, key, Value::Bool(*set))?;
+    }
+    Ok(())
 }
 
 /// The object of these members.
 pub(crate) fn object_of(alloc: Global, members: &[(&str, Cell<'_>)]) -> Result<Value, AllocError>
     ensures { IfOk result (λ v. view v ≡ plain_object (plains_of members.now)) }
 {
-    Ok(Value::Object(members_of(alloc, members)?))
+    let mut map = Map::new(alloc);
+    put_all(&mut map, alloc, members)?;
+    Ok(Value::Object(map))
 }
 
 /// The compact text of a value, and a newline.

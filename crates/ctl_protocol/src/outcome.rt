@@ -6,10 +6,10 @@ ghost use Rattle.serde_json.specs.View.{view};
 ghost use Rattle.ctl_protocol.specs.Objects.{line_of, plain_object};
 ghost use Rattle.ctl_protocol.specs.Outcomes.{answered, order_members, orders_data, orders_of, outcome_object, outcome_text, reply_object, reply_text};
 
-use crate::object::{Cell, line_from, members_of, object_of};
+use crate::object::{Cell, line_from, object_of, put_all};
 use crate::texts::refusal_text;
 use history_model::{Act, Reply};
-use serde_json::{Value, put};
+use serde_json::{Map, Value, put};
 use std::alloc::{AllocError, Global};
 
 fn order_value(alloc: Global, job: &str, act: Act) -> Result<Value, AllocError>
@@ -84,7 +84,9 @@ fn outcome_value(
     ensures { IfOk result (λ v. view v ≡ outcome_object code text.now (orders_of orders.now)) }
 {
     let list = orders_value(alloc, orders)?;
-    let mut map = members_of(
+    let mut map = Map::new(alloc);
+    put_all(
+        &mut map,
         alloc,
         &[
             ("code", Cell::Count(code as u64)),

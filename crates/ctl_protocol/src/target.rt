@@ -1,30 +1,15 @@
 //! Labels and the targets that name them.
 
 ghost use Rattle.std.specs.Prelude.{◌≡◌, option_map};
-ghost use Rattle.std.specs.List.{list_any, list_all};
+ghost use Rattle.std.specs.List.{list_all};
 ghost use Rattle.ctl_protocol.specs.Members.{Reads};
 ghost use Rattle.ctl_protocol.specs.Targets as targets;
 ghost use Rattle.ctl_protocol.specs.Targets.{is_user_number, is_digit, SplitsAtSlash};
-ghost use Rattle.history_model.specs.Labels as labels;
 
 use crate::members::ReadFault;
 use history_model::Text;
+use job_defs::is_label;
 use std::alloc::Global;
-
-fn has_forbidden(bytes: &[u8]) -> bool
-    ensures { result ≡ list_any labels.is_forbidden bytes.now }
-{
-    bytes
-        .iter()
-        .any(|byte| *byte == b'/' || *byte < 32 || *byte == 127)
-}
-
-/// Whether the text is a label: 1 to 255 bytes, no `/`, no control byte.
-pub(crate) fn is_label(text: &str) -> bool
-    ensures { result ≡ labels.is_label text.now }
-{
-    0 < text.len() && text.len() <= 255 && !has_forbidden(text.as_bytes())
-}
 
 fn all_digits(bytes: &[u8]) -> bool
     ensures { result ≡ list_all is_digit bytes.now }

@@ -1,0 +1,97 @@
+-- The lines that tell an event, as they are written: every key of the event's row, in byte order.
+use Rattle.std.specs.Prelude.{ℕ, List, [], ◌∷◌, codes, Bool, true, if◌then◌else◌}
+use Rattle.serde_json.specs.Data.{Data, Members, object, no_members, put}
+use Rattle.history_model.specs.declared.Ended.{Ended}
+use Rattle.history_model.specs.declared.Ended.TheVariants.{Code, Signal}
+use Rattle.history_model.specs.declared.event.Event.{Event}
+use Rattle.history_model.specs.declared.event.Event.TheVariants as events
+use Rattle.ctl_protocol.specs.declared.members.Form.{Form}
+use Rattle.ctl_protocol.specs.declared.members.Form.TheVariants as forms
+use Rattle.ctl_protocol.specs.Members.{tag_of, has_answers}
+use Rattle.ctl_protocol.specs.Objects.{Plain, text, flag, count, plain_data, with_members, line_of}
+
+abbrev pub name_of : Event → List ℕ
+name_of (events.Load def w force bind store) = codes "load"
+name_of (events.Unload job w store) = codes "unload"
+name_of (events.Start job) = codes "start"
+name_of (events.Stop job) = codes "stop"
+name_of (events.Kickstart job k) = codes "kickstart"
+name_of (events.Enable job store) = codes "enable"
+name_of (events.Disable job store) = codes "disable"
+name_of events.List = codes "list"
+name_of (events.Print job) = codes "print"
+name_of events.Shutdown = codes "shutdown"
+name_of (events.Clock at) = codes "clock"
+name_of (events.Saw path obs) = codes "saw"
+name_of (events.Came job conn) = codes "came"
+name_of (events.Left job conn) = codes "left"
+name_of (events.Spawned job run pid) = codes "spawned"
+name_of (events.SpawnRefused job run) = codes "spawn_refused"
+name_of (events.Termed job run ok) = codes "termed"
+name_of (events.Killed job run ok) = codes "killed"
+name_of (events.Ended job run how) = codes "ended"
+name_of (events.WaitRefused job run) = codes "wait_refused"
+
+abbrev pub of_job : List ℕ → List ℕ × Plain
+of_job job = (codes "job", text job)
+
+abbrev pub of_run : List ℕ → ℕ → List (List ℕ × Plain)
+of_run job run = of_job job ∷ (codes "run", count run) ∷ []
+
+abbrev pub of_answer : List ℕ → ℕ → Bool → List (List ℕ × Plain)
+of_answer job run ok = of_job job ∷ (codes "ok", flag ok) ∷ (codes "run", count run) ∷ []
+
+abbrev pub of_connection : List ℕ → ℕ → List (List ℕ × Plain)
+of_connection job conn = (codes "conn", count conn) ∷ of_job job ∷ []
+
+-- `code` or `signal`, the one that applies
+abbrev pub end_member : Ended → List ℕ × Plain
+end_member (Code n) = (codes "code", count n)
+end_member (Signal n) = (codes "signal", count n)
+
+-- the keys of its row, but for the tag and the answers
+abbrev pub row_members : Event → List (List ℕ × Plain)
+row_members (events.Load def w force bind store) = (codes "F", flag force) ∷ (codes "def", text def) ∷ (codes "w", flag w) ∷ []
+row_members (events.Unload job w store) = of_job job ∷ (codes "w", flag w) ∷ []
+row_members (events.Start job) = of_job job ∷ []
+row_members (events.Stop job) = of_job job ∷ []
+row_members (events.Kickstart job k) = of_job job ∷ (codes "k", flag k) ∷ []
+row_members (events.Enable job store) = of_job job ∷ []
+row_members (events.Disable job store) = of_job job ∷ []
+row_members events.List = []
+row_members (events.Print job) = of_job job ∷ []
+row_members events.Shutdown = []
+row_members (events.Clock at) = (codes "up", count at.up) ∷ (codes "wall", count at.wall) ∷ []
+row_members (events.Saw path obs) =
+    (codes "exists", flag obs.present) ∷ (codes "nonempty", flag obs.nonempty_dir) ∷ (codes "path", text path) ∷ (codes "stamp", count obs.stamp) ∷ []
+row_members (events.Came job conn) = of_connection job conn
+row_members (events.Left job conn) = of_connection job conn
+row_members (events.Spawned job run pid) = of_job job ∷ (codes "pid", count pid) ∷ (codes "run", count run) ∷ []
+row_members (events.SpawnRefused job run) = of_run job run
+row_members (events.Termed job run ok) = of_answer job run ok
+row_members (events.Killed job run ok) = of_answer job run ok
+row_members (events.Ended job run how) = end_member how ∷ of_job job ∷ (codes "run", count run) ∷ []
+row_members (events.WaitRefused job run) = of_run job run
+
+-- what the outside answered
+abbrev pub answer_members : Event → List (List ℕ × Plain)
+answer_members (events.Load def w force bind store) = (codes "bind", flag bind) ∷ (codes "store", flag store) ∷ []
+answer_members (events.Unload job w store) = (codes "store", flag store) ∷ []
+answer_members (events.Enable job store) = (codes "store", flag store) ∷ []
+answer_members (events.Disable job store) = (codes "store", flag store) ∷ []
+answer_members _ = []
+
+abbrev pub row_object : Form → List ℕ → List (List ℕ × Plain) → List (List ℕ × Plain) → Data
+row_object form name row answers =
+    object (with_members (with_members (with_members no_members ((tag_of form, text name) ∷ [])) row) (if has_answers form then answers else []))
+
+abbrev pub event_object : Form → Event → Data
+event_object form e = row_object form (name_of e) (row_members e) (answer_members e)
+
+-- the line of a journal that tells the event, with its newline
+abbrev pub event_text : Event → List ℕ
+event_text e = line_of (event_object forms.Event e)
+
+-- the line by which a client asks for it, with its newline
+abbrev pub request_text : Event → List ℕ
+request_text e = line_of (event_object forms.Request e)

@@ -1,0 +1,241 @@
+//! Writes the lines that tell an event: those of a journal, and requests.
+
+ghost use Rattle.std.specs.Prelude.{◌≡◌, IfOk, codes, ◌∷◌, []};
+ghost use Rattle.history_model.specs.declared.event.Event.TheVariants as events;
+ghost use Rattle.serde_json.specs.View.{view};
+ghost use Rattle.ctl_protocol.specs.declared.members.Form.TheVariants as forms;
+ghost use Rattle.ctl_protocol.specs.Objects.{flag, flags_of, plains_of, plain_of};
+ghost use Rattle.ctl_protocol.specs.Journal.{end_member, event_object, event_text, of_answer, of_connection, of_job, of_run, request_text, row_object};
+
+use crate::members::Form;
+use crate::object::{Cell, line_from, put_all, put_flags};
+use history_model::{Ended, Event, Obs, Reading, Text};
+use serde_json::{Map, Value};
+use std::alloc::{AllocError, Global};
+
+/// The object of a row: its tag, its keys and, in a journal, the answers.
+fn row_value(
+    alloc: Global,
+    form: Form,
+    name: &str,
+    row: &[(&str, Cell<'_>)],
+    answers: &[(&str, bool)],
+) -> Result<Value, AllocError>
+    ensures { IfOk result (λ v. view v ≡ row_object form name.now (plains_of row.now) (flags_of answers.now)) }
+{
+    let mut map = Map::new(alloc);
+    put_all(&mut map, alloc, &[(form.tag(), Cell::Text(name))])?;
+    put_all(&mut map, alloc, row)?;
+    if form == Form::Event {
+        put_flags(&mut map, alloc, answers)?;
+    }
+    Ok(Value::Object(map))
+}
+
+fn end_cell(how: Ended) -> (&'static str, Cell<'static>)
+    ensures { (result.0.now, plain_of result.1) ≡ end_member how }
+{
+    match how {
+        Ended::Code(code) => ("code", Cell::Count(code as u64)),
+        Ended::Signal(signal) => ("signal", Cell::Count(signal as u64)),
+    }
+}
+
+fn job_value(alloc: Global, form: Form, name: &str, job: &Text) -> Result<Value, AllocError>
+    ensures { IfOk result (λ v. view v ≡ row_object form name.now (of_job job.now ∷ []) []) }
+{
+    row_value(alloc, form, name, &[("job", Cell::Text(job.as_str()))], &[])
+}
+
+fn setting_value(
+    alloc: Global,
+    form: Form,
+    name: &str,
+    job: &Text,
+    store: bool,
+) -> Result<Value, AllocError>
+    ensures { IfOk result (λ v. view v ≡ row_object form name.now (of_job job.now ∷ []) ((codes "store", flag store) ∷ [])) }
+{
+    let row = [("job", Cell::Text(job.as_str()))];
+    row_value(alloc, form, name, &row, &[("store", store)])
+}
+
+fn connection_value(
+    alloc: Global,
+    form: Form,
+    name: &str,
+    job: &Text,
+    conn: u64,
+) -> Result<Value, AllocError>
+    ensures { IfOk result (λ v. view v ≡ row_object form name.now (of_connection job.now conn) []) }
+{
+    let row = [
+        ("conn", Cell::Count(conn)),
+        ("job", Cell::Text(job.as_str())),
+    ];
+    row_value(alloc, form, name, &row, &[])
+}
+
+fn run_value(
+    alloc: Global,
+    form: Form,
+    name: &str,
+    job: &Text,
+    run: u64,
+) -> Result<Value, AllocError>
+    ensures { IfOk result (λ v. view v ≡ row_object form name.now (of_run job.now run) []) }
+{
+    let row = [("job", Cell::Text(job.as_str())), ("run", Cell::Count(run))];
+    row_value(alloc, form, name, &row, &[])
+}
+
+fn answer_value(
+    alloc: Global,
+    form: Form,
+    name: &str,
+    job: &Text,
+    run: u64,
+    ok: bool,
+) -> Result<Value, AllocError>
+    ensures { IfOk result (λ v. view v ≡ row_object form name.now (of_answer job.now run ok) []) }
+{
+    let row = [
+        ("job", Cell::Text(job.as_str())),
+        ("ok", Cell::Flag(ok)),
+        ("run", Cell::Count(run)),
+    ];
+    row_value(alloc, form, name, &row, &[])
+}
+
+fn saw_value(alloc: Global, form: Form, path: &Text, obs: Obs) -> Result<Value, AllocError>
+    ensures { IfOk result (λ v. view v ≡ event_object form (events.Saw path.now obs)) }
+{
+    let row = [
+        ("exists", Cell::Flag(obs.present)),
+        ("nonempty", Cell::Flag(obs.nonempty_dir)),
+        ("path", Cell::Text(path.as_str())),
+        ("stamp", Cell::Count(obs.stamp)),
+    ];
+    row_value(alloc, form, "saw", &row, &[])
+}
+
+fn ended_value(
+    alloc: Global,
+    form: Form,
+    job: &Text,
+    run: u64,
+    how: Ended,
+) -> Result<Value, AllocError>
+    ensures { IfOk result (λ v. view v ≡ event_object form (events.Ended job.now run how)) }
+{
+    let row = [
+        end_cell(how),
+        ("job", Cell::Text(job.as_str())),
+        ("run", Cell::Count(run)),
+    ];
+    row_value(alloc, form, "ended", &row, &[])
+}
+
+fn clock_value(alloc: Global, form: Form, at: Reading) -> Result<Value, AllocError>
+    ensures { IfOk result (λ v. view v ≡ event_object form (events.Clock at)) }
+{
+    let row = [("up", Cell::Count(at.up)), ("wall", Cell::Count(at.wall))];
+    row_value(alloc, form, "clock", &row, &[])
+}
+
+fn spawned_value(
+    alloc: Global,
+    form: Form,
+    job: &Text,
+    run: u64,
+    pid: u32,
+) -> Result<Value, AllocError>
+    ensures { IfOk result (λ v. view v ≡ event_object form (events.Spawned job.now run pid)) }
+{
+    let row = [
+        ("job", Cell::Text(job.as_str())),
+        ("pid", Cell::Count(pid as u64)),
+        ("run", Cell::Count(run)),
+    ];
+    row_value(alloc, form, "spawned", &row, &[])
+}
+
+fn kickstart_value(alloc: Global, form: Form, job: &Text, k: bool) -> Result<Value, AllocError>
+    ensures { IfOk result (λ v. view v ≡ event_object form (events.Kickstart job.now k)) }
+{
+    let row = [("job", Cell::Text(job.as_str())), ("k", Cell::Flag(k))];
+    row_value(alloc, form, "kickstart", &row, &[])
+}
+
+fn unload_value(
+    alloc: Global,
+    form: Form,
+    job: &Text,
+    w: bool,
+    store: bool,
+) -> Result<Value, AllocError>
+    ensures { IfOk result (λ v. view v ≡ event_object form (events.Unload job.now w store)) }
+{
+    let row = [("job", Cell::Text(job.as_str())), ("w", Cell::Flag(w))];
+    row_value(alloc, form, "unload", &row, &[("store", store)])
+}
+
+/// The object of an event.
+fn event_value(alloc: Global, form: Form, event: &Event) -> Result<Value, AllocError>
+    ensures { IfOk result (λ v. view v ≡ event_object form event.now) }
+{
+    match event {
+        Event::Load {
+            def,
+            w,
+            force,
+            bind,
+            store,
+        } => {
+            let row = [
+                ("F", Cell::Flag(*force)),
+                ("def", Cell::Text(def.as_str())),
+                ("w", Cell::Flag(*w)),
+            ];
+            let answers = [("bind", *bind), ("store", *store)];
+            row_value(alloc, form, "load", &row, &answers)
+        }
+        Event::Unload { job, w, store } => unload_value(alloc, form, job, *w, *store),
+        Event::Start { job } => job_value(alloc, form, "start", job),
+        Event::Stop { job } => job_value(alloc, form, "stop", job),
+        Event::Kickstart { job, k } => kickstart_value(alloc, form, job, *k),
+        Event::Enable { job, store } => setting_value(alloc, form, "enable", job, *store),
+        Event::Disable { job, store } => setting_value(alloc, form, "disable", job, *store),
+        Event::List => row_value(alloc, form, "list", &[], &[]),
+        Event::Print { job } => job_value(alloc, form, "print", job),
+        Event::Shutdown => row_value(alloc, form, "shutdown", &[], &[]),
+        Event::Clock(at) => clock_value(alloc, form, *at),
+        Event::Saw { path, obs } => saw_value(alloc, form, path, *obs),
+        Event::Came { job, conn } => connection_value(alloc, form, "came", job, *conn),
+        Event::Left { job, conn } => connection_value(alloc, form, "left", job, *conn),
+        Event::Spawned { job, run, pid } => spawned_value(alloc, form, job, *run, *pid),
+        Event::SpawnRefused { job, run } => run_value(alloc, form, "spawn_refused", job, *run),
+        Event::Termed { job, run, ok } => answer_value(alloc, form, "termed", job, *run, *ok),
+        Event::Killed { job, run, ok } => answer_value(alloc, form, "killed", job, *run, *ok),
+        Event::Ended { job, run, how } => ended_value(alloc, form, job, *run, *how),
+        Event::WaitRefused { job, run } => run_value(alloc, form, "wait_refused", job, *run),
+    }
+}
+
+/// The line of a journal that tells an event, with its newline: an object of every key of the event's row, in byte
+/// order. `Err` says only that memory ran out.
+pub fn event_line(alloc: Global, event: &Event) -> Result<Vec<u8>, AllocError>
+    ensures { IfOk result (λ line. line.items ≡ event_text event.now) }
+{
+    let value = event_value(alloc, Form::Event, event)?;
+    line_from(alloc, &value)
+}
+
+/// The line by which a control client asks for an event, with its newline: the event's row without the answers of the
+/// outside. `Err` says only that memory ran out.
+pub fn request_line(alloc: Global, event: &Event) -> Result<Vec<u8>, AllocError>
+    ensures { IfOk result (λ line. line.items ≡ request_text event.now) }
+{
+    let value = event_value(alloc, Form::Request, event)?;
+    line_from(alloc, &value)
+}
