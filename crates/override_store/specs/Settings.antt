@@ -1,55 +1,67 @@
--- What the rows of the table say of labels.
-use Rattle.std.specs.Prelude.{◌≡◌, ◌≢◌, ◌⊎◌, ◌↔◌, ℕ, ℤ, Bool, not, List, [], ◌∷◌, map, pos, if◌then◌else◌, string_bytes, String, IsUtf8, false}
-use Rattle.std.specs.List.{AllZip}
+-- What `all` and `changes` list, and the tie to a list of settings.
+use Rattle.std.specs.Prelude.{◌≡◌, ◌↔◌, ℕ, Bool, false, List, [], ◌∷◌, map, Option, Some, option_map, pos, string_bytes, String, IsUtf8, IsTrue}
+use Rattle.std.specs.List.{AllZip, filter}
 use Rattle.std.specs.declared.alloc.Global.{Global}
 use Rattle.std.specs.List.Sorted.{IsPermutation, IsSorted, IsSortedByKey}
-use Rattle.std.specs.Ordering.{nat_cmp, int_eq}
+use Rattle.std.specs.Ordering.{nat_cmp}
 use Rattle.std.specs.Cmp.Lexicographic.{slice_cmp}
 use Rattle.sqlite.specs.declared.types.Value.{Value}
 use Rattle.sqlite.specs.declared.types.Value.TheVariants.{Int, Text}
 use Rattle.sqlite.specs.Order.{Row, column, value_cmp}
-use Rattle.sqlite_rules.specs.Lists.{Has}
-use Rattle.history_model.specs.Labels.{is_label}
+use Rattle.history_model.specs.declared.event.Setting.{Setting}
+use Rattle.history_model.specs.Search.{first}
+use Rattle.history_model.specs.Labels.{Label, is_label}
+use Rattle.history_model.specs.Machine.{sets}
+use Rattle.override_store.specs.Rows.{IsFlag, Says}
 
-abbrev pub flag : Bool → Value
-flag disabled = Int (if disabled then pos 1 else pos 0)
-
--- the value reads as this setting
-abbrev pub IsFlag : Value → Bool → Type 0
-IsFlag v disabled = (n : ℤ) × (v ≡ Int n) × (disabled ≡ not (int_eq n (pos 0)))
-
--- the label has this setting
-pub record Says (rows : List Row) (label : List ℕ) (disabled : Bool) : Type 0 where
-  pub row : Row
-  pub there : Has rows row
-  pub label_is : column row 1 ≡ Text label
-  pub disabled_is : IsFlag (column row 2) disabled
-
--- the label gets this setting, and each other label keeps its own
-abbrev pub Sets : List Row → List Row → List ℕ → Bool → Type 0
-Sets old new label disabled = (l : List ℕ) (d : Bool) → Says new l d ↔ (((l ≡ label) × (d ≡ disabled)) ⊎ ((l ≢ label) × Says old l d))
-
+-- what the query shows of a row
 abbrev pub shown : Row → Row
-shown row = column row 1 ∷ column row 2 ∷ []
+shown row = column row 1 ∷ column row 2 ∷ column row 3 ∷ []
 
 -- what the query answers: each row once, by rising labels
 pub record IsSortedList (rows answer : List Row) : Type 0 where
   pub same : IsPermutation (map shown rows) answer
   pub sorted : IsSorted (λ x y. value_cmp (column x 0) (column y 0)) answer
 
-abbrev pub IsEntry : Row → List ℕ × Bool → Type 0
-IsEntry row entry = (column row 0 ≡ Text entry.0) × IsFlag (column row 1) entry.1
+abbrev pub Change : Type 0
+Change = List ℕ × ℕ
+
+-- the row is of this label, which is one
+abbrev pub IsOf : Row → List ℕ → Type 0
+IsOf row label = (column row 0 ≡ Text label) × IsTrue (is_label label)
+
+-- the row reads as this setting
+abbrev pub IsEntry : Row → Setting → Type 0
+IsEntry row setting = IsOf row setting.label × IsFlag (column row 1) setting.disabled
+
+-- the row reads as this label and second
+abbrev pub IsChange : Row → Change → Type 0
+IsChange row change = IsOf row change.0 × (column row 2 ≡ Int (pos change.1))
 
 -- each row once, by rising bytes of the labels
-pub record Lists (rows : List Row) (all : List (List ℕ × Bool)) : Type 0 where
+pub record Lists {A : Type 0} (label_of : A → List ℕ) (Reads : Row → A → Type 0) (rows : List Row) (all : List A) : Type 0 where
   pub answer : List Row
   pub same : IsPermutation (map shown rows) answer
-  pub each : AllZip IsEntry answer all
-  pub rising : IsSortedByKey (λ (e : List ℕ × Bool). e.0) (slice_cmp nat_cmp) all
+  pub each : AllZip Reads answer all
+  pub rising : IsSortedByKey label_of (slice_cmp nat_cmp) all
 
-abbrev pub entry_of : String Global × Bool → List ℕ × Bool
-entry_of e = (string_bytes e.0, e.1)
+abbrev pub ListsSettings : List Row → List Setting → Type 0
+ListsSettings = Lists (λ (s : Setting). s.label) IsEntry
+
+abbrev pub ListsChanges : List Row → List Change → Type 0
+ListsChanges = Lists (λ (c : Change). c.0) IsChange
+
+abbrev pub change_of : String Global × ℕ → Change
+change_of e = (string_bytes e.0, e.1)
 
 -- the value is no label that is text
 abbrev pub IsForeign : Value → Type 0
 IsForeign v = (t : List ℕ) → v ≡ Text t → IsUtf8 t → is_label t ≡ false
+
+-- the label's last setting in a list that has the newest first
+abbrev pub setting_in : List Setting → Label → Option Bool
+setting_in settings label = option_map (λ (s : Setting). s.disabled) (first (filter (sets label) settings))
+
+-- the rows hold the last setting of each label in the list, and no other
+abbrev pub HoldsEach : List Row → List Setting → Type 0
+HoldsEach rows settings = (label : Label) (disabled : Bool) → (setting_in settings label ≡ Some disabled) ↔ Says rows label disabled

@@ -1,0 +1,16 @@
+use Rattle.std.proofs.Common.{map}
+use Rattle.override_store.specs.Settings.{Change, IsChange, IsForeign, change_of}
+use Rattle.override_store.proofs.AnswerLemmas.{listed_as, if_ok, answer_long, any_shown}
+use Rattle.override_store.proofs.OverrideStore.changes.Goals as goal
+
+pub returns-clause-ok : goal.returns-clause-ok
+returns-clause-ok g c clean ours =
+    let it = c.in_ok-rows.ensures.ok clean (rw c.self.view_is ours) in
+    if_ok c.changes.result _ _ (λ all each. rw (← c.self.view_is) (listed_as (λ (k : Change). k.0) IsChange (λ row k r. r.0.0) _ c.in_ok-rows.rows.items (map change_of all.items) it (rw c.as_slice.ensures.value at each))) c.changes.ensures.ok
+
+pub returns-clause-foreign : goal.returns-clause-foreign
+returns-clause-foreign g c clean ours refused =
+    let it = c.in_ok-rows.ensures.ok clean (rw c.self.view_is ours) in
+    let rows = c.in_ok-rows.rows.items in
+    let found = rw c.as_slice.ensures.value at (c.changes.ensures.foreign (rw (c.as_slice.ensures.value) (answer_long _ rows it)) refused) in
+    rw (← c.self.view_is) (any_shown IsForeign _ rows it found)

@@ -1,0 +1,101 @@
+//! The rows of a query as settings, and as seconds.
+
+ghost use Rattle.std.specs.Prelude.{◌≡◌, ◌<◌, All, Any, Err, IfOk, IsTrue, length, map, string_bytes};
+ghost use Rattle.std.specs.List.{AllZip, list_any};
+ghost use Rattle.sqlite.specs.Order.{column};
+ghost use Rattle.history_model.specs.Labels.{is_forbidden, is_label};
+ghost use Rattle.override_store.specs.Settings.{IsChange, IsEntry, IsForeign, IsOf, change_of};
+
+use crate::{StoreFault, fault};
+use history_model::{Setting, Text};
+use sqlite::{Error, ErrorCode, Row};
+use std::alloc::Global;
+
+fn is_forbidden(b: u8) -> bool
+    ensures { result ≡ is_forbidden b }
+{
+    b == b'/' || b < 32 || b == 127
+}
+
+fn any_forbidden(bytes: &[u8]) -> bool
+    ensures { result ≡ list_any is_forbidden bytes.now }
+{
+    bytes.iter().any(|b| is_forbidden(*b))
+}
+
+fn is_label(text: &str) -> bool
+    ensures { result ≡ is_label text.now }
+{
+    let bytes = text.as_bytes();
+    0 < bytes.len() && bytes.len() <= 255 && !any_forbidden(bytes)
+}
+
+fn stored_label(row: &Row) -> Result<String, StoreFault>
+    ensures ok { IfOk result (λ s. IsOf row.now (string_bytes s)) }
+    ensures foreign { 0 < length row.now → result ≡ Err StoreFault.Foreign → IsForeign (column row.now 0) }
+{
+    let label: String = match row.get(0) {
+        Ok(label) => label,
+        Err(Error::SqliteFailure(ErrorCode::OutOfMemory)) => return Err(StoreFault::NoMemory),
+        Err(_) => return Err(StoreFault::Foreign),
+    };
+    if !is_label(&label) {
+        return Err(StoreFault::Foreign);
+    }
+    Ok(label)
+}
+
+fn entry(row: &Row) -> Result<Setting, StoreFault>
+    ensures ok { IfOk result (λ s. IsEntry row.now s) }
+    ensures foreign { 0 < length row.now → result ≡ Err StoreFault.Foreign → IsForeign (column row.now 0) }
+{
+    let label = stored_label(row)?;
+    match row.get(1) {
+        Ok(disabled) => Ok(Setting {
+            label: Text::new(label),
+            disabled,
+        }),
+        Err(error) => Err(fault(error)),
+    }
+}
+
+fn change(row: &Row) -> Result<(String, u64), StoreFault>
+    ensures ok { IfOk result (λ c. IsChange row.now (change_of c)) }
+    ensures foreign { 0 < length row.now → result ≡ Err StoreFault.Foreign → IsForeign (column row.now 0) }
+{
+    let label = stored_label(row)?;
+    match row.get(2) {
+        Ok(second) => Ok((label, second)),
+        Err(error) => Err(fault(error)),
+    }
+}
+
+pub(crate) fn entries(alloc: Global, rows: &[Row]) -> Result<Vec<Setting>, StoreFault>
+    ensures ok { IfOk result (λ all. AllZip IsEntry rows.now all.items) }
+    ensures foreign { All (λ row. 0 < length row) rows.now → result ≡ Err StoreFault.Foreign → Any (λ row. IsForeign (column row 0)) rows.now }
+{
+    let mut all = Vec::new(alloc);
+    for row in rows {
+        let one = entry(row)?;
+        match all.push(one) {
+            Ok(()) => {}
+            Err(_) => return Err(StoreFault::NoMemory),
+        }
+    }
+    Ok(all)
+}
+
+pub(crate) fn changes(alloc: Global, rows: &[Row]) -> Result<Vec<(String, u64)>, StoreFault>
+    ensures ok { IfOk result (λ all. AllZip IsChange rows.now (map change_of all.items)) }
+    ensures foreign { All (λ row. 0 < length row) rows.now → result ≡ Err StoreFault.Foreign → Any (λ row. IsForeign (column row 0)) rows.now }
+{
+    let mut all = Vec::new(alloc);
+    for row in rows {
+        let one = change(row)?;
+        match all.push(one) {
+            Ok(()) => {}
+            Err(_) => return Err(StoreFault::NoMemory),
+        }
+    }
+    Ok(all)
+}
