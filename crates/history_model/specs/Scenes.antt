@@ -85,12 +85,15 @@ cames label k (suc n) = OfJob label (Came k) ∷ cames label (k + 1) n
 
 -- ---- labels and definitions
 
+-- three labels, in byte order
 abbrev pub a : Label
 a = codes "a"
 
+-- the second
 abbrev pub b : Label
 b = codes "b"
 
+-- the third, for a job with a socket
 abbrev pub s : Label
 s = codes "s"
 
