@@ -1,6 +1,6 @@
 -- Reading the members of an array or a dictionary one after the other, as a loop does.
-use Rattle.std.proofs.Common.{◌≡◌, ℕ, List, [], ◌∷◌, ◌++◌, Result, Ok, Err, refl, sym, ap, ◌∙◌, append_assoc}
-use Rattle.serde_json.specs.Data.{Data, Members, no_members, member}
+use Rattle.std.proofs.Common.{◌≡◌, ℕ, List, ◌++◌, Result, Ok, Err, refl, sym, ap, ◌∙◌, append_assoc}
+use Rattle.serde_json.specs.Data.{Data, Members, member}
 use Rattle.history_model.specs.Machine.{Fault}
 use Rattle.job_defs.specs.Faults.{◌>>=◌}
 use Rattle.job_defs.specs.Kinds.{each_member}

@@ -1,5 +1,5 @@
 -- Numbers and dots.
-use Rattle.std.proofs.Common.{◌≡◌, ◌<◌, ◌≤◌, ◌==◌, ◌^◌, ◌+◌, ℕ, Bool, true, false, nat_lt, nat_le, List, [], ◌∷◌, length, Option, Some, None, MatchOption, Result, Ok, Err, Bor, refl, sym, ap, ◌∙◌, arith, rules}
+use Rattle.std.proofs.Common.{◌≡◌, ◌<◌, ◌≤◌, ℕ, Bool, true, false, nat_lt, nat_le, List, [], ◌∷◌, length, Option, Some, None, MatchOption, Result, Ok, Bor, refl, sym, ap, ◌∙◌, arith, rules}
 use Rattle.std.specs.List.{list_all, slice_split, onto_first, position_or_len}
 use Rattle.std.specs.Result.{result_ok}
 use Rattle.std.specs.Str.Parse.{digits_value, ParsesUnsigned}

@@ -1,6 +1,6 @@
 -- `KeepAlive` of launchd.plist(5): a boolean, or a dictionary of conditions. The conditions are gone through in byte
 -- order. One that is not here never holds and is no fault.
-use Rattle.std.specs.Prelude.{ℕ, List, [], ◌∷◌, Bool, false, not, nat_lt, Result, Ok, Err, Option, Some, None, if◌then◌else◌}
+use Rattle.std.specs.Prelude.{List, [], ◌∷◌, Bool, false, not, nat_lt, Result, Ok, Err, Option, Some, None, if◌then◌else◌}
 use Rattle.serde_json.specs.Data.{Data}
 use Rattle.serde_json.specs.Events.{members_len}
 use Rattle.serde_json.specs.Find.{get, as_bool}

@@ -1,5 +1,5 @@
 -- Values by kind, length, range and form, in the order in which they are checked. The key is the one that a fault names.
-use Rattle.std.specs.Prelude.{◌≡◌, ℕ, List, [], ◌∷◌, ◌++◌, length, Bool, true, false, ◌&&◌, ◌==◌, nat_lt, nat_le, Result, Ok, Err, Option, Some, None, if◌then◌else◌, ⊤}
+use Rattle.std.specs.Prelude.{ℕ, List, [], ◌∷◌, ◌++◌, length, Bool, ◌&&◌, ◌==◌, nat_lt, nat_le, Result, Ok, Err, Option, Some, None, if◌then◌else◌, ⊤}
 use Rattle.std.specs.List.{list_any}
 use Rattle.std.specs.Str.{bytes_eq}
 use Rattle.serde_json.specs.Data.{Num, unsigned, negative, float, Data, Items, no_items, item, Members, no_members, member}

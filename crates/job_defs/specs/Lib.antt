@@ -4,8 +4,11 @@ pub mod Faults
 pub mod Json
 pub mod Names
 pub mod Kinds
+pub mod Commands
 pub mod Conditions
+pub mod Paths
 pub mod Calendars
+pub mod Variables
 pub mod Sockets
 pub mod Ignored
 pub mod Table

@@ -9,10 +9,11 @@ use Rattle.job_defs.specs.declared.parts.Keep.{Keep}
 use Rattle.job_defs.specs.declared.parts.Demand.{Demand}
 use Rattle.job_defs.specs.declared.parts.Pace.{Pace}
 use Rattle.job_defs.specs.declared.parts.Surroundings.{Surroundings}
+use Rattle.job_defs.specs.Commands as commands
 use Rattle.job_defs.specs.Conditions as conditions
 use Rattle.job_defs.specs.Table as table
 
-abbrev pub command_of : Command → table.Command
+abbrev pub command_of : Command → commands.Command
 command_of x = record { program = x.program; arguments = x.arguments.items }
 
 abbrev pub launch_of : Launch → table.Launch

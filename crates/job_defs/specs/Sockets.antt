@@ -1,14 +1,13 @@
 -- `Sockets` and `inetdCompatibility` of launchd.plist(5). Each name stands for one socket or for an array of them. Only
 -- listening stream sockets over IPv4 and at Unix paths are supported, and only for jobs that take each connection as their
 -- standard input and output.
-use Rattle.std.specs.Prelude.{ℕ, ◌+◌, List, [], ◌∷◌, Bool, true, false, not, ◌&&◌, ◌||◌, nat_lt, nat_le, length, Result, Ok, Err, Option, Some, None, if◌then◌else◌, codes, ⊤, ◌==◌}
+use Rattle.std.specs.Prelude.{ℕ, ◌+◌, List, [], ◌∷◌, Bool, true, false, not, ◌&&◌, nat_lt, nat_le, length, Result, Ok, Err, Option, Some, None, if◌then◌else◌, codes, ⊤, ◌==◌}
 use Rattle.std.specs.List.{list_all, slice_split}
-use Rattle.std.specs.Option.{option_and_then}
 use Rattle.std.specs.Str.{bytes_eq}
 use Rattle.std.specs.Str.Parse.{digits_value}
 use Rattle.serde_json.specs.Data.{Num, Data, Members, no_members, member}
 use Rattle.serde_json.specs.Events.{items_len}
-use Rattle.serde_json.specs.Find.{get, as_number, as_str}
+use Rattle.serde_json.specs.Find.{get, as_number}
 use Rattle.history_model.specs.declared.Reason.TheVariants.{Missing, OutOfRange, TooLong, Unsupported}
 use Rattle.history_model.specs.declared.KeyName.TheVariants as keys
 use Rattle.history_model.specs.Machine.{Fault}

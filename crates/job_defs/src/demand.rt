@@ -4,7 +4,8 @@ ghost use Rattle.std.specs.Prelude.{◌≡◌, ◌≤◌, ◌+◌, length, vec_l
 ghost use Rattle.serde_json.specs.View.{view, items_view};
 ghost use Rattle.job_defs.specs.Faults.{Gives};
 ghost use Rattle.job_defs.specs.Kinds.{each_item, path_at};
-ghost use Rattle.job_defs.specs.Table.{paths_at, paths_row, demand_at, pace_at};
+ghost use Rattle.job_defs.specs.Paths.{paths_at, paths_row};
+ghost use Rattle.job_defs.specs.Table.{demand_at, pace_at};
 ghost use Rattle.job_defs.specs.Seen.{demand_of, pace_of};
 
 use crate::calendars::calendar_row_of;
@@ -54,7 +55,7 @@ pub(crate) fn pace_row(def: &Value) -> Result<Pace, DefFault>
 }
 
 /// A list of paths, where the definition had so many before.
-#[tactic(auto, unfolding(crate::specs::Table::paths_row))]
+#[tactic(auto, unfolding(crate::specs::Paths::paths_row))]
 fn paths_row_of(
     alloc: Global,
     before: usize,
@@ -71,7 +72,7 @@ fn paths_row_of(
     }
 }
 
-#[tactic(auto, using(crate::proofs::Counts::items_count), unfolding(crate::specs::Table::paths_at))]
+#[tactic(auto, using(crate::proofs::Counts::items_count), unfolding(crate::specs::Paths::paths_at))]
 fn paths_of(
     alloc: Global,
     before: usize,

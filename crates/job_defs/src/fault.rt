@@ -3,15 +3,19 @@
 ghost use Rattle.std.specs.Prelude.{◌≡◌};
 ghost use Rattle.job_defs.specs.declared.fault.DefFault.TheVariants.{NoMemory};
 
+use crate::names::{key_name, reason_name};
 use history_model::{KeyName, Reason};
 use std::alloc::{AllocError, AllocFailed};
+use thiserror::Error;
 
 /// Why bytes were not read as a definition.
-#[derive(Clone, Copy, Debug, PartialEq, Eq)]
+#[derive(Clone, Copy, Debug, PartialEq, Eq, Error)]
 pub enum DefFault {
     /// The first fault of the definition, and the key that has it.
+    #[error("bad definition: {} {}", reason_name(*.reason), key_name(*.key))]
     Bad { reason: Reason, key: KeyName },
     /// Memory ran out. This tells nothing of the definition.
+    #[error("no memory")]
     NoMemory,
 }
 

@@ -4,7 +4,8 @@ ghost use Rattle.std.specs.Prelude.{◌≡◌, None, Some};
 ghost use Rattle.serde_json.specs.View.{view, items_view};
 ghost use Rattle.job_defs.specs.Faults.{Gives};
 ghost use Rattle.job_defs.specs.Kinds.{each_item};
-ghost use Rattle.job_defs.specs.Table.{label_row, word_at, command_in, command_at, command_row, launch_at};
+ghost use Rattle.job_defs.specs.Commands.{label_row, word_at, command_in, command_at, command_row};
+ghost use Rattle.job_defs.specs.Table.{launch_at};
 ghost use Rattle.job_defs.specs.Seen.{command_of, launch_of};
 
 use crate::fault::DefFault;
@@ -39,7 +40,7 @@ pub(crate) fn launch_row(alloc: Global, def: &Value) -> Result<Launch, DefFault>
     })
 }
 
-#[tactic(auto, unfolding(crate::specs::Table::label_row))]
+#[tactic(auto, unfolding(crate::specs::Commands::label_row))]
 fn label_row_of(alloc: Global, def: &Value) -> Result<Text, DefFault>
     ensures { Gives (λ label. label) result (label_row (view def.now)) }
 {
@@ -53,7 +54,7 @@ fn label_row_of(alloc: Global, def: &Value) -> Result<Text, DefFault>
     Ok(Text::copy_of(alloc, text)?)
 }
 
-#[tactic(auto, unfolding(crate::specs::Table::command_row))]
+#[tactic(auto, unfolding(crate::specs::Commands::command_row))]
 fn command_row_of(alloc: Global, program: Option<Text>, def: &Value) -> Result<Command, DefFault>
     ensures { Gives command_of result (command_row program (view def.now)) }
 {
@@ -70,7 +71,7 @@ fn command_row_of(alloc: Global, program: Option<Text>, def: &Value) -> Result<C
     }
 }
 
-#[tactic(auto, using(crate::proofs::Counts::items_count), unfolding(crate::specs::Table::command_at))]
+#[tactic(auto, using(crate::proofs::Counts::items_count), unfolding(crate::specs::Commands::command_at))]
 fn command_of(alloc: Global, program: Option<Text>, found: &Value) -> Result<Command, DefFault>
     ensures { Gives command_of result (command_at program (view found.now)) }
 {
@@ -88,7 +89,7 @@ fn command_of(alloc: Global, program: Option<Text>, found: &Value) -> Result<Com
 }
 
 /// With `Program`, the first word is checked and not used.
-#[tactic(auto, unfolding(crate::specs::Table::command_in))]
+#[tactic(auto, unfolding(crate::specs::Commands::command_in))]
 fn command_beside(alloc: Global, program: Text, words: &[Value]) -> Result<Command, DefFault>
     ensures { Gives command_of result (command_in (Some program) (items_view words.now)) }
 {
@@ -103,7 +104,7 @@ fn command_beside(alloc: Global, program: Text, words: &[Value]) -> Result<Comma
 }
 
 /// Without `Program`, the first word is the executable.
-#[tactic(auto, unfolding(crate::specs::Table::command_in))]
+#[tactic(auto, unfolding(crate::specs::Commands::command_in))]
 fn command_alone(alloc: Global, words: &[Value]) -> Result<Command, DefFault>
     ensures { Gives command_of result (command_in None (items_view words.now)) }
 {

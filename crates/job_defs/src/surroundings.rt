@@ -7,7 +7,8 @@ ghost use Rattle.serde_json.specs.View.{view, members_view};
 ghost use Rattle.serde_json.specs.Find.{as_str};
 ghost use Rattle.job_defs.specs.Faults.{Gives};
 ghost use Rattle.job_defs.specs.Kinds.{each_member};
-ghost use Rattle.job_defs.specs.Table.{is_equals, variable_in, variable_by, environment_at, environment_row, surroundings_at};
+ghost use Rattle.job_defs.specs.Variables.{is_equals, variable_in, variable_by, environment_at, environment_row};
+ghost use Rattle.job_defs.specs.Table.{surroundings_at};
 ghost use Rattle.job_defs.specs.Seen.{surroundings_of};
 
 use crate::fault::DefFault;
@@ -37,7 +38,7 @@ pub(crate) fn surroundings_row(alloc: Global, def: &Value) -> Result<Surrounding
     })
 }
 
-#[tactic(auto, unfolding(crate::specs::Table::environment_row))]
+#[tactic(auto, unfolding(crate::specs::Variables::environment_row))]
 fn environment_row_of(alloc: Global, def: &Value) -> Result<Vec<Variable>, DefFault>
     ensures { Gives (λ variables. variables.items) result (environment_row (view def.now)) }
 {
@@ -47,7 +48,7 @@ fn environment_row_of(alloc: Global, def: &Value) -> Result<Vec<Variable>, DefFa
     }
 }
 
-#[tactic(auto, using(crate::proofs::Counts::members_count), unfolding(crate::specs::Table::environment_at))]
+#[tactic(auto, using(crate::proofs::Counts::members_count), unfolding(crate::specs::Variables::environment_at))]
 fn environment_of(alloc: Global, found: &Value) -> Result<Vec<Variable>, DefFault>
     ensures { Gives (λ variables. variables.items) result (environment_at (view found.now)) }
 {
@@ -74,7 +75,7 @@ fn each_variable(alloc: Global, members: &Map<String, Value>) -> Result<Vec<Vari
 }
 
 /// A variable; None where its value is no string.
-#[tactic(auto, unfolding(crate::specs::Table::variable_in))]
+#[tactic(auto, unfolding(crate::specs::Variables::variable_in))]
 fn variable_of(alloc: Global, name: &str, value: &Value) -> Result<Option<Variable>, DefFault>
     ensures { Gives (λ variable. option_to_list variable) result (variable_in name.now (view value.now)) }
 {
@@ -88,7 +89,7 @@ fn variable_of(alloc: Global, name: &str, value: &Value) -> Result<Option<Variab
     valued(alloc, name, value)
 }
 
-#[tactic(auto, unfolding(crate::specs::Table::variable_by))]
+#[tactic(auto, unfolding(crate::specs::Variables::variable_by))]
 fn valued(alloc: Global, name: &str, value: &Value) -> Result<Option<Variable>, DefFault>
     ensures { Gives (λ variable. option_to_list variable) result (variable_by name.now (as_str (view value.now))) }
 {

@@ -1,6 +1,5 @@
-use Rattle.std.proofs.Common.{◌≡◌, ◌∷◌, sym, ap, ◌∙◌}
-use Rattle.std.specs.List.{slice_split}
-use Rattle.job_defs.specs.Sockets.{dotted_in, is_dot, octets_in}
+use Rattle.std.proofs.Common.{◌∷◌, sym, ap, ◌∙◌}
+use Rattle.job_defs.specs.Sockets.{dotted_in, octets_in}
 use Rattle.job_defs.proofs.Hosts.{five_parts}
 use Rattle.job_defs.proofs.host.dotted_in.Goals as goal
 

@@ -1,4 +1,4 @@
-use Rattle.std.proofs.Common.{◌≡◌, ◌∙◌, ◌<◌, ◌≤◌, length, arith, rules}
+use Rattle.std.proofs.Common.{◌∙◌, ◌<◌, ◌≤◌, length, rules}
 use Rattle.job_defs.proofs.Hosts.{number_is}
 use Rattle.job_defs.proofs.host.number_in.Goals as goal
 

@@ -1,0 +1,20 @@
+-- `WatchPaths` and `QueueDirectories` of launchd.plist(5).
+use Rattle.std.specs.Prelude.{ℕ, ◌+◌, List, [], nat_lt, Result, Err, if◌then◌else◌}
+use Rattle.serde_json.specs.Data.{Data}
+use Rattle.serde_json.specs.Events.{items_len}
+use Rattle.serde_json.specs.Find.{get}
+use Rattle.history_model.specs.declared.Reason.TheVariants.{TooLong}
+use Rattle.history_model.specs.declared.KeyName.{KeyName}
+use Rattle.history_model.specs.Machine.{Fault}
+use Rattle.history_model.specs.Texts.{key_text}
+use Rattle.job_defs.specs.Faults.{bad, ◌>>=◌}
+use Rattle.job_defs.specs.Kinds.{array_at, path_at, each_item, where_given}
+
+-- at most 64 paths in a definition, of which so many were counted before
+unfoldable pub paths_at : ℕ → KeyName → Data → Result (List (List ℕ)) Fault
+paths_at before key d = do
+  paths ← array_at key d
+  if nat_lt 64 (before + items_len paths) then Err (bad TooLong key) else each_item (path_at key) paths
+
+unfoldable pub paths_row : ℕ → KeyName → Data → Result (List (List ℕ)) Fault
+paths_row before key d = where_given (paths_at before key) [] (get (key_text key) d)

@@ -1,0 +1,37 @@
+-- `EnvironmentVariables` of launchd.plist(5).
+use Rattle.std.specs.Prelude.{ℕ, ◌==◌, List, [], ◌∷◌, Bool, nat_lt, Result, Ok, Err, Option, Some, None, if◌then◌else◌}
+use Rattle.std.specs.List.{list_any}
+use Rattle.serde_json.specs.Data.{Data}
+use Rattle.serde_json.specs.Events.{members_len}
+use Rattle.serde_json.specs.Find.{get, as_str}
+use Rattle.history_model.specs.declared.Reason.TheVariants.{OutOfRange, TooLong}
+use Rattle.history_model.specs.declared.KeyName.TheVariants.{EnvironmentVariables}
+use Rattle.history_model.specs.Machine.{Fault}
+use Rattle.history_model.specs.Texts.{key_text}
+use Rattle.job_defs.specs.declared.parts.Variable.{Variable}
+use Rattle.job_defs.specs.Faults.{bad, ◌>>=◌}
+use Rattle.job_defs.specs.Names.{Key}
+use Rattle.job_defs.specs.Kinds.{object_at, plain, filled, each_member, where_given}
+
+abbrev pub is_equals : ℕ → Bool
+is_equals b = b == 61
+
+-- a value that is no string is left out
+unfoldable pub variable_by : Key → Option (List ℕ) → Result (List Variable) Fault
+variable_by name None = Ok []
+variable_by name (Some text) = do
+  value ← plain 4096 EnvironmentVariables text
+  Ok (record { name = name; value = value } ∷ [])
+
+unfoldable pub variable_in : Key → Data → Result (List Variable) Fault
+variable_in key d = do
+  name ← filled 255 EnvironmentVariables key
+  if list_any is_equals name then Err (bad OutOfRange EnvironmentVariables) else variable_by name (as_str d)
+
+unfoldable pub environment_at : Data → Result (List Variable) Fault
+environment_at d = do
+  variables ← object_at EnvironmentVariables d
+  if nat_lt 128 (members_len variables) then Err (bad TooLong EnvironmentVariables) else each_member variable_in variables
+
+unfoldable pub environment_row : Data → Result (List Variable) Fault
+environment_row d = where_given environment_at [] (get (key_text EnvironmentVariables) d)
