@@ -1,4 +1,5 @@
-// KeepAlive: true, or its conditions.
+//! `KeepAlive` of launchd.plist(5): true, or its conditions `SuccessfulExit`, `Crashed` and `PathState`.
+
 ghost use Rattle.std.specs.Prelude.{◌≡◌, ◌==◌, ℕ, List, [], ◌∷◌, map, ◌++◌, Some, None, Bool, IfOk, OnOk};
 ghost use Rattle.std.specs.List.{list_any};
 ghost use Rattle.history_model.specs.Items.{History, Loaded, Saw, RunEnded};
@@ -56,7 +57,7 @@ impl Conditions {
     ghost use Rattle.conditions.specs.Kept.{Kept, kept_of, conditions_hold, holds_by};
     ghost use Rattle.conditions.specs.States.{wanted_of, sight_of, after_sight};
 
-    /// The conditions of a definition, before any end and any sight.
+    /// The conditions of a definition, before any end and any sight. The one refusal is of memory.
     pub fn new(alloc: Global, def: &Def) -> Result<Conditions, AllocError>
         ensures { IfOk result (λ c. (at : Reading) → c ≡ kept_of (Loaded (definition def.now) at ∷ [])) }
     {
@@ -70,7 +71,7 @@ impl Conditions {
         })
     }
 
-    /// Takes in what was seen at a path.
+    /// Takes in what was seen at a path; nothing changes where no condition looks at it.
     pub fn saw(&mut self, path: &str, obs: Obs)
         ensures step { self.new ≡ record self.old { seen = seen_after (λ s. s.0) self.old.path_state path.now obs self.old.seen } }
         ensures past { (past : History) → self.old ≡ kept_of past → self.new ≡ kept_of (Saw path.now obs ∷ past) }
@@ -78,7 +79,8 @@ impl Conditions {
         see(&mut self.states, path, obs);
     }
 
-    /// Takes in how a run ended, and whether TERM or KILL was ordered for it.
+    /// Takes in how a run ended, and whether TERM or KILL was ordered for it. An end by signal 3 to 8, 11 or 31 is a crash,
+    /// and one by an unknown signal where neither was ordered.
     pub fn ended(&mut self, run: u64, how: Ended, is_told: bool)
         ensures step { self.new ≡ record self.old { ended = Some (run, how); has_crashed = is_crash_end is_told how } }
         ensures past { (past : History) → self.old ≡ kept_of past → is_told ≡ list_any (is_stopping_order run) past →
@@ -91,7 +93,8 @@ impl Conditions {
         };
     }
 
-    /// Whether KeepAlive is true, or one of its conditions holds.
+    /// Whether `KeepAlive` is true, or one of its conditions holds. Before the first end no condition on ends holds, and
+    /// before the first sight of a path none on that path.
     pub fn holds(&self) -> bool
         ensures step { result ≡ holds_by self.now }
         ensures past { (past : History) → self.now ≡ kept_of past → result ≡ conditions_hold past }

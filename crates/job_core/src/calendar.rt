@@ -1,4 +1,6 @@
-// The calendar of a job's definition. Whether a reading fires it is told to the job, so its entries decide nothing here.
+//! The calendar of a job's definition. Whether a reading fires it is told to the job, so its entries decide nothing here;
+//! they are kept because the facts of a past name its whole definition.
+
 ghost use Rattle.std.specs.Prelude.{◌≡◌, IfOk};
 
 use history_model::Entry;

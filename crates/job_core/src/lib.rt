@@ -1,4 +1,5 @@
-// One job's decisions: which events it refuses, and what it orders next.
+//! One job's decisions: which events it refuses, and what it orders next. It keeps no past, but the facts that decide:
+//! for every past whose facts it keeps, its answers are those of the definitions, which search the past.
 #![tactic(auto)]
 
 ghost use Rattle.std.specs.Prelude.{◌≡◌, ℕ, ◌+◌, ◌%◌, ◌^◌, ◌≤◌, [], ◌∷◌, IfOk, OnOk, OnErr, None, slice_get};
@@ -21,43 +22,55 @@ use job_defs::Def;
 use std::alloc::{AllocError, Global};
 use std::marker::Model;
 
-/// What a job is doing.
+/// What a job is doing, the first that applies.
 #[derive(Clone, Copy, Debug, PartialEq, Eq)]
 pub enum JobState {
+    /// An unload or a shutdown was asked.
     Removing,
+    /// The answer to a spawn is awaited.
     Spawning,
+    /// A child runs that is being stopped, or that a kickstart asked to end.
     Stopping,
+    /// A child runs.
     Running,
     Idle,
 }
 
-/// What is printed of a job.
+/// What `print` and `list` of launchctl(1) show of a job.
 #[derive(Clone, Copy, Debug, PartialEq, Eq)]
 pub struct JobRow {
     pub state: JobState,
+    /// The child's.
     pub pid: Option<u32>,
+    /// How many spawns were ordered since the load, refused ones too.
     pub runs: u64,
+    /// How the last run ended, if one did since the load.
     pub last_end: Option<Ended>,
-    /// Whether a demand is pending.
+    /// Whether a one-shot demand is pending.
     pub demand: bool,
     /// How many connections wait.
     pub connections: usize,
 }
 
-/// What happens to a job.
+/// What happens to a job. The answers `Spawned` to `Killed` name the run of the order that they answer.
 #[derive(Clone, Copy)]
 pub enum JobEvent<'a> {
     /// The clock, and whether a calendar entry matches a minute that it crossed.
     Read(Reading, bool),
+    /// What was seen at a path.
     Saw(&'a str, Obs),
     Asked(Ask),
+    /// A connection came; numbers rise within a load.
     Came(u64),
+    /// A waiting connection left.
     Left(u64),
     Spawned { run: u64, pid: u32 },
     SpawnRefused { run: u64 },
     Termed { run: u64, ok: bool },
     Killed { run: u64, ok: bool },
+    /// The run is over.
     Ended(u64, Ended),
+    /// Whether the run is over could not be learned.
     WaitRefused { run: u64 },
 }
 
@@ -83,7 +96,7 @@ impl JobCore {
     ghost use Rattle.job_core.specs.Rows.{row_of};
     ghost use Rattle.job_defs.specs.Definitions.{definition};
 
-    /// A job that was loaded at this reading.
+    /// A job that was loaded at this reading. It takes all memory that the job ever needs, and its one refusal is of memory.
     pub fn new(alloc: Global, def: &Def, at: Reading) -> Result<JobCore, AllocError>
         requires { at.up ≤ MAX_UP }
         ensures kept { IfOk result (λ core. Keeps core.facts (Loaded (definition def.now) at ∷ [])) }
@@ -95,7 +108,15 @@ impl JobCore {
         })
     }
 
-    /// Takes in what happened. `now` is the reading before it.
+    /// Takes in what happened. `now` is the reading before it. A refused event leaves the job as it was. The refusals, in
+    /// the order in which they are looked for:
+    /// - `ClockRefused`: a reading before `now`, or past the greatest one;
+    /// - `Removing`: a start, a stop, a kickstart, an unload or a connection after an unload or a shutdown;
+    /// - `NotRunning`: a stop where there is neither a child nor an awaited spawn;
+    /// - `Stale`: an answer that is not awaited for that run; an end, or a refused wait, of a run that is not the child; a
+    ///   connection that leaves and does not wait, or that comes to a job without sockets or with a number not above
+    ///   every earlier one;
+    /// - `TooManyConnections`: a connection where 64 wait.
     pub fn event(&mut self, event: JobEvent<'_>, now: Reading) -> Result<(), Refusal>
         requires { now.up ≤ MAX_UP }
         ensures refused { (past : History) → Keeps self.old.facts past → now ≡ clock.now past →
@@ -109,7 +130,13 @@ impl JobCore {
         self.job.apply(event, now)
     }
 
-    /// What the job orders now, if anything.
+    /// What the job orders now, if anything; the order then counts as given, and none comes before it is answered.
+    /// - A spawn, which carries the first waiting connection: the job is not being removed, has no child, is wanted by a
+    ///   pending demand, a connection or a level, is not throttled, and did not spend its only launch.
+    /// - KILL: the child is being stopped and its time to end is over, or a kickstart struck it.
+    /// - TERM: the child is being stopped.
+    ///
+    /// KILL and TERM are not given again after an ok, and after a refusal not within a second.
     pub fn decide(&mut self, now: Reading) -> Option<Act>
         requires { now.up ≤ MAX_UP }
         ensures due { (past : History) → Keeps self.old.facts past → now ≡ clock.now past → result ≡ due past }
@@ -128,7 +155,8 @@ impl JobCore {
         self.decided
     }
 
-    /// The next moment at which time alone may make an order due.
+    /// The next moment at which time alone may make an order due, by the interval, the throttle, the time to end, or a
+    /// refused order; those of the calendar are left aside.
     pub fn next_moment(&self, now: Reading) -> Option<u64>
         requires { now.up ≤ MAX_UP }
         ensures { (past : History) → Keeps self.now.facts past → now ≡ clock.now past → result ≡ moments.next_moment past }
@@ -136,13 +164,14 @@ impl JobCore {
         self.job.next_moment(now.up)
     }
 
-    /// What is printed of the job.
+    /// What is shown of the job.
     pub fn row(&self) -> JobRow
         ensures { (past : History) → Keeps self.now.facts past → result ≡ row_of past }
     {
         self.job.row()
     }
 
+    /// Whether an unload or a shutdown was asked.
     pub fn is_removing(&self) -> bool
         ensures { (past : History) → Keeps self.now.facts past → result ≡ runs.is_removed past }
     {
@@ -156,7 +185,7 @@ impl JobCore {
         self.job.is_gone()
     }
 
-    /// The waiting connection at a position, counted from 0.
+    /// The waiting connection at a position, counted from 0. There are at most 64.
     pub fn connection(&self, position: usize) -> Option<u64>
         ensures value { (past : History) → Keeps self.now.facts past → result ≡ slice_get (waiting past) position }
         ensures few { 64 ≤ position → result ≡ None }

@@ -1,4 +1,5 @@
-// The paths that a job lists, each with what is kept of it.
+//! The paths that a job lists in `WatchPaths` and `QueueDirectories`, each with what was last seen there.
+
 ghost use Rattle.std.specs.Prelude.{◌≡◌, ℕ, List, [], ◌∷◌, map, ◌++◌, ◌&&◌, Option, Some, None, IfOk};
 ghost use Rattle.std.specs.List.{list_any};
 ghost use Rattle.history_model.specs.Demands.{is_same_path, differs};

@@ -19,8 +19,8 @@ pub use throttle::Throttle;
 /// Milliseconds from a refused order to the next.
 const RETRY: u64 = 1_000;
 
-/// The lesser of two moments.
-fn sooner(a: Option<u64>, b: Option<u64>) -> Option<u64>
+/// The lesser of two moments; the one that there is, where the other is none.
+pub fn sooner(a: Option<u64>, b: Option<u64>) -> Option<u64>
     ensures { result ≡ sooner a b }
 {
     match (a, b) {

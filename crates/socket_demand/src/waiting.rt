@@ -1,4 +1,5 @@
-// The connections that wait for a run.
+//! The connections that wait for a run.
+
 ghost use Rattle.std.specs.Prelude.{◌≡◌, ◌==◌, ◌<◌, ◌≤◌, ◌↔◌, ℕ, [], ◌∷◌, ◌++◌, drop, filter, length, not, nat_lt, IfOk, IfErr, OnOk, OnErr, IsOk, IsTrue, slice_get, None};
 ghost use Rattle.std.specs.List.{list_any};
 ghost use Rattle.history_model.specs.Search.{first};
@@ -30,7 +31,7 @@ impl Model for Waiting {
 }
 
 impl Waiting {
-    /// No connection, and room for as many as ever wait.
+    /// No connection, and room for as many as ever wait. The one refusal is of memory.
     pub fn new(alloc: Global) -> Result<Waiting, AllocError>
         ensures { IfOk result (λ w. w ≡ []) }
     {
@@ -38,7 +39,7 @@ impl Waiting {
         Ok(Waiting { conns })
     }
 
-    /// Adds a connection.
+    /// Adds a connection behind the others. Refused where 64 wait already, which it then leaves as they are.
     pub fn came(&mut self, conn: u64) -> Result<(), Full>
         ensures room { IsOk result ↔ (length self.old < MAX_WAITING) }
         ensures ok { OnOk result (self.new ≡ self.old ++ conn ∷ []) }
@@ -59,7 +60,7 @@ impl Waiting {
         ensures waited { result ≡ list_any (λ c. c == conn) self.old }
         ensures rest { self.new ≡ filter (λ c. not (conn == c)) self.old }
     {
-        let waited = self.conns.iter().any(|c| *c == conn);
+        let waited = self.contains(conn);
         self.conns.retain(|c| conn != *c);
         waited
     }
@@ -105,6 +106,7 @@ impl Waiting {
         self.conns.len()
     }
 
+    /// Whether none waits.
     pub fn is_empty(&self) -> bool
         ensures { IsTrue result ↔ (self.now ≡ []) }
     {
