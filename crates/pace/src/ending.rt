@@ -2,7 +2,9 @@
 //! `kickstart -k` of launchctl(1) asked for it.
 
 ghost use Rattle.std.specs.Prelude.{◌≡◌, ◌≤◌, ℕ, ◌*◌, ◌||◌, ◌&&◌, not, nat_lt, Bool, true, false, Some, None, if◌then◌else◌};
+ghost use Rattle.history_model.specs.Items.{History};
 ghost use Rattle.history_model.specs.Search.{or_else};
+ghost use Rattle.history_model.specs.Refusals.{IsLawful};
 ghost use Rattle.history_model.specs.Due.{is_over};
 ghost use Rattle.history_model.specs.ByFacts.{is_newest_within};
 ghost use Rattle.history_model.specs.Coming.{sooner, coming_after, is_from};
@@ -56,6 +58,7 @@ impl Ending {
     ghost use Rattle.pace.specs.Paces.{Ends, no_ends};
     ghost use Rattle.pace.specs.Told.{done_after};
     ghost use Rattle.pace.specs.Next.{IsEndMoment};
+    ghost use Rattle.pace.specs.OfPast.{ends_of, may_term_at, may_kill_at};
 
     /// The end of a run for which nothing was ordered. The timeout is in seconds from TERM to KILL; 0 means no KILL.
     pub fn new(timeout: u32) -> Ending
@@ -137,6 +140,15 @@ impl Ending {
     /// The least moment from which TERM may be ordered for a run that is being stopped; none where it was answered ok,
     /// or KILL was, or a kickstart asks for KILL. That KILL may be due too is left aside.
     pub fn term_at(&self) -> Option<u64>
+        ensures step { (up : ℕ) → is_from result up
+            ≡ (not self.now.strikes && not self.now.is_kill_done && (not self.now.is_term_done && not (is_newest_within RETRY up self.now.term_refused))) }
+        ensures past { (past : History) → IsLawful past → self.now ≡ ends_of past → (up : ℕ) → is_from result up ≡ may_term_at up past }
+    {
+        self.term_from()
+    }
+
+    /// That moment, by what is kept.
+    fn term_from(&self) -> Option<u64>
         ensures { (up : ℕ) → is_from result up
             ≡ (not self.now.strikes && not self.now.is_kill_done && (not self.now.is_term_done && not (is_newest_within RETRY up self.now.term_refused))) }
     {
@@ -149,6 +161,16 @@ impl Ending {
     /// The least moment from which KILL may be ordered for a run that is being stopped, or that a kickstart struck; none
     /// where it was answered ok, or where no time to end runs.
     pub fn kill_at(&self) -> Option<u64>
+        ensures step { (up : ℕ) → is_from result up
+            ≡ ((self.now.strikes || (nat_lt 0 self.now.timeout && is_over (1000 * self.now.timeout) up self.now.term_ordered))
+            && (not self.now.is_kill_done && not (is_newest_within RETRY up self.now.kill_refused))) }
+        ensures past { (past : History) → IsLawful past → self.now ≡ ends_of past → (up : ℕ) → is_from result up ≡ may_kill_at up past }
+    {
+        self.kill_from()
+    }
+
+    /// That moment, by what is kept.
+    fn kill_from(&self) -> Option<u64>
         ensures { (up : ℕ) → is_from result up
             ≡ ((self.now.strikes || (nat_lt 0 self.now.timeout && is_over (1000 * self.now.timeout) up self.now.term_ordered))
             && (not self.now.is_kill_done && not (is_newest_within RETRY up self.now.kill_refused))) }

@@ -2,7 +2,11 @@
 
 ghost use Rattle.std.specs.Prelude.{◌≡◌, ◌<◌, ◌≤◌, ◌↔◌, ℕ, ◌+◌, ◌*◌, ◌/◌, ◌^◌, IsTrue};
 ghost use Rattle.std.specs.Option.{ForSome};
+ghost use Rattle.history_model.specs.declared.Reading.{Reading};
+ghost use Rattle.history_model.specs.Items.{History};
+ghost use Rattle.history_model.specs.Clock as clock;
 ghost use Rattle.history_model.specs.Clock.{crosses_interval};
+ghost use Rattle.history_model.specs.Demands.{interval_fires};
 ghost use Rattle.history_model.specs.Coming.{coming_period};
 ghost use Rattle.pace.specs.Next.{IsNext};
 
@@ -31,6 +35,7 @@ impl Model for Interval {
 
 impl Interval {
     ghost use Rattle.pace.specs.Next.{IsPeriodEnd};
+    ghost use Rattle.pace.specs.OfPast.{every_of};
 
     /// The interval of a job that was loaded at this moment. None: no demand ever.
     pub fn new(seconds: Option<u32>, load_up: u64) -> Interval
@@ -45,6 +50,8 @@ impl Interval {
     /// However many lie there, as after a sleep, they are one demand.
     pub fn crossed(&self, previous: u64, up: u64) -> bool
         ensures value { result ≡ crosses_interval self.now.seconds self.now.load_up previous up }
+        ensures past { (past : History) (at : Reading) → self.now ≡ every_of past → previous ≡ (clock.now past).up → up ≡ at.up →
+            result ≡ interval_fires past at }
         ensures period { IsTrue result ↔ ((m : ℕ) × IsPeriodEnd self.now m × (previous < m) × (m ≤ up)) }
     {
         match self.seconds {

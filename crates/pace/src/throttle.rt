@@ -1,6 +1,8 @@
 //! How near together spawns may be ordered: `ThrottleInterval` of launchd.plist(5).
 
 ghost use Rattle.std.specs.Prelude.{◌≡◌, ◌≤◌, ℕ, ◌*◌, ◌||◌, nat_lt, Some, None};
+ghost use Rattle.history_model.specs.Items.{History};
+ghost use Rattle.history_model.specs.Refusals.{IsLawful};
 ghost use Rattle.history_model.specs.ByFacts.{is_newest_within};
 ghost use Rattle.history_model.specs.Coming.{sooner, coming_after};
 ghost use Rattle.pace.specs.Next.{IsNext};
@@ -32,6 +34,7 @@ impl Model for Throttle {
 
 impl Throttle {
     ghost use Rattle.pace.specs.Next.{IsSpawnMoment};
+    ghost use Rattle.pace.specs.OfPast.{spacing_of, is_throttled_at};
 
     /// The throttle of a job of which no spawn was ordered.
     pub fn new(seconds: u32) -> Throttle
@@ -62,6 +65,15 @@ impl Throttle {
 
     /// The least moment from which no spawn order lies less than the throttle back, and no refusal less than a second.
     pub fn free_at(&self) -> u64
+        ensures step { (up : ℕ) → nat_lt up result
+            ≡ (is_newest_within (1000 * self.now.seconds) up self.now.order || is_newest_within RETRY up self.now.refusal) }
+        ensures past { (past : History) → IsLawful past → self.now ≡ spacing_of past → (up : ℕ) → nat_lt up result ≡ is_throttled_at up past }
+    {
+        self.free_from()
+    }
+
+    /// That moment, by what is kept.
+    fn free_from(&self) -> u64
         ensures { (up : ℕ) → nat_lt up result
             ≡ (is_newest_within (1000 * self.now.seconds) up self.now.order || is_newest_within RETRY up self.now.refusal) }
     {

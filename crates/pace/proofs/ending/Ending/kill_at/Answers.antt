@@ -1,0 +1,18 @@
+-- Some refusal is too near exactly where the newest is.
+use Rattle.std.proofs.Common.{true, false, not, ◌*◌, ◌&&◌, ◌||◌, nat_lt, sym, ap, ◌∙◌}
+use Rattle.std.specs.List.{list_any}
+use Rattle.history_model.specs.Search.{last}
+use Rattle.history_model.specs.Clock.{definition_of, moments}
+use Rattle.history_model.specs.Runs.{is_term_order, is_kill_answer, runs, is_struck}
+use Rattle.history_model.specs.Due.{is_over}
+use Rattle.history_model.specs.ByFacts.{is_newest_within}
+use Rattle.history_model.proofs.Times.{any-within}
+use Rattle.pace.specs.Paces.{Ends}
+use Rattle.pace.proofs.ending.Ending.kill_at.Goals as goal
+
+pub returns-clause-past : goal.returns-clause-past
+returns-clause-past c = λ past lawful is up.
+    c.kill_from.ensures up
+    ∙ ap (λ (e : Ends). (e.strikes || (nat_lt 0 e.timeout && is_over (1000 * e.timeout) up e.term_ordered)) && (not e.is_kill_done && not (is_newest_within 1000 up e.kill_refused))) is
+    ∙ ap (λ b. (is_struck past || (nat_lt 0 (definition_of past).exit_timeout && is_over (1000 * (definition_of past).exit_timeout) up (last (moments (is_term_order (runs past)) past)))) && (not (list_any (is_kill_answer true (runs past)) past) && not b))
+    (sym (any-within 1000 up (is_kill_answer false (runs past)) past lawful))

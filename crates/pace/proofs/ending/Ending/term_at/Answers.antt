@@ -1,0 +1,15 @@
+-- Some refusal is too near exactly where the newest is.
+use Rattle.std.proofs.Common.{true, false, not, ◌&&◌, sym, ap, ◌∙◌}
+use Rattle.std.specs.List.{list_any}
+use Rattle.history_model.specs.Runs.{is_term_answer, is_kill_answer, runs, is_struck}
+use Rattle.history_model.specs.ByFacts.{is_newest_within}
+use Rattle.history_model.proofs.Times.{any-within}
+use Rattle.pace.specs.Paces.{Ends}
+use Rattle.pace.proofs.ending.Ending.term_at.Goals as goal
+
+pub returns-clause-past : goal.returns-clause-past
+returns-clause-past c = λ past lawful is up.
+    c.term_from.ensures up
+    ∙ ap (λ (e : Ends). not e.strikes && not e.is_kill_done && (not e.is_term_done && not (is_newest_within 1000 up e.term_refused))) is
+    ∙ ap (λ b. not (is_struck past) && not (list_any (is_kill_answer true (runs past)) past) && (not (list_any (is_term_answer true (runs past)) past) && not b))
+    (sym (any-within 1000 up (is_term_answer false (runs past)) past lawful))

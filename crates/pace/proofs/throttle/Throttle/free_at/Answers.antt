@@ -1,0 +1,14 @@
+-- Some moment is too near exactly where the newest is.
+use Rattle.std.proofs.Common.{◌*◌, ◌||◌, sym, ap, ◌∙◌}
+use Rattle.history_model.specs.Clock.{definition_of}
+use Rattle.history_model.specs.Runs.{is_spawn_order, is_spawn_refusal}
+use Rattle.history_model.specs.ByFacts.{is_newest_within}
+use Rattle.history_model.proofs.Times.{any-within}
+use Rattle.pace.specs.Paces.{Spacing}
+use Rattle.pace.proofs.throttle.Throttle.free_at.Goals as goal
+
+pub returns-clause-past : goal.returns-clause-past
+returns-clause-past c = λ past lawful is up.
+    c.free_from.ensures up
+    ∙ ap (λ (s : Spacing). is_newest_within (1000 * s.seconds) up s.order || is_newest_within 1000 up s.refusal) is
+    ∙ (λ i. sym (any-within (1000 * (definition_of past).throttle_interval) up is_spawn_order past lawful) i || sym (any-within 1000 up is_spawn_refusal past lawful) i)
