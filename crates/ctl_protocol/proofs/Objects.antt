@@ -1,16 +1,19 @@
 -- What is written has no float.
-use Rattle.std.proofs.Common.{◌≡◌, ℕ, List, [], ◌∷◌, ◌++◌, map, Bool, false, ◌||◌, Some, None, refl, ap, ◌∙◌, sym, codes, arith, if◌then◌else◌}
+use Rattle.std.proofs.Common.{◌≡◌, ℕ, List, [], ◌∷◌, ◌++◌, map, Bool, false, ◌||◌, Some, None, refl, ap, ◌∙◌, sym, codes, arith, if◌then◌else◌, ◌≤◌, max, pos, negsuc}
 use Rattle.std.specs.Ordering.{nat_cmp, match_ordering}
 use Rattle.std.specs.Cmp.Lexicographic.{slice_cmp}
 use Rattle.std.specs.declared.cmp.Ordering.{Ordering}
 use Rattle.std.specs.declared.cmp.Ordering.TheVariants.{Less, Equal, Greater}
-use Rattle.serde_json.specs.Data.{Data, Members, no_members, member, object, array, put}
+use Rattle.serde_json.specs.Data.{Data, Members, no_members, member, object, array, put, depth, members_depth}
+use Rattle.serde_json.specs.Read.{max_depth}
 use Rattle.serde_json.specs.Written.{has_float, members_have_float, items_have_float}
-use Rattle.ctl_protocol.specs.Objects.{Plain, text, flag, count, plain_data, with_members, plain_object}
+use Rattle.ctl_protocol.specs.Objects.{Plain, text, flag, count, whole, plain_data, with_members, plain_object}
 use Rattle.history_model.specs.declared.Act.{Act}
 use Rattle.ctl_protocol.specs.declared.members.Form.{Form}
 use Rattle.ctl_protocol.specs.Members.{tag_of, has_answers}
 use Rattle.ctl_protocol.specs.Journal.{row_object}
+use Rattle.ctl_protocol.specs.declared.header.Header.{Header}
+use Rattle.ctl_protocol.specs.HeaderLines.{header_object, plain_members, setting_members}
 use Rattle.ctl_protocol.specs.Outcomes.{order_members, orders_data, outcome_object, reply_object}
 
 none_of : (a b : Bool) → a ≡ false → b ≡ false → (a || b) ≡ false
@@ -40,6 +43,8 @@ plain_no_float : (p : Plain) → has_float (plain_data p) ≡ false
 plain_no_float (text s) = refl
 plain_no_float (flag b) = refl
 plain_no_float (count n) = refl
+plain_no_float (whole (pos n)) = refl
+plain_no_float (whole (negsuc n)) = refl
 
 with_no_float : (ms : Members) (members : List (List ℕ × Plain)) → members_have_float ms ≡ false → members_have_float (with_members ms members) ≡ false
 with_no_float ms [] h = h
@@ -61,3 +66,59 @@ reply_no_float code said = object_no_float ((codes "code", count code) ∷ (code
 pub row_no_float : (form : Form) (name : List ℕ) (row answers : List (List ℕ × Plain)) → has_float (row_object form name row answers) ≡ false
 row_no_float form name row answers =
     with_no_float _ (if has_answers form then answers else []) (with_no_float _ row (with_no_float no_members ((tag_of form, text name) ∷ []) refl))
+
+-- ---- nor does it nest deep
+
+higher : (a b n : ℕ) → a ≤ n → b ≤ n → max a b ≤ n
+higher a b n p q = omega (arith, p, q)
+
+left_below : (a b n : ℕ) → max a b ≤ n → a ≤ n
+left_below a b n p = omega (arith, p)
+
+right_below : (a b n : ℕ) → max a b ≤ n → b ≤ n
+right_below a b n p = omega (arith, p)
+
+put_depth_at : (n : ℕ) (o : Ordering) (k l : List ℕ) (d e : Data) (ms : Members) → depth d ≤ n → depth e ≤ n → members_depth ms ≤ n
+    → members_depth (put k d ms) ≤ n
+    → members_depth (match_ordering o (member k d (member l e ms)) (member l d ms) (member l e (put k d ms))) ≤ n
+put_depth_at n Less k l d e ms here there more later = higher _ _ n here (higher _ _ n there more)
+put_depth_at n Equal k l d e ms here there more later = higher _ _ n here more
+put_depth_at n Greater k l d e ms here there more later = higher _ _ n there later
+
+pub put_depth : (n : ℕ) (k : List ℕ) (d : Data) (ms : Members) → depth d ≤ n → members_depth ms ≤ n → members_depth (put k d ms) ≤ n
+put_depth n k d no_members here more = higher _ _ n here more
+put_depth n k d (member l e ms) here more =
+    let there = left_below (depth e) (members_depth ms) n more in
+    let rest = right_below (depth e) (members_depth ms) n more in
+    put_depth_at n (slice_cmp nat_cmp k l) k l d e ms here there rest (put_depth n k d ms here rest)
+
+plain_depth : (n : ℕ) (p : Plain) → depth (plain_data p) ≤ n
+plain_depth n (text s) = omega arith
+plain_depth n (flag b) = omega arith
+plain_depth n (count m) = omega arith
+plain_depth n (whole z) = omega arith
+
+with_depth : (n : ℕ) (ms : Members) (members : List (List ℕ × Plain)) → members_depth ms ≤ n → members_depth (with_members ms members) ≤ n
+with_depth n ms [] h = h
+with_depth n ms (m ∷ more) h = with_depth n (put m.0 (plain_data m.1) ms) more (put_depth n m.0 (plain_data m.1) ms (plain_depth n m.1) h)
+
+pub row_depth : (form : Form) (name : List ℕ) (row answers : List (List ℕ × Plain)) → depth (row_object form name row answers) ≤ max_depth
+row_depth form name row answers =
+    let tagged = with_members no_members ((tag_of form, text name) ∷ []) in
+    let last = if has_answers form then answers else [] in
+    let below : members_depth (with_members (with_members tagged row) last) ≤ 0 =
+    with_depth 0 (with_members tagged row) last (with_depth 0 tagged row (with_depth 0 no_members ((tag_of form, text name) ∷ []) (omega arith))) in
+    omega (arith, below)
+
+pub header_no_float : (h : Header) → has_float (header_object h) ≡ false
+header_no_float h =
+    put_no_float (codes "overrides") (plain_object (setting_members h.overrides)) (with_members no_members (plain_members h))
+    (object_no_float (setting_members h.overrides)) (with_no_float no_members (plain_members h) refl)
+
+pub header_depth : (h : Header) → depth (header_object h) ≤ max_depth
+header_depth h =
+    let inside : members_depth (with_members no_members (setting_members h.overrides)) ≤ 0 = with_depth 0 no_members (setting_members h.overrides) (omega arith) in
+    let overrides : depth (plain_object (setting_members h.overrides)) ≤ 1 = omega (arith, inside) in
+    let below : members_depth (put (codes "overrides") (plain_object (setting_members h.overrides)) (with_members no_members (plain_members h))) ≤ 1 =
+    put_depth 1 (codes "overrides") (plain_object (setting_members h.overrides)) (with_members no_members (plain_members h)) overrides (with_depth 1 no_members (plain_members h) (omega arith)) in
+    omega (arith, below)

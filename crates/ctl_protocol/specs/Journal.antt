@@ -1,10 +1,11 @@
 -- The lines that tell an event, as they are written: every key of the event's row, in byte order.
-use Rattle.std.specs.Prelude.{ℕ, List, [], ◌∷◌, codes, Bool, true, if◌then◌else◌}
+use Rattle.std.specs.Prelude.{ℕ, List, [], ◌∷◌, ◌^◌, codes, Bool, true, false, ◌&&◌, nat_lt, if◌then◌else◌}
 use Rattle.serde_json.specs.Data.{Data, Members, object, no_members, put}
 use Rattle.history_model.specs.declared.Ended.{Ended}
 use Rattle.history_model.specs.declared.Ended.TheVariants.{Code, Signal}
 use Rattle.history_model.specs.declared.event.Event.{Event}
 use Rattle.history_model.specs.declared.event.Event.TheVariants as events
+use Rattle.history_model.specs.Labels.{is_label}
 use Rattle.ctl_protocol.specs.declared.members.Form.{Form}
 use Rattle.ctl_protocol.specs.declared.members.Form.TheVariants as forms
 use Rattle.ctl_protocol.specs.Members.{tag_of, has_answers}
@@ -95,3 +96,45 @@ event_text e = line_of (event_object forms.Event e)
 -- the line by which a client asks for it, with its newline
 abbrev pub request_text : Event → List ℕ
 request_text e = line_of (event_object forms.Request e)
+
+-- ---- which events a line can tell: the job is a label, and each number is one of its row
+
+abbrev is_byte_end : Ended → Bool
+is_byte_end (Code n) = nat_lt n 256
+is_byte_end (Signal n) = nat_lt n 256
+
+abbrev pub is_tellable : Event → Bool
+is_tellable (events.Load def w force bind store) = true
+is_tellable (events.Unload job w store) = is_label job
+is_tellable (events.Start job) = is_label job
+is_tellable (events.Stop job) = is_label job
+is_tellable (events.Kickstart job k) = is_label job
+is_tellable (events.Enable job store) = is_label job
+is_tellable (events.Disable job store) = is_label job
+is_tellable events.List = true
+is_tellable (events.Print job) = is_label job
+is_tellable events.Shutdown = true
+is_tellable (events.Clock at) = true
+is_tellable (events.Saw path obs) = true
+is_tellable (events.Came job conn) = is_label job
+is_tellable (events.Left job conn) = is_label job
+is_tellable (events.Spawned job run pid) = is_label job && (nat_lt 0 pid && nat_lt pid (2 ^ 32))
+is_tellable (events.SpawnRefused job run) = is_label job
+is_tellable (events.Termed job run ok) = is_label job
+is_tellable (events.Killed job run ok) = is_label job
+is_tellable (events.Ended job run how) = is_label job && is_byte_end how
+is_tellable (events.WaitRefused job run) = is_label job
+
+-- what a client may ask, with answers that count as given
+abbrev pub is_request : Event → Bool
+is_request (events.Load def w force bind store) = bind && store
+is_request (events.Unload job w store) = is_label job && store
+is_request (events.Start job) = is_label job
+is_request (events.Stop job) = is_label job
+is_request (events.Kickstart job k) = is_label job
+is_request (events.Enable job store) = is_label job && store
+is_request (events.Disable job store) = is_label job && store
+is_request events.List = true
+is_request (events.Print job) = is_label job
+is_request events.Shutdown = true
+is_request _ = false

@@ -1,7 +1,8 @@
 -- Objects of plain members, as they are written: compact, with their keys in byte order.
-use Rattle.std.specs.Prelude.{ℕ, List, [], ◌∷◌, ◌++◌, map, Bool}
+use Rattle.std.specs.Prelude.{ℕ, ℤ, List, [], ◌∷◌, ◌++◌, map, Bool}
 use Rattle.std.specs.Borrow.{Bor}
 use Rattle.serde_json.specs.Data.{Data, boolean, number, unsigned, string, object, Members, no_members, put}
+use Rattle.serde_json.specs.Find.{of_integer}
 use Rattle.serde_json.specs.Written.{compact_text}
 use Rattle.ctl_protocol.specs.declared.object.Cell.{Cell}
 use Rattle.ctl_protocol.specs.declared.object.Cell.TheVariants as cells
@@ -11,11 +12,13 @@ pub data Plain : Type 0 where
   text : List ℕ → Plain
   flag : Bool → Plain
   count : ℕ → Plain
+  whole : ℤ → Plain
 
 abbrev pub plain_data : Plain → Data
 plain_data (text s) = string s
 plain_data (flag b) = boolean b
 plain_data (count n) = number (unsigned n)
+plain_data (whole z) = number (of_integer z)
 
 -- the members, with these put at their places
 abbrev pub with_members : Members → List (List ℕ × Plain) → Members
@@ -34,6 +37,7 @@ abbrev pub plain_of : Cell → Plain
 plain_of (cells.Text s) = text s.now
 plain_of (cells.Flag b) = flag b
 plain_of (cells.Count n) = count n
+plain_of (cells.Whole z) = whole z
 
 abbrev pub plains_of : List (Bor (List ℕ) × Cell) → List (List ℕ × Plain)
 plains_of members = map (λ m. (m.0.now, plain_of m.1)) members

@@ -173,16 +173,16 @@ told_row name d =
 
 -- ---- whole lines
 
+unfoldable pub event_row : Data → Option Event
+event_row d = text_key (tag_of forms.Event) d >>= λ name. told_row name d
+
+unfoldable pub request_row : Data → Option Event
+request_row d = text_key (tag_of forms.Request) d >>= λ name. asked_row name forms.Request d
+
 -- the event that a line of a journal tells
 unfoldable pub event_at : List ℕ → Option Event
-event_at line = do
-  d ← json_in line
-  name ← text_key (tag_of forms.Event) d
-  told_row name d
+event_at line = json_in line >>= event_row
 
 -- the event that a request asks for; the outside's answers count as given
 unfoldable pub request_at : List ℕ → Option Event
-request_at line = do
-  d ← json_in line
-  name ← text_key (tag_of forms.Request) d
-  asked_row name forms.Request d
+request_at line = json_in line >>= request_row

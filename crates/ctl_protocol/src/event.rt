@@ -5,7 +5,7 @@ ghost use Rattle.history_model.specs.declared.event.Event.TheVariants as events;
 ghost use Rattle.serde_json.specs.View.{view};
 ghost use Rattle.ctl_protocol.specs.declared.members.Form.TheVariants as forms;
 ghost use Rattle.ctl_protocol.specs.Members.{Reads};
-ghost use Rattle.ctl_protocol.specs.Rows.{event_at, request_at, asked_row, told_row, load_row, unload_row, job_row, target_row, setting_row, kickstart_row, bare_row, clock_row, saw_row, sight_keys, has_saw_keys as saw_keys, connection_row, pid_key, spawned_row, run_row, answer_row, byte_key, end_key, ended_row};
+ghost use Rattle.ctl_protocol.specs.Rows.{event_at, event_row, request_at, request_row, asked_row, told_row, load_row, unload_row, job_row, target_row, setting_row, kickstart_row, bare_row, clock_row, saw_row, sight_keys, has_saw_keys as saw_keys, connection_row, pid_key, spawned_row, run_row, answer_row, byte_key, end_key, ended_row};
 
 use crate::members::{
     Form, ReadFault, flag_in, flag_or_in, has_only_keys, json_line, label_in, number_in, target_in,
@@ -331,15 +331,30 @@ fn told_in(alloc: Global, name: &str, line: &Value) -> Result<Event, ReadFault>
     }
 }
 
-/// The event that a line of a journal tells, the newline left out. BadRequest where it is none: no JSON object, a key
-/// too few or too many, or a value of another kind or range.
+#[tactic(auto, unfolding(crate::specs::Rows::event_row))]
+fn event_in(alloc: Global, line: &Value) -> Result<Event, ReadFault>
+    ensures { Reads result (event_row (view line.now)) }
+{
+    let name = text_in(line, Form::Event.tag())?;
+    told_in(alloc, name, line)
+}
+
+#[tactic(auto, unfolding(crate::specs::Rows::request_row))]
+fn request_in(alloc: Global, line: &Value) -> Result<Event, ReadFault>
+    ensures { Reads result (request_row (view line.now)) }
+{
+    let name = text_in(line, Form::Request.tag())?;
+    asked_in(alloc, name, Form::Request, line)
+}
+
+/// The event that a line of a journal tells, the newline left out. BadRequest where it is none: no JSON object (RFC
+/// 8259), a key too few or too many, or a value of another kind or range.
 #[tactic(auto, unfolding(crate::specs::Rows::event_at))]
 pub fn read_event(alloc: Global, line: &[u8]) -> Result<Event, ReadFault>
     ensures { Reads result (event_at line.now) }
 {
     let line = json_line(alloc, line)?;
-    let name = text_in(&line, Form::Event.tag())?;
-    told_in(alloc, name, &line)
+    event_in(alloc, &line)
 }
 
 /// The event that a control client's line asks for, the newline left out. The outside's answers, which a client
@@ -349,6 +364,5 @@ pub fn read_request(alloc: Global, line: &[u8]) -> Result<Event, ReadFault>
     ensures { Reads result (request_at line.now) }
 {
     let line = json_line(alloc, line)?;
-    let name = text_in(&line, Form::Request.tag())?;
-    asked_in(alloc, name, Form::Request, &line)
+    request_in(alloc, &line)
 }

@@ -1,11 +1,13 @@
 //! Writes the lines that tell an event: those of a journal, and requests.
 
-ghost use Rattle.std.specs.Prelude.{◌≡◌, IfOk, codes, ◌∷◌, []};
+ghost use Rattle.std.specs.Prelude.{◌≡◌, IfOk, OnOk, Some, codes, ◌∷◌, [], true};
 ghost use Rattle.history_model.specs.declared.event.Event.TheVariants as events;
 ghost use Rattle.serde_json.specs.View.{view};
+ghost use Rattle.serde_json.specs.Written.{compact_text};
+ghost use Rattle.ctl_protocol.specs.Rows.{event_at, request_at};
 ghost use Rattle.ctl_protocol.specs.declared.members.Form.TheVariants as forms;
 ghost use Rattle.ctl_protocol.specs.Objects.{flag, flags_of, plains_of, plain_of};
-ghost use Rattle.ctl_protocol.specs.Journal.{end_member, event_object, event_text, of_answer, of_connection, of_job, of_run, request_text, row_object};
+ghost use Rattle.ctl_protocol.specs.Journal.{end_member, event_object, event_text, of_answer, of_connection, of_job, of_run, is_request, is_tellable, request_text, row_object};
 
 use crate::members::Form;
 use crate::object::{Cell, line_from, put_all, put_flags};
@@ -225,7 +227,10 @@ fn event_value(alloc: Global, form: Form, event: &Event) -> Result<Value, AllocE
 /// The line of a journal that tells an event, with its newline: an object of every key of the event's row, in byte
 /// order. `Err` says only that memory ran out.
 pub fn event_line(alloc: Global, event: &Event) -> Result<Vec<u8>, AllocError>
-    ensures { IfOk result (λ line. line.items ≡ event_text event.now) }
+    ensures text { IfOk result (λ line. line.items ≡ event_text event.now) }
+    // The line, without its newline, is read as the event.
+    ensures reads_back { OnOk result (is_tellable event.now ≡ true
+        → event_at (compact_text (event_object forms.Event event.now)) ≡ Some event.now) }
 {
     let value = event_value(alloc, Form::Event, event)?;
     line_from(alloc, &value)
@@ -234,7 +239,10 @@ pub fn event_line(alloc: Global, event: &Event) -> Result<Vec<u8>, AllocError>
 /// The line by which a control client asks for an event, with its newline: the event's row without the answers of the
 /// outside. `Err` says only that memory ran out.
 pub fn request_line(alloc: Global, event: &Event) -> Result<Vec<u8>, AllocError>
-    ensures { IfOk result (λ line. line.items ≡ request_text event.now) }
+    ensures text { IfOk result (λ line. line.items ≡ request_text event.now) }
+    // The line, without its newline, is read as what was asked.
+    ensures reads_back { OnOk result (is_request event.now ≡ true
+        → request_at (compact_text (event_object forms.Request event.now)) ≡ Some event.now) }
 {
     let value = event_value(alloc, Form::Request, event)?;
     line_from(alloc, &value)

@@ -1,8 +1,11 @@
 //! JSON objects of plain members, and how a value is written as a line.
 
-ghost use Rattle.std.specs.Prelude.{◌≡◌, IfOk, OnOk, false};
+ghost use Rattle.std.specs.Prelude.{◌≡◌, ◌≤◌, IfOk, OnOk, Some, false};
 ghost use Rattle.serde_json.specs.View.{view, members_view};
-ghost use Rattle.serde_json.specs.Written.{has_float};
+ghost use Rattle.job_defs.specs.Json.{json_in};
+ghost use Rattle.serde_json.specs.Data.{depth};
+ghost use Rattle.serde_json.specs.Read.{max_depth};
+ghost use Rattle.serde_json.specs.Written.{compact_text, has_float};
 ghost use Rattle.ctl_protocol.specs.Objects.{flags_of, line_of, with_members, plain_data, plain_of, plains_of, plain_object};
 
 use serde_json::{Map, Value, put};
@@ -14,6 +17,7 @@ pub(crate) enum Cell<'t> {
     Text(&'t str),
     Flag(bool),
     Count(u64),
+    Whole(i64),
 }
 
 fn cell_value(alloc: Global, cell: Cell<'_>) -> Result<Value, AllocError>
@@ -23,6 +27,7 @@ fn cell_value(alloc: Global, cell: Cell<'_>) -> Result<Value, AllocError>
         Cell::Text(text) => Ok(Value::String(String::from_str(alloc, text)?)),
         Cell::Flag(set) => Ok(Value::Bool(set)),
         Cell::Count(n) => Ok(Value::from(n)),
+        Cell::Whole(n) => Ok(Value::from(n)),
     }
 }
 
@@ -64,10 +69,12 @@ pub(crate) fn object_of(alloc: Global, members: &[(&str, Cell<'_>)]) -> Result<V
     Ok(Value::Object(map))
 }
 
-/// The compact text of a value, and a newline.
+/// The compact text of a value, and a newline. The text is read as that value.
 pub(crate) fn line_from(alloc: Global, value: &Value) -> Result<Vec<u8>, AllocError>
     requires { has_float (view value.now) ≡ false }
-    ensures { IfOk result (λ line. line.items ≡ line_of (view value.now)) }
+    ensures text { IfOk result (λ line. line.items ≡ line_of (view value.now)) }
+    ensures reads_back { OnOk result (depth (view value.now) ≤ max_depth
+        → json_in (compact_text (view value.now)) ≡ Some (view value.now)) }
 {
     let mut line = value.to_vec(alloc)?;
     line.push(b'\n')?;

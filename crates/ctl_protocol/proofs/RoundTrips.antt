@@ -1,0 +1,135 @@
+-- What was written for an event is read as that event.
+use Rattle.std.proofs.Common.{◌≡◌, ℕ, ◌^◌, List, [], ◌∷◌, codes, Bool, true, false, ◌&&◌, ◌||◌, ◌==◌, not, length, nat_lt, nat_le, Option, Some, None, refl, sym, ap, ◌∙◌, subst, ◌≤◌, Result, Ok, Err, if◌then◌else◌, arith, true≢false}
+use Rattle.std.specs.Prelude.{OnOk}
+use Rattle.std.specs.List.{list_any}
+use Rattle.serde_json.specs.Data.{Data, depth}
+use Rattle.serde_json.specs.Read.{max_depth}
+use Rattle.serde_json.specs.Written.{compact_text}
+use Rattle.job_defs.specs.Json.{json_in}
+use Rattle.history_model.specs.Labels.{is_label, is_forbidden}
+use Rattle.history_model.specs.declared.Ended.TheVariants.{Code, Signal}
+use Rattle.history_model.specs.declared.event.Event.{Event}
+use Rattle.history_model.specs.declared.event.Event.TheVariants as events
+use Rattle.ctl_protocol.specs.declared.members.Form.TheVariants as forms
+use Rattle.ctl_protocol.specs.Targets.{is_slash, behind_domain, label_named}
+use Rattle.ctl_protocol.specs.Members.{◌>>=◌, text_key, number_key, flag_key, flag_or, label_key, target_key, has_only}
+use Rattle.ctl_protocol.specs.Rows.{load_row, unload_row, job_row, target_row, setting_row, kickstart_row, bare_row, asked_row, clock_row, sight_keys, has_saw_keys, saw_row, connection_row, pid_key, spawned_row, run_row, answer_row, byte_key, end_key, ended_row, told_row, event_row, request_row, event_at, request_at}
+use Rattle.ctl_protocol.specs.Journal.{name_of, row_members, answer_members, event_object, is_tellable, is_request}
+use Rattle.ctl_protocol.proofs.Objects.{row_depth}
+
+kept : {X : Type 0} (b : Bool) (x : X) → b ≡ true → (if b then Some x else None) ≡ Some x
+kept true x h = refl
+kept false x h = absurd (true≢false (sym h))
+
+left_of : (a b : Bool) → (a && b) ≡ true → a ≡ true
+left_of a b h = grind (arith, h)
+
+right_of : (a b : Bool) → (a && b) ≡ true → b ≡ true
+right_of a b h = grind (arith, h)
+
+none_first : (a b : Bool) → (a || b) ≡ false → a ≡ false
+none_first a b h = grind (arith, h)
+
+none_second : (a b : Bool) → (a || b) ≡ false → b ≡ false
+none_second a b h = grind (arith, h)
+
+both_none : (a b : Bool) → a ≡ false → b ≡ false → (a || b) ≡ false
+both_none a b p q = rw (p, q) refl
+
+slash_forbidden : (b : ℕ) → is_forbidden b ≡ false → is_slash b ≡ false
+slash_forbidden b h = none_first (is_slash b) (nat_lt b 32) (none_first (is_slash b || nat_lt b 32) (b == 127) h)
+
+no_slash : (text : List ℕ) → list_any is_forbidden text ≡ false → list_any is_slash text ≡ false
+no_slash [] h = refl
+no_slash (b ∷ text) h =
+    both_none (is_slash b) (list_any is_slash text) (slash_forbidden b (none_first (is_forbidden b) (list_any is_forbidden text) h)) (no_slash text (none_second (is_forbidden b) (list_any is_forbidden text) h))
+
+not_there : (b : Bool) → not b ≡ true → b ≡ false
+not_there true h = absurd (true≢false (sym h))
+not_there false h = refl
+
+label_alone : (job : List ℕ) → is_label job ≡ true → list_any is_slash job ≡ false
+label_alone job h = no_slash job (not_there (list_any is_forbidden job) (right_of (nat_lt 0 (length job) && nat_le (length job) 255) (not (list_any is_forbidden job)) h))
+
+-- a label is a target that names itself
+pub named : (job : List ℕ) → is_label job ≡ true → label_named job ≡ Some job
+unfolding label_named behind_domain
+named job h = rw (label_alone job h) (kept (is_label job) job h)
+
+pub told_back : (e : Event) → is_tellable e ≡ true → event_row (event_object forms.Event e) ≡ Some e
+unfolding event_row told_row asked_row load_row unload_row job_row target_row setting_row kickstart_row bare_row clock_row sight_keys has_saw_keys saw_row connection_row pid_key spawned_row run_row answer_row byte_key end_key ended_row text_key number_key flag_key flag_or label_key target_key has_only
+told_back (events.Load def w force bind store) h = refl
+told_back (events.Unload job w store) h = rw (kept (is_label job) job h) refl
+told_back (events.Start job) h = rw (kept (is_label job) job h) refl
+told_back (events.Stop job) h = rw (kept (is_label job) job h) refl
+told_back (events.Kickstart job k) h = rw (named job h) refl
+told_back (events.Enable job store) h = rw (named job h) refl
+told_back (events.Disable job store) h = rw (named job h) refl
+told_back events.List h = refl
+told_back (events.Print job) h = rw (named job h) refl
+told_back events.Shutdown h = refl
+told_back (events.Clock at) h = refl
+told_back (events.Saw path obs) h = refl
+told_back (events.Came job conn) h = rw (kept (is_label job) job h) refl
+told_back (events.Left job conn) h = rw (kept (is_label job) job h) refl
+told_back (events.Spawned job run pid) h =
+    rw (kept (is_label job) job (left_of (is_label job) _ h), kept (nat_lt 0 pid && nat_lt pid (2 ^ 32)) pid (right_of (is_label job) _ h)) refl
+told_back (events.SpawnRefused job run) h = rw (kept (is_label job) job h) refl
+told_back (events.Termed job run ok) h = rw (kept (is_label job) job h) refl
+told_back (events.Killed job run ok) h = rw (kept (is_label job) job h) refl
+told_back (events.Ended job run (Code n)) h =
+    rw (kept (is_label job) job (left_of (is_label job) _ h), kept (nat_lt n 256) n (right_of (is_label job) _ h)) refl
+told_back (events.Ended job run (Signal n)) h =
+    rw (kept (is_label job) job (left_of (is_label job) _ h), kept (nat_lt n 256) n (right_of (is_label job) _ h)) refl
+told_back (events.WaitRefused job run) h = rw (kept (is_label job) job h) refl
+
+pub asked_back : (e : Event) → is_request e ≡ true → request_row (event_object forms.Request e) ≡ Some e
+unfolding request_row asked_row load_row unload_row job_row target_row setting_row kickstart_row bare_row text_key flag_or label_key target_key has_only
+asked_back (events.Load def w force true true) h = refl
+asked_back (events.Load def w force false store) h = absurd (true≢false (sym h))
+asked_back (events.Load def w force true false) h = absurd (true≢false (sym h))
+asked_back (events.Unload job w true) h = rw (kept (is_label job) job (left_of (is_label job) _ h)) refl
+asked_back (events.Unload job w false) h = absurd (true≢false (sym (right_of (is_label job) _ h)))
+asked_back (events.Start job) h = rw (kept (is_label job) job h) refl
+asked_back (events.Stop job) h = rw (kept (is_label job) job h) refl
+asked_back (events.Kickstart job k) h = rw (named job h) refl
+asked_back (events.Enable job true) h = rw (named job (left_of (is_label job) _ h)) refl
+asked_back (events.Enable job false) h = absurd (true≢false (sym (right_of (is_label job) _ h)))
+asked_back (events.Disable job true) h = rw (named job (left_of (is_label job) _ h)) refl
+asked_back (events.Disable job false) h = absurd (true≢false (sym (right_of (is_label job) _ h)))
+asked_back events.List h = refl
+asked_back (events.Print job) h = rw (named job h) refl
+asked_back events.Shutdown h = refl
+asked_back (events.Clock at) h = absurd (true≢false (sym h))
+asked_back (events.Saw path obs) h = absurd (true≢false (sym h))
+asked_back (events.Came job conn) h = absurd (true≢false (sym h))
+asked_back (events.Left job conn) h = absurd (true≢false (sym h))
+asked_back (events.Spawned job run pid) h = absurd (true≢false (sym h))
+asked_back (events.SpawnRefused job run) h = absurd (true≢false (sym h))
+asked_back (events.Termed job run ok) h = absurd (true≢false (sym h))
+asked_back (events.Killed job run ok) h = absurd (true≢false (sym h))
+asked_back (events.Ended job run how) h = absurd (true≢false (sym h))
+asked_back (events.WaitRefused job run) h = absurd (true≢false (sym h))
+
+-- ---- whole lines
+
+-- the text of a value that is not deep is read as that value
+abbrev pub IsRead : Data → Type 0
+IsRead d = depth d ≤ max_depth → json_in (compact_text d) ≡ Some d
+
+read_at : (d e : Data) → d ≡ e → depth e ≤ max_depth → IsRead d → json_in (compact_text e) ≡ Some e
+read_at d e same shallow read = subst IsRead same read shallow
+
+pub event_back : (e : Event) (d : Data) → d ≡ event_object forms.Event e → IsRead d → is_tellable e ≡ true → event_at (compact_text (event_object forms.Event e)) ≡ Some e
+unfolding event_at
+event_back e d same read h =
+    ap (λ o. o >>= event_row) (read_at d (event_object forms.Event e) same (row_depth forms.Event (name_of e) (row_members e) (answer_members e)) read) ∙ told_back e h
+
+pub request_back : (e : Event) (d : Data) → d ≡ event_object forms.Request e → IsRead d → is_request e ≡ true → request_at (compact_text (event_object forms.Request e)) ≡ Some e
+unfolding request_at
+request_back e d same read h =
+    ap (λ o. o >>= request_row) (read_at d (event_object forms.Request e) same (row_depth forms.Request (name_of e) (row_members e) (answer_members e)) read) ∙ asked_back e h
+
+pub on_ok : {X E : Type 0} {P Q : Type 0} (r : Result X E) → (P → Q) → OnOk r P → OnOk r Q
+on_ok (Ok x) f p = f p
+on_ok (Err e) f p = tt

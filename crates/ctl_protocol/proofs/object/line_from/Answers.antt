@@ -1,0 +1,9 @@
+use Rattle.std.proofs.Common.{◌≡◌, Some, subst}
+use Rattle.serde_json.specs.View.{view}
+use Rattle.job_defs.specs.Json.{json_in}
+use Rattle.job_defs.proofs.IsText.{json_read}
+use Rattle.ctl_protocol.proofs.object.line_from.Goals as goal
+
+pub returns-clause-reads_back : goal.returns-clause-reads_back
+returns-clause-reads_back c =
+    λ shallow. subst (λ t. json_in t ≡ Some (view c.args.value.now)) (c.in_ok-line.ensures.text c.requires) (json_read c.in_ok-line.line.items (view c.args.value.now) c.in_ok-line.ensures.utf8 (c.in_ok-line.ensures.reads_back shallow))
