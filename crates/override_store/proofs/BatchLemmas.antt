@@ -1,7 +1,6 @@
 -- A text of several statements is its statements in turn.
-use Rattle.std.proofs.Common.{◌≡◌, inl, inr, ℕ, zero, suc, ◌<◌, List, [], ◌∷◌, append-nil, take, drop, length, true, Option, Some, None, Ok, refl, sym, ap, subst, subst₂, ◌∙◌, arith}
+use Rattle.std.proofs.Common.{◌≡◌, inl, inr, ℕ, zero, suc, ◌<◌, List, [], ◌∷◌, append-nil, take, drop, length, true, Option, Some, None, Ok, sym, ap, subst, subst₂, ◌∙◌, arith}
 use Rattle.std.proofs.lemmas.Bool.{cases_Bool}
-use Rattle.sqlite.specs.Order.{Row}
 use Rattle.sqlite.specs.Batch.{first_len, ExecutesAllInside, RunInTurn, Step}
 use Rattle.sqlite.specs.Store.{Ghosts}
 use Rattle.sqlite.specs.Held.{Held}

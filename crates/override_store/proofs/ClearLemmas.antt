@@ -1,6 +1,5 @@
 -- What the statement that empties the first table leaves.
-use Rattle.std.proofs.Common.{◌≡◌, inl, inr, ℕ, ℤ, List, [], ◌∷◌, map, flat_map, None, Ok, refl, sym, ap, subst, ◌∙◌, true, IsTrue}
-use Rattle.std.specs.List.{AllByRecursion}
+use Rattle.std.proofs.Common.{◌≡◌, inl, ℕ, ℤ, List, [], ◌∷◌, map, flat_map, None, Ok, refl, sym, ap, subst, ◌∙◌, true}
 use Rattle.std.specs.List.Sorted.{IsPermutation}
 use Rattle.std.proofs.lemmas.List.Sorted.{IsPermutation-sym, IsPermutation-map}
 use Rattle.sqlite.specs.declared.types.Value.TheVariants.{Null}

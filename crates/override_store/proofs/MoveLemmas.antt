@@ -1,5 +1,5 @@
 -- What the statement that moves the rows of the first table leaves.
-use Rattle.std.proofs.Common.{◌≡◌, ◌⊎◌, inl, inr, ℕ, ℤ, pos, List, [], ◌∷◌, map, flat_map, None, Ok, refl, sym, ap, subst, ◌∙◌}
+use Rattle.std.proofs.Common.{◌≡◌, inl, inr, ℕ, ℤ, pos, List, [], ◌∷◌, map, flat_map, None, Ok, refl, sym, ap, subst, ◌∙◌}
 use Rattle.std.specs.Prelude.{◌↔◌}
 use Rattle.std.specs.List.{AllByRecursion}
 use Rattle.std.specs.List.Sorted.{IsPermutation}
@@ -9,24 +9,21 @@ use Rattle.sqlite.specs.declared.types.Value.TheVariants.{Null, Int, Text}
 use Rattle.sqlite_value.specs.Order.{Row, column}
 use Rattle.sqlite_trees.specs.declared.store.Shape.TheVariants.{Table}
 use Rattle.sqlite_trees.specs.View.{IsShaped}
-use Rattle.sqlite_schema.specs.declared.command.Conflict.TheVariants.{Replace}
-use Rattle.sqlite_schema.specs.declared.schema.Keys.{Keys}
 use Rattle.sqlite_rules.specs.Lists.{Has}
-use Rattle.sqlite_rules.proofs.ListLemmas.{all_from, all_has}
+use Rattle.sqlite_rules.proofs.ListLemmas.{all_from}
 use Rattle.sqlite_rules.proofs.ProbeLemmas.{has_mapped, mapped_has}
 use Rattle.sqlite.specs.Query.{IsAnswer, Output, output}
 use Rattle.sqlite.specs.Program.{overlay}
 use Rattle.sqlite.specs.Does.{Tally, Does}
-use Rattle.sqlite.specs.Rows.{Written, TriesEach, nothing}
+use Rattle.sqlite.specs.Rows.{Written, nothing}
 use Rattle.sqlite.specs.Tree.{Trees}
 use Rattle.sqlite.specs.Effect.{Database}
 use Rattle.sqlite.specs.State.{State, mode_of}
 use Rattle.sqlite_catalog.specs.Listing.{IsSound}
 use Rattle.override_store.specs.Tables.{both_schema}
-use Rattle.override_store.specs.Rows.{HasRow, IsNamed, Says, IsStamped, IsFlag, Moves}
+use Rattle.override_store.specs.Rows.{HasRow, IsFlag, Moves}
 use Rattle.override_store.proofs.TextLemmas.{moved, move_command}
-use Rattle.override_store.proofs.RowLemmas.{kept}
-use Rattle.override_store.proofs.PutLemmas.{went, same_value, task, source}
+use Rattle.override_store.proofs.PutLemmas.{went, same_value}
 use Rattle.override_store.proofs.FoldLemmas.{IsSource, Agree, keeps_shape, folds}
 use Rattle.override_store.proofs.PermutationLemmas.{has_permuted}
 use Rattle.override_store.proofs.TypedLemmas.{firsts_typed, firsts_alone}

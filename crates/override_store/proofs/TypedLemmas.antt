@@ -1,7 +1,7 @@
 -- What a sound database says of the rows of a table.
-use Rattle.std.proofs.Common.{◌≡◌, ◌⊎◌, inl, inr, ℕ, ℤ, pos, List, [], ◌∷◌, Bool, true, false, not, Ordering, Less, Equal, Greater, refl, sym, ap, subst, ◌∙◌, true≢false, Some}
-use Rattle.std.proofs.lemmas.Bool.{and_from, and_left, and_right}
-use Rattle.std.specs.Prelude.{slice_get, get_or, ◌&&◌, ◌||◌}
+use Rattle.std.proofs.Common.{◌≡◌, inl, inr, ℕ, ℤ, pos, List, [], ◌∷◌, Bool, true, false, not, Ordering, Less, Equal, Greater, refl, sym, ap, subst, ◌∙◌, true≢false, Some}
+use Rattle.std.proofs.lemmas.Bool.{and_from}
+use Rattle.std.specs.Prelude.{◌&&◌}
 use Rattle.std.specs.Ordering.{int_eq, is_ne}
 use Rattle.sqlite.specs.declared.types.Value.{Value}
 use Rattle.sqlite.specs.declared.types.Value.TheVariants.{Int, Text, Null, Real, Blob}
@@ -14,7 +14,6 @@ use Rattle.sqlite.specs.Kind.TheVariants as kind
 use Rattle.sqlite_schema.specs.declared.schema.Constraint.TheVariants.{Datatype, NotNull}
 use Rattle.sqlite_sql.specs.Ops.{binary, is_true, from_truth, is_null}
 use Rattle.sqlite.specs.Schema.{Schema}
-use Rattle.sqlite.specs.Table.{Table}
 use Rattle.sqlite_catalog.specs.Listing.{IsSound}
 use Rattle.sqlite_catalog.proofs.AlterLemmas.{keys_are_unique}
 use Rattle.sqlite_rules.specs.Lists.{Has}
@@ -22,9 +21,9 @@ use Rattle.sqlite_rules.proofs.ListLemmas.{all_has, some_from}
 use Rattle.sqlite_rules.proofs.PlaceLemmas.{tied_same}
 use Rattle.sqlite_trees.specs.declared.store.Shape.TheVariants as shape
 use Rattle.sqlite_trees.specs.View.{is_int, IsShaped}
-use Rattle.override_store.specs.Tables.{overrides, settings, both_schema, first_schema}
+use Rattle.override_store.specs.Tables.{overrides, settings, both_schema}
 use Rattle.sqlite.specs.Effect.{Database}
-use Rattle.override_store.specs.Rows.{HasRow, Says, IsFlag}
+use Rattle.override_store.specs.Rows.{Says, IsFlag}
 use Rattle.override_store.specs.Ours.{AreOurs, rows_in}
 use Rattle.override_store.proofs.RowLemmas.{equal_texts}
 
