@@ -1,34 +1,15 @@
 //! The rows of a query as settings, and as seconds.
 
 ghost use Rattle.std.specs.Prelude.{◌≡◌, ◌<◌, All, Any, Err, IfOk, IsTrue, length, map, string_bytes};
-ghost use Rattle.std.specs.List.{AllZip, list_any};
+ghost use Rattle.std.specs.List.{AllZip};
 ghost use Rattle.sqlite.specs.Order.{column};
-ghost use Rattle.history_model.specs.Labels.{is_forbidden, is_label};
 ghost use Rattle.override_store.specs.Settings.{IsChange, IsEntry, IsForeign, IsOf, change_of};
 
 use crate::{StoreFault, fault};
 use history_model::{Setting, Text};
+use job_defs::is_label;
 use sqlite::{Error, ErrorCode, Row};
 use std::alloc::Global;
-
-fn is_forbidden(b: u8) -> bool
-    ensures { result ≡ is_forbidden b }
-{
-    b == b'/' || b < 32 || b == 127
-}
-
-fn any_forbidden(bytes: &[u8]) -> bool
-    ensures { result ≡ list_any is_forbidden bytes.now }
-{
-    bytes.iter().any(|b| is_forbidden(*b))
-}
-
-fn is_label(text: &str) -> bool
-    ensures { result ≡ is_label text.now }
-{
-    let bytes = text.as_bytes();
-    0 < bytes.len() && bytes.len() <= 255 && !any_forbidden(bytes)
-}
 
 fn stored_label(row: &Row) -> Result<String, StoreFault>
     ensures ok { IfOk result (λ s. IsOf row.now (string_bytes s)) }
