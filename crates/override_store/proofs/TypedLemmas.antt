@@ -67,6 +67,16 @@ typed_row schema db (i ∷ v ∷ w ∷ more) typed there =
     let w_there = not_false _ (first_of _ _ (second_of (not (is_null v)) _ there)) in
     (of_text v v_there (first_of _ _ all), of_int w w_there (first_of _ _ (second_of (is_of kind.Text v) _ all)))
 
+labelled_row : (schema : Schema) (db : Trees) (row : Row) → passes Datatype schema db (settings 2) row ≡ true → passes NotNull schema db (settings 2) row ≡ true → (t : List ℕ) × (column row 1 ≡ Text t)
+labelled_row schema db [] typed there = absurd (true≢false (sym there))
+labelled_row schema db (i ∷ []) typed there = absurd (true≢false (sym there))
+labelled_row schema db (i ∷ v ∷ more) typed there = of_text v (not_false _ (first_of _ _ there)) (first_of _ _ (first_of _ _ typed))
+
+-- each row of the second table has a label
+pub seconds_labelled : (db : Trees) → IsSound both_schema db → (row : Row) → Has (db 2) row → (t : List ℕ) × (column row 1 ≡ Text t)
+seconds_labelled db sound row there =
+    labelled_row both_schema db row (all_has _ (db 2) row (sound.obeys.rules Datatype).1.0 there) (all_has _ (db 2) row (sound.obeys.rules NotNull).1.0 there)
+
 -- each row of the first table is typed
 pub firsts_typed : (db : Trees) → IsSound both_schema db → (row : Row) → Has (db 0) row → IsTyped row
 firsts_typed db sound row there =

@@ -2,16 +2,17 @@
 #![tactic(auto)]
 
 ghost use Rattle.std.specs.Prelude.{◌≡◌, ◌≢◌, ◌⊎◌, ◌↔◌, ◌≤◌, Err, IfErr, IfOk, IsTrue, List, OnErr, OnOk, Any, ◌∷◌, false, map, reverse};
+ghost use Rattle.std.specs.List.{IsDistinct};
 ghost use Rattle.sqlite.specs.Held.{state};
 ghost use Rattle.sqlite.specs.Order.{column};
 ghost use Rattle.sqlite.specs.State.{HasCleanDisk, Survives};
 ghost use Rattle.sqlite.specs.Tree.{Trees};
 ghost use Rattle.sqlite.specs.View.{IsClean, doubt};
-ghost use Rattle.history_model.specs.Labels.{is_label};
+ghost use Rattle.history_model.specs.Labels.{is_label, is_same};
 ghost use Rattle.history_model.specs.declared.event.Setting.{Setting};
 ghost use Rattle.override_store.specs.Ours.{AreFit, Carries, HoldsAs, HoldsSetting, IsOurs, rows_in};
 ghost use Rattle.override_store.specs.Rows.{Sets, Stamps};
-ghost use Rattle.override_store.specs.Settings.{HoldsEach, IsForeign, ListsChanges, ListsSettings, change_of};
+ghost use Rattle.override_store.specs.Settings.{Change, HoldsEach, IsForeign, ListsChanges, ListsSettings, change_of};
 
 pub mod again;
 mod batch;
@@ -131,6 +132,7 @@ impl<S: Alter> OverrideStore<S> {
     pub fn all(&mut self, alloc: Global) -> Result<Vec<Setting>, StoreFault>
         ensures ok { HasCleanDisk (state S.Store self.new) → IsOurs (state S.Store self.old) → IfOk result (λ all. ListsSettings (rows_in (state S.Store self.old).now.trees) all.items) }
         ensures each { HasCleanDisk (state S.Store self.new) → IsOurs (state S.Store self.old) → IfOk result (λ all. HoldsEach (rows_in (state S.Store self.old).now.trees) (reverse all.items)) }
+        ensures once { HasCleanDisk (state S.Store self.new) → IsOurs (state S.Store self.old) → IfOk result (λ all. IsDistinct is_same (map (λ (s : Setting). s.label) all.items)) }
         ensures foreign { HasCleanDisk (state S.Store self.new) → IsOurs (state S.Store self.old) → result ≡ Err StoreFault.Foreign → Any (λ row. IsForeign (column row 1)) (rows_in (state S.Store self.old).now.trees) }
         ensures same { HasCleanDisk (state S.Store self.new) → IsOurs (state S.Store self.old) → IsTrue (state S.Store self.new).is_open → IsOurs (state S.Store self.new) × ((state S.Store self.new).now ≡ (state S.Store self.old).now) }
         ensures mode { HasCleanDisk (state S.Store self.new) → IsOurs (state S.Store self.old) → (state S.Store self.new).in_transaction ≡ false }
@@ -146,6 +148,7 @@ impl<S: Alter> OverrideStore<S> {
     /// Refused as `all` is.
     pub fn changes(&mut self, alloc: Global) -> Result<Vec<(String, u64)>, StoreFault>
         ensures ok { HasCleanDisk (state S.Store self.new) → IsOurs (state S.Store self.old) → IfOk result (λ all. ListsChanges (rows_in (state S.Store self.old).now.trees) (map change_of all.items)) }
+        ensures once { HasCleanDisk (state S.Store self.new) → IsOurs (state S.Store self.old) → IfOk result (λ all. IsDistinct is_same (map (λ (c : Change). c.0) (map change_of all.items))) }
         ensures foreign { HasCleanDisk (state S.Store self.new) → IsOurs (state S.Store self.old) → result ≡ Err StoreFault.Foreign → Any (λ row. IsForeign (column row 1)) (rows_in (state S.Store self.old).now.trees) }
         ensures same { HasCleanDisk (state S.Store self.new) → IsOurs (state S.Store self.old) → IsTrue (state S.Store self.new).is_open → IsOurs (state S.Store self.new) × ((state S.Store self.new).now ≡ (state S.Store self.old).now) }
         ensures mode { HasCleanDisk (state S.Store self.new) → IsOurs (state S.Store self.old) → (state S.Store self.new).in_transaction ≡ false }

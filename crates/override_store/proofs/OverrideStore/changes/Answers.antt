@@ -1,12 +1,18 @@
 use Rattle.std.proofs.Common.{map}
 use Rattle.override_store.specs.Settings.{Change, IsChange, IsForeign, change_of}
 use Rattle.override_store.proofs.AnswerLemmas.{listed_as, if_ok, answer_long, any_shown}
+use Rattle.override_store.proofs.OnceLemmas.{once}
 use Rattle.override_store.proofs.OverrideStore.changes.Goals as goal
 
 pub returns-clause-ok : goal.returns-clause-ok
 returns-clause-ok g c clean ours =
     let it = c.in_ok-rows.ensures.ok clean (rw c.self.view_is ours) in
     if_ok c.changes.result _ _ (λ all each. rw (← c.self.view_is) (listed_as (λ (k : Change). k.0) IsChange (λ row k r. r.0.0) _ c.in_ok-rows.rows.items (map change_of all.items) it (rw c.as_slice.ensures.value at each))) c.changes.ensures.ok
+
+pub returns-clause-once : goal.returns-clause-once
+returns-clause-once g c clean ours =
+    let it = rw c.self.view_is at (c.in_ok-rows.ensures.ok clean (rw c.self.view_is ours)) in
+    if_ok c.changes.result _ _ (λ all each. once (λ (k : Change). k.0) IsChange (λ row k r. r.0.0) _ (map change_of all.items) ours.ours (listed_as (λ (k : Change). k.0) IsChange (λ row k r. r.0.0) _ c.in_ok-rows.rows.items (map change_of all.items) it (rw c.as_slice.ensures.value at each))) c.changes.ensures.ok
 
 pub returns-clause-foreign : goal.returns-clause-foreign
 returns-clause-foreign g c clean ours refused =
