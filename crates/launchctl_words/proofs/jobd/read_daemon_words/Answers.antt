@@ -1,0 +1,12 @@
+use Rattle.std.proofs.Common.{◌≡◌, ◌∙◌, sym}
+use Rattle.launchctl_words.proofs.Meant.{daemon_meant_found, daemon_meant_faulty, says_fault}
+use Rattle.launchctl_words.proofs.jobd.read_daemon_words.Goals as goal
+
+pub returns-in-Ok-Some : goal.returns-in-Ok-Some
+returns-in-Ok-Some c = daemon_meant_found _ _ c.in-Ok-parse.matches c.in-Ok.ensures.app c.in-Ok-parse.ensures.found ∙ sym c.in-Ok-Some.ensures ∙ c.in-Ok-Some.field-0-is
+
+pub returns-in-Ok-None : goal.returns-in-Ok-None
+returns-in-Ok-None c = daemon_meant_found _ _ c.in-Ok-parse.matches c.in-Ok.ensures.app c.in-Ok-parse.ensures.found ∙ sym c.in-Ok-None.ensures ∙ c.in-Ok-None.field-0-is
+
+pub returns : goal.returns
+returns c = says_fault c.in-Err.fault _ (λ is_usage. daemon_meant_faulty _ _ c.in-Ok.ensures.app (λ simple. c.in-Err.ensures.usage simple is_usage))

@@ -1,0 +1,29 @@
+-- Arguments and commands in clap's own words: the forms of which both programs' words are made.
+use Rattle.clap.specs.declared.Command.{Command, out-Command}
+use Rattle.std.specs.Prelude.{◌≡◌, ℕ, List, [], ◌∷◌, Bool, Some, true, false, codes}
+use Rattle.clap.specs.Words.{App, Row, Rule, Text, new_app, new_rule, with_rule, first_of, all_of}
+use Rattle.clap.specs.declared.builder.action.ArgAction.TheVariants.{SetTrue, Append}
+
+-- a flag of one letter, as -w
+abbrev pub flag_rule : Text → ℕ → Rule
+flag_rule id letter = record (new_rule id) { short = Some letter; action = Some SetTrue }
+
+-- an option with a value, as --socket PATH
+abbrev pub option_rule : Text → Bool → Rule
+option_rule id required = record (new_rule id) { long = Some id; required = required; value_names = 1 }
+
+-- a word that must stand, as LABEL
+abbrev pub word_rule : Text → Rule
+word_rule id = record (new_rule id) { required = true; value_names = 1 }
+
+-- one word or more, as PATH..
+abbrev pub words_rule : Text → Rule
+words_rule id = record (new_rule id) { action = Some Append; required = true; value_names = 1 }
+
+-- a subcommand with one word
+abbrev pub one_word_app : Text → Text → App
+one_word_app name id = with_rule (new_app name) (word_rule id)
+
+-- no argument of the command is one of its subcommands too
+abbrev pub HasNoGlobals : Command → Type 0
+HasNoGlobals c = (out-Command c).has_globals ≡ false

@@ -1,0 +1,212 @@
+// The daemon's words: how clap takes them, and what they mean.
+ghost use Rattle.std.specs.Prelude.{◌≡◌, IfOk, true, false, map, string_bytes};
+ghost use Rattle.clap.specs.Words.{app_of, rows_of, found_of, subcommand_rows_of};
+ghost use Rattle.launchctl_words.specs.Rules.{HasNoGlobals};
+ghost use Rattle.launchctl_words.specs.Meaning.{Says};
+ghost use Rattle.launchctl_words.specs.Jobd as spec;
+ghost use Rattle.launchctl_words.specs.Jobd.{with_places, with_choices, serve_app, overrides_app, jobd_app};
+
+use crate::arguments::{option, value_of};
+use crate::command::{DaemonCommand, WordFault, ZoneWords};
+use crate::parse::{Explanation, explain_by, parse};
+use clap::ArgMatches;
+use std::alloc::{AllocError, Global};
+
+/// The paths that the launcher must be given.
+fn add_places<'a>(
+    alloc: Global,
+    command: clap::Command<'a>,
+) -> Result<clap::Command<'a>, AllocError>
+    ensures app { IfOk result (λ c. app_of c ≡ with_places (app_of command.entry)) }
+    ensures globals { HasNoGlobals command.entry → IfOk result (λ c. HasNoGlobals c) }
+{
+    let socket = option(alloc, "socket", true, "PATH", "The control socket to make");
+    let store = option(
+        alloc,
+        "store",
+        true,
+        "PATH",
+        "The database of overrides; made where it is not there",
+    );
+    let spool = option(
+        alloc,
+        "spool",
+        true,
+        "DIR",
+        "The folder for requests and replies of job sockets",
+    );
+    let command = command.arg(socket)?.arg(store)?.arg(spool)?;
+    Ok(command)
+}
+
+fn add_choices<'a>(
+    alloc: Global,
+    command: clap::Command<'a>,
+) -> Result<clap::Command<'a>, AllocError>
+    ensures app { IfOk result (λ c. app_of c ≡ with_choices (app_of command.entry)) }
+    ensures globals { HasNoGlobals command.entry → IfOk result (λ c. HasNoGlobals c) }
+{
+    let journal = option(
+        alloc,
+        "journal",
+        false,
+        "PATH",
+        "Write each event there, to be read by jobd replay",
+    );
+    let zone = option(
+        alloc,
+        "zone",
+        false,
+        "TEXT",
+        "The zone of calendar entries as a POSIX rule; UTC0 where absent",
+    );
+    let zone_file = option(
+        alloc,
+        "zone-file",
+        false,
+        "PATH",
+        "The zone as a zone file, in place of --zone",
+    );
+    let command = command.arg(journal)?.arg(zone)?.arg(zone_file)?;
+    Ok(command)
+}
+
+fn serve_words<'a>(alloc: Global) -> Result<clap::Command<'a>, AllocError>
+    ensures app { IfOk result (λ c. app_of c ≡ serve_app) }
+    ensures globals { IfOk result (λ c. HasNoGlobals c) }
+{
+    let command = clap::Command::new(alloc, "serve").about("Run the launcher");
+    let command = add_places(alloc, command)?;
+    match add_choices(alloc, command) {
+        Ok(command) => Ok(command),
+        Err(e) => Err(e),
+    }
+}
+
+fn overrides_words<'a>(alloc: Global) -> Result<clap::Command<'a>, AllocError>
+    ensures app { IfOk result (λ c. app_of c ≡ overrides_app) }
+    ensures globals { IfOk result (λ c. HasNoGlobals c) }
+{
+    let store = option(alloc, "store", true, "PATH", "The database of overrides");
+    let command = clap::Command::new(alloc, "overrides")
+        .about("Print each label's override and the second of its last change")
+        .arg(store)?;
+    Ok(command)
+}
+
+/// The whole command, with a help text for every word.
+fn jobd_words<'a>(alloc: Global) -> Result<clap::Command<'a>, AllocError>
+    ensures app { IfOk result (λ c. app_of c ≡ jobd_app) }
+{
+    let replay = clap::Command::new(alloc, "replay").about(
+        "Run a journal from standard input, and write its outcomes",
+    );
+    let serve = serve_words(alloc)?;
+    let overrides = overrides_words(alloc)?;
+    let command = clap::Command::new(alloc, "jobd")
+        .about("The job launcher")
+        .subcommand_required(true);
+    let command = command.subcommand(replay)?;
+    let command = command.subcommand(serve)?;
+    let command = command.subcommand(overrides)?;
+    Ok(command)
+}
+
+/// The zone that was named; none where both forms were.
+fn zone_in(alloc: Global, found: &ArgMatches<'_>) -> Result<Option<ZoneWords>, AllocError>
+    ensures { IfOk result (λ zone. zone ≡ spec.zone_in (rows_of (found_of found.now))) }
+{
+    let rule = value_of(alloc, found, "zone")?;
+    let file = value_of(alloc, found, "zone-file")?;
+    Ok(match (rule, file) {
+        (None, None) => Some(ZoneWords::Default),
+        (Some(rule), None) => Some(ZoneWords::Rule(rule)),
+        (None, Some(file)) => Some(ZoneWords::File(file)),
+        (Some(_), Some(_)) => None,
+    })
+}
+
+/// What serve means.
+fn read_serve(alloc: Global, found: &ArgMatches<'_>) -> Result<Option<DaemonCommand>, AllocError>
+    ensures { IfOk result (λ command. command ≡ spec.serve_meant (rows_of (found_of found.now))) }
+{
+    let socket = value_of(alloc, found, "socket")?;
+    let store = value_of(alloc, found, "store")?;
+    let spool = value_of(alloc, found, "spool")?;
+    let journal = value_of(alloc, found, "journal")?;
+    let zone = zone_in(alloc, found)?;
+    Ok(match (socket, store, spool, zone) {
+        (Some(socket), Some(store), Some(spool), Some(zone)) => Some(DaemonCommand::Serve {
+            socket,
+            store,
+            spool,
+            journal,
+            zone,
+        }),
+        _ => None,
+    })
+}
+
+/// What a subcommand and its values mean; none where the words are no command.
+fn read_command(
+    alloc: Global,
+    name: &str,
+    found: &ArgMatches<'_>,
+) -> Result<Option<DaemonCommand>, AllocError>
+    ensures { IfOk result (λ command. command ≡ spec.daemon_command_meant name.now (rows_of (found_of found.now))) }
+{
+    if name == "replay" {
+        Ok(Some(DaemonCommand::Replay))
+    } else if name == "serve" {
+        match read_serve(alloc, found) {
+            Ok(command) => Ok(command),
+            Err(e) => Err(e),
+        }
+    } else if name == "overrides" {
+        match value_of(alloc, found, "store")? {
+            Some(store) => Ok(Some(DaemonCommand::Overrides { store })),
+            None => Ok(None),
+        }
+    } else {
+        Ok(None)
+    }
+}
+
+fn read_matches(
+    alloc: Global,
+    matches: &ArgMatches<'_>,
+) -> Result<Option<DaemonCommand>, AllocError>
+    ensures { IfOk result (λ command. command ≡ spec.daemon_found_meant (subcommand_rows_of matches.now)) }
+{
+    match matches.subcommand() {
+        Some((name, found)) => match read_command(alloc, name, found) {
+            Ok(command) => Ok(command),
+            Err(e) => Err(e),
+        },
+        None => Ok(None),
+    }
+}
+
+/// What the words mean, the program's own name being the first.
+///
+/// Usage: they are no command of jobd, or both zone options stand; `explain_daemon` gives the text to print then.
+pub fn read_daemon_words(alloc: Global, words: &[String]) -> Result<DaemonCommand, WordFault>
+    ensures { Says result (spec.daemon_meant (map string_bytes words.now)) }
+{
+    let Ok(command) = jobd_words(alloc) else {
+        return Err(WordFault::NoMemory);
+    };
+    match parse(command, words) {
+        Ok(matches) => match read_matches(alloc, &matches) {
+            Ok(Some(command)) => Ok(command),
+            Ok(None) => Err(WordFault::Usage),
+            Err(_) => Err(WordFault::NoMemory),
+        },
+        Err(fault) => Err(fault),
+    }
+}
+
+/// The text to print where the words are no command of jobd, or ask for help.
+pub fn explain_daemon(alloc: Global, words: &[String]) -> Result<Explanation, AllocError> {
+    explain_by(alloc, jobd_words(alloc)?, words)
+}

@@ -1,0 +1,15 @@
+// What the words of the two programs mean: launchctl's for the control program, and the daemon's own.
+#![tactic(auto)]
+
+mod arguments;
+mod command;
+mod jobctl;
+mod jobd;
+mod parse;
+#[cfg(test)]
+mod tests;
+
+pub use command::{Command, DaemonCommand, Paths, WordFault, Words, ZoneWords};
+pub use jobctl::{explain, read_words};
+pub use jobd::{explain_daemon, read_daemon_words};
+pub use parse::Explanation;

@@ -1,0 +1,64 @@
+// One reading of words by clap, and the text for words that it does not take.
+ghost use Rattle.std.specs.Prelude.{◌≡◌, ◌≢◌, IfOk, true, false, map, string_bytes, IfErr};
+ghost use Rattle.clap.specs.Words.{app_of, fault_of, is_simple_and_free, kind_of};
+ghost use Rattle.launchctl_words.specs.Meaning.{IsFound, is_none_left};
+
+use crate::command::WordFault;
+use clap::error::ErrorKind;
+use clap::{ArgMatches, Error};
+use std::alloc::{AllocError, Global};
+
+/// What clap finds among the words.
+pub fn parse<'a>(
+    command: clap::Command<'a>,
+    words: &'a [String],
+) -> Result<ArgMatches<'a>, WordFault>
+    ensures found { is_simple_and_free (app_of command.entry) ≡ true →
+        IfOk result (λ m. IsFound (app_of command.entry) (map string_bytes words.entry.now) m) }
+    ensures usage { is_simple_and_free (app_of command.entry) ≡ true → IfErr result (λ e. e ≡ WordFault.Usage →
+        is_none_left (fault_of (app_of command.entry) (map string_bytes words.entry.now)) ≡ false) }
+{
+    match command.try_get_matches_from(words) {
+        Ok(matches) => Ok(matches),
+        Err(error) => Err(fault_in(&error)),
+    }
+}
+
+/// Want of memory, or words that clap does not take.
+fn fault_in(error: &Error) -> WordFault
+    ensures { result ≡ WordFault.Usage → kind_of error.now ≢ ErrorKind.OutOfMemory }
+{
+    match error.kind() {
+        ErrorKind::OutOfMemory => WordFault::NoMemory,
+        _ => WordFault::Usage,
+    }
+}
+
+/// What to print for words that are no command.
+#[derive(Debug, Drop)]
+pub struct Explanation {
+    pub text: String,
+    /// Help was asked for: the text belongs to standard output.
+    pub is_help: bool,
+}
+
+/// The text for words that clap does not take; the whole help where it takes them.
+pub fn explain_by<'a>(
+    alloc: Global,
+    mut command: clap::Command<'a>,
+    words: &'a [String],
+) -> Result<Explanation, AllocError> {
+    match command.try_get_matches_from_mut(words) {
+        Ok(_) => Ok(Explanation {
+            text: command.render_help()?,
+            is_help: false,
+        }),
+        Err(error) => {
+            let is_help = !error.use_stderr();
+            Ok(Explanation {
+                text: format!(in alloc; "{error}")?,
+                is_help,
+            })
+        }
+    }
+}
