@@ -17,14 +17,14 @@ use Rattle.ctl_protocol.specs.Rows.{load_row, unload_row, job_row, target_row, s
 use Rattle.ctl_protocol.specs.Journal.{name_of, row_members, answer_members, event_object, is_tellable, is_request}
 use Rattle.ctl_protocol.proofs.Objects.{row_depth}
 
-kept : {X : Type 0} (b : Bool) (x : X) → b ≡ true → (if b then Some x else None) ≡ Some x
+pub kept : {X : Type 0} (b : Bool) (x : X) → b ≡ true → (if b then Some x else None) ≡ Some x
 kept true x h = refl
 kept false x h = absurd (true≢false (sym h))
 
-left_of : (a b : Bool) → (a && b) ≡ true → a ≡ true
+pub left_of : (a b : Bool) → (a && b) ≡ true → a ≡ true
 left_of a b h = grind (arith, h)
 
-right_of : (a b : Bool) → (a && b) ≡ true → b ≡ true
+pub right_of : (a b : Bool) → (a && b) ≡ true → b ≡ true
 right_of a b h = grind (arith, h)
 
 none_first : (a b : Bool) → (a || b) ≡ false → a ≡ false
@@ -117,7 +117,7 @@ asked_back (events.WaitRefused job run) h = absurd (true≢false (sym h))
 abbrev pub IsRead : Data → Type 0
 IsRead d = depth d ≤ max_depth → json_in (compact_text d) ≡ Some d
 
-read_at : (d e : Data) → d ≡ e → depth e ≤ max_depth → IsRead d → json_in (compact_text e) ≡ Some e
+pub read_at : (d e : Data) → d ≡ e → depth e ≤ max_depth → IsRead d → json_in (compact_text e) ≡ Some e
 read_at d e same shallow read = subst IsRead same read shallow
 
 pub event_back : (e : Event) (d : Data) → d ≡ event_object forms.Event e → IsRead d → is_tellable e ≡ true → event_at (compact_text (event_object forms.Event e)) ≡ Some e

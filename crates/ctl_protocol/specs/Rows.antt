@@ -1,6 +1,6 @@
 -- The lines that tell an event, row by row: the keys that each must or may have, their kinds, and the event that they give.
 -- A request is the same row under the key `req`, without the answers of the outside.
-use Rattle.std.specs.Prelude.{ℕ, ◌^◌, List, [], ◌∷◌, codes, Bool, true, false, ◌&&◌, Option, Some, None, nat_lt, if◌then◌else◌}
+use Rattle.std.specs.Prelude.{ℕ, ◌^◌, List, [], ◌∷◌, ◌++◌, codes, Bool, true, false, ◌&&◌, Option, Some, None, nat_lt, if◌then◌else◌}
 use Rattle.std.specs.Str.{bytes_eq}
 use Rattle.serde_json.specs.Data.{Data}
 use Rattle.serde_json.specs.Find.{get}
@@ -60,19 +60,31 @@ kickstart_row form d = if has_only form (codes "job" ∷ codes "k" ∷ []) [] d 
 unfoldable pub bare_row : Event → Form → Data → Option Event
 bare_row event form d = if has_only form [] [] d then Some event else None
 
+-- a row under its name
+abbrev Row : Type 0
+Row = List ℕ × (Data → Option Event)
+
+-- the event that a line of this name tells
+abbrev row_of : List ℕ → List Row → Data → Option Event
+row_of name [] d = None
+row_of name (r ∷ rows) d = if bytes_eq name r.0 then r.1 d else row_of name rows d
+
+abbrev pub asked_rows : Form → List Row
+asked_rows form =
+    (codes "load", load_row form)
+    ∷ (codes "unload", unload_row form)
+    ∷ (codes "start", λ d. job_row form d >>= λ job. Some (events.Start job))
+    ∷ (codes "stop", λ d. job_row form d >>= λ job. Some (events.Stop job))
+    ∷ (codes "kickstart", kickstart_row form)
+    ∷ (codes "enable", λ d. setting_row form d >>= λ s. Some (events.Enable s.0 s.1))
+    ∷ (codes "disable", λ d. setting_row form d >>= λ s. Some (events.Disable s.0 s.1))
+    ∷ (codes "list", bare_row events.List form)
+    ∷ (codes "print", λ d. target_row form d >>= λ job. Some (events.Print job))
+    ∷ (codes "shutdown", bare_row events.Shutdown form)
+    ∷ []
+
 unfoldable pub asked_row : List ℕ → Form → Data → Option Event
-asked_row name form d =
-    if bytes_eq name (codes "load") then load_row form d
-    else if bytes_eq name (codes "unload") then unload_row form d
-    else if bytes_eq name (codes "start") then (job_row form d >>= λ job. Some (events.Start job))
-    else if bytes_eq name (codes "stop") then (job_row form d >>= λ job. Some (events.Stop job))
-    else if bytes_eq name (codes "kickstart") then kickstart_row form d
-    else if bytes_eq name (codes "enable") then (setting_row form d >>= λ s. Some (events.Enable s.0 s.1))
-    else if bytes_eq name (codes "disable") then (setting_row form d >>= λ s. Some (events.Disable s.0 s.1))
-    else if bytes_eq name (codes "list") then bare_row events.List form d
-    else if bytes_eq name (codes "print") then (target_row form d >>= λ job. Some (events.Print job))
-    else if bytes_eq name (codes "shutdown") then bare_row events.Shutdown form d
-    else None
+asked_row name form d = row_of name (asked_rows form) d
 
 -- ---- what the outside tells
 
@@ -157,19 +169,23 @@ ended_row d = if has_only forms.Event (codes "job" ∷ codes "run" ∷ codes "co
   how ← end_key d
   Some (events.Ended job run how)) else None
 
+abbrev pub told_rows : List Row
+told_rows =
+    (codes "clock", clock_row)
+    ∷ (codes "saw", saw_row)
+    ∷ (codes "came", λ d. connection_row d >>= λ c. Some (events.Came c.0 c.1))
+    ∷ (codes "left", λ d. connection_row d >>= λ c. Some (events.Left c.0 c.1))
+    ∷ (codes "spawned", spawned_row)
+    ∷ (codes "spawn_refused", λ d. run_row d >>= λ r. Some (events.SpawnRefused r.0 r.1))
+    ∷ (codes "termed", λ d. answer_row d >>= λ a. Some (events.Termed a.0 a.1 a.2))
+    ∷ (codes "killed", λ d. answer_row d >>= λ a. Some (events.Killed a.0 a.1 a.2))
+    ∷ (codes "ended", ended_row)
+    ∷ (codes "wait_refused", λ d. run_row d >>= λ r. Some (events.WaitRefused r.0 r.1))
+    ∷ []
+
+-- a line of a journal has a row of either table
 unfoldable pub told_row : List ℕ → Data → Option Event
-told_row name d =
-    if bytes_eq name (codes "clock") then clock_row d
-    else if bytes_eq name (codes "saw") then saw_row d
-    else if bytes_eq name (codes "came") then (connection_row d >>= λ c. Some (events.Came c.0 c.1))
-    else if bytes_eq name (codes "left") then (connection_row d >>= λ c. Some (events.Left c.0 c.1))
-    else if bytes_eq name (codes "spawned") then spawned_row d
-    else if bytes_eq name (codes "spawn_refused") then (run_row d >>= λ r. Some (events.SpawnRefused r.0 r.1))
-    else if bytes_eq name (codes "termed") then (answer_row d >>= λ a. Some (events.Termed a.0 a.1 a.2))
-    else if bytes_eq name (codes "killed") then (answer_row d >>= λ a. Some (events.Killed a.0 a.1 a.2))
-    else if bytes_eq name (codes "ended") then ended_row d
-    else if bytes_eq name (codes "wait_refused") then (run_row d >>= λ r. Some (events.WaitRefused r.0 r.1))
-    else asked_row name forms.Event d
+told_row name d = row_of name (told_rows ++ asked_rows forms.Event) d
 
 -- ---- whole lines
 

@@ -294,7 +294,7 @@ fn ended_in(alloc: Global, line: &Value) -> Result<Event, ReadFault>
 }
 
 /// The row of any event.
-#[tactic(auto, unfolding(crate::specs::Rows::told_row))]
+#[tactic(auto, unfolding(crate::specs::Rows::told_row, crate::specs::Rows::asked_row))]
 fn told_in(alloc: Global, name: &str, line: &Value) -> Result<Event, ReadFault>
     ensures { Reads result (told_row name.now (view line.now)) }
 {

@@ -96,6 +96,9 @@ fn header_value(alloc: Global, header: &Header) -> Result<Value, AllocError>
 /// that memory ran out.
 pub fn header_line(alloc: Global, header: &Header) -> Result<Vec<u8>, AllocError>
     ensures text { IfOk result (λ line. line.items ≡ header_text header.now) }
+    // The line, without its newline, is read as the header.
+    ensures reads_back { OnOk result (IsHeader header.now
+        → header_at (compact_text (header_object header.now)) ≡ Some header.now) }
 {
     let value = header_value(alloc, header)?;
     line_from(alloc, &value)
