@@ -1,13 +1,12 @@
 -- Searches of the entries through a list of minutes.
-use Rattle.std.proofs.Common.{◌≡◌, ◌<◌, ◌⊎◌, inl, inr, ℕ, zero, suc, Bool, true, false, ◌||◌, List, [], ◌∷◌, length, map, refl, ap, ◌∙◌, arith}
-use Rattle.std.proofs.lemmas.Bool.{cases_Bool}
-use Rattle.std.specs.List.{list_any, Contains, slice_index_or}
+use Rattle.std.proofs.Common.{◌≡◌, ◌⊎◌, inl, inr, ℕ, zero, suc, Bool, true, false, ◌||◌, ◌==◌, List, [], ◌∷◌, length, map, refl, sym, ap, ◌∙◌, arith}
+use Rattle.std.proofs.lemmas.Bool.{cases_Bool, eqb-true}
+use Rattle.std.specs.List.{list_any, Contains}
 use Rattle.history_model.specs.declared.Entry.{Entry}
 use Rattle.history_model.specs.declared.CivilMinute.{CivilMinute}
-use Rattle.history_model.specs.Calendar.{Zone, matches, crossed, calendar_fires}
+use Rattle.history_model.specs.Calendar.{Zone, IsCrossed, matches, crossed, calendar_fires}
 use Rattle.calendar_due.specs.Offsets.{Offsets, shown_by}
-use Rattle.calendar_due.specs.Changes.{IsCrossed}
-use Rattle.calendar_due.proofs.CrossedLemmas.{crossed-members}
+use Rattle.history_model.proofs.Crossed.{members}
 
 -- no entry matches some of the minutes
 pub nothing_matches : (entries : List Entry) (minutes : List CivilMinute) → length entries ≡ 0
@@ -31,11 +30,13 @@ found-calendar_fires zone entries previous now minutes found are is =
 or_true : (b : Bool) → (b || true) ≡ true
 or_true b = elim (cases_Bool b) [ inl passes ↦ rw passes refl | inr fails ↦ rw fails refl ]
 
--- a search finds what is there
-any_at : {A : Type 0} (p : A → Bool) (xs : List A) (k : ℕ) (x : A) → k < length xs → slice_index_or xs k x ≡ x → p x ≡ true → list_any p xs ≡ true
-any_at p [] k x below is passes = absurd (omega arith)
-any_at p (y ∷ ys) zero x below is passes = ap (λ z. p z || list_any p ys) is ∙ ap (λ b. b || list_any p ys) passes
-any_at p (y ∷ ys) (suc k) x below is passes = ap (λ b. p y || b) (any_at p ys k x (omega arith) is passes) ∙ or_true (p y)
+-- a search finds a number that is there
+any_of : (p : ℕ → Bool) (xs : List ℕ) (m : ℕ) → list_any (λ c. c == m) xs ≡ true → p m ≡ true → list_any p xs ≡ true
+any_of p [] m found passes = cc
+any_of p (x ∷ xs) m found passes = elim (cases_Bool (x == m)) [
+  | inl same ↦ ap (λ z. p z || list_any p xs) (eqb-true x m same) ∙ ap (λ b. b || list_any p xs) passes
+  | inr other ↦ ap (λ b. p x || b) (any_of p xs m (ap (λ b. b || list_any (λ c. c == m) xs) (sym other) ∙ found) passes) ∙ or_true (p x)
+]
 
 -- what stands in a list that a function made is made of an element
 pub mapped_from : {A B : Type 0} (f : A → B) (xs : List A) (y : B) → Contains (map f xs) y → (x : A) × (f x ≡ y)
@@ -50,6 +51,5 @@ pub showing_fires : (ahead : Offsets) (first second : ℕ) (at : CivilMinute) �
 showing_fires ahead first second at one two entry previous now matched is_crossed =
     let test : ℕ → Bool = λ m. list_any (λ e. matches e (shown_by ahead m)) (entry ∷ []) in
     let found : (m : ℕ) → shown_by ahead m ≡ at → IsCrossed previous now m → calendar_fires (shown_by ahead) (entry ∷ []) previous now ≡ true = λ (m : ℕ) (shows : shown_by ahead m ≡ at) (is : IsCrossed previous now m).
-    let place = (crossed-members previous now m).1 is in
-    any_at test (crossed previous now) place.0 m place.1 place.2 (ap (λ x. list_any (λ e. matches e x) (entry ∷ [])) shows ∙ ap (λ b. b || false) matched) in
+    any_of test (crossed previous now) m ((members previous now m).1 is) (ap (λ x. list_any (λ e. matches e x) (entry ∷ [])) shows ∙ ap (λ b. b || false) matched) in
     elim is_crossed [ inl is ↦ found first one is | inr is ↦ found second two is ]

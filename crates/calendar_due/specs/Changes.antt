@@ -1,16 +1,9 @@
--- Crossed minutes, and the civil minutes that a change of the clock skips or repeats.
-use Rattle.std.specs.Prelude.{◌≡◌, ◌<◌, ◌≤◌, ℕ, ◌+◌, ◌%◌, ◌*◌, ℤ, pos, ◌+ℤ◌, ◌*ℤ◌, ◌≤ℤ◌}
+-- The civil minutes that a change of the clock skips or repeats.
+use Rattle.std.specs.Prelude.{◌≡◌, ◌<◌, ◌≤◌, ℕ, ◌+◌, ◌*◌, ℤ, pos, ◌+ℤ◌, ◌*ℤ◌, ◌≤ℤ◌}
 use Rattle.jiff_core.specs.Calendar.{IsWithin, days_from_civil}
 use Rattle.history_model.specs.declared.CivilMinute.{CivilMinute}
 use Rattle.calendar_due.specs.Minute.{shown_minute}
 use Rattle.calendar_due.specs.Offsets.{Offsets}
-
--- a step of the clock crosses m: a whole minute after `previous`, at most `now`, and less than 400 days before it
-pub record IsCrossed (previous now m : ℕ) : Type 0 where
-  pub whole : m % 60 ≡ 0
-  pub later : previous < m
-  pub reached : m ≤ now
-  pub recent : now < m + 34_560_000
 
 -- the second at which the clock changes from one offset to another. Each holds for 200,000 seconds (55 hours) at least, and
 -- no offset is past 25:59:59

@@ -1,7 +1,7 @@
 -- The civil minute that a clock shows, on the Gregorian calendar.
-use Rattle.std.specs.Prelude.{ℕ, zero, suc, ◌+◌, ◌-◌, ◌/◌, ◌%◌, ℤ, pos, ◌-ℤ◌, nat_le, if◌then◌else◌, unsigned_abs}
+use Rattle.std.specs.Prelude.{◌≤◌, ◌<◌, ℕ, zero, suc, ◌+◌, ◌-◌, ◌/◌, ◌%◌, ℤ, pos, ◌-ℤ◌, nat_le, if◌then◌else◌, unsigned_abs}
 use Rattle.std.specs.Int.{int_div_euclid, int_rem_euclid}
-use Rattle.jiff_core.specs.Calendar.{days_of_months, days_from_civil, weekday_number}
+use Rattle.jiff_core.specs.Calendar.{days_in_month, days_of_months, days_from_civil, weekday_number}
 use Rattle.jiff_tz.specs.Year.{year_of_day}
 use Rattle.history_model.specs.declared.CivilMinute.{CivilMinute}
 
@@ -33,3 +33,11 @@ minute_of_day day second =
 -- what a clock shows, seconds dropped, that many of its seconds after it showed 1970-01-01T00:00:00. Its days have 86,400 seconds
 abbrev pub shown_minute : ℤ → CivilMinute
 shown_minute seconds = minute_of_day (int_div_euclid seconds (pos 86400)) (unsigned_abs (int_rem_euclid seconds (pos 86400)))
+
+-- a minute of the calendar: a month of the year, a day of that month, an hour and a minute of the day, and a weekday
+pub record IsCivil (at : CivilMinute) : Type 0 where
+  pub month : (1 ≤ at.month) × (at.month ≤ 12)
+  pub day : (1 ≤ at.day) × (at.day ≤ days_in_month at.year at.month)
+  pub hour : at.hour < 24
+  pub minute : at.minute < 60
+  pub weekday : at.weekday < 7

@@ -1,24 +1,17 @@
 //! What holds of every clock and every step of it. The functions do nothing: their contracts are the laws.
-ghost use Rattle.std.specs.Prelude.{◌≡◌, ◌≢◌, ◌<◌, ◌%◌, ◌↔◌, ◌⊎◌, ℕ, ℤ, pos, true, ◌+ℤ◌, ◌≤ℤ◌, ◌<ℤ◌, neg_ℤ, List, [], ◌∷◌, map, Contains};
-ghost use Rattle.std.specs.List.Sorted.{IsStrictlyIncreasing};
-ghost use Rattle.history_model.specs.Calendar.{crossed, matches, calendar_fires};
+ghost use Rattle.std.specs.Prelude.{◌≡◌, ◌≢◌, ◌<◌, ◌%◌, ◌⊎◌, ℕ, ℤ, pos, true, ◌+ℤ◌, ◌≤ℤ◌, ◌<ℤ◌, neg_ℤ, List, [], ◌∷◌, map, Contains};
+ghost use Rattle.history_model.specs.Calendar.{IsCrossed, crossed, matches, calendar_fires};
 ghost use Rattle.history_model.specs.declared.Entry.{Entry};
-ghost use Rattle.calendar_due.specs.Minute.{shown_minute};
+ghost use Rattle.calendar_due.specs.Minute.{shown_minute, IsCivil};
 ghost use Rattle.calendar_due.specs.Offsets.{Offsets, shown_by};
 ghost use Rattle.history_model.specs.declared.CivilMinute.{CivilMinute};
 ghost use Rattle.calendar_due.specs.Zone.{IsOfRule};
-ghost use Rattle.calendar_due.specs.Changes.{IsCrossed, IsChange, IsSkipped, IsRepeated, AreShowings, start_of};
+ghost use Rattle.calendar_due.specs.Changes.{IsChange, IsSkipped, IsRepeated, AreShowings, start_of};
 
-/// The crossed minutes are the multiples of 60 after the previous reading, up to this one and of the last 400 days, each
-/// once and in rising order.
-pub fn crossed_minutes_are_a_set()
-    ensures members { (previous now m : ℕ) → Contains (crossed previous now) m ↔ IsCrossed previous now m }
-    ensures rising { (previous now : ℕ) → IsStrictlyIncreasing (crossed previous now) }
-{}
-
-/// The date and the time of a civil minute are those of the second at which the clock began to show it: the fields count
-/// up to it, and the clock is less than a minute past it.
+/// A civil minute that a clock shows, up to the greatest second and offset, is one of the calendar. Its date and time
+/// count up to the second at which the clock began to show it: the clock is less than a minute past it.
 pub fn a_civil_minute_tells_its_second()
+    ensures civil { (shown : ℤ) → neg_ℤ (pos 93_599) ≤ℤ shown → shown ≤ℤ pos 250_000_093_599 → IsCivil (shown_minute shown) }
     ensures begun { (shown : ℤ) → neg_ℤ (pos 93_599) ≤ℤ shown → start_of (shown_minute shown) ≤ℤ shown }
     ensures within { (shown : ℤ) → neg_ℤ (pos 93_599) ≤ℤ shown → shown <ℤ (start_of (shown_minute shown) +ℤ pos 60) }
 {}

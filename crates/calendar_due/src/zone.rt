@@ -1,5 +1,5 @@
 //! A zone that is handed in, the civil minute that its clock shows, and the minutes that a step of the clock crosses.
-ghost use Rattle.std.specs.Prelude.{◌≡◌, ◌≤◌, ◌↔◌, ◌+ℤ◌, ◌⊎◌, ◌<◌, Err, map, length, IsOk, IsErr, IsSome, IfOk, IfErr};
+ghost use Rattle.std.specs.Prelude.{◌≡◌, ◌≤◌, ◌↔◌, ◌+ℤ◌, ◌⊎◌, ◌<◌, ◌++◌, ◌∷◌, [], Err, map, length, IsOk, IsErr, IsSome, IfOk, IfErr, OnOk};
 ghost use Rattle.jiff_core.specs.Calendar.{IsWithin};
 ghost use Rattle.jiff_core.specs.DateTime.{civil_nanos, civil_seconds};
 ghost use Rattle.jiff_core.specs.Timestamp.{nanos_of_seconds};
@@ -138,9 +138,18 @@ impl Zone {
         let count = (now / 60).saturating_sub(last_before);
         let mut minutes = Vec::with_capacity(alloc, count as usize)?;
         for k in last_before..now / 60 {
-            minutes.push(self.civil_minute((k + 1) * 60))?;
+            self.add_minute(&mut minutes, (k + 1) * 60)?;
         }
         Ok(minutes)
+    }
+
+    // What a clock in this zone shows at the second, as the last of the list.
+    fn add_minute(&self, minutes: &mut Vec<CivilMinute>, second: u64) -> Result<(), AllocError>
+        requires { second ≤ 250_000_000_000 }
+        ensures { OnOk result (minutes.new.items ≡ minutes.old.items ++ minute_at self.now second ∷ []) }
+    {
+        minutes.push(self.civil_minute(second))?;
+        Ok(())
     }
 }
 

@@ -1,4 +1,4 @@
-use Rattle.std.proofs.Common.{rules, arith, ◌≡◌, ◌∙◌, ◌+◌, ◌-◌, ◌*◌, ◌++◌, ◌∷◌, [], ap, map, ◌/◌}
+use Rattle.std.proofs.Common.{rules, arith, ◌≡◌, ◌∙◌, ◌+◌, ◌-◌, ◌*◌, ap, map, ◌/◌}
 use Rattle.history_model.specs.Calendar.{minutes_above, last_before}
 use Rattle.calendar_due.specs.Rules.{minute_at}
 use Rattle.calendar_due.proofs.CrossedLemmas.{map-minutes_above-suc}
@@ -7,9 +7,8 @@ use Rattle.calendar_due.proofs.zone.Zone.crossed.Goals as goal
 pub loop-k-preserved : goal.loop-k-preserved
 loop-k-preserved c =
     let f = minute_at c.args.self.now in
-    let first = c.max-last_before.result in
-    let pushed : c.push.new.self.items ≡ c.loop-k.minutes.items ++ c.civil_minute.result ∷ [] = search rules in (
-      pushed ∙ ap (λ m. c.loop-k.minutes.items ++ m ∷ []) c.civil_minute.ensures
+    let first = c.max-last_before.result in (
+      c.in_ok-add_minute.ensures
           ∙ map-minutes_above-suc f first (c.loop-k.k - first) (c.loop-k.k + 1 - first) c.loop-k.k ((c.loop-k.k + 1) * 60) c.loop-k.minutes.items c.loop-k.invariant.0
           (omega (arith, c.loop-k.auto.k)) (omega (arith, c.loop-k.auto.k)) (omega arith),
       omega (arith, c.loop-k.invariant.1, c.loop-k-test.true),
