@@ -17,7 +17,7 @@ loop-directory-preserved c =
       | then-eq w ↦
           let e : true ≡ is_same_path here.path c.args.path.now = cc in
           w.directory-items-is ∙ write_step (queue_after c.args.path.now c.args.obs) c.args.listed.now.items items index here (record here { queue = w.saw.new.self }) lt c.loop-directory.invariant is
-          (ap (λ q. record here { queue = q }) w.saw.ensures ∙ (λ i. record here { queue = cond (e i) (Some c.args.obs) here.queue }))
+          (ap (λ q. record here { queue = q }) w.saw.ensures.step ∙ (λ i. record here { queue = cond (e i) (Some c.args.obs) here.queue }))
       | else-eq w ↦
           let e : false ≡ is_same_path here.path c.args.path.now = cc in
           w.directory-items-is ∙ write_step (queue_after c.args.path.now c.args.obs) c.args.listed.now.items items index here here lt c.loop-directory.invariant is
