@@ -13,9 +13,11 @@ use Rattle.job_defs.specs.Faults.{bad, ◌>>=◌}
 use Rattle.job_defs.specs.Names.{Key, day, hour, minute, month, weekday}
 use Rattle.job_defs.specs.Kinds.{object_at, integer_at, each_item, members_or_one, where_given, optional}
 
+-- one key of an entry
 unfoldable pub part : ℕ → ℕ → Key → Data → Result (Option ℕ) Fault
 part low high key d = optional (integer_at low high StartCalendarInterval) (get key d)
 
+-- an entry; 0 and 7 are Sunday
 unfoldable pub entry_at : Data → Result Entry Fault
 entry_at d = do
   parts ← object_at StartCalendarInterval d
@@ -26,9 +28,11 @@ entry_at d = do
   on_weekday ← part 0 7 weekday d
   Ok (record { minute = at_minute; hour = at_hour; day = on_day; weekday = on_weekday; month = in_month })
 
+-- at most 64 entries
 unfoldable pub calendar_at : Data → Result (List Entry) Fault
 calendar_at d =
     if nat_lt 64 (items_len (members_or_one d)) then Err (bad TooLong StartCalendarInterval) else each_item entry_at (members_or_one d)
 
+-- without the key there is no calendar
 unfoldable pub calendar_row : Data → Result (List Entry) Fault
 calendar_row d = where_given calendar_at [] (get (key_text StartCalendarInterval) d)

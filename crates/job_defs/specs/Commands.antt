@@ -11,16 +11,19 @@ use Rattle.history_model.specs.Labels.{is_label}
 use Rattle.job_defs.specs.Faults.{bad, ◌>>=◌}
 use Rattle.job_defs.specs.Kinds.{text_at, array_at, plain_at, filled_at, each_item, required}
 
+-- the label
 unfoldable pub label_row : Data → Result (List ℕ) Fault
 label_row d = do
   found ← required Label d
   text ← text_at Label found
   if is_label text then Ok text else Err (bad BadLabel Label)
 
+-- the executable, and the arguments after argv[0]
 pub record Command : Type 0 where
   pub program : List ℕ
   pub arguments : List (List ℕ)
 
+-- an argument
 abbrev pub word_at : Data → Result (List ℕ) Fault
 word_at d = plain_at 4096 ProgramArguments d
 
@@ -37,11 +40,13 @@ command_in None (item first rest) = do
   arguments ← each_item word_at rest
   Ok (record { program = program; arguments = arguments })
 
+-- at most 256 words
 unfoldable pub command_at : Option (List ℕ) → Data → Result Command Fault
 command_at program d = do
   words ← array_at ProgramArguments d
   if nat_lt 256 (items_len words) then Err (bad TooLong ProgramArguments) else command_in program words
 
+-- one of `Program` and `ProgramArguments` has to stand
 unfoldable pub command_row : Option (List ℕ) → Data → Result Command Fault
 command_row program d = command_by program (get (key_text ProgramArguments) d) where
   command_by : Option (List ℕ) → Option Data → Result Command Fault

@@ -13,12 +13,14 @@ use Rattle.job_defs.specs.Faults.{bad, ◌>>=◌}
 use Rattle.job_defs.specs.Names.{Key, crashed, path_state, successful_exit}
 use Rattle.job_defs.specs.Kinds.{bool_at, object_at, filled, each_member, where_given, optional}
 
+-- what `KeepAlive` says
 pub record Keep : Type 0 where
   pub always : Bool
   pub successful_exit : Option Bool
   pub crashed : Option Bool
   pub path_state : List PathState
 
+-- a boolean has no conditions
 abbrev pub unconditional : Bool → Keep
 unconditional always = record { always = always; successful_exit = None; crashed = None; path_state = [] }
 
@@ -29,11 +31,13 @@ path_state_in name d = do
   present ← bool_at KeepAlive d
   Ok (record { path = path; present = present } ∷ [])
 
+-- at most 64 paths
 unfoldable pub path_state_at : Data → Result (List PathState) Fault
 path_state_at d = do
   paths ← object_at KeepAlive d
   if nat_lt 64 (members_len paths) then Err (bad TooLong KeepAlive) else each_member path_state_in paths
 
+-- the conditions that can hold
 unfoldable pub conditions_at : Data → Result Keep Fault
 conditions_at d = do
   conditions ← object_at KeepAlive d
@@ -42,6 +46,7 @@ conditions_at d = do
   after_success ← optional (bool_at KeepAlive) (get successful_exit d)
   Ok (record { always = false; successful_exit = after_success; crashed = after_crash; path_state = paths })
 
+-- a boolean, or conditions
 unfoldable pub keep_at : Data → Result Keep Fault
 keep_at d = keep_by (as_bool d) d where
   keep_by : Option Bool → Data → Result Keep Fault

@@ -5,6 +5,7 @@ use Rattle.history_model.specs.Machine.{Given}
 use Rattle.job_defs.specs.Described.{Described, has_some}
 use Rattle.job_defs.specs.declared.parts.PathState.{PathState}
 
+-- a path, and whether something is to be there
 abbrev pub path_wish : PathState → List ℕ × Bool
 path_wish wish = (wish.path, wish.present)
 

@@ -5,6 +5,7 @@ use Rattle.job_defs.specs.declared.parts.PathState.{PathState}
 use Rattle.job_defs.specs.declared.parts.Variable.{Variable}
 use Rattle.job_defs.specs.declared.parts.Socket.{Socket}
 
+-- the definition as its getters give it
 pub record Described : Type 0 where
   pub label : List ℕ
   pub program : List ℕ  -- the executable, and the child's argv[0]
@@ -30,5 +31,6 @@ pub record Described : Type 0 where
   pub sockets : List Socket
   pub not_acted_on : List (List ℕ)
 
+-- there is one at least
 abbrev pub has_some : List Socket → Bool
 has_some sockets = not (length sockets == 0)

@@ -6,6 +6,7 @@ use Rattle.history_model.specs.Machine.{Fault}
 use Rattle.job_defs.specs.declared.fault.DefFault.{DefFault}
 use Rattle.job_defs.specs.declared.fault.DefFault.TheVariants.{Bad, NoMemory}
 
+-- the fault with this reason, at this key
 abbrev pub bad : Reason → KeyName → Fault
 bad reason key = record { reason = reason; key = key }
 

@@ -1,6 +1,7 @@
 -- The keys of the dictionaries inside a definition, as launchd.plist(5) names them.
 use Rattle.std.specs.Prelude.{ℕ, List, codes}
 
+-- a key is its bytes
 abbrev pub Key : Type 0
 Key = List ℕ
 

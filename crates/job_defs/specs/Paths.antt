@@ -16,5 +16,6 @@ paths_at before key d = do
   paths ← array_at key d
   if nat_lt 64 (before + items_len paths) then Err (bad TooLong key) else each_item (path_at key) paths
 
+-- without the key there are none
 unfoldable pub paths_row : ℕ → KeyName → Data → Result (List (List ℕ)) Fault
 paths_row before key d = where_given (paths_at before key) [] (get (key_text key) d)

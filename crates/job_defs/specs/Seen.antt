@@ -13,6 +13,7 @@ use Rattle.job_defs.specs.Commands as commands
 use Rattle.job_defs.specs.Conditions as conditions
 use Rattle.job_defs.specs.Table as table
 
+-- each part without where it lies in memory
 abbrev pub command_of : Command → commands.Command
 command_of x = record { program = x.program; arguments = x.arguments.items }
 

@@ -33,6 +33,7 @@ passive_at d = do
   listens ← bool_at keys.Sockets d
   if listens then Ok tt else Err (bad Unsupported keys.Sockets)
 
+-- a decimal digit
 abbrev pub is_digit : ℕ → Bool
 is_digit b = nat_le 48 b && nat_le b 57
 
@@ -40,19 +41,23 @@ is_digit b = nat_le 48 b && nat_le b 57
 unfoldable pub number_in : ℕ → List ℕ → Option ℕ
 number_in most text = if nat_lt 0 (length text) && nat_le (length text) most && list_all is_digit text then Some (digits_value 10 text) else None
 
+-- at most three digits, at most 255
 unfoldable pub octet_in : List ℕ → Option ℕ
 octet_in text = small (number_in 3 text) where
   small : Option ℕ → Option ℕ
   small None = None
   small (Some n) = if nat_le n 255 then Some n else None
 
+-- the byte `.`
 abbrev pub is_dot : ℕ → Bool
 is_dot b = b == 46
 
+-- the four bytes, if each is one
 abbrev pub four_octets : Option ℕ → Option ℕ → Option ℕ → Option ℕ → Option (List ℕ)
 four_octets (Some a) (Some b) (Some c) (Some d) = Some (a ∷ b ∷ c ∷ d ∷ [])
 four_octets _ _ _ _ = None
 
+-- the parts, if they are four
 abbrev pub octets_in : List (List ℕ) → Option (List ℕ)
 octets_in (a ∷ b ∷ c ∷ d ∷ []) = four_octets (octet_in a) (octet_in b) (octet_in c) (octet_in d)
 octets_in _ = None
@@ -61,6 +66,7 @@ octets_in _ = None
 unfoldable pub dotted_in : List ℕ → Option (List ℕ)
 dotted_in text = octets_in (slice_split is_dot text)
 
+-- a name of its own, or numbers
 unfoldable pub host_in : List ℕ → Option (List ℕ)
 host_in text = if bytes_eq text (codes "localhost") then Some (127 ∷ 0 ∷ 0 ∷ 1 ∷ []) else dotted_in text
 
@@ -70,6 +76,7 @@ host_at d = do
   text ← text_at keys.Sockets d
   or_fault (host_in text) (bad Unsupported keys.Sockets)
 
+-- every address of the machine
 abbrev pub any_host : List ℕ
 any_host = 0 ∷ 0 ∷ 0 ∷ 0 ∷ []
 
@@ -86,6 +93,7 @@ port_by None d = do
   text ← text_at keys.Sockets d
   port_in text
 
+-- `SockServiceName`
 unfoldable pub port_at : Data → Result ℕ Fault
 port_at d = port_by (as_number d) d
 
@@ -112,27 +120,33 @@ socket_at d = do
 
 -- ---- all sockets
 
+-- an array counts each of its members, any other value is one
 abbrev pub socket_count : Members → ℕ
 socket_count no_members = 0
 socket_count (member name d ms) = items_len (members_or_one d) + socket_count ms
 
+-- the sockets under one name
 unfoldable pub sockets_in : Key → Data → Result (List Socket) Fault
 sockets_in name d = each_item socket_at (members_or_one d)
 
+-- at most 8 sockets
 unfoldable pub sockets_at : Data → Result (List Socket) Fault
 sockets_at d = do
   named ← object_at keys.Sockets d
   if nat_lt 8 (socket_count named) then Err (bad TooLong keys.Sockets) else each_member sockets_in named
 
+-- without the key there are none
 unfoldable pub sockets_row : Data → Result (List Socket) Fault
 sockets_row d = where_given sockets_at [] (get (key_text keys.Sockets) d)
 
 -- ---- inetdCompatibility
 
+-- the boolean stands and is false
 abbrev pub is_off : Option Bool → Bool
 is_off (Some false) = true
 is_off _ = false
 
+-- `Wait` has to be a boolean where it stands, and false where there are sockets
 unfoldable pub inetd_at : Bool → Data → Result ⊤ Fault
 inetd_at has_sockets d = do
   compatibility ← object_at keys.InetdCompatibility d

@@ -31,6 +31,7 @@ pub record Launch : Type 0 where
   pub launch_only_once : Bool
   pub disabled : Bool
 
+-- `Label` to `Disabled`
 unfoldable pub launch_at : Data → Result Launch Fault
 launch_at d = do
   label ← label_row d
@@ -50,6 +51,7 @@ pub record Demand : Type 0 where
   pub start_interval : Option ℕ
   pub calendar : List Entry
 
+-- `OnDemand` to `StartCalendarInterval`
 unfoldable pub demand_at : Data → Result Demand Fault
 demand_at d = do
   on_demand ← bool_row true OnDemand d
@@ -66,6 +68,7 @@ pub record Pace : Type 0 where
   pub throttle_interval : ℕ
   pub exit_time_out : ℕ
 
+-- `ThrottleInterval` and `ExitTimeOut`
 unfoldable pub pace_at : Data → Result Pace Fault
 pace_at d = do
   throttle ← integer_row 0 86400 10 ThrottleInterval d
@@ -81,6 +84,7 @@ pub record Surroundings : Type 0 where
   pub standard_out_path : Option (List ℕ)
   pub standard_error_path : Option (List ℕ)
 
+-- `EnvironmentVariables` to `StandardErrorPath`
 unfoldable pub surroundings_at : Data → Result Surroundings Fault
 surroundings_at d = do
   environment ← environment_row d
@@ -92,12 +96,14 @@ surroundings_at d = do
 
 -- ---- who connects, and what is not supported
 
+-- `Sockets` and `inetdCompatibility`
 unfoldable pub sockets_and_inetd : Data → Result (List Socket) Fault
 sockets_and_inetd d = do
   sockets ← sockets_row d
   inetd ← inetd_row (has_some sockets) d
   Ok sockets
 
+-- what would change who or where the job is
 unfoldable pub refusals_at : Data → Result ⊤ Fault
 refusals_at d = do
   user ← refused_row UserName d
@@ -106,6 +112,7 @@ refusals_at d = do
 
 -- ---- the whole definition
 
+-- what all rows give
 abbrev pub described : Launch → Demand → Pace → Surroundings → List Socket → List Key → Described
 described launch demand pace around sockets ignored = record {
   label = launch.label;
@@ -133,6 +140,7 @@ described launch demand pace around sockets ignored = record {
   not_acted_on = ignored;
 }
 
+-- all rows
 unfoldable pub def_at : Data → Result Described Fault
 def_at d = do
   dictionary ← or_fault (as_object d) (bad NotObject NoKey)

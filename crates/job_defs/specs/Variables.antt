@@ -13,6 +13,7 @@ use Rattle.job_defs.specs.Faults.{bad, ◌>>=◌}
 use Rattle.job_defs.specs.Names.{Key}
 use Rattle.job_defs.specs.Kinds.{object_at, plain, filled, each_member, where_given}
 
+-- the byte `=`
 abbrev pub is_equals : ℕ → Bool
 is_equals b = b == 61
 
@@ -23,15 +24,18 @@ variable_by name (Some text) = do
   value ← plain 4096 EnvironmentVariables text
   Ok (record { name = name; value = value } ∷ [])
 
+-- a variable's name, and then its value
 unfoldable pub variable_in : Key → Data → Result (List Variable) Fault
 variable_in key d = do
   name ← filled 255 EnvironmentVariables key
   if list_any is_equals name then Err (bad OutOfRange EnvironmentVariables) else variable_by name (as_str d)
 
+-- at most 128 variables
 unfoldable pub environment_at : Data → Result (List Variable) Fault
 environment_at d = do
   variables ← object_at EnvironmentVariables d
   if nat_lt 128 (members_len variables) then Err (bad TooLong EnvironmentVariables) else each_member variable_in variables
 
+-- without the key there are none
 unfoldable pub environment_row : Data → Result (List Variable) Fault
 environment_row d = where_given environment_at [] (get (key_text EnvironmentVariables) d)

@@ -9,7 +9,7 @@ use std::marker::Model;
 
 /// A job's definition, read from JSON by [`read_def`](crate::read_def). The keys and their meaning are those of
 /// launchd.plist(5), but for what is said here.
-#[derive(Debug, Drop)]
+#[derive(Drop)]
 pub struct Def {
     pub(crate) launch: Launch,
     pub(crate) demand: Demand,

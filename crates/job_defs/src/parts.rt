@@ -33,13 +33,13 @@ pub enum Address {
 }
 
 /// What is run: the executable, and the arguments after argv[0].
-#[derive(Debug, Drop)]
+#[derive(Drop)]
 pub(crate) struct Command {
     pub(crate) program: Text,
     pub(crate) arguments: Vec<Text>,
 }
 
-#[derive(Debug, Drop)]
+#[derive(Drop)]
 pub(crate) struct Launch {
     pub(crate) label: Text,
     pub(crate) command: Command,
@@ -49,7 +49,7 @@ pub(crate) struct Launch {
 }
 
 /// What `KeepAlive` and `OnDemand` say.
-#[derive(Debug, Drop)]
+#[derive(Drop)]
 pub(crate) struct Keep {
     pub(crate) always: bool,
     pub(crate) successful_exit: Option<bool>,
@@ -57,7 +57,7 @@ pub(crate) struct Keep {
     pub(crate) path_state: Vec<PathState>,
 }
 
-#[derive(Debug, Drop)]
+#[derive(Drop)]
 pub(crate) struct Demand {
     pub(crate) keep: Keep,
     pub(crate) watch_paths: Vec<Text>,
@@ -66,13 +66,13 @@ pub(crate) struct Demand {
     pub(crate) calendar: Vec<Entry>,
 }
 
-#[derive(Clone, Copy, Debug, PartialEq, Eq)]
+#[derive(Clone, Copy)]
 pub(crate) struct Pace {
     pub(crate) throttle_interval: u32,
     pub(crate) exit_time_out: u32,
 }
 
-#[derive(Debug, Drop)]
+#[derive(Drop)]
 pub(crate) struct Surroundings {
     pub(crate) environment: Vec<Variable>,
     pub(crate) working_directory: Option<Text>,

@@ -1,6 +1,6 @@
 //! The definitions of the folder `examples/jobs`, byte for byte.
 
-use crate::{Address, Variable, read_def};
+use crate::{Address, DefFault, Variable, read_def};
 use history_model::{Entry, Text};
 use std::test::Fail;
 
@@ -73,6 +73,18 @@ fn values_are(variables: &[Variable], wanted: &[&str]) -> bool {
         .iter()
         .map(|variable| variable.value.as_str())
         .eq(wanted.iter().copied())
+}
+
+/// With one growth refused (`rt try --test --fail-alloc N`) the answer is that memory ran out, and the same call then
+/// succeeds. Without, both succeed.
+#[test]
+fn a_refused_growth_is_no_memory(rt: HostRuntime) -> Result<(), Fail> {
+    if let Err(fault) = read_def(rt.alloc(), SOCKET.as_bytes()) {
+        assert_eq!(rt; fault, DefFault::NoMemory);
+    }
+    let def = read_def(rt.alloc(), SOCKET.as_bytes())?;
+    assert_eq!(rt; def.label(), "org.example.echo");
+    Ok(())
 }
 
 #[test]
