@@ -53,7 +53,7 @@ with_no_float ms (m ∷ more) h = with_no_float (put m.0 (plain_data m.1) ms) mo
 pub object_no_float : (members : List (List ℕ × Plain)) → has_float (plain_object members) ≡ false
 object_no_float members = with_no_float no_members members refl
 
-orders_no_float : (orders : List (List ℕ × Act)) → items_have_float (orders_data orders) ≡ false
+pub orders_no_float : (orders : List (List ℕ × Act)) → items_have_float (orders_data orders) ≡ false
 orders_no_float [] = refl
 orders_no_float (o ∷ os) = none_of _ _ (object_no_float (order_members o)) (orders_no_float os)
 

@@ -77,3 +77,7 @@ reply_object code said = plain_object ((codes "code", count code) ∷ (codes "te
 -- the line of a reply, with its newline
 abbrev pub reply_text : Reply → List ℕ
 reply_text reply = line_of (reply_object (code_of reply.refusal) (text_of reply))
+
+-- the line as the texts of its values
+abbrev pub parts : List ℕ → List ℕ → List ℕ → List ℕ
+parts code orders said = (((((codes "{\"code\":" ++ code) ++ codes ",\"orders\":") ++ orders) ++ codes ",\"text\":") ++ said) ++ codes "}\n"

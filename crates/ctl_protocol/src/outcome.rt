@@ -1,15 +1,17 @@
 //! Writes the lines of outcomes and of replies.
 
 ghost use Rattle.std.specs.Prelude.{◌≡◌, IfOk};
-ghost use Rattle.serde_json.specs.Data.{array};
+ghost use Rattle.serde_json.specs.Data.{array, number, string, unsigned};
 ghost use Rattle.serde_json.specs.View.{view};
+ghost use Rattle.serde_json.specs.Written.{compact_text};
+ghost use Rattle.ctl_protocol.specs.Outcomes.{parts};
 ghost use Rattle.ctl_protocol.specs.Objects.{line_of, plain_object};
 ghost use Rattle.ctl_protocol.specs.Outcomes.{answered, order_members, orders_data, orders_of, outcome_object, outcome_text, reply_object, reply_text};
 
-use crate::object::{Cell, line_from, object_of, put_all};
+use crate::object::{Cell, line_from, object_of};
 use crate::texts::refusal_text;
 use history_model::{Act, Reply};
-use serde_json::{Map, Value, put};
+use serde_json::Value;
 use std::alloc::{AllocError, Global};
 
 fn order_value(alloc: Global, job: &str, act: Act) -> Result<Value, AllocError>
@@ -75,26 +77,40 @@ fn orders_value(alloc: Global, orders: &[(&str, Act)]) -> Result<Value, AllocErr
     Ok(Value::Array(values))
 }
 
-fn outcome_value(
-    alloc: Global,
-    code: u8,
-    text: &str,
-    orders: &[(&str, Act)],
-) -> Result<Value, AllocError>
-    ensures { IfOk result (λ v. view v ≡ outcome_object code text.now (orders_of orders.now)) }
+fn code_text(alloc: Global, code: u8) -> Result<Vec<u8>, AllocError>
+    ensures { IfOk result (λ t. t.items ≡ compact_text (number (unsigned code))) }
+{
+    Value::from(code).to_vec(alloc)
+}
+
+#[tactic(auto, using(crate::proofs::Objects::orders_no_float))]
+fn orders_text(alloc: Global, orders: &[(&str, Act)]) -> Result<Vec<u8>, AllocError>
+    ensures { IfOk result (λ t. t.items ≡ compact_text (array (orders_data (orders_of orders.now)))) }
 {
     let list = orders_value(alloc, orders)?;
-    let mut map = Map::new(alloc);
-    put_all(
-        &mut map,
-        alloc,
-        &[
-            ("code", Cell::Count(code as u64)),
-            ("text", Cell::Text(text)),
-        ],
-    )?;
-    put(&mut map, alloc, "orders", list)?;
-    Ok(Value::Object(map))
+    list.to_vec(alloc)
+}
+
+fn said_text(alloc: Global, said: &str) -> Result<Vec<u8>, AllocError>
+    ensures { IfOk result (λ t. t.items ≡ compact_text (string said.now)) }
+{
+    let value = Value::String(String::from_str(alloc, said)?);
+    value.to_vec(alloc)
+}
+
+/// The line of an outcome of these parts.
+fn joined(alloc: Global, code: &[u8], orders: &[u8], said: &[u8]) -> Result<Vec<u8>, AllocError>
+    ensures { IfOk result (λ line. line.items ≡ parts code.now orders.now said.now) }
+{
+    let mut line = Vec::with_capacity(alloc, 64)?;
+    line.extend_from_slice(b"{\"code\":")?;
+    line.extend_from_slice(code)?;
+    line.extend_from_slice(b",\"orders\":")?;
+    line.extend_from_slice(orders)?;
+    line.extend_from_slice(b",\"text\":")?;
+    line.extend_from_slice(said)?;
+    line.extend_from_slice(b"}\n")?;
+    Ok(line)
 }
 
 fn outcome_from(
@@ -105,8 +121,11 @@ fn outcome_from(
 ) -> Result<Vec<u8>, AllocError>
     ensures { IfOk result (λ line. line.items ≡ line_of (outcome_object code text.now (orders_of orders.now))) }
 {
-    let value = outcome_value(alloc, code, text, orders)?;
-    line_from(alloc, &value)
+    let number = code_text(alloc, code)?;
+    let list = orders_text(alloc, orders)?;
+    let said = said_text(alloc, text)?;
+    let line = joined(alloc, number.as_slice(), list.as_slice(), said.as_slice())?;
+    Ok(line)
 }
 
 /// The line of an event's outcome, with its newline: the reply's code (0 where there is no refusal), the orders with
