@@ -6,62 +6,16 @@ ghost use Rattle.history_model.specs.Texts as texts;
 ghost use Rattle.history_model.specs.declared.Refusal.TheVariants.{BadDefinition};
 
 use history_model::{KeyName, Reason, Refusal};
+use job_defs::{key_name, reason_name};
 use std::alloc::{AllocError, Global};
-
-fn reason_text(reason: Reason) -> &'static str
-    ensures { result.now ≡ texts.reason_text reason }
-{
-    match reason {
-        Reason::NotJson => "NotJson",
-        Reason::NotObject => "NotObject",
-        Reason::Missing => "Missing",
-        Reason::WrongKind => "WrongKind",
-        Reason::OutOfRange => "OutOfRange",
-        Reason::TooLong => "TooLong",
-        Reason::BadLabel => "BadLabel",
-        Reason::Unsupported => "Unsupported",
-    }
-}
-
-fn key_text(key: KeyName) -> &'static str
-    ensures { result.now ≡ texts.key_text key }
-{
-    match key {
-        KeyName::NoKey => "-",
-        KeyName::Label => "Label",
-        KeyName::Program => "Program",
-        KeyName::ProgramArguments => "ProgramArguments",
-        KeyName::RunAtLoad => "RunAtLoad",
-        KeyName::LaunchOnlyOnce => "LaunchOnlyOnce",
-        KeyName::DisabledKey => "Disabled",
-        KeyName::OnDemand => "OnDemand",
-        KeyName::KeepAlive => "KeepAlive",
-        KeyName::WatchPaths => "WatchPaths",
-        KeyName::QueueDirectories => "QueueDirectories",
-        KeyName::StartInterval => "StartInterval",
-        KeyName::StartCalendarInterval => "StartCalendarInterval",
-        KeyName::ThrottleInterval => "ThrottleInterval",
-        KeyName::ExitTimeOut => "ExitTimeOut",
-        KeyName::EnvironmentVariables => "EnvironmentVariables",
-        KeyName::WorkingDirectory => "WorkingDirectory",
-        KeyName::StandardInPath => "StandardInPath",
-        KeyName::StandardOutPath => "StandardOutPath",
-        KeyName::StandardErrorPath => "StandardErrorPath",
-        KeyName::Sockets => "Sockets",
-        KeyName::InetdCompatibility => "inetdCompatibility",
-        KeyName::UserName => "UserName",
-        KeyName::GroupName => "GroupName",
-        KeyName::RootDirectory => "RootDirectory",
-    }
-}
 
 fn fault_text(alloc: Global, reason: Reason, key: KeyName) -> Result<String, AllocError>
     ensures { IfOk result (λ text. string_bytes text ≡ texts.refusal_text (BadDefinition reason key)) }
 {
     let mut text = String::from_str(alloc, "bad definition: ")?;
-    text.push_str(reason_text(reason))?;
+    text.push_str(reason_name(reason))?;
     text.push_str(" ")?;
-    text.push_str(key_text(key))?;
+    text.push_str(key_name(key))?;
     text.push_str("\n")?;
     Ok(text)
 }
