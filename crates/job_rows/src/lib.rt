@@ -1,0 +1,61 @@
+//! Worked examples of one job, from its definition as JSON to its orders. The expected orders are read off the rules of
+//! launchd.plist(5) and launchctl(1), and off no run of this code. Nothing but tests is here.
+#![tactic(auto)]
+
+#[cfg(test)]
+mod play;
+#[cfg(test)]
+mod rows;
+
+#[cfg(test)]
+mod tests {
+    use crate::play::first_fault;
+    use crate::rows::*;
+    use socket_demand::{Exchange, ExchangeFault};
+    use std::test::Fail;
+
+    #[test]
+    fn an_interval_missed_by_a_run_is_made_up_once(rt: HostRuntime) {
+        assert_eq!(rt; first_fault(rt.alloc(), EVERY_MINUTE, &MISSED), None);
+    }
+
+    #[test]
+    fn a_refused_spawn_keeps_its_demand(rt: HostRuntime) {
+        assert_eq!(rt; first_fault(rt.alloc(), ONCE, &REFUSED), None);
+    }
+
+    #[test]
+    fn a_stop_gives_term_then_kill(rt: HostRuntime) {
+        assert_eq!(rt; first_fault(rt.alloc(), PLAIN, &STOPPED), None);
+    }
+
+    #[test]
+    fn a_kickstart_strikes_and_waits_for_the_throttle(rt: HostRuntime) {
+        assert_eq!(rt; first_fault(rt.alloc(), PLAIN, &STRUCK), None);
+    }
+
+    #[test]
+    fn a_crash_does_not_keep_a_quiet_job_alive(rt: HostRuntime) {
+        assert_eq!(rt; first_fault(rt.alloc(), QUIET, &CRASHED), None);
+    }
+
+    #[test]
+    fn a_changed_path_starts_its_job(rt: HostRuntime) {
+        assert_eq!(rt; first_fault(rt.alloc(), WATCHING, &CHANGED), None);
+    }
+
+    #[test]
+    fn connections_are_carried_in_order(rt: HostRuntime) {
+        assert_eq!(rt; first_fault(rt.alloc(), LISTENING, &CARRIED), None);
+    }
+
+    #[test]
+    fn an_exchange_begins_with_its_room(rt: HostRuntime) -> Result<(), Fail> {
+        let mut exchange = Exchange::new(rt.alloc())?;
+        let piece = vec![in rt.alloc(); 7u8; 65_536]?;
+        assert_eq!(rt; exchange.request(piece.as_slice()), Ok(()));
+        assert_eq!(rt; exchange.request(&[7]), Err(ExchangeFault::TooLong));
+        assert_eq!(rt; exchange.reply(piece.as_slice()), 16_384);
+        Ok(())
+    }
+}
