@@ -49,6 +49,15 @@ mod tests {
         assert_eq!(rt; first_fault(rt.alloc(), LISTENING, &CARRIED), None);
     }
 
+    /// With one growth of the first load refused (`rt try --test --fail-alloc N`) the job is not loaded, and the next load
+    /// succeeds. Without, both succeed.
+    #[test]
+    fn a_refused_growth_loads_no_job(rt: HostRuntime) {
+        let first = first_fault(rt.alloc(), FULL, &FILLING);
+        assert!(rt; first.is_none_or(|step| step == 3));
+        assert_eq!(rt; first_fault(rt.alloc(), FULL, &FILLING), None);
+    }
+
     #[test]
     fn an_exchange_begins_with_its_room(rt: HostRuntime) -> Result<(), Fail> {
         let mut exchange = Exchange::new(rt.alloc())?;

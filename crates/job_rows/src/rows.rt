@@ -178,3 +178,18 @@ pub static CARRIED: [Step; 11] = [
         }),
     ),
 ];
+
+pub const FULL: &str =
+    r#"{"Label":"a","Program":"/bin/x","StartCalendarInterval":{"Minute":5},"WatchPaths":["/w"],"QueueDirectories":["/q"],"KeepAlive":{"PathState":{"/f":true}}}"#;
+
+const FILLED: Obs = Obs {
+    present: true,
+    nonempty_dir: true,
+    stamp: 1,
+};
+
+pub static FILLING: [Step; 3] = [
+    Step(AT_LOAD, None, None),
+    Step(JobEvent::Saw("/q", FIRST), None, None),
+    Step(JobEvent::Saw("/q", FILLED), None, SPAWN_1),
+];
