@@ -1,0 +1,11 @@
+pub mod Lists
+pub mod Scanning
+pub mod Firsts
+pub mod Places
+pub mod Tidying
+pub mod Holding
+pub mod Labelling
+pub mod Telling
+pub mod Listing
+pub mod Steps
+pub mod Handing

@@ -1,0 +1,169 @@
+-- The job with a label: where it stands, and what an event to it leaves.
+use Rattle.std.proofs.Common.{◌≡◌, ℕ, zero, suc, ◌+◌, ◌<◌, Bool, true, false, not, cond, List, [], ◌∷◌, map, length, get_or, Option, Some, None, refl, sym, ap, ◌∙◌, subst}
+use Rattle.std.specs.Prelude.{slice_set, unwrap_or, Result, Ok, Err, OnOk, if◌then◌else◌}
+use Rattle.std.specs.List.{position, filter}
+use Rattle.history_model.specs.declared.Reading.{Reading}
+use Rattle.history_model.specs.declared.Refusal.{Refusal}
+use Rattle.history_model.specs.Items.{Definition, Item, Loaded, Read, Saw, Asked, Came, Left, Ordered, Answered, RunEnded, WaitRefused, History}
+use Rattle.history_model.specs.Search.{first, or_else, latest}
+use Rattle.history_model.specs.Clock.{now, definition_of, reading_in, load_in, no_reading, no_definition}
+use Rattle.history_model.specs.Refusals.{refusal_of}
+use Rattle.history_model.specs.Keeps.{Keeps, reply}
+use Rattle.history_model.specs.Labels.{Label, is_same}
+use Rattle.history_model.specs.Machine.{Job, is_of, past_in}
+use Rattle.history_model.specs.Acceptance.{refusal_at}
+use Rattle.history_model.specs.Step.{with_item, told_one}
+use Rattle.job_defs.specs.Definitions.{definition}
+use Rattle.job_table.specs.Rows.{Row}
+use Rattle.job_table.specs.Kept.{KeepsJob, KeepsJobs}
+use Rattle.job_table.specs.Entries.{row, name, rows, AllStay, has_label}
+use Rattle.job_table.specs.declared.entry.Entry.{Entry}
+use Rattle.job_table.proofs.Lists.{set-map}
+use Rattle.job_table.proofs.Firsts.{IsFirstWhere, NonePasses, first-where, none-where, within-where}
+
+abbrev pub IsFirstAt : Label → List Entry → ℕ → Type 0
+IsFirstAt label es k = IsFirstWhere (has_label label) es k
+
+-- where all stay, the rows are those of all
+pub rows-all : (es : List Entry) → AllStay es → rows es ≡ map row es
+rows-all [] stay = refl
+rows-all (e ∷ es) stay = ap (λ b. cond b (rows es) (row e ∷ rows es)) stay.0 ∙ ap (λ rs. row e ∷ rs) (rows-all es stay.1)
+
+-- the machine's test of a job is the table's test of its entry
+of-job : (at : Reading) (label : Label) (e : Entry) (job : Job) (b : Bool) → KeepsJob at (row e) job → has_label label e ≡ b → is_of label job ≡ b
+of-job at label e job b keeps has = ap (is_same label) (sym keeps.label) ∙ has
+
+module _ (at : Reading) (label : Label) where
+  absent : (es : List Entry) (jobs : List Job) → KeepsJobs at (map row es) jobs → NonePasses (has_label label) es → filter (is_of label) jobs ≡ []
+  absent [] [] keeps none = refl
+  absent [] (job ∷ jobs) keeps none = absurd keeps
+  absent (e ∷ es) [] keeps none = absurd keeps
+  absent (e ∷ es) (job ∷ jobs) keeps none =
+      ap (λ b. cond b (job ∷ filter (is_of label) jobs) (filter (is_of label) jobs)) (of-job at label e job false keeps.0 none.0) ∙ absent es jobs keeps.1 none.1
+
+  pub is-absent : (es : List Entry) (jobs : List Job) → AllStay es → KeepsJobs at (rows es) jobs → None ≡ position (has_label label) es →
+      past_in (first (filter (is_of label) jobs)) ≡ None
+  is-absent es jobs stay keeps none = ap (λ found. past_in (first found)) (absent es jobs (subst (λ rs. KeepsJobs at rs jobs) (rows-all es stay) keeps) (none-where (has_label label) es none))
+
+  -- the job with the label, in the machine
+  pub record IsFound (e : Entry) (jobs : List Job) : Type 0 where
+    pub past : History
+    pub keeps : Keeps e.core.facts past
+    pub present : at ≡ now past
+    pub described : definition e.def ≡ definition_of past
+    pub is : past_in (first (filter (is_of label) jobs)) ≡ Some past
+
+  found : (es : List Entry) (k : ℕ) (d : Entry) (jobs : List Job) → KeepsJobs at (map row es) jobs → IsFirstAt label es k → IsFound (get_or es k d) jobs
+  found [] k d jobs keeps first = absurd first
+  found (e ∷ es) k d [] keeps first = absurd keeps
+  found (e ∷ es) zero d (job ∷ jobs) keeps here =
+      record {
+        past = job.past;
+        keeps = keeps.0.keeps;
+        present = keeps.0.present;
+        described = keeps.0.definition;
+        is = ap (λ b. past_in (first (cond b (job ∷ filter (is_of label) jobs) (filter (is_of label) jobs)))) (of-job at label e job true keeps.0 here);
+      }
+  found (e ∷ es) (suc k) d (job ∷ jobs) keeps here =
+      let later = found es k d jobs keeps.1 here.1 in
+      record {
+        past = later.past;
+        keeps = later.keeps;
+        present = later.present;
+        described = later.described;
+        is = ap (λ b. past_in (first (cond b (job ∷ filter (is_of label) jobs) (filter (is_of label) jobs)))) (of-job at label e job false keeps.0 here.0) ∙ later.is;
+      }
+
+  pub is-found : (es : List Entry) (k : ℕ) (d : Entry) (jobs : List Job) → AllStay es → KeepsJobs at (rows es) jobs →
+      Some k ≡ position (has_label label) es → IsFound (get_or es k d) jobs
+  is-found es k d jobs stay keeps here = found es k d jobs (subst (λ rs. KeepsJobs at rs jobs) (rows-all es stay) keeps) (first-where (has_label label) es k here)
+
+-- ---- what an event to the job leaves
+
+abbrev IsSilent : Item → Type 0
+IsSilent item = reading_in item ≡ None
+
+still : (item : Item) (past : History) → IsSilent item → now (item ∷ past) ≡ now past
+still item past silent = ap (λ o. unwrap_or (or_else o (latest reading_in past)) no_reading) silent
+
+no-load : (item : Item) → IsSilent item → load_in item ≡ None
+no-load (Loaded d at) silent = cc
+no-load (Read at calendar) silent = refl
+no-load (Saw path obs) silent = refl
+no-load (Asked ask) silent = refl
+no-load (Came conn) silent = refl
+no-load (Left conn) silent = refl
+no-load (Ordered act) silent = refl
+no-load (Answered answer) silent = refl
+no-load (RunEnded run how) silent = refl
+no-load (WaitRefused run) silent = refl
+
+same-definition : (item : Item) (past : History) → IsSilent item → definition_of (item ∷ past) ≡ definition_of past
+same-definition item past silent = ap (λ o. (unwrap_or (or_else o (latest load_in past)) (no_definition, no_reading)).0) (no-load item silent)
+
+module _ (at : Reading) (label : Label) (item : Item) (new : Entry) (silent : IsSilent item) where
+  told-at : (es : List Entry) (k : ℕ) (d : Entry) (jobs : List Job) → KeepsJobs at (map row es) jobs → IsFirstAt label es k →
+      name new ≡ name (get_or es k d) →
+      ((past : History) → Keeps (get_or es k d).core.facts past → at ≡ now past → Keeps new.core.facts (item ∷ past)) →
+      KeepsJobs at (map row (slice_set es k new)) (told_one label item jobs)
+  told-at [] k d jobs keeps here named kept = absurd here
+  told-at (e ∷ es) k d [] keeps here named kept = absurd keeps
+  told-at (e ∷ es) zero d (job ∷ jobs) keeps here named kept =
+      let head : KeepsJob at (row new) (with_item job (Some item)) = record {
+        label = ap (λ n. n.described.label) named ∙ keeps.0.label;
+        definition = ap (λ n. definition n.described) named ∙ keeps.0.definition ∙ sym (same-definition item job.past silent);
+        keeps = kept job.past keeps.0.keeps keeps.0.present;
+        present = keeps.0.present ∙ sym (still item job.past silent);
+      } in
+      subst (KeepsJobs at (row new ∷ map row es)) (ap (λ b. cond b (with_item job (Some item) ∷ jobs) (job ∷ told_one label item jobs)) (sym (of-job at label e job true keeps.0 here))) (head, keeps.1)
+  told-at (e ∷ es) (suc k) d (job ∷ jobs) keeps here named kept =
+      let rest = told-at es k d jobs keeps.1 here.1 named kept in
+      subst (KeepsJobs at (row e ∷ map row (slice_set es k new))) (ap (λ b. cond b (with_item job (Some item) ∷ jobs) (job ∷ told_one label item jobs)) (sym (of-job at label e job false keeps.0 here.0))) (keeps.0, rest)
+
+stay-set : (es : List Entry) (k : ℕ) (new : Entry) → AllStay es → new.has_left ≡ false → AllStay (slice_set es k new)
+stay-set [] k new stay stays = stay
+stay-set (e ∷ es) zero new stay stays = (stays, stay.1)
+stay-set (e ∷ es) (suc k) new stay stays = (stay.0, stay-set es k new stay.1 stays)
+
+pub stays-at : (es : List Entry) (k : ℕ) (d : Entry) (label : Label) → AllStay es → IsFirstAt label es k → (get_or es k d).has_left ≡ false
+stays-at [] k d label stay here = absurd here
+stays-at (e ∷ es) zero d label stay here = stay.0
+stays-at (e ∷ es) (suc k) d label stay here = stays-at es k d label stay.1 here.1
+
+-- the job's entry after an event that only its core has seen
+pub record IsHanded (es : List Entry) (k : ℕ) (e new : Entry) : Type 0 where
+  pub stay : AllStay (slice_set es k new)
+  pub names : map name (slice_set es k new) ≡ map name es
+  pub rows_if_same : row new ≡ row e → rows (slice_set es k new) ≡ rows es
+
+pub handed : (label : Label) (es : List Entry) (k : ℕ) (e new : Entry) → AllStay es → Some k ≡ position (has_label label) es → e ≡ get_or es k e →
+    name new ≡ name e → new.has_left ≡ e.has_left → IsHanded es k e new
+handed label es k e new stay at is named left =
+    let here = first-where (has_label label) es k at in
+    let within = within-where (has_label label) es k here in
+    let stays : e.has_left ≡ false = ap (λ x. x.has_left) is ∙ stays-at es k e label stay here in
+    let all = stay-set es k new stay (left ∙ stays) in
+    record {
+      stay = all;
+      names = set-map name es k e new within is named;
+      rows_if_same = λ same. rows-all (slice_set es k new) all ∙ set-map row es k e new within is same ∙ sym (rows-all es stay);
+    }
+
+pub told-kept : (at : Reading) (label : Label) (item : Item) (es : List Entry) (k : ℕ) (e new : Entry) (jobs : List Job) (result : Result (Unit {0}) Refusal) →
+    AllStay es → Some k ≡ position (has_label label) es → e ≡ get_or es k e → name new ≡ name e → new.has_left ≡ e.has_left → reading_in item ≡ None →
+    ((past : History) → Keeps e.core.facts past → at ≡ now past → OnOk result (Keeps new.core.facts (item ∷ past))) →
+    KeepsJobs at (rows es) jobs → OnOk result (KeepsJobs at (rows (slice_set es k new)) (told_one label item jobs))
+told-kept at label item es k e new jobs (Err r) stay here is named left silent kept keeps = tt
+told-kept at label item es k e new jobs (Ok u) stay here is named left silent kept keeps =
+    let done = told-at at label item new silent es k e jobs (subst (λ rs. KeepsJobs at rs jobs) (rows-all es stay) keeps) (first-where (has_label label) es k here)
+    (named ∙ ap name is) (λ past kept_before present. kept past (subst (λ x. Keeps x.core.facts past) (sym is) kept_before) present) in
+    subst (λ rs. KeepsJobs at rs (told_one label item jobs)) (sym (rows-all (slice_set es k new) (handed label es k e new stay here is named left).stay)) done
+
+pub answers : (at : Reading) (label : Label) (item : Item) (es : List Entry) (k : ℕ) (e : Entry) (jobs : List Job) (result : Result (Unit {0}) Refusal) →
+    AllStay es → Some k ≡ position (has_label label) es → e ≡ get_or es k e →
+    ((past : History) → Keeps e.core.facts past → at ≡ now past → result ≡ reply (refusal_of item past)) →
+    KeepsJobs at (rows es) jobs → result ≡ reply (refusal_at (past_in (first (filter (is_of label) jobs))) item)
+answers at label item es k e jobs result stay here is answer keeps =
+    let there = is-found at label es k e jobs stay keeps here in
+    answer there.past (subst (λ x. Keeps x.core.facts there.past) (sym is) there.keeps) there.present
+    ∙ ap (λ found. reply (refusal_at found item)) (sym there.is)

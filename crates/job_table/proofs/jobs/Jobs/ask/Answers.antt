@@ -1,0 +1,27 @@
+-- The orders' numbers stand for the labels.
+use Rattle.std.proofs.Common.{◌≡◌, ◌∙◌, ◌++◌, ap, sym, subst, map, drop, length, arith}
+use Rattle.std.proofs.lemmas.Grind.{common_steps}
+use Rattle.job_table.specs.Rows.{IsOnce}
+use Rattle.job_table.specs.Kept.{numbered_all}
+use Rattle.job_table.specs.Entries.{name, rows}
+use Rattle.job_table.proofs.Labelling.{orders-labelled}
+use Rattle.job_table.proofs.Lists.{lent-back}
+use Rattle.job_table.proofs.Holding.{held-names}
+use Rattle.job_table.proofs.jobs.Jobs.ask.Goals as goal
+
+pub returns-clause-orders : goal.returns-clause-orders
+returns-clause-orders c = λ jobs keeps.
+    orders-labelled c.args.self.now.reading _ c.args.self.now.entries.items c.ask_all-self.new.orders.items jobs (grind (arith, common_steps, c.ask_all-self.ensures.names)) c.requires.stay c.requires.sound.once keeps
+    (c.ask_all-self.ensures.orders jobs (rw c.deref_mut.ensures.value keeps) ∙ (λ i. c.requires.empty i ++ numbered_all (rows (c.deref_mut.ensures.value i)) jobs))
+
+pub returns-clause-sound : goal.returns-clause-sound
+returns-clause-sound c =
+    let whole = lent-back c.ask_all-self.new.entries (drop (length c.ask_all-self.new.entries) c.args.self.now.entries.items) c.args.self.now.entries.len (omega arith) in
+    let names = ap (map name) whole ∙ c.ask_all-self.ensures.names ∙ ap (map name) c.deref_mut.ensures.value in
+    record {
+      in_range = c.requires.sound.in_range;
+      once = subst IsOnce (sym names) c.requires.sound.once;
+      held = held-names _ _ c.args.self.now.numbers (sym names) c.requires.sound.held;
+      few = omega arith;
+      room = omega arith;
+    }

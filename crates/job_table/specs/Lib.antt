@@ -1,0 +1,11 @@
+pub mod Rows
+pub mod Kept
+pub mod Outcomes
+pub mod Minutes
+pub mod Entries
+pub mod Asking
+pub mod Sound
+pub mod Alike
+pub mod News
+pub mod Telling
+pub mod Ends

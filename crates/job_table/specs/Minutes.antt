@@ -1,0 +1,21 @@
+-- The civil minutes that a reading crosses.
+use Rattle.std.specs.Prelude.{◌≡◌, Bool, true, false, not, List, [], ◌∷◌, map}
+use Rattle.std.specs.List.{list_any}
+use Rattle.history_model.specs.declared.Reading.{Reading}
+use Rattle.history_model.specs.declared.CivilMinute.{CivilMinute}
+use Rattle.history_model.specs.declared.Entry.{Entry}
+use Rattle.history_model.specs.Calendar.{crossed}
+use Rattle.calendar_due.specs.Rules.{minute_at}
+use Rattle.job_table.specs.Rows.{Row, Table}
+
+abbrev pub is_some_entry : List Entry → Bool
+is_some_entry [] = false
+is_some_entry (entry ∷ entries) = true
+
+-- some loaded job has calendar entries
+abbrev pub has_calendars : List Row → Bool
+has_calendars rows = list_any (λ row. is_some_entry row.described.calendar) rows
+
+-- all that the reading crosses in the table's zone, if some loaded job has calendar entries
+abbrev pub AreMinutes : Table → Reading → List CivilMinute → Type 0
+AreMinutes table at minutes = has_calendars table.rows ≡ true → minutes ≡ map (minute_at table.zone) (crossed table.reading.wall at.wall)

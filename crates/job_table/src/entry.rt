@@ -1,0 +1,167 @@
+//! One place of the table: a job with its definition and its number.
+
+ghost use Rattle.std.specs.Prelude.{◌≡◌, false, ◌<◌, Some, cond, ◌+◌, ◌%◌, ◌^◌, ◌≤◌, ◌∷◌, ◌++◌, [], map};
+ghost use Rattle.std.specs.Vec.{vec_capacity, vec_len};
+ghost use Rattle.history_model.specs.declared.TheConstants.{MAX_UP};
+ghost use Rattle.history_model.specs.Items.{History};
+ghost use Rattle.history_model.specs.Runs.{is_gone};
+ghost use Rattle.std.specs.List.{list_any};
+ghost use Rattle.history_model.specs.Demands.{waiting, is_same_path};
+ghost use Rattle.history_model.specs.Due.{due};
+ghost use Rattle.history_model.specs.Keeps.{Keeps, ordered};
+ghost use Rattle.history_model.specs.Step.{acts_of, lists};
+ghost use Rattle.history_model.specs.Clock as clock;
+ghost use Rattle.job_defs.specs.Definitions.{definition, path_wish};
+ghost use Rattle.job_core.specs.Events.{item_of};
+ghost use Rattle.job_table.specs.Kept.{numbered};
+ghost use Rattle.job_table.specs.News.{item_for};
+ghost use Rattle.job_table.specs.Telling.{IsTold};
+ghost use Rattle.job_table.specs.Entries.{row, name};
+
+use calendar_due::Calendar;
+use history_model::{Act, Ask, CivilMinute, JobNo, Obs, Order, Reading, Text};
+use job_core::{JobCore, JobEvent};
+use job_defs::{Def, PathState};
+
+/// A job with its definition and its number. One that has left stays until the next event.
+#[derive(Drop)]
+pub struct Entry {
+    pub number: JobNo,
+    pub def: Def,
+    pub core: JobCore,
+    pub has_left: bool,
+}
+
+/// What every job is told.
+#[derive(Clone, Copy)]
+pub enum News<'a> {
+    /// The launcher shuts down.
+    Shutdown,
+    /// The clock, and the civil minutes that it crossed.
+    Reading(Reading, &'a [CivilMinute]),
+    /// A look at a path, which counts for the jobs that list it.
+    Sight(&'a str, Obs),
+}
+
+impl Entry {
+    /// Takes in what is news for this job. It is told nothing that the job refuses.
+    pub fn hear(&mut self, news: News<'_>, now: Reading)
+        requires { now.up ≤ MAX_UP }
+        ensures { IsTold now (item_for news.entry self.old.def) self.old self.new }
+    {
+        match news {
+            News::Shutdown => self.take_in(JobEvent::Asked(Ask::Shutdown), now),
+            News::Reading(at, minutes) => {
+                let fires = Calendar::fires(self.def.calendar(), minutes);
+                self.take_in(JobEvent::Read(at, fires), now);
+            }
+            News::Sight(path, obs) => {
+                if lists(&self.def, path) {
+                    self.take_in(JobEvent::Saw(path, obs), now);
+                }
+            }
+        }
+    }
+
+    /// Takes in an event that the job does not refuse.
+    fn take_in(&mut self, event: JobEvent<'_>, now: Reading)
+        requires { now.up ≤ MAX_UP }
+        ensures { IsTold now (Some (item_of event.entry)) self.old self.new }
+    {
+        let _accepted = self.core.event(event, now);
+    }
+
+    /// Asks the job for its orders. One that is gone closes its connections and leaves.
+    pub fn ask(&mut self, now: Reading, orders: &mut Vec<Order>)
+        requires in_range { now.up ≤ MAX_UP }
+        requires room { vec_len orders.old + 66 ≤ vec_capacity orders.old }
+        ensures orders { (past : History) → Keeps self.old.core.facts past → now ≡ clock.now past →
+            orders.new.items ≡ orders.old.items ++ numbered self.old.number (acts_of past) }
+        ensures left { (past : History) → Keeps self.old.core.facts past → now ≡ clock.now past → self.new.has_left ≡ is_gone past }
+        ensures kept { (past : History) → Keeps self.old.core.facts past → now ≡ clock.now past → is_gone past ≡ false →
+            Keeps self.new.core.facts (ordered (due past) past) }
+        ensures decided { self.new.core.decided ≡ cond self.new.has_left self.old.core.decided ((self.old.core.decided + 1) % 2 ^ 64) }
+        ensures name { name self.new ≡ name self.old }
+        ensures count { vec_len orders.new ≤ vec_len orders.old + 66 }
+        ensures capacity { vec_capacity orders.old ≤ vec_capacity orders.new }
+    {
+        self.has_left = self.core.is_gone();
+        if self.has_left {
+            self.leave(orders);
+        } else if let Some(act) = self.core.decide(now) {
+            push(
+                orders,
+                Order {
+                    job: self.number,
+                    act,
+                },
+            );
+        }
+    }
+
+    /// Closes the waiting connections in order of arrival, and says that the job is gone.
+    fn leave(&self, orders: &mut Vec<Order>)
+        requires room { vec_len orders.old + 66 ≤ vec_capacity orders.old }
+        ensures orders { (past : History) → Keeps self.now.core.facts past →
+            orders.new.items ≡ orders.old.items ++ numbered self.now.number (map Act.Close (waiting past) ++ Act.Gone ∷ []) }
+        ensures count { vec_len orders.new ≤ vec_len orders.old + 66 }
+        ensures capacity { vec_capacity orders.old ≤ vec_capacity orders.new }
+    {
+        let mut place = 0;
+        while let Some(conn) = self.core.connection(place) {
+            push(
+                orders,
+                Order {
+                    job: self.number,
+                    act: Act::Close { conn },
+                },
+            );
+            place += 1;
+        }
+        push(
+            orders,
+            Order {
+                job: self.number,
+                act: Act::Gone,
+            },
+        );
+    }
+}
+
+/// Whether the definition lists the path: in `PathState`, `WatchPaths` or `QueueDirectories`.
+fn lists(def: &Def, path: &str) -> bool
+    ensures { result ≡ lists (definition def.now) path.now }
+{
+    if has_state(def.path_state(), path) {
+        return true;
+    }
+    if has_path(def.watch_paths(), path) {
+        return true;
+    }
+    has_path(def.queue_directories(), path)
+}
+
+fn has_state(states: &[PathState], path: &str) -> bool
+    ensures { result ≡ list_any (λ wish. is_same_path path.now wish.path) states.now }
+{
+    states.iter().any(|state| path == state.path.as_str())
+}
+
+fn has_path(paths: &[Text], path: &str) -> bool
+    ensures { result ≡ list_any (is_same_path path.now) paths.now }
+{
+    paths.iter().any(|listed| path == listed.as_str())
+}
+
+/// Adds an order where there is room, so that no memory is taken.
+fn push(orders: &mut Vec<Order>, order: Order)
+    requires { vec_len orders.old < vec_capacity orders.old }
+    ensures items { orders.new.items ≡ orders.old.items ++ order ∷ [] }
+    ensures count { vec_len orders.new ≡ vec_len orders.old + 1 }
+    ensures capacity { vec_capacity orders.old ≤ vec_capacity orders.new }
+{
+    match orders.push(order) {
+        Ok(()) => {}
+        Err(_) => unreachable!(),
+    }
+}

@@ -1,0 +1,107 @@
+//! The fields of the table, and the parts of which its events are made.
+
+ghost use Rattle.std.specs.Prelude.{◌≡◌, [], List, Option, None, OnOk, OnErr, map, Some};
+ghost use Rattle.std.specs.List.{filter_map, flat_map, filter};
+ghost use Rattle.history_model.specs.Search.{first};
+ghost use Rattle.history_model.specs.Clock.{reading_in, present_after};
+ghost use Rattle.history_model.specs.Items.{Item};
+ghost use Rattle.history_model.specs.Keeps.{reply};
+ghost use Rattle.history_model.specs.Machine.{Job, is_of, past_in};
+ghost use Rattle.history_model.specs.Acceptance.{refusal_at};
+ghost use Rattle.history_model.specs.Step.{told, told_one, stays, orders_of};
+ghost use Rattle.job_core.specs.Events.{item_of};
+ghost use Rattle.job_table.specs.Kept.{KeepsJobs, labelled};
+ghost use Rattle.job_table.specs.Entries.{rows, name, AllStay};
+ghost use Rattle.job_table.specs.Telling.{AreFor, IsAccepted, present_with};
+
+use crate::entry::{Entry, News};
+use crate::scan::{ask_all, place_of, release, tell_all, tidy};
+use calendar_due::Zone;
+use history_model::{Order, Reading, Refusal, Setting};
+use job_core::JobEvent;
+use slab::Slab;
+
+/// The loaded jobs in byte order of labels, what decides over them, and the orders of the last event.
+#[derive(Drop)]
+pub struct Jobs {
+    pub reading: Reading,
+    pub zone: Zone,
+    /// Newest first.
+    pub settings: Vec<Setting>,
+    pub is_shutting_down: bool,
+    pub entries: Vec<Entry>,
+    pub numbers: Slab<()>,
+    pub orders: Vec<Order>,
+    pub visited: u32,
+}
+
+impl Jobs {
+    ghost use Rattle.job_table.specs.Sound.{seen, IsSound};
+    ghost use Rattle.job_table.specs.Alike.{IsAlike};
+
+    /// Drops the jobs that left at the last event, and its orders.
+    pub fn begin(&mut self)
+        requires { IsSound self.old }
+        ensures sound { IsSound self.new }
+        ensures stay { AllStay self.new.entries.items }
+        ensures rows { rows self.new.entries.items ≡ rows self.old.entries.items }
+        ensures orders { self.new.orders.items ≡ [] }
+        ensures alike { IsAlike self.old self.new }
+    {
+        release(&self.entries, &mut self.numbers);
+        tidy(&mut self.entries);
+        self.orders.clear();
+    }
+
+    /// Hands an event to the job with this label.
+    pub fn hand(&mut self, label: &str, event: JobEvent<'_>) -> Result<(), Refusal>
+        requires sound { IsSound self.old }
+        requires stay { AllStay self.old.entries.items }
+        requires silent { reading_in (item_of event) ≡ None }
+        ensures answer { (jobs : List Job) → KeepsJobs self.old.reading (rows self.old.entries.items) jobs →
+            result ≡ reply (refusal_at (past_in (first (filter (is_of label.now) jobs))) (item_of event.entry)) }
+        ensures kept { (jobs : List Job) → KeepsJobs self.old.reading (rows self.old.entries.items) jobs →
+            OnOk result (KeepsJobs self.old.reading (rows self.new.entries.items) (told_one label.now (item_of event.entry) jobs)) }
+        ensures rows { OnErr result (rows self.new.entries.items ≡ rows self.old.entries.items) }
+        ensures sound { IsSound self.new }
+        ensures stay { AllStay self.new.entries.items }
+        ensures orders { self.new.orders ≡ self.old.orders }
+        ensures alike { IsAlike self.old self.new }
+    {
+        let Some(place) = place_of(&self.entries, label) else {
+            return Err(Refusal::NoSuchJob);
+        };
+        let entry = &mut self.entries[place];
+        entry.core.event(event, self.reading)
+    }
+
+    /// Tells every job the news.
+    pub fn tell_all(&mut self, news: News<'_>)
+        requires sound { IsSound self.old }
+        requires stay { AllStay self.old.entries.items }
+        ensures kept { (jobs : List Job) → (item : Job → Option Item) → AreFor news.entry item (rows self.old.entries.items) jobs →
+            IsAccepted self.old.reading item → KeepsJobs self.old.reading (rows self.old.entries.items) jobs →
+            KeepsJobs (present_with news.entry self.old.reading) (rows self.new.entries.items) (told item jobs) }
+        ensures sound { IsSound self.new }
+        ensures stay { AllStay self.new.entries.items }
+        ensures orders { self.new.orders ≡ self.old.orders }
+        ensures alike { IsAlike self.old self.new }
+    {
+        tell_all(&mut self.entries, news, self.reading);
+    }
+
+    /// Asks all jobs.
+    pub fn ask(&mut self)
+        requires sound { IsSound self.old }
+        requires stay { AllStay self.old.entries.items }
+        requires empty { self.old.orders.items ≡ [] }
+        ensures kept { (jobs : List Job) → KeepsJobs self.old.reading (rows self.old.entries.items) jobs →
+            KeepsJobs self.old.reading (rows self.new.entries.items) (filter_map stays jobs) }
+        ensures orders { (jobs : List Job) → KeepsJobs self.old.reading (rows self.old.entries.items) jobs →
+            labelled (map name self.new.entries.items) self.new.orders.items ≡ flat_map orders_of jobs }
+        ensures sound { IsSound self.new }
+        ensures alike { IsAlike self.old self.new }
+    {
+        self.visited = ask_all(&mut self.entries, self.reading, &mut self.orders);
+    }
+}

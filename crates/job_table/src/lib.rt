@@ -1,0 +1,216 @@
+//! Many jobs: the table of the loaded ones, which keeps a machine that holds, for each job, only the list of its past.
+#![tactic(auto)]
+
+ghost use Rattle.std.specs.Prelude.{◌≡◌, Bool, true, false, Err, IsOk};
+ghost use Rattle.std.specs.Borrow.{sem};
+ghost use Rattle.history_model.specs.declared.Answer.TheVariants as answers;
+ghost use Rattle.history_model.specs.Items.{Asked, Answered, Came, Left, RunEnded, WaitRefused};
+ghost use Rattle.history_model.specs.declared.Refusal.TheVariants.{NoMemory};
+ghost use Rattle.history_model.specs.Machine.{OfJob, UnloadJob, ShutDown, Tick, Sight};
+
+mod entry;
+mod events;
+mod jobs;
+mod scan;
+
+use history_model::{Ask, Ended, Obs, Order, Reading, Refusal};
+use job_core::JobEvent;
+use jobs::Jobs;
+use std::alloc::Global;
+use std::marker::Model;
+
+/// The loaded jobs. To a contract, the values of a machine that it keeps.
+#[derive(Drop)]
+pub struct JobTable {
+    jobs: Jobs,
+}
+
+impl Model for JobTable {
+    ghost use Rattle.job_table.specs.Rows.{Table};
+
+    ghost Value = { Table };
+
+    ghost use Rattle.job_table.specs.Sound.{seen, IsSound};
+
+    ghost view = { λ t. seen t.jobs };
+
+    ghost invariant = { λ t. IsSound t.jobs };
+}
+
+/// What an event gave, lent out of the table.
+#[derive(Drop)]
+pub struct Step<'a> {
+    /// In byte order of labels.
+    pub orders: &'a [Order],
+    /// How many jobs were asked for their order.
+    pub visited: u32,
+    jobs: &'a Jobs,
+}
+
+impl JobTable {
+    ghost use Rattle.job_table.specs.Ends.{IsAnswer, GoesOn, GoesOnUnless, acts_of};
+    ghost use Rattle.job_table.specs.Outcomes.{UnlessMemory};
+    ghost use Rattle.job_table.specs.Kept.{acts_in};
+    ghost use Rattle.job_table.specs.Minutes.{has_calendars};
+
+    /// Lends what the last event gave.
+    pub fn given(&self) -> Step<'_>
+        ensures orders { acts_of result ≡ acts_in self.now }
+        ensures visited { result.visited ≡ self.now.visited }
+    {
+        Step {
+            orders: &self.jobs.orders,
+            visited: self.jobs.visited,
+            jobs: &self.jobs,
+        }
+    }
+
+    /// Starts the job, as `start` of launchctl(1): a demand that is pending until a later spawn went well. A job whose child
+    /// runs and is not being stopped is left as it is. Refusals: BadRequest (no label), NoSuchJob, Removing.
+    pub fn start(&mut self, label: &str) -> Result<Step<'_>, Refusal>
+        ensures answer { IsAnswer (OfJob label.now (Asked Ask.Start)) self.old result }
+        ensures* kept { sem 𝓛 (GoesOn self.entry (OfJob label.now (Asked Ask.Start))) }
+    {
+        self.jobs.tell(label, JobEvent::Asked(Ask::Start))?;
+        Ok(self.given())
+    }
+
+    /// Stops the job's child, as `stop` of launchctl(1): by TERM, and by KILL once the definition's `ExitTimeOut` is over.
+    /// Refusals: BadRequest (no label), NoSuchJob, Removing, NotRunning.
+    pub fn stop(&mut self, label: &str) -> Result<Step<'_>, Refusal>
+        ensures answer { IsAnswer (OfJob label.now (Asked Ask.Stop)) self.old result }
+        ensures* kept { sem 𝓛 (GoesOn self.entry (OfJob label.now (Asked Ask.Stop))) }
+    {
+        self.jobs.tell(label, JobEvent::Asked(Ask::Stop))?;
+        Ok(self.given())
+    }
+
+    /// Starts the job; with `k` its child is first ended by KILL, as `kickstart -k` of launchctl(1). Refusals: BadRequest (no
+    /// label), NoSuchJob, Removing.
+    pub fn kickstart(&mut self, label: &str, k: bool) -> Result<Step<'_>, Refusal>
+        ensures answer { IsAnswer (OfJob label.now (Asked (Ask.Kickstart k))) self.old result }
+        ensures* kept { sem 𝓛 (GoesOn self.entry (OfJob label.now (Asked (Ask.Kickstart k)))) }
+    {
+        self.jobs.tell(label, JobEvent::Asked(Ask::Kickstart(k)))?;
+        Ok(self.given())
+    }
+
+    /// A connection came to one of the job's sockets; its number is above every earlier one of this load. Refusals: BadRequest
+    /// (no label), NoSuchJob, Removing, Stale (no sockets, or a number that is not new), TooManyConnections (64 wait).
+    pub fn came(&mut self, label: &str, conn: u64) -> Result<Step<'_>, Refusal>
+        ensures answer { IsAnswer (OfJob label.now (Came conn)) self.old result }
+        ensures* kept { sem 𝓛 (GoesOn self.entry (OfJob label.now (Came conn))) }
+    {
+        self.jobs.tell(label, JobEvent::Came(conn))?;
+        Ok(self.given())
+    }
+
+    /// A waiting connection was given up by its client. Refusals: BadRequest (no label), NoSuchJob, Stale (it does not wait).
+    pub fn left(&mut self, label: &str, conn: u64) -> Result<Step<'_>, Refusal>
+        ensures answer { IsAnswer (OfJob label.now (Left conn)) self.old result }
+        ensures* kept { sem 𝓛 (GoesOn self.entry (OfJob label.now (Left conn))) }
+    {
+        self.jobs.tell(label, JobEvent::Left(conn))?;
+        Ok(self.given())
+    }
+
+    /// The spawn of a run went well, under this process id. Refusals: BadRequest (no label, or an id of 0), NoSuchJob, Stale
+    /// (this answer is not awaited).
+    pub fn spawned(&mut self, label: &str, run: u64, pid: u32) -> Result<Step<'_>, Refusal>
+        ensures answer { IsAnswer (OfJob label.now (Answered (answers.Spawned run pid))) self.old result }
+        ensures* kept { sem 𝓛 (GoesOn self.entry (OfJob label.now (Answered (answers.Spawned run pid)))) }
+    {
+        self.jobs.tell(label, JobEvent::Spawned { run, pid })?;
+        Ok(self.given())
+    }
+
+    /// The spawn of a run was refused. Its demand stays, and the next spawn waits at least a second. Refusals: BadRequest (no
+    /// label), NoSuchJob, Stale (this answer is not awaited).
+    pub fn spawn_refused(&mut self, label: &str, run: u64) -> Result<Step<'_>, Refusal>
+        ensures answer { IsAnswer (OfJob label.now (Answered (answers.SpawnRefused run))) self.old result }
+        ensures* kept { sem 𝓛 (GoesOn self.entry (OfJob label.now (Answered (answers.SpawnRefused run)))) }
+    {
+        self.jobs.tell(label, JobEvent::SpawnRefused { run })?;
+        Ok(self.given())
+    }
+
+    /// TERM was given to a run, or refused. Refusals: BadRequest (no label), NoSuchJob, Stale (this answer is not awaited).
+    pub fn term_answered(&mut self, label: &str, run: u64, ok: bool) -> Result<Step<'_>, Refusal>
+        ensures answer { IsAnswer (OfJob label.now (Answered (answers.Termed run ok))) self.old result }
+        ensures* kept { sem 𝓛 (GoesOn self.entry (OfJob label.now (Answered (answers.Termed run ok)))) }
+    {
+        self.jobs.tell(label, JobEvent::Termed { run, ok })?;
+        Ok(self.given())
+    }
+
+    /// KILL was given to a run, or refused. Refusals: BadRequest (no label), NoSuchJob, Stale (this answer is not awaited).
+    pub fn kill_answered(&mut self, label: &str, run: u64, ok: bool) -> Result<Step<'_>, Refusal>
+        ensures answer { IsAnswer (OfJob label.now (Answered (answers.Killed run ok))) self.old result }
+        ensures* kept { sem 𝓛 (GoesOn self.entry (OfJob label.now (Answered (answers.Killed run ok)))) }
+    {
+        self.jobs.tell(label, JobEvent::Killed { run, ok })?;
+        Ok(self.given())
+    }
+
+    /// A run ended. Refusals: BadRequest (no label), NoSuchJob, Stale (it is not the present child's run).
+    pub fn ended(&mut self, label: &str, run: u64, how: Ended) -> Result<Step<'_>, Refusal>
+        ensures answer { IsAnswer (OfJob label.now (RunEnded run how)) self.old result }
+        ensures* kept { sem 𝓛 (GoesOn self.entry (OfJob label.now (RunEnded run how))) }
+    {
+        self.jobs.tell(label, JobEvent::Ended(run, how))?;
+        Ok(self.given())
+    }
+
+    /// The wait for a run was refused: nothing is known of its end. Refusals: BadRequest (no label), NoSuchJob, Stale (it is
+    /// not the present child's run).
+    pub fn wait_refused(&mut self, label: &str, run: u64) -> Result<Step<'_>, Refusal>
+        ensures answer { IsAnswer (OfJob label.now (WaitRefused run)) self.old result }
+        ensures* kept { sem 𝓛 (GoesOn self.entry (OfJob label.now (WaitRefused run))) }
+    {
+        self.jobs.tell(label, JobEvent::WaitRefused { run })?;
+        Ok(self.given())
+    }
+
+    /// Removes every job, each once its child has ended; after it no load is accepted. Refusal: ShuttingDown, where a shutdown
+    /// was accepted before.
+    pub fn shutdown(&mut self) -> Result<Step<'_>, Refusal>
+        ensures answer { IsAnswer ShutDown self.old result }
+        ensures* kept { sem 𝓛 (GoesOn self.entry ShutDown) }
+    {
+        self.jobs.shut_down()?;
+        Ok(self.given())
+    }
+
+    /// Removes the job once its child has ended, as `unload` of launchctl(1) without `-w`: no setting is written. Refusals:
+    /// BadRequest (no label), NoSuchJob, Removing.
+    pub fn unload(&mut self, label: &str) -> Result<Step<'_>, Refusal>
+        ensures answer { (store : Bool) → IsAnswer (UnloadJob label.now false store) self.old result }
+        ensures* kept { sem 𝓛 (GoesOn self.entry (UnloadJob label.now false true)) }
+    {
+        self.jobs.unload(label)?;
+        Ok(self.given())
+    }
+
+    /// A look at a path, which counts for the jobs that list it. It is never refused.
+    pub fn saw(&mut self, path: &str, obs: Obs) -> Result<Step<'_>, Refusal>
+        ensures answer { IsAnswer (Sight path.now obs) self.old result }
+        ensures ok { IsOk result }
+        ensures* kept { sem 𝓛 (GoesOn self.entry (Sight path.now obs)) }
+    {
+        self.jobs.saw(path, obs);
+        Ok(self.given())
+    }
+
+    /// A reading of the clocks: milliseconds of `up`, which never fall, and seconds of `wall`. The civil minutes that it
+    /// crosses are computed once, and only where a job with calendar entries is loaded. Refusals: ClockRefused, where `up`
+    /// falls or one of the two is past its limit; NoMemory, only where a job with calendar entries is loaded: the reading
+    /// is then not taken in.
+    pub fn clock(&mut self, alloc: Global, at: Reading) -> Result<Step<'_>, Refusal>
+        ensures answer { UnlessMemory result (IsAnswer (Tick at) self.old result) }
+        ensures memory { result ≡ Err NoMemory → has_calendars self.old.rows ≡ true }
+        ensures* kept { sem 𝓛 (GoesOnUnless self.entry result (Tick at)) }
+    {
+        self.jobs.clock(alloc, at)?;
+        Ok(self.given())
+    }
+}
