@@ -7,5 +7,8 @@ pub mod Holding
 pub mod Labelling
 pub mod Telling
 pub mod Listing
+pub mod Setting
+pub mod Entering
+pub mod Admitting
 pub mod Steps
 pub mod Handing

@@ -1,6 +1,8 @@
 -- The rows that a table's entries are.
 use Rattle.std.specs.Prelude.{◌≡◌, ℕ, ◌==◌, Bool, false, not, ◌&&◌, cond, List, [], ◌∷◌}
-use Rattle.history_model.specs.Labels.{Label, is_same}
+use Rattle.std.specs.Prelude.{length, unwrap_or}
+use Rattle.std.specs.List.{position, insert}
+use Rattle.history_model.specs.Labels.{Label, is_same, is_before}
 use Rattle.job_table.specs.Rows.{Row, Name}
 use Rattle.job_table.specs.declared.entry.Entry.{Entry}
 
@@ -28,3 +30,10 @@ stays e = not e.has_left
 -- the job with this number has left
 abbrev pub has_left_under : ℕ → Entry → Bool
 has_left_under number e = e.has_left && (e.number == number)
+
+abbrev pub is_above : Label → Entry → Bool
+is_above label e = is_before label e.def.label
+
+-- the entry before the first with a greater label, or as the last
+abbrev pub entered : Entry → List Entry → List Entry
+entered new es = insert es (unwrap_or (position (is_above new.def.label) es) (length es)) new

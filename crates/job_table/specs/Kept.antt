@@ -1,5 +1,5 @@
 -- Which states of the machine a table stands for.
-use Rattle.std.specs.Prelude.{◌≡◌, ℕ, false, List, [], ◌∷◌, ◌++◌, map, None}
+use Rattle.std.specs.Prelude.{◌≡◌, ℕ, false, List, [], ◌∷◌, ◌++◌, map, Option, Some, None}
 use Rattle.std.specs.List.{filter, AllByRecursion}
 use Rattle.history_model.specs.declared.Reading.{Reading}
 use Rattle.history_model.specs.declared.Act.{Act}
@@ -38,6 +38,10 @@ IsAtRest job = (due job.past ≡ None) × (is_gone job.past ≡ false)
 -- each label has the same setting
 abbrev pub KeepsSettings : List Setting → List Setting → Type 0
 KeepsSettings held settings = (label : Label) → first (filter (sets label) held) ≡ first (filter (sets label) settings)
+
+abbrev pub with_setting : Option Setting → List Setting → List Setting
+with_setting None settings = settings
+with_setting (Some setting) settings = setting ∷ settings
 
 pub record KeepsState (table : Table) (s : State) : Type 0 where
   pub reading : table.reading ≡ s.reading

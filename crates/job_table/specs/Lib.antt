@@ -8,4 +8,9 @@ pub mod Sound
 pub mod Alike
 pub mod News
 pub mod Telling
+pub mod Opening
+pub mod Loads
+pub mod Changes
+pub mod Shown
 pub mod Ends
+pub mod Lent

@@ -1,21 +1,32 @@
 //! Many jobs: the table of the loaded ones, which keeps a machine that holds, for each job, only the list of its past.
 #![tactic(auto)]
 
-ghost use Rattle.std.specs.Prelude.{◌≡◌, Bool, true, false, Err, IsOk};
+ghost use Rattle.std.specs.Prelude.{◌≡◌, Bool, true, false, Some, None, Err, IsOk, IfOk, MatchResult};
 ghost use Rattle.std.specs.Borrow.{sem};
 ghost use Rattle.history_model.specs.declared.Answer.TheVariants as answers;
+ghost use Rattle.calendar_due.specs.Rules.{minute_at};
 ghost use Rattle.history_model.specs.Items.{Asked, Answered, Came, Left, RunEnded, WaitRefused};
 ghost use Rattle.history_model.specs.declared.Refusal.TheVariants.{NoMemory};
-ghost use Rattle.history_model.specs.Machine.{OfJob, UnloadJob, ShutDown, Tick, Sight};
+ghost use Rattle.history_model.specs.Machine.{opened, OfJob, UnloadJob, ShutDown, Tick, Sight};
 
+mod changing;
 mod entry;
 mod events;
 mod jobs;
+mod loading;
+mod opening;
+mod prepared;
 mod scan;
+mod settings;
+mod texts;
 
-use history_model::{Ask, Ended, Obs, Order, Reading, Refusal};
+use calendar_due::Zone;
+pub use changing::NewSetting;
+use history_model::{Ask, Ended, Obs, Order, Reading, Refusal, Setting};
 use job_core::JobEvent;
 use jobs::Jobs;
+pub use loading::Ready;
+pub use prepared::{Pending, Prepared, PreparedSet};
 use std::alloc::Global;
 use std::marker::Model;
 
@@ -50,8 +61,32 @@ pub struct Step<'a> {
 impl JobTable {
     ghost use Rattle.job_table.specs.Ends.{IsAnswer, GoesOn, GoesOnUnless, acts_of};
     ghost use Rattle.job_table.specs.Outcomes.{UnlessMemory};
-    ghost use Rattle.job_table.specs.Kept.{acts_in};
+    ghost use Rattle.job_table.specs.Kept.{acts_in, KeepsState};
+    ghost use Rattle.job_table.specs.Opening.{opening_refusal};
     ghost use Rattle.job_table.specs.Minutes.{has_calendars};
+
+    /// A table with no job, opened at a reading in a zone, with the overrides that `enable` and `disable` left, oldest
+    /// first: of a label given twice the last counts. Refusals: BadRequest, where an override's name is no label; then
+    /// ClockRefused, where the reading is past a limit. NoMemory is not answered.
+    pub fn new(
+        alloc: Global,
+        reading: Reading,
+        zone: Zone,
+        overrides: Vec<Setting>,
+    ) -> Result<JobTable, Refusal>
+        ensures opened { IfOk result (λ table. KeepsState table (opened (record { reading = reading; zone = minute_at zone; overrides = overrides.items }))) }
+        ensures refused { MatchResult result (λ _. opening_refusal reading overrides.items ≡ None) (λ refusal. opening_refusal reading overrides.items ≡ Some refusal) }
+    {
+        let jobs = Jobs::new(alloc, reading, zone, overrides)?;
+        Ok(JobTable { jobs })
+    }
+
+    /// The last reading.
+    pub fn reading(&self) -> Reading
+        ensures { result ≡ self.now.reading }
+    {
+        self.jobs.reading
+    }
 
     /// Lends what the last event gave.
     pub fn given(&self) -> Step<'_>

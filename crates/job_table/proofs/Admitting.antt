@@ -1,0 +1,111 @@
+-- When a load is refused, read off the table.
+use Rattle.std.proofs.Common.{◌≡◌, ℕ, suc, Bool, true, false, not, ◌&&◌, ◌||◌, nat_lt, List, [], ◌∷◌, map, length, get_or, Option, Some, None, is_some, refl, sym, ap, ◌∙◌, subst, ◌<◌, ◌≤◌, arith}
+use Rattle.std.specs.Prelude.{if◌then◌else◌}
+use Rattle.std.specs.List.{list_any, filter, position}
+use Rattle.std.specs.Vec.{vec_capacity, vec_len}
+use Rattle.slab.specs.Slab.{Slab, get}
+use Rattle.history_model.specs.declared.Reading.{Reading}
+use Rattle.history_model.specs.declared.Refusal.{Refusal}
+use Rattle.history_model.specs.declared.Refusal.TheVariants.{NoMemory, BadRequest, NoSuchJob, AlreadyLoaded, Disabled, Removing, NotRunning, BadDefinition, StoreRefused, TooManyJobs, SocketRefused, TooManyConnections, Stale, ClockRefused, ShuttingDown}
+use Rattle.history_model.specs.declared.event.Setting.{Setting}
+use Rattle.history_model.specs.Items.{Definition, History}
+use Rattle.history_model.specs.Search.{or_else, first}
+use Rattle.history_model.specs.Runs.{is_removed}
+use Rattle.history_model.specs.Labels.{Label}
+use Rattle.history_model.specs.Machine.{State, Job, is_of, past_in, past_of, is_disabled, flag_in, sets}
+use Rattle.history_model.specs.Acceptance.{refused_if, refusal_there, refusal_stored, refusal_of_load}
+use Rattle.history_model.specs.declared.TheConstants.{MAX_UP}
+use Rattle.job_table.specs.Rows.{IsOnce}
+use Rattle.job_table.specs.Kept.{KeepsJobs, KeepsState}
+use Rattle.job_table.specs.Entries.{row, name, rows, AllStay, has_label}
+use Rattle.job_table.specs.Loads.{IsAbsent, enabled_if}
+use Rattle.job_table.specs.Outcomes.{Tells}
+use Rattle.job_table.specs.Minutes.{is_some_entry, has_calendars}
+use Rattle.job_table.specs.Sound.{seen, AreHeld, IsSound}
+use Rattle.job_table.specs.declared.entry.Entry.{Entry}
+use Rattle.job_table.specs.declared.jobs.Jobs.{Jobs}
+use Rattle.job_table.proofs.Lists.{any-map}
+use Rattle.job_table.proofs.Firsts.{NonePasses, none-where}
+use Rattle.job_table.proofs.Places.{rows-all}
+
+-- ---- growth
+
+held-slots : (old new : Slab (Unit {0})) (es : List Entry) → new.slots ≡ old.slots → AreHeld old es → AreHeld new es
+held-slots old new [] same held = tt
+held-slots old new (e ∷ es) same held =
+    (ap (λ slots. get (record { slots = slots; vacant_key = 0; capacity = 0 }) e.number) same ∙ held.0, held-slots old new es same held.1)
+
+pub grown-sound : (old new : Jobs) → IsSound old → new.reading ≡ old.reading → new.entries.items ≡ old.entries.items → vec_len new.entries ≡ vec_len old.entries →
+    new.numbers.slots ≡ old.numbers.slots → vec_capacity old.orders ≤ vec_capacity new.orders → IsSound new
+grown-sound old new sound reading items len slots capacity = record {
+  in_range = subst (λ at. at.up ≤ MAX_UP) (sym reading) sound.in_range;
+  once = subst (λ es. IsOnce (map name es)) (sym items) sound.once;
+  held = subst (AreHeld new.numbers) (sym items) (held-slots old.numbers new.numbers old.entries.items slots sound.held);
+  few = let few = sound.few in omega (arith, few, len);
+  room = let room = sound.room in omega (arith, room, len, capacity);
+}
+
+-- ---- refusals
+
+jobs-length : (at : Reading) (es : List Entry) (jobs : List Job) → KeepsJobs at (map row es) jobs → length jobs ≡ length es
+jobs-length at [] [] keeps = refl
+jobs-length at [] (j ∷ js) keeps = absurd keeps
+jobs-length at (e ∷ es) [] keeps = absurd keeps
+jobs-length at (e ∷ es) (j ∷ js) keeps = ap suc (jobs-length at es js keeps.1)
+
+pub count-jobs : (t : Jobs) (s : State) → KeepsState (seen t) s → AllStay t.entries.items → length s.jobs ≡ length t.entries.items
+count-jobs t s keeps stay = jobs-length s.reading t.entries.items s.jobs (subst (λ rs. KeepsJobs s.reading rs s.jobs) (rows-all t.entries.items stay) keeps.jobs)
+
+pub absent-names : (label : Label) (es : List Entry) → None ≡ position (has_label label) es → IsAbsent label (map name es)
+absent-names label es none = go es (none-where (has_label label) es none)
+  where
+    go : (es : List Entry) → NonePasses (has_label label) es → IsAbsent label (map name es)
+    go [] none = tt
+    go (e ∷ es) none = (none.0, go es none.1)
+
+pub there : (s : State) → s.is_shutting_down ≡ false → (label : Label) (d : Definition) (w force bind store : Bool) (r : Refusal) → refusal_there (past_of s label) ≡ Some r →
+    refusal_of_load s label d w force bind store ≡ Some r
+there s running label d w force bind store r is = λ i. refused_if (running i) ShuttingDown (or_else (is i)
+    (refused_if (not (nat_lt (length s.jobs) 1024)) TooManyJobs (refused_if (not w && not force && is_disabled s label d.disabled) Disabled
+    (refused_if (d.has_sockets && not bind) SocketRefused (refusal_stored w store)))))
+
+pub behind-there : (s : State) → s.is_shutting_down ≡ false → (label : Label) (d : Definition) (w force bind store : Bool) (fits held : Bool) → refusal_there (past_of s label) ≡ None →
+    nat_lt (length s.jobs) 1024 ≡ fits → is_disabled s label d.disabled ≡ held →
+    refusal_of_load s label d w force bind store ≡ refused_if (not fits) TooManyJobs (refused_if (not w && not force && held) Disabled
+    (refused_if (d.has_sockets && not bind) SocketRefused (refusal_stored w store)))
+behind-there s running label d w force bind store fits held is count flag = λ i. refused_if (running i) ShuttingDown (or_else (is i)
+    (refused_if (not (count i)) TooManyJobs (refused_if (not w && not force && flag i) Disabled
+    (refused_if (d.has_sockets && not bind) SocketRefused (refusal_stored w store)))))
+
+pub not-below : (n m : ℕ) → m ≤ n → nat_lt n m ≡ false
+not-below n m above = grind (arith, above)
+
+pub is-below : (n m : ℕ) → n < m → nat_lt n m ≡ true
+is-below n m below = grind (arith, below)
+
+pub no-past : (o : Option History) → refusal_there o ≡ None → o ≡ None
+no-past None is = refl
+no-past (Some past) is = cc
+
+pub tells : (r : Refusal) {P : Type 0} → P → Tells r P
+tells NoMemory p = tt
+tells BadRequest p = p
+tells NoSuchJob p = p
+tells AlreadyLoaded p = p
+tells Disabled p = p
+tells Removing p = p
+tells NotRunning p = p
+tells (BadDefinition reason key) p = p
+tells StoreRefused p = p
+tells TooManyJobs p = p
+tells SocketRefused p = p
+tells TooManyConnections p = p
+tells Stale p = p
+tells ClockRefused p = p
+tells ShuttingDown p = p
+
+pub some-enabled : (o : Option Setting) (w : Bool) (label : Label) → o ≡ enabled_if w label → o ≡ enabled_if (is_some o) label
+some-enabled None true label is = cc
+some-enabled None false label is = refl
+some-enabled (Some x) true label is = is
+some-enabled (Some x) false label is = cc
