@@ -10,5 +10,7 @@ pub mod Listing
 pub mod Setting
 pub mod Entering
 pub mod Admitting
+pub mod Showing
 pub mod Steps
 pub mod Handing
+pub mod Resting

@@ -37,3 +37,6 @@ is_above label e = is_before label e.def.label
 -- the entry before the first with a greater label, or as the last
 abbrev pub entered : Entry → List Entry → List Entry
 entered new es = insert es (unwrap_or (position (is_above new.def.label) es) (length es)) new
+
+abbrev pub has_number : ℕ → Entry → Bool
+has_number number e = e.number == number

@@ -12,5 +12,6 @@ pub mod Opening
 pub mod Loads
 pub mod Changes
 pub mod Shown
+pub mod Listed
 pub mod Ends
 pub mod Lent

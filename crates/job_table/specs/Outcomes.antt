@@ -45,3 +45,7 @@ IsNextUnless (Err refusal) e old new = IsNext e old new
 abbrev pub Tells : Refusal → Type 0 → Type 0
 Tells NoMemory P = Unit {0}
 Tells refusal P = P
+
+-- the text answers the question, which changes nothing
+abbrev pub IsToldText : Event → Table → List ℕ → Type 0
+IsToldText e table text = (s : State) → KeepsState table s → (outcome s e ≡ record { refusal = None; orders = []; text = text }) × (step s e ≡ s)

@@ -1,13 +1,14 @@
 //! Many jobs: the table of the loaded ones, which keeps a machine that holds, for each job, only the list of its past.
 #![tactic(auto)]
 
-ghost use Rattle.std.specs.Prelude.{◌≡◌, Bool, true, false, Some, None, Err, IsOk, IfOk, MatchResult};
+ghost use Rattle.std.specs.Prelude.{◌≡◌, Bool, true, false, Some, None, Err, IsOk, IfOk, IfErr, MatchResult};
 ghost use Rattle.std.specs.Borrow.{sem};
+ghost use Rattle.std.specs.String.{string_bytes};
 ghost use Rattle.history_model.specs.declared.Answer.TheVariants as answers;
 ghost use Rattle.calendar_due.specs.Rules.{minute_at};
 ghost use Rattle.history_model.specs.Items.{Asked, Answered, Came, Left, RunEnded, WaitRefused};
 ghost use Rattle.history_model.specs.declared.Refusal.TheVariants.{NoMemory};
-ghost use Rattle.history_model.specs.Machine.{opened, OfJob, UnloadJob, ShutDown, Tick, Sight};
+ghost use Rattle.history_model.specs.Machine.{State, opened, ListJobs, OfJob, UnloadJob, ShutDown, Tick, Sight};
 
 mod changing;
 mod entry;
@@ -16,17 +17,19 @@ mod jobs;
 mod loading;
 mod opening;
 mod prepared;
+mod questions;
 mod scan;
 mod settings;
 mod texts;
 
 use calendar_due::Zone;
 pub use changing::NewSetting;
-use history_model::{Ask, Ended, Obs, Order, Reading, Refusal, Setting};
+use history_model::{Ask, Ended, JobNo, Obs, Order, Reading, Refusal, Setting};
 use job_core::JobEvent;
 use jobs::Jobs;
 pub use loading::Ready;
 pub use prepared::{Pending, Prepared, PreparedSet};
+use scan::{all_left, place_of_number};
 use std::alloc::Global;
 use std::marker::Model;
 
@@ -58,10 +61,27 @@ pub struct Step<'a> {
     jobs: &'a Jobs,
 }
 
+impl<'a> Step<'a> {
+    ghost use Rattle.std.specs.Prelude.{map};
+    ghost use Rattle.job_table.specs.Rows.{label_of};
+    ghost use Rattle.job_table.specs.Entries.{name};
+
+    /// The label of the job with this number, also of one that just left; the empty text for a number that no job has.
+    pub fn label(&self, job: JobNo) -> &'a str
+        ensures { result.now ≡ label_of (map name self.now.jobs.now.entries.items) job }
+    {
+        let jobs = self.jobs;
+        match place_of_number(&jobs.entries, job) {
+            Some(place) => jobs.entries[place].def.label(),
+            None => "",
+        }
+    }
+}
+
 impl JobTable {
     ghost use Rattle.job_table.specs.Ends.{IsAnswer, GoesOn, GoesOnUnless, acts_of};
-    ghost use Rattle.job_table.specs.Outcomes.{UnlessMemory};
-    ghost use Rattle.job_table.specs.Kept.{acts_in, KeepsState};
+    ghost use Rattle.job_table.specs.Outcomes.{UnlessMemory, IsToldText};
+    ghost use Rattle.job_table.specs.Kept.{acts_in, is_none, KeepsState};
     ghost use Rattle.job_table.specs.Opening.{opening_refusal};
     ghost use Rattle.job_table.specs.Minutes.{has_calendars};
 
@@ -247,5 +267,24 @@ impl JobTable {
     {
         self.jobs.clock(alloc, at)?;
         Ok(self.given())
+    }
+
+    /// The text of `list` of launchctl(1): for each loaded job the process id of its child, its last end and its label.
+    /// Refusal: NoMemory.
+    pub fn list(&self, alloc: Global) -> Result<String, Refusal>
+        ensures text { IfOk result (λ text. IsToldText ListJobs self.now (string_bytes text)) }
+        ensures memory { IfErr result (λ refusal. refusal ≡ NoMemory) }
+    {
+        match questions::list(alloc, &self.jobs.entries) {
+            Ok(text) => Ok(text),
+            Err(_) => Err(Refusal::NoMemory),
+        }
+    }
+
+    /// Whether no job is loaded.
+    pub fn is_empty(&self) -> bool
+        ensures { (s : State) → KeepsState self.now s → result ≡ is_none s.jobs }
+    {
+        all_left(&self.jobs.entries)
     }
 }

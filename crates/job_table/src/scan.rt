@@ -1,7 +1,7 @@
 //! What is done to all entries in turn.
 
 ghost use Rattle.std.specs.Prelude.{◌≡◌, ◌≤◌, ◌*◌, ◌+◌, ◌++◌, ℕ, false, Some, List, map, length};
-ghost use Rattle.std.specs.List.{filter, filter_map, list_any, position};
+ghost use Rattle.std.specs.List.{filter, filter_map, list_all, list_any, position};
 ghost use Rattle.std.specs.Vec.{vec_capacity, vec_len};
 ghost use Rattle.slab.specs.Slab.{get};
 ghost use Rattle.history_model.specs.declared.TheConstants.{MAX_UP};
@@ -9,10 +9,10 @@ ghost use Rattle.history_model.specs.Machine.{Job};
 ghost use Rattle.history_model.specs.Step.{stays as job_stays};
 ghost use Rattle.job_table.specs.Kept.{KeepsJobs, numbered_all};
 ghost use Rattle.job_table.specs.Telling.{AreTold};
-ghost use Rattle.job_table.specs.Entries.{rows, name, stays, has_label, has_left_under, AllStay};
+ghost use Rattle.job_table.specs.Entries.{rows, name, stays, has_label, has_left_under, has_number, AllStay};
 
 use crate::entry::{Entry, News};
-use history_model::{Order, Reading};
+use history_model::{JobNo, Order, Reading};
 use slab::Slab;
 
 /// Tells every job the news.
@@ -73,4 +73,18 @@ pub fn place_of(entries: &[Entry], label: &str) -> Option<usize>
     ensures { result ≡ position (has_label label.now) entries.now }
 {
     entries.iter().position(|entry| label == entry.def.label())
+}
+
+/// The place of the job with this number.
+pub fn place_of_number(entries: &[Entry], number: JobNo) -> Option<usize>
+    ensures { result ≡ position (has_number number) entries.now }
+{
+    entries.iter().position(|entry| entry.number == number)
+}
+
+/// Whether every job has left.
+pub fn all_left(entries: &[Entry]) -> bool
+    ensures { result ≡ list_all (λ e. e.has_left) entries.now }
+{
+    entries.iter().all(|entry| entry.has_left)
 }
