@@ -1,11 +1,11 @@
 -- The job with a label: where it stands, and what an event to it leaves.
-use Rattle.std.proofs.Common.{◌≡◌, ℕ, zero, suc, ◌+◌, ◌<◌, Bool, true, false, not, cond, List, [], ◌∷◌, map, length, get_or, Option, Some, None, refl, sym, ap, ◌∙◌, subst}
+use Rattle.std.proofs.Common.{◌≡◌, ℕ, zero, suc, ◌+◌, ◌<◌, Bool, true, false, not, ◌&&◌, cond, List, [], ◌∷◌, map, length, get_or, Option, Some, None, refl, sym, ap, ◌∙◌, subst}
 use Rattle.std.specs.Prelude.{slice_set, unwrap_or, Result, Ok, Err, OnOk, if◌then◌else◌}
 use Rattle.std.specs.List.{position, filter}
 use Rattle.history_model.specs.declared.Reading.{Reading}
 use Rattle.history_model.specs.declared.Refusal.{Refusal}
 use Rattle.history_model.specs.Items.{Definition, Item, Loaded, Read, Saw, Asked, Came, Left, Ordered, Answered, RunEnded, WaitRefused, History}
-use Rattle.history_model.specs.Search.{first, or_else, latest}
+use Rattle.history_model.specs.Search.{first, first as head_of, or_else, latest}
 use Rattle.history_model.specs.Clock.{now, definition_of, reading_in, load_in, no_reading, no_definition}
 use Rattle.history_model.specs.Refusals.{refusal_of}
 use Rattle.history_model.specs.Keeps.{Keeps, reply}
@@ -16,7 +16,7 @@ use Rattle.history_model.specs.Step.{with_item, told_one}
 use Rattle.job_defs.specs.Definitions.{definition}
 use Rattle.job_table.specs.Rows.{Row}
 use Rattle.job_table.specs.Kept.{KeepsJob, KeepsJobs}
-use Rattle.job_table.specs.Entries.{row, name, rows, AllStay, has_label}
+use Rattle.job_table.specs.Entries.{row, name, rows, AllStay, has_label, is_here}
 use Rattle.job_table.specs.declared.entry.Entry.{Entry}
 use Rattle.job_table.proofs.Lists.{set-map}
 use Rattle.job_table.proofs.Firsts.{IsFirstWhere, NonePasses, first-where, none-where, within-where}
@@ -167,3 +167,54 @@ answers at label item es k e jobs result stay here is answer keeps =
     let there = is-found at label es k e jobs stay keeps here in
     answer there.past (subst (λ x. Keeps x.core.facts there.past) (sym is) there.keeps) there.present
     ∙ ap (λ found. reply (refusal_at found item)) (sym there.is)
+
+-- ---- among jobs some of which have left
+
+module _ (at : Reading) (label : Label) where
+  here-left : (e : Entry) (b : Bool) → e.has_left ≡ true → is_here label e ≡ b → b ≡ false
+  here-left e b left is = sym is ∙ ap (λ v. not v && has_label label e) left
+
+  here-stays : (e : Entry) (b : Bool) → e.has_left ≡ false → is_here label e ≡ b → has_label label e ≡ b
+  here-stays e b stays is = sym (ap (λ v. not v && has_label label e) stays) ∙ is
+
+  pub no-one-here : (es : List Entry) (jobs : List Job) → KeepsJobs at (rows es) jobs → NonePasses (is_here label) es → filter (is_of label) jobs ≡ []
+  no-one-here [] [] keeps none = refl
+  no-one-here [] (job ∷ jobs) keeps none = absurd keeps
+  no-one-here (e ∷ es) jobs keeps none = go e.has_left refl jobs keeps (λ js. no-one-here es js)
+    where
+      go : (b : Bool) → e.has_left ≡ b → (jobs : List Job) → KeepsJobs at (cond b (rows es) (row e ∷ rows es)) jobs →
+          ((js : List Job) → KeepsJobs at (rows es) js → NonePasses (is_here label) es → filter (is_of label) js ≡ []) → filter (is_of label) jobs ≡ []
+      go true is jobs keeps later = later jobs keeps none.1
+      go false is [] keeps later = absurd keeps
+      go false is (job ∷ jobs) keeps later =
+          ap (λ b. cond b (job ∷ filter (is_of label) jobs) (filter (is_of label) jobs)) (of-job at label e job false keeps.0 (here-stays e false is none.0)) ∙ later jobs keeps.1 none.1
+
+  pub someone-here : (es : List Entry) (k : ℕ) (d : Entry) (jobs : List Job) → KeepsJobs at (rows es) jobs → IsFirstWhere (is_here label) es k → IsFound at label (get_or es k d) jobs
+  someone-here [] k d jobs keeps first = absurd first
+  someone-here (e ∷ es) zero d jobs keeps first = go e.has_left refl jobs keeps
+    where
+      go : (b : Bool) → e.has_left ≡ b → (jobs : List Job) → KeepsJobs at (cond b (rows es) (row e ∷ rows es)) jobs → IsFound at label e jobs
+      go true is jobs keeps = let clash : true ≡ false = here-left e true is first in absurd (cc clash)
+      go false is [] keeps = absurd keeps
+      go false is (job ∷ jobs) keeps = record {
+        past = job.past;
+        keeps = keeps.0.keeps;
+        present = keeps.0.present;
+        described = keeps.0.definition;
+        is = ap (λ b. past_in (head_of (cond b (job ∷ filter (is_of label) jobs) (filter (is_of label) jobs)))) (of-job at label e job true keeps.0 (here-stays e true is first));
+      }
+  someone-here (e ∷ es) (suc k) d jobs keeps first = go e.has_left refl jobs keeps (λ js. someone-here es k d js)
+    where
+      go : (b : Bool) → e.has_left ≡ b → (jobs : List Job) → KeepsJobs at (cond b (rows es) (row e ∷ rows es)) jobs →
+          ((js : List Job) → KeepsJobs at (rows es) js → IsFirstWhere (is_here label) es k → IsFound at label (get_or es k d) js) → IsFound at label (get_or es k d) jobs
+      go true is jobs keeps later = later jobs keeps first.1
+      go false is [] keeps later = absurd keeps
+      go false is (job ∷ jobs) keeps later =
+          let found = later jobs keeps.1 first.1 in
+          record {
+            past = found.past;
+            keeps = found.keeps;
+            present = found.present;
+            described = found.described;
+            is = ap (λ b. past_in (head_of (cond b (job ∷ filter (is_of label) jobs) (filter (is_of label) jobs)))) (of-job at label e job false keeps.0 (here-stays e false is first.0)) ∙ found.is;
+          }

@@ -6,11 +6,12 @@ use Rattle.std.specs.Fmt.{decimal}
 use Rattle.history_model.specs.declared.Ended.{Ended}
 use Rattle.history_model.specs.declared.Ended.TheVariants.{Code, Signal}
 use Rattle.history_model.specs.Items.{History}
-use Rattle.history_model.specs.Runs.{child}
+use Rattle.history_model.specs.Runs.{child, runs, awaits_spawn, is_removed, is_stopped, is_struck}
+use Rattle.history_model.specs.Demands.{is_pending, waiting}
 use Rattle.history_model.specs.Levels.{last_end}
 use Rattle.history_model.specs.Labels.{Label}
 use Rattle.history_model.specs.Machine.{Job}
-use Rattle.history_model.specs.Texts.{pid_text, status_text, exit_text, row_text}
+use Rattle.history_model.specs.Texts.{pid_text, status_text, exit_text, state_text, demand_text, flag_text, line, row_text, print_text}
 use Rattle.history_model.specs.declared.Reading.{Reading}
 use Rattle.std.specs.List.{flat_map}
 use Rattle.job_core.specs.Rows.{row_of}
@@ -19,7 +20,7 @@ use Rattle.job_table.specs.Entries.{row, rows}
 use Rattle.job_table.specs.Listed.{IsListed}
 use Rattle.job_table.specs.declared.entry.Entry.{Entry}
 use Rattle.job_table.proofs.Lists.{at-drop}
-use Rattle.job_table.specs.Shown.{pid_shown, status_shown, exit_shown, line_shown}
+use Rattle.job_table.specs.Shown.{pid_shown, status_shown, exit_shown, state_shown, demand_shown, flag_shown, line_shown, job_shown}
 
 nonzero : (n : ℕ) → (suc n == 0) ≡ false
 nonzero n = grind arith
@@ -77,3 +78,75 @@ listed-end at text whole way = go way.rest way.keeps way.leads
     go : (rest : List Job) → KeepsJobs at [] rest → text ++ flat_map row_text rest ≡ whole → text ≡ whole
     go [] keeps leads = sym (append-nil text) ∙ leads
     go (job ∷ rest) keeps leads = absurd keeps
+
+-- ---- print
+
+state-same : (t : History) → state_shown (row_of t).state ≡ state_text t
+state-same t = go (is_removed t) (awaits_spawn t) (child t) refl refl refl
+  where
+    lively : (b : Bool) (c : ℕ × ℕ) → is_removed t ≡ false → awaits_spawn t ≡ false → (is_stopped t || is_struck t) ≡ b → child t ≡ Some c → state_shown (row_of t).state ≡ state_text t
+    lively true c er ew eb ec = rw (eb, er, ew, ec) refl
+    lively false c er ew eb ec = rw (eb, er, ew, ec) refl
+
+    go : (r w : Bool) (c : Option (ℕ × ℕ)) → is_removed t ≡ r → awaits_spawn t ≡ w → child t ≡ c → state_shown (row_of t).state ≡ state_text t
+    go true w c er ew ec = rw er refl
+    go false true c er ew ec = rw (er, ew) refl
+    go false false None er ew ec = rw (er, ew, ec) refl
+    go false false (Some c) er ew ec = lively (is_stopped t || is_struck t) c er ew refl ec
+
+flag-same : (b : Bool) → flag_shown b ≡ flag_text b
+flag-same true = refl
+flag-same false = refl
+
+demand-same : (b : Bool) → demand_shown b ≡ demand_text b
+demand-same true = refl
+demand-same false = refl
+
+-- a line before the rest, from the left and from the right
+line-right : (n v rest : List ℕ) → line n v ++ rest ≡ codes "\t" ++ (n ++ (codes " = " ++ (v ++ (codes "\n" ++ rest))))
+line-right n v rest =
+    append_assoc (((codes "\t" ++ n) ++ codes " = ") ++ v) (codes "\n") rest ∙ append_assoc ((codes "\t" ++ n) ++ codes " = ") v (codes "\n" ++ rest)
+    ∙ append_assoc (codes "\t" ++ n) (codes " = ") (v ++ (codes "\n" ++ rest)) ∙ append_assoc (codes "\t") n (codes " = " ++ (v ++ (codes "\n" ++ rest)))
+
+-- nine pieces, from the left and from the right
+pieces : (a b c d e f g h i j : List ℕ) → a ++ b ++ c ++ d ++ e ++ f ++ g ++ h ++ i ++ j ≡ a ++ (b ++ (c ++ (d ++ (e ++ (f ++ (g ++ (h ++ (i ++ j))))))))
+pieces a b c d e f g h i j =
+    append_assoc (a ++ b ++ c ++ d ++ e ++ f ++ g ++ h) i j ∙ append_assoc (a ++ b ++ c ++ d ++ e ++ f ++ g) h (i ++ j)
+    ∙ append_assoc (a ++ b ++ c ++ d ++ e ++ f) g (h ++ (i ++ j)) ∙ append_assoc (a ++ b ++ c ++ d ++ e) f (g ++ (h ++ (i ++ j)))
+    ∙ append_assoc (a ++ b ++ c ++ d) e (f ++ (g ++ (h ++ (i ++ j)))) ∙ append_assoc (a ++ b ++ c) d (e ++ (f ++ (g ++ (h ++ (i ++ j)))))
+    ∙ append_assoc (a ++ b) c (d ++ (e ++ (f ++ (g ++ (h ++ (i ++ j)))))) ∙ append_assoc a b (c ++ (d ++ (e ++ (f ++ (g ++ (h ++ (i ++ j)))))))
+
+tail-lines : (last_exit demand connections disabled : List ℕ) →
+    line (codes "last exit") last_exit ++ (line (codes "demand") demand ++ (line (codes "connections") connections ++ (line (codes "disabled") disabled ++ codes "}\n")))
+    ≡ codes "\tlast exit = " ++ (last_exit ++ (codes "\n\tdemand = " ++ (demand ++ (codes "\n\tconnections = " ++ (connections ++ (codes "\n\tdisabled = " ++ (disabled ++ codes "\n}\n")))))))
+tail-lines last_exit demand connections disabled =
+    ap (λ l. line (codes "last exit") last_exit ++ (line (codes "demand") demand ++ (line (codes "connections") connections ++ l))) (line-right (codes "disabled") disabled (codes "}\n"))
+    ∙ ap (λ l. line (codes "last exit") last_exit ++ (line (codes "demand") demand ++ l)) (line-right (codes "connections") connections (codes "\tdisabled = " ++ (disabled ++ codes "\n}\n")))
+    ∙ ap (λ l. line (codes "last exit") last_exit ++ l) (line-right (codes "demand") demand (codes "\tconnections = " ++ (connections ++ (codes "\n\tdisabled = " ++ (disabled ++ codes "\n}\n")))))
+    ∙ line-right (codes "last exit") last_exit (codes "\tdemand = " ++ (demand ++ (codes "\n\tconnections = " ++ (connections ++ (codes "\n\tdisabled = " ++ (disabled ++ codes "\n}\n"))))))
+
+head-lines : (label state pid runs rest : List ℕ) →
+    label ++ (codes " = {\n" ++ (line (codes "state") state ++ (line (codes "pid") pid ++ (line (codes "runs") runs ++ rest))))
+    ≡ (label ++ (codes " = {\n\tstate = " ++ (state ++ (codes "\n\tpid = " ++ (pid ++ (codes "\n\truns = " ++ (runs ++ codes "\n"))))))) ++ rest
+head-lines label state pid runs rest =
+    ap (λ l. label ++ (codes " = {\n" ++ (line (codes "state") state ++ (line (codes "pid") pid ++ l)))) (line-right (codes "runs") runs rest)
+    ∙ ap (λ l. label ++ (codes " = {\n" ++ (line (codes "state") state ++ l))) (line-right (codes "pid") pid (codes "\truns = " ++ (runs ++ (codes "\n" ++ rest))))
+    ∙ ap (λ l. label ++ (codes " = {\n" ++ l)) (line-right (codes "state") state (codes "\tpid = " ++ (pid ++ (codes "\n\truns = " ++ (runs ++ (codes "\n" ++ rest))))))
+    ∙ sym (append_assoc label (codes " = {\n\tstate = " ++ (state ++ (codes "\n\tpid = " ++ (pid ++ (codes "\n\truns = " ++ (runs ++ codes "\n")))))) rest
+    ∙ ap (λ l. label ++ (codes " = {\n\tstate = " ++ l)) (append_assoc state (codes "\n\tpid = " ++ (pid ++ (codes "\n\truns = " ++ (runs ++ codes "\n")))) rest
+    ∙ ap (λ l. state ++ (codes "\n\tpid = " ++ l)) (append_assoc pid (codes "\n\truns = " ++ (runs ++ codes "\n")) rest
+    ∙ ap (λ l. pid ++ (codes "\n\truns = " ++ l)) (append_assoc runs (codes "\n") rest))))
+
+pub job-same : (label : Label) (t : History) (disabled : Bool) → job_shown (row_of t) label disabled ≡ print_text label t disabled
+job-same label t disabled =
+    let last_exit = exit_text (last_end t) in
+    let demand = demand_text (is_pending t) in
+    let connections = decimal (length (waiting t)) in
+    (λ i. (label ++ (codes " = {\n\tstate = " ++ (state-same t i ++ (codes "\n\tpid = " ++ (pid-same (child t) i ++ (codes "\n\truns = " ++ (decimal (runs t) ++ codes "\n")))))))
+    ++ (codes "\tlast exit = " ++ (exit-same (last_end t) i ++ (codes "\n\tdemand = " ++ (demand-same (is_pending t) i
+    ++ (codes "\n\tconnections = " ++ (connections ++ (codes "\n\tdisabled = " ++ (flag-same disabled i ++ codes "\n}\n")))))))))
+    ∙ sym (pieces label (codes " = {\n") (line (codes "state") (state_text t)) (line (codes "pid") (pid_text (child t))) (line (codes "runs") (decimal (runs t)))
+    (line (codes "last exit") last_exit) (line (codes "demand") demand) (line (codes "connections") connections) (line (codes "disabled") (flag_text disabled)) (codes "}\n")
+    ∙ ap (λ l. label ++ (codes " = {\n" ++ (line (codes "state") (state_text t) ++ (line (codes "pid") (pid_text (child t)) ++ (line (codes "runs") (decimal (runs t)) ++ l)))))
+    (tail-lines last_exit demand connections (flag_text disabled))
+    ∙ head-lines label (state_text t) (pid_text (child t)) (decimal (runs t)) _)

@@ -40,3 +40,7 @@ entered new es = insert es (unwrap_or (position (is_above new.def.label) es) (le
 
 abbrev pub has_number : ℕ → Entry → Bool
 has_number number e = e.number == number
+
+-- the job has this label and has not left
+abbrev pub is_here : Label → Entry → Bool
+is_here label e = not e.has_left && has_label label e

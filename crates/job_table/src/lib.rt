@@ -6,9 +6,10 @@ ghost use Rattle.std.specs.Borrow.{sem};
 ghost use Rattle.std.specs.String.{string_bytes};
 ghost use Rattle.history_model.specs.declared.Answer.TheVariants as answers;
 ghost use Rattle.calendar_due.specs.Rules.{minute_at};
+ghost use Rattle.history_model.specs.Acceptance.{refusal_in};
 ghost use Rattle.history_model.specs.Items.{Asked, Answered, Came, Left, RunEnded, WaitRefused};
 ghost use Rattle.history_model.specs.declared.Refusal.TheVariants.{NoMemory};
-ghost use Rattle.history_model.specs.Machine.{State, opened, ListJobs, OfJob, UnloadJob, ShutDown, Tick, Sight};
+ghost use Rattle.history_model.specs.Machine.{State, opened, ListJobs, PrintJob, OfJob, UnloadJob, ShutDown, Tick, Sight};
 
 mod changing;
 mod entry;
@@ -80,7 +81,7 @@ impl<'a> Step<'a> {
 
 impl JobTable {
     ghost use Rattle.job_table.specs.Ends.{IsAnswer, GoesOn, GoesOnUnless, acts_of};
-    ghost use Rattle.job_table.specs.Outcomes.{UnlessMemory, IsToldText};
+    ghost use Rattle.job_table.specs.Outcomes.{UnlessMemory, IsToldText, Tells};
     ghost use Rattle.job_table.specs.Kept.{acts_in, is_none, KeepsState};
     ghost use Rattle.job_table.specs.Opening.{opening_refusal};
     ghost use Rattle.job_table.specs.Minutes.{has_calendars};
@@ -279,6 +280,15 @@ impl JobTable {
             Ok(text) => Ok(text),
             Err(_) => Err(Refusal::NoMemory),
         }
+    }
+
+    /// The text of `print` of launchctl(1): what one job is doing, its runs and its last end, and whether it is disabled.
+    /// Refusals: BadRequest (no label), NoSuchJob; NoMemory.
+    pub fn print(&self, alloc: Global, label: &str) -> Result<String, Refusal>
+        ensures text { IfOk result (λ text. IsToldText (PrintJob label.now) self.now (string_bytes text)) }
+        ensures refused { IfErr result (λ refusal. Tells refusal ((s : State) → KeepsState self.now s → refusal_in s (PrintJob label.now) ≡ Some refusal)) }
+    {
+        self.jobs.print(alloc, label)
     }
 
     /// Whether no job is loaded.

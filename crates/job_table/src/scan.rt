@@ -9,7 +9,7 @@ ghost use Rattle.history_model.specs.Machine.{Job};
 ghost use Rattle.history_model.specs.Step.{stays as job_stays};
 ghost use Rattle.job_table.specs.Kept.{KeepsJobs, numbered_all};
 ghost use Rattle.job_table.specs.Telling.{AreTold};
-ghost use Rattle.job_table.specs.Entries.{rows, name, stays, has_label, has_left_under, has_number, AllStay};
+ghost use Rattle.job_table.specs.Entries.{rows, name, stays, has_label, has_left_under, has_number, is_here, AllStay};
 
 use crate::entry::{Entry, News};
 use history_model::{JobNo, Order, Reading};
@@ -87,4 +87,13 @@ pub fn all_left(entries: &[Entry]) -> bool
     ensures { result ≡ list_all (λ e. e.has_left) entries.now }
 {
     entries.iter().all(|entry| entry.has_left)
+}
+
+/// The place of the job with this label that has not left.
+pub fn place_here(entries: &[Entry], label: &str) -> Option<usize>
+    ensures { result ≡ position (is_here label.now) entries.now }
+{
+    entries
+        .iter()
+        .position(|entry| !entry.has_left && label == entry.def.label())
 }
