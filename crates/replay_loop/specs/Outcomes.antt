@@ -1,0 +1,26 @@
+-- What is written for an input.
+use Rattle.std.specs.Prelude.{ℕ, List, [], ◌∷◌, ◌++◌, Option, Some, None, if◌then◌else◌}
+use Rattle.std.specs.List.{take_while}
+use Rattle.ctl_protocol.specs.Lines.{lines_of, rest_of, is_short, fits}
+use Rattle.replay_loop.specs.Machine.{Output, Future}
+
+-- the most bytes of a line, before its newline
+abbrev pub limit : ℕ
+limit = 262144
+
+-- what is written for the lines that still come: with no machine the header comes first
+abbrev pub answer : Output → Option Future → List (List ℕ) → Option (List ℕ)
+answer output None lines = output lines
+answer output (Some future) lines = Some (future lines)
+
+-- what no newline has ended is a last line, unless it is empty
+abbrev pub last_line : List ℕ → List (List ℕ)
+last_line [] = []
+last_line (b ∷ bs) = (b ∷ bs) ∷ []
+
+abbrev pub input_lines : List ℕ → List (List ℕ)
+input_lines input = lines_of input ++ last_line (rest_of input)
+
+-- the lines of an input, up to one that is too long
+abbrev pub counted : List ℕ → List (List ℕ)
+counted input = if fits limit input then input_lines input else take_while (is_short limit) (lines_of input)

@@ -1,0 +1,18 @@
+//! Why a run over an input ends before the input's end.
+
+/// Why a run ended before its input did.
+#[derive(Clone, Copy, Debug, PartialEq, Eq)]
+pub enum ReplayFault {
+    /// No memory was left. What stands written is the output of the lines before.
+    NoMemory,
+    /// The first line is no header that can be read, or there is none, or it is too long. Nothing was written.
+    Header,
+    /// The reader answered an error. What stands written is the output of the whole lines before.
+    Read,
+    /// The writer answered an error, or took no byte. What stands written is a front of the output.
+    Write,
+    /// A line has more bytes than [`crate::LIMIT`]. What stands written is the output of the lines before it.
+    TooLong,
+    /// The end of the input was not met within the reads that were allowed.
+    ReadCount,
+}

@@ -1,0 +1,107 @@
+//! Handling lines: the header opens the machine, and what it answers to each later line is written.
+ghost use Rattle.std.specs.Prelude.{◌≡◌, IfOk, IfErr, OnOk, [], ◌∷◌};
+ghost use Rattle.std.specs.Io.KnownBytes.{Appends};
+ghost use Rattle.replay_loop.specs.Handling.{Leads, Ends, Stops, HandlesNext, drained};
+ghost use Rattle.replay_loop.specs.Ran.{WritesFront};
+
+use crate::fault::ReplayFault;
+use crate::machine::LineMachine;
+use ctl_protocol::LineFeed;
+use std::alloc::Global;
+use std::io::Write;
+
+/// Writes all of the text. After an `Err` a front of it was written.
+fn write_text<W: Write>(writer: &mut W, text: &[u8]) -> Result<(), ReplayFault>
+    ensures ok { OnOk result
+        (Appends (W.contents writer.old) (W.contents writer.new) text.now) }
+    ensures err { IfErr result (λ e. (e ≡ ReplayFault.Write)
+        × WritesFront (W.contents writer.old) (W.contents writer.new) text.now) }
+{
+    let mut rest = text;
+    while !rest.is_empty() {
+        match writer.write(rest) {
+            Ok(0) => return Err(ReplayFault::Write),
+            Ok(n) => rest = &rest[n..],
+            Err(_) => return Err(ReplayFault::Write),
+        }
+    }
+    Ok(())
+}
+
+/// Handles one line, the header or a later one.
+pub(crate) fn handle<M: LineMachine, W: Write>(
+    alloc: Global,
+    stage: &mut Option<M>,
+    line: &[u8],
+    writer: &mut W,
+) -> Result<(), ReplayFault>
+    ensures ok { OnOk result (Leads M.output M.will_write stage.old stage.new
+        (W.contents writer.old) (W.contents writer.new) (line.now ∷ [])) }
+    ensures err { IfErr result (λ e. Ends M.will_write stage.old (λ past. Stops M.output past
+        (W.contents writer.old) (W.contents writer.new) (line.now ∷ []) e)) }
+{
+    match stage {
+        None => match M::open(alloc, line) {
+            Ok(Some(machine)) => {
+                *stage = Some(machine);
+                Ok(())
+            }
+            Ok(None) => Err(ReplayFault::Header),
+            Err(_) => Err(ReplayFault::NoMemory),
+        },
+        Some(machine) => match machine.handle(alloc, line) {
+            Ok(text) => match write_text(writer, text.as_slice()) {
+                Ok(()) => Ok(()),
+                Err(e) => Err(e),
+            },
+            Err(_) => Err(ReplayFault::NoMemory),
+        },
+    }
+}
+
+/// Handles the next line that the feed has, and tells whether there was one.
+fn handle_next<M: LineMachine, W: Write>(
+    alloc: Global,
+    feed: &mut LineFeed,
+    stage: &mut Option<M>,
+    writer: &mut W,
+) -> Result<bool, ReplayFault>
+    ensures ok { IfOk result (λ more. HandlesNext M.output M.will_write more feed.old feed.new
+        stage.old stage.new (W.contents writer.old) (W.contents writer.new)) }
+    ensures err { IfErr result (λ e. Ends M.will_write stage.old (λ past. Stops M.output past
+        (W.contents writer.old) (W.contents writer.new) feed.old.lines e)) }
+{
+    let Ok(next) = feed.next_line() else {
+        return Err(ReplayFault::NoMemory);
+    };
+    let Some(line) = next else {
+        return Ok(false);
+    };
+    let handled = handle(alloc, stage, line.as_slice(), writer);
+    match handled {
+        Ok(()) => Ok(true),
+        Err(e) => Err(e),
+    }
+}
+
+/// Handles each line that the feed has.
+pub(crate) fn drain<M: LineMachine, W: Write>(
+    alloc: Global,
+    feed: &mut LineFeed,
+    stage: &mut Option<M>,
+    writer: &mut W,
+) -> Result<(), ReplayFault>
+    ensures ok { OnOk result (Leads M.output M.will_write stage.old stage.new
+        (W.contents writer.old) (W.contents writer.new) feed.old.lines) }
+    ensures feed { OnOk result (feed.new ≡ drained feed.old) }
+    ensures err { IfErr result (λ e. Ends M.will_write stage.old (λ past. Stops M.output past
+        (W.contents writer.old) (W.contents writer.new) feed.old.lines e)) }
+{
+    'lines: loop {
+        match handle_next(alloc, feed, stage, writer) {
+            Ok(true) => {}
+            Ok(false) => return Ok(()),
+            Err(e) => return Err(e),
+        }
+    }
+}
