@@ -8,7 +8,7 @@ use Rattle.ctl_protocol.specs.Lines.{Feed, lines_of, rest_of, fits, takes, fed, 
 use Rattle.ctl_protocol.proofs.Cuts.{lines_none, rest_none, lines_joined, rest_joined, while_append}
 use Rattle.replay_loop.specs.Machine.{Output, Future}
 use Rattle.replay_loop.specs.Handling.{Handles, Stops, IsShown, drained, come, LastStops, PieceStops}
-use Rattle.replay_loop.specs.Outcomes.{answer, last_line, input_lines, counted, limit}
+use Rattle.replay_loop.specs.Outcomes.{Answers, last_line, input_lines, counted, limit}
 use Rattle.replay_loop.specs.Ran.{Answered, Wrote, Failed, RanOut, CutOff}
 use Rattle.replay_loop.specs.declared.fault.ReplayFault.{ReplayFault}
 use Rattle.replay_loop.specs.declared.fault.ReplayFault.TheVariants.{NoMemory, Header, Read, Write, TooLong, ReadCount}
@@ -68,19 +68,24 @@ more output count left rest after held holds has f g stage new piece going some 
       handled = subst (Handles output None new held has) (sym (lines_joined x piece)) (then_more output None stage new held holds has (lines_of x) (lines_of (rest_of x ++ piece)) going.handled (subst (λ h. Handles output stage new holds has (fed h piece).lines) going.feed_is second));
     }
 
+-- with no more line, what was written is all
+ended_with : (output : Output) (state : Future) (held holds : Option (List ℕ)) (lines : List (List ℕ)) (h : Handles output None (Some state) held holds lines) → output lines (Some h.text)
+ended_with output state held holds lines h =
+    subst (λ t. output lines (Some t)) (ap (λ t. h.text ++ t) h.quiet ∙ append-nil h.text) (subst (λ ls. output ls (Some (h.text ++ state []))) (append-nil lines) (h.goes_on [] (Some (state [])) refl))
+
 -- no more to handle: the text that was written is the answer
-written : (output : Output) → output [] ≡ None → (stage : Option Future) (held holds : Option (List ℕ)) (lines : List (List ℕ)) → Handles output None stage held holds lines → Wrote output held holds lines
-written output empty None held holds lines h = record { text = h.text; is = h.silent refl ∙ ap (λ o. unwrap_or o []) (sym (ap (answer output None) (sym (append-nil lines)) ∙ h.goes_on [] ∙ ap (option_map (λ after. h.text ++ after)) empty)); wrote = h.wrote }
-written output empty (Some state) held holds lines h = record { text = h.text; is = sym (append-nil h.text) ∙ ap (λ o. unwrap_or o []) (sym (ap (answer output None) (sym (append-nil lines)) ∙ h.goes_on [] ∙ ap (λ t. Some (h.text ++ t)) h.quiet)); wrote = h.wrote }
+written : (output : Output) → output [] None → (stage : Option Future) (held holds : Option (List ℕ)) (lines : List (List ℕ)) → Handles output None stage held holds lines → Wrote output held holds lines
+written output empty None held holds lines h = record { answer = None; is = subst (λ ls. output ls None) (append-nil lines) (h.goes_on [] None empty); text = h.text; all = h.silent refl; wrote = h.wrote }
+written output empty (Some state) held holds lines h = record { answer = Some h.text; is = ended_with output state held holds lines h; text = h.text; all = refl; wrote = h.wrote }
 
 -- a read failed, or there were too many
-pub no_more : (output : Output) → output [] ≡ None → (count : ℕ) (left rest after held holds : Option (List ℕ)) (f : Feed) (stage : Option Future) → Going output count left rest held holds f stage → Keeps rest after
+pub no_more : (output : Output) → output [] None → (count : ℕ) (left rest after held holds : Option (List ℕ)) (f : Feed) (stage : Option Future) → Going output count left rest held holds f stage → Keeps rest after
     → (input : List ℕ) × Consumes left after input × (count ≤ length input) × Wrote output held holds (lines_of input)
 no_more output empty count left rest after held holds f stage going kept = (going.given, Consumes-kept left rest after going.given going.taken kept, going.count_is, written output empty stage held holds (lines_of going.given) going.handled)
 
-answered : (output : Output) (stage : Option Future) (held holds : Option (List ℕ)) (lines : List (List ℕ)) → stage ≢ None → Handles output None stage held holds lines → (text : List ℕ) × (answer output None lines ≡ Some text) × Appends held holds text
+answered : (output : Output) (stage : Option Future) (held holds : Option (List ℕ)) (lines : List (List ℕ)) → stage ≢ None → Handles output None stage held holds lines → (text : List ℕ) × output lines (Some text) × Appends held holds text
 answered output None held holds lines some h = absurd (some refl)
-answered output (Some state) held holds lines some h = (h.text, ap (answer output None) (sym (append-nil lines)) ∙ h.goes_on [] ∙ ap (λ t. Some (h.text ++ t)) h.quiet ∙ ap Some (append-nil h.text), h.wrote)
+answered output (Some state) held holds lines some h = (h.text, ended_with output state held holds lines h, h.wrote)
 
 pub all : (output : Output) (count : ℕ) (left rest after held holds has : Option (List ℕ)) (f : Feed) (stage new : Option Future) → Going output count left rest held holds f stage → Consumes rest after [] → IsAtEnd after
     → (new ≢ None) × Handles output stage new holds has (last_line f.rest) → Answered output left after held has
@@ -91,11 +96,11 @@ all output count left rest after held holds has f stage new going came at_end la
     record { input = x; given = subst (Consumes left after) (append-nil x) (Consumes-trans left rest after x [] going.taken came); ended = at_end; short = going.fits_is; text = done.0; is = done.1; wrote = done.2 }
 
 -- what memory that ran out, and a write that failed, leave of all lines
-run_out : (output : Output) → output [] ≡ None → (held holds : Option (List ℕ)) (lines : List (List ℕ)) → Stops output None held holds lines NoMemory → RanOut output held holds lines
+run_out : (output : Output) → output [] None → (held holds : Option (List ℕ)) (lines : List (List ℕ)) → Stops output None held holds lines NoMemory → RanOut output held holds lines
 run_out output empty held holds lines (done, others, new, split, handled) = (done, others, split, written output empty new held holds done handled)
 
 cut_off : (output : Output) (held holds : Option (List ℕ)) (lines : List (List ℕ)) → Stops output None held holds lines Write → CutOff output held holds lines
-cut_off output held holds lines stop = let (all, is, front) = stop [] in (all, ap (answer output None) (sym (append-nil lines)) ∙ is, front)
+cut_off output held holds lines stop = let (all, is, front) = stop [] in (all, subst (λ ls. output ls (Some all)) (append-nil lines) is, front)
 
 -- the lines that count after a piece
 record Counts (x piece : List ℕ) (f : Feed) : Type 0 where
@@ -116,7 +121,7 @@ counts_at false x piece f is fine e =
 counts : (output : Output) (count : ℕ) (left rest held holds : Option (List ℕ)) (f : Feed) (stage : Option Future) (piece : List ℕ) (going : Going output count left rest held holds f stage) → Counts going.given piece f
 counts output count left rest held holds f stage piece going = counts_at (fits limit (rest_of going.given ++ piece)) going.given piece f going.feed_is going.fits_is refl
 
-all_failed : (output : Output) → output [] ≡ None → (reads count : ℕ) (left rest after held holds has : Option (List ℕ)) (f : Feed) (stage : Option Future) (piece : List ℕ) → Going output count left rest held holds f stage → Consumes rest after piece
+all_failed : (output : Output) → output [] None → (reads count : ℕ) (left rest after held holds has : Option (List ℕ)) (f : Feed) (stage : Option Future) (piece : List ℕ) → Going output count left rest held holds f stage → Consumes rest after piece
     → Stops output stage holds has (come f piece) NoMemory → Failed output reads left after held has NoMemory
 all_failed output empty reads count left rest after held holds has f stage piece going came stop =
     let x = going.given in
@@ -150,7 +155,7 @@ shown_at output true reads count left rest after held holds has f stage piece go
     let always : IsShown output true stage (come f piece) = subst (λ t. IsShown output t stage (come f piece)) is shown in (
       x ++ piece,
       Consumes-trans left rest after x piece going.taken came,
-      ap (answer output None) n.split ∙ going.handled.goes_on (come f piece ++ n.others) ∙ ap (option_map (λ t. going.handled.text ++ t)) (always n.others),
+      subst (λ ls. output ls None) (sym n.split) (going.handled.goes_on (come f piece ++ n.others) None (always n.others)),
       no_header output held holds has stage (lines_of x) going.handled none kept,
     )
 shown_at output false reads count left rest after held holds has f stage piece going came is (none, kept, shown) =
@@ -160,11 +165,11 @@ shown_at output false reads count left rest after held holds has f stage piece g
     let alone : n.others ≡ [] = n.alone (sym (taken_fits f x piece going.feed_is) ∙ is) in (
       x ++ piece,
       Consumes-trans left rest after x piece going.taken came,
-      ap (answer output None) (n.split ∙ ap (λ o. lines_of x ++ (come f piece ++ o)) alone ∙ ap (λ ls. lines_of x ++ ls) (append-nil (come f piece))) ∙ going.handled.goes_on (come f piece) ∙ ap (option_map (λ t. going.handled.text ++ t)) here,
+      subst (λ ls. output ls None) (sym (n.split ∙ ap (λ o. lines_of x ++ (come f piece ++ o)) alone ∙ ap (λ ls. lines_of x ++ ls) (append-nil (come f piece)))) (going.handled.goes_on (come f piece) None here),
       no_header output held holds has stage (lines_of x) going.handled none kept,
     )
 
-pub fails : (output : Output) → output [] ≡ None → (e : ReplayFault) (reads count : ℕ) (left rest after held holds has : Option (List ℕ)) (f : Feed) (stage : Option Future) (piece : List ℕ) → Going output count left rest held holds f stage → Consumes rest after piece
+pub fails : (output : Output) → output [] None → (e : ReplayFault) (reads count : ℕ) (left rest after held holds has : Option (List ℕ)) (f : Feed) (stage : Option Future) (piece : List ℕ) → Going output count left rest held holds f stage → Consumes rest after piece
     → PieceStops output f piece holds has e stage → Failed output reads left after held has e
 fails output empty Header reads count left rest after held holds has f stage piece going came stop = shown_at output (takes f piece) reads count left rest after held holds has f stage piece going came refl stop
 fails output empty TooLong reads count left rest after held holds has f stage piece going came (refused, new, some, second) =
@@ -183,13 +188,13 @@ fails output empty Write reads count left rest after held holds has f stage piec
 fails output empty Read reads count left rest after held holds has f stage piece going came stop = absurd stop
 fails output empty ReadCount reads count left rest after held holds has f stage piece going came stop = absurd stop
 
-pub last_fails : (output : Output) → output [] ≡ None → (e : ReplayFault) (reads count : ℕ) (left rest after held holds has : Option (List ℕ)) (f : Feed) (stage : Option Future) → Going output count left rest held holds f stage → Consumes rest after [] → LastStops output f.rest holds has e stage → Failed output reads left after held has e
+pub last_fails : (output : Output) → output [] None → (e : ReplayFault) (reads count : ℕ) (left rest after held holds has : Option (List ℕ)) (f : Feed) (stage : Option Future) → Going output count left rest held holds f stage → Consumes rest after [] → LastStops output f.rest holds has e stage → Failed output reads left after held has e
 last_fails output empty Header reads count left rest after held holds has f stage going came (none, kept, shown) =
     let x = going.given in
     let all : counted x ≡ lines_of x ++ last_line (rest_of x) = rw going.fits_is refl in (
       x,
       ended output count left rest after held holds f stage going came,
-      ap (answer output None) all ∙ going.handled.goes_on (last_line (rest_of x)) ∙ ap (option_map (λ after. going.handled.text ++ after)) (subst (λ h. answer output stage (last_line h.rest) ≡ None) going.feed_is shown),
+      subst (λ ls. output ls None) (sym all) (going.handled.goes_on (last_line (rest_of x)) None (subst (λ h. Answers output stage (last_line h.rest) None) going.feed_is shown)),
       no_header output held holds has stage (lines_of x) going.handled none kept,
     )
 last_fails output empty TooLong reads count left rest after held holds has f stage going came stop = absurd stop

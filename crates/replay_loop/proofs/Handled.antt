@@ -5,7 +5,7 @@ use Rattle.std.proofs.KnownBytes.{Appends-nil, Appends-trans}
 use Rattle.replay_loop.specs.declared.fault.ReplayFault.{ReplayFault}
 use Rattle.replay_loop.specs.declared.fault.ReplayFault.TheVariants.{NoMemory, Header, Read, Write, TooLong, ReadCount}
 use Rattle.replay_loop.specs.Machine.{Output, Future, Opens, GoesOn}
-use Rattle.replay_loop.specs.Outcomes.{answer, last_line}
+use Rattle.replay_loop.specs.Outcomes.{Answers, last_line}
 use Rattle.replay_loop.specs.Handling.{Stands, IsQuiet, Handles, Leads, Ends, Stops, PieceStops, LastStops}
 use Rattle.replay_loop.specs.Ran.{WritesFront}
 use Rattle.ctl_protocol.specs.Lines.{Feed, takes, fed, stopped}
@@ -16,7 +16,7 @@ no_more (Some x) = refl
 
 -- no line, and nothing written
 pub nothing : (output : Output) (old : Option Future) (held : Option (List ℕ)) → IsQuiet old → Handles output old old held held []
-nothing output old held quiet = record { text = []; wrote = Appends-nil held; goes_on = λ more. no_more (answer output old more); silent = λ _. refl; stays = λ e. e; quiet = quiet }
+nothing output old held quiet = record { text = []; wrote = Appends-nil held; goes_on = λ more after h. subst (Answers output old more) (no_more after) h; silent = λ _. refl; stays = λ e. e; quiet = quiet }
 
 joined : (x y : List ℕ) (o : Option (List ℕ)) → option_map (λ after. x ++ after) (option_map (λ after. y ++ after) o) ≡ option_map (λ after. (x ++ y) ++ after) o
 joined x y None = refl
@@ -26,7 +26,9 @@ pub then_more : (output : Output) (a b c : Option Future) (h i j : Option (List 
 then_more output a b c h i j xs ys first second = record {
   text = first.text ++ second.text;
   wrote = Appends-trans h i j first.text second.text first.wrote second.wrote;
-  goes_on = λ more. ap (answer output a) (append_assoc xs ys more) ∙ first.goes_on (ys ++ more) ∙ ap (option_map (λ after. first.text ++ after)) (second.goes_on more) ∙ joined first.text second.text (answer output c more);
+  goes_on = λ more after h.
+      subst (λ ls. Answers output a ls (option_map (λ x. (first.text ++ second.text) ++ x) after)) (sym (append_assoc xs ys more))
+      (subst (Answers output a (xs ++ (ys ++ more))) (joined first.text second.text after) (first.goes_on (ys ++ more) (option_map (λ x. second.text ++ x) after) (second.goes_on more after h)));
   silent = λ none. rw (second.silent none, first.silent (second.stays none)) refl;
   stays = λ none. first.stays (second.stays none);
   quiet = second.quiet;
@@ -41,7 +43,7 @@ pub write_stops : (output : Output) (e : ReplayFault) (future next : Future) (he
 write_stops output e future next held holds line text made h =
     rw h.0 (λ more. (
       text ++ next more,
-      ap Some (made more),
+      ap Some (sym (made more)),
       record { text = h.1.text; rest = h.1.rest ++ next more; wrote = h.1.wrote; front = ap (λ t. t ++ next more) h.1.front ∙ append_assoc h.1.text h.1.rest (next more) },
     ))
 
@@ -53,7 +55,7 @@ pub stops_later : (output : Output) (e : ReplayFault) (a b : Option Future) (h i
 stops_later output Header a b h i j xs ys zs all split first (none, kept, refused) = (
   first.stays none,
   subst (Appends h j) (rw (first.silent none) refl) (Appends-trans h i j first.text [] first.wrote kept),
-  λ more. ap (answer output a) (regroup xs ys zs more all split) ∙ first.goes_on (ys ++ (zs ++ more)) ∙ ap (option_map (λ after. first.text ++ after)) (refused (zs ++ more)),
+  λ more. subst (λ ls. Answers output a ls None) (sym (regroup xs ys zs more all split)) (first.goes_on (ys ++ (zs ++ more)) None (refused (zs ++ more))),
 )
 stops_later output NoMemory a b h i j xs ys zs all split first (done, rest, new, parts, second) = (
   xs ++ done,
@@ -65,7 +67,7 @@ stops_later output NoMemory a b h i j xs ys zs all split first (done, rest, new,
 stops_later output Write a b h i j xs ys zs all split first stop = λ more.
     let (text, is, front) = stop (zs ++ more) in (
       first.text ++ text,
-      ap (answer output a) (regroup xs ys zs more all split) ∙ first.goes_on (ys ++ (zs ++ more)) ∙ ap (option_map (λ after. first.text ++ after)) is,
+      subst (λ ls. Answers output a ls (Some (first.text ++ text))) (sym (regroup xs ys zs more all split)) (first.goes_on (ys ++ (zs ++ more)) (Some text) is),
       record { text = first.text ++ front.text; rest = front.rest; wrote = Appends-trans h i j first.text front.text first.wrote front.wrote; front = ap (λ t. first.text ++ t) front.front ∙ sym (append_assoc first.text front.text front.rest) },
     )
 stops_later output Read a b h i j xs ys zs all split first stop = absurd stop
@@ -73,7 +75,7 @@ stops_later output TooLong a b h i j xs ys zs all split first stop = absurd stop
 stops_later output ReadCount a b h i j xs ys zs all split first stop = absurd stop
 
 pub piece_stops : (output : Output) (e : ReplayFault) (f g : Feed) (piece : List ℕ) (old : Option Future) (held holds : Option (List ℕ)) → takes f piece ≡ true → g ≡ fed f piece → Stops output old held holds g.lines e → PieceStops output f piece held holds e old
-piece_stops output Header f g piece old held holds taken is (none, kept, refused) = (none, kept, rw taken (λ more. subst (λ (h : Feed). answer output old (h.lines ++ more) ≡ None) is (refused more)))
+piece_stops output Header f g piece old held holds taken is (none, kept, refused) = (none, kept, rw taken (λ more. subst (λ (h : Feed). Answers output old (h.lines ++ more) None) is (refused more)))
 piece_stops output NoMemory f g piece old held holds taken is stop = rw taken (subst (λ h. Stops output old held holds h.lines NoMemory) is stop)
 piece_stops output Write f g piece old held holds taken is stop = rw taken (subst (λ h. Stops output old held holds h.lines Write) is stop)
 piece_stops output Read f g piece old held holds taken is stop = absurd stop
@@ -81,7 +83,7 @@ piece_stops output TooLong f g piece old held holds taken is stop = absurd stop
 piece_stops output ReadCount f g piece old held holds taken is stop = absurd stop
 
 pub long_stops : (output : Output) (e : ReplayFault) (f g : Feed) (piece : List ℕ) (old : Option Future) (held holds : Option (List ℕ)) → takes f piece ≡ false → g ≡ stopped f piece → Stops output old held holds g.lines e → PieceStops output f piece held holds e old
-long_stops output Header f g piece old held holds taken is (none, kept, refused) = (none, kept, rw taken (subst (λ (h : Feed). answer output old h.lines ≡ None) is (ap (answer output old) (sym (append-nil g.lines)) ∙ refused [])))
+long_stops output Header f g piece old held holds taken is (none, kept, refused) = (none, kept, rw taken (subst (λ (h : Feed). Answers output old h.lines None) is (subst (λ ls. Answers output old ls None) (append-nil g.lines) (refused []))))
 long_stops output NoMemory f g piece old held holds taken is stop = rw taken (subst (λ h. Stops output old held holds h.lines NoMemory) is stop)
 long_stops output Write f g piece old held holds taken is stop = rw taken (subst (λ h. Stops output old held holds h.lines Write) is stop)
 long_stops output Read f g piece old held holds taken is stop = absurd stop
@@ -89,7 +91,7 @@ long_stops output TooLong f g piece old held holds taken is stop = absurd stop
 long_stops output ReadCount f g piece old held holds taken is stop = absurd stop
 
 pub last_stops : (output : Output) (e : ReplayFault) (line : List ℕ) (old : Option Future) (held holds : Option (List ℕ)) → Stops output old held holds (last_line line) e → LastStops output line held holds e old
-last_stops output Header line old held holds (none, kept, refused) = (none, kept, ap (answer output old) (sym (append-nil (last_line line))) ∙ refused [])
+last_stops output Header line old held holds (none, kept, refused) = (none, kept, subst (λ ls. Answers output old ls None) (append-nil (last_line line)) (refused []))
 last_stops output NoMemory line old held holds stop = stop
 last_stops output Write line old held holds stop = stop
 last_stops output Read line old held holds stop = absurd stop
@@ -102,13 +104,13 @@ one_line [] e = absurd (cc)
 one_line (b ∷ bs) e = refl
 
 -- lines after which no header has come
-pub no_header_yet : (output : Output) → output [] ≡ None → (old new : Option Future) (held holds : Option (List ℕ)) (lines : List (List ℕ)) → new ≡ None → Handles output old new held holds lines → (old ≡ None) × Appends held holds [] × (answer output old lines ≡ None)
-no_header_yet output first old new held holds lines none h = (h.stays none, subst (Appends held holds) (h.silent none) h.wrote, ap (answer output old) (sym (append-nil lines)) ∙ h.goes_on [] ∙ ap (λ s. option_map (λ after. h.text ++ after) (answer output s [])) none ∙ ap (option_map (λ after. h.text ++ after)) first)
+pub no_header_yet : (output : Output) → output [] None → (old new : Option Future) (held holds : Option (List ℕ)) (lines : List (List ℕ)) → new ≡ None → Handles output old new held holds lines → (old ≡ None) × Appends held holds [] × Answers output old lines None
+no_header_yet output first old new held holds lines none h = (h.stays none, subst (Appends held holds) (h.silent none) h.wrote, subst (λ ls. Answers output old ls None) (append-nil lines) (h.goes_on [] None (subst (λ s. Answers output s [] None) (sym none) first)))
 
-pub long_header : (output : Output) → output [] ≡ None → (f g : Feed) (piece : List ℕ) (old new : Option Future) (held holds : Option (List ℕ)) → takes f piece ≡ false → g ≡ stopped f piece → new ≡ None → Handles output old new held holds g.lines → PieceStops output f piece held holds Header old
+pub long_header : (output : Output) → output [] None → (f g : Feed) (piece : List ℕ) (old new : Option Future) (held holds : Option (List ℕ)) → takes f piece ≡ false → g ≡ stopped f piece → new ≡ None → Handles output old new held holds g.lines → PieceStops output f piece held holds Header old
 long_header output empty f g piece old new held holds refused is none h =
     let (first, kept, shown) = no_header_yet output empty old new held holds g.lines none h in
-    (first, kept, rw refused (subst (λ (k : Feed). answer output old k.lines ≡ None) is shown))
+    (first, kept, rw refused (subst (λ (k : Feed). Answers output old k.lines None) is shown))
 
 -- ---- the same, from wherever the machine stands
 
@@ -138,7 +140,7 @@ pub opens : {M : Type 0} (output : Output) (will_write : M → Future → Type 0
     → Opens output will_write header (Some machine) → Leads output will_write old (Some machine) held held (header ∷ [])
 opens output will_write old machine held header none (future, will, is) =
     subst (λ stage. Leads output will_write stage (Some machine) held held (header ∷ [])) (sym none) (elim [
-      | None ↦ λ stands. (Some future, will, record { text = []; wrote = Appends-nil held; goes_on = λ more. is more; silent = λ no. absurd (cc); stays = λ no. absurd (cc); quiet = will.1 })
+      | None ↦ λ stands. (Some future, will, record { text = []; wrote = Appends-nil held; goes_on = λ more after h. subst (λ t. output (header ∷ more) (option_map (λ x. [] ++ x) t)) (sym h) (is more); silent = λ no. absurd (cc); stays = λ no. absurd (cc); quiet = will.1 })
       | (Some other) ↦ λ stands. absurd stands
     ])
 
@@ -149,7 +151,7 @@ answers output will_write stage old new held holds line text some goes wrote =
     subst (λ stage. Leads output will_write stage (Some new) held holds (line ∷ [])) (sym some) (elim [
       | None ↦ λ stands. absurd stands
       | (Some future) ↦ λ stands. let (next, will, is) = goes future stands.0 in
-          (Some next, will, record { text = text; wrote = wrote; goes_on = λ more. ap Some (is more); silent = λ no. absurd (cc); stays = λ no. absurd (cc); quiet = will.1 })
+          (Some next, will, record { text = text; wrote = wrote; goes_on = λ more after h. ap (option_map (λ x. text ++ x)) h ∙ ap Some (sym (is more)); silent = λ no. absurd (cc); stays = λ no. absurd (cc); quiet = will.1 })
     ])
 
 -- a line was answered, and the answer not written whole
@@ -163,7 +165,7 @@ breaks_off output will_write e stage old new held holds line text some goes h =
 
 -- the header was refused
 pub refuses : {M : Type 0} (output : Output) (will_write : M → Future → Type 0) (stage : Option M) (held : Option (List ℕ)) (header : List ℕ) → stage ≡ None
-    → ((lines : List (List ℕ)) → output (header ∷ lines) ≡ None) → Ends will_write stage (λ past. Stops output past held held (header ∷ []) Header)
+    → ((lines : List (List ℕ)) → output (header ∷ lines) None) → Ends will_write stage (λ past. Stops output past held held (header ∷ []) Header)
 refuses output will_write stage held header none missing =
     subst (λ stage. Ends will_write stage (λ past. Stops output past held held (header ∷ []) Header)) (sym none)
     (elim [ None ↦ λ stands. (refl, Appends-nil held, λ more. missing more) | (Some future) ↦ λ stands. absurd stands ])

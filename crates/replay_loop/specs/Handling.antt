@@ -5,7 +5,7 @@ use Rattle.replay_loop.specs.declared.fault.ReplayFault.{ReplayFault}
 use Rattle.replay_loop.specs.declared.fault.ReplayFault.TheVariants.{NoMemory, Header, Read, Write, TooLong, ReadCount}
 use Rattle.ctl_protocol.specs.Lines.{Feed, takes, fed, stopped}
 use Rattle.replay_loop.specs.Machine.{Output, Future, Will}
-use Rattle.replay_loop.specs.Outcomes.{answer, last_line}
+use Rattle.replay_loop.specs.Outcomes.{Answers, last_line}
 use Rattle.replay_loop.specs.Ran.{WritesFront}
 
 -- the machine, where the header has come, will write this
@@ -24,7 +24,7 @@ IsQuiet (Some future) = future [] ≡ []
 pub record Handles (output : Output) (old new : Option Future) (held holds : Option (List ℕ)) (lines : List (List ℕ)) : Type 0 where
   pub text : List ℕ
   pub wrote : Appends held holds text
-  pub goes_on : (more : List (List ℕ)) → answer output old (lines ++ more) ≡ option_map (λ after. text ++ after) (answer output new more)
+  pub goes_on : (more : List (List ℕ)) (after : Option (List ℕ)) → Answers output new more after → Answers output old (lines ++ more) (option_map (λ x. text ++ x) after)
   pub silent : new ≡ None → text ≡ []
   pub stays : new ≡ None → old ≡ None
   pub quiet : IsQuiet new
@@ -42,10 +42,10 @@ LeadsPast output will_write old held holds lines =
 
 -- why no more lines were handled
 abbrev pub Stops : Output → Option Future → Option (List ℕ) → Option (List ℕ) → List (List ℕ) → ReplayFault → Type 0
-Stops output old held holds lines Header = (old ≡ None) × Appends held holds [] × ((more : List (List ℕ)) → answer output old (lines ++ more) ≡ None)
+Stops output old held holds lines Header = (old ≡ None) × Appends held holds [] × ((more : List (List ℕ)) → Answers output old (lines ++ more) None)
 Stops output old held holds lines NoMemory =
     (done : List (List ℕ)) × (rest : List (List ℕ)) × (new : Option Future) × (lines ≡ done ++ rest) × Handles output old new held holds done
-Stops output old held holds lines Write = (more : List (List ℕ)) → (all : List ℕ) × (answer output old (lines ++ more) ≡ Some all) × WritesFront held holds all
+Stops output old held holds lines Write = (more : List (List ℕ)) → (all : List ℕ) × (Answers output old (lines ++ more) (Some all)) × WritesFront held holds all
 Stops output old held holds lines Read = ⊥
 Stops output old held holds lines TooLong = ⊥
 Stops output old held holds lines ReadCount = ⊥
@@ -70,8 +70,8 @@ come f piece = if takes f piece then (fed f piece).lines else (stopped f piece).
 
 -- the lines have no header, whatever comes, or with nothing more
 abbrev pub IsShown : Output → Bool → Option Future → List (List ℕ) → Type 0
-IsShown output true old lines = (more : List (List ℕ)) → answer output old (lines ++ more) ≡ None
-IsShown output false old lines = answer output old lines ≡ None
+IsShown output true old lines = (more : List (List ℕ)) → Answers output old (lines ++ more) None
+IsShown output false old lines = Answers output old lines None
 
 -- why a piece was not taken to its end
 abbrev pub PieceStops : Output → Feed → List ℕ → Option (List ℕ) → Option (List ℕ) → ReplayFault → Option Future → Type 0
@@ -85,7 +85,7 @@ PieceStops output f piece held holds ReadCount old = ⊥
 
 -- why the last line was not taken
 abbrev pub LastStops : Output → List ℕ → Option (List ℕ) → Option (List ℕ) → ReplayFault → Option Future → Type 0
-LastStops output line held holds Header old = (old ≡ None) × Appends held holds [] × (answer output old (last_line line) ≡ None)
+LastStops output line held holds Header old = (old ≡ None) × Appends held holds [] × (Answers output old (last_line line) None)
 LastStops output line held holds TooLong old = ⊥
 LastStops output line held holds NoMemory old = Stops output old held holds (last_line line) NoMemory
 LastStops output line held holds Write old = Stops output old held holds (last_line line) Write

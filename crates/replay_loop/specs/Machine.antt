@@ -1,9 +1,9 @@
 -- What a machine that reads lines writes for them.
 use Rattle.std.specs.Prelude.{◌≡◌, ℕ, List, [], ◌∷◌, ◌++◌, Option, Some, None}
 
--- what is written for all lines of an input, the header first; nothing is, where the header is missing or refused
-abbrev pub Output : Type 0
-Output = List (List ℕ) → Option (List ℕ)
+-- this is written for all lines of an input, the header first; nothing, where the header is missing or refused
+abbrev pub Output : Type 1
+Output = List (List ℕ) → Option (List ℕ) → Type 0
 
 -- what an opened machine writes for the lines that still come
 abbrev pub Future : Type 0
@@ -13,11 +13,11 @@ Future = List (List ℕ) → List ℕ
 abbrev pub Will : {M : Type 0} → (M → Future → Type 0) → M → Future → Type 0
 Will will_write machine future = will_write machine future × (future [] ≡ [])
 
--- the header opens the machine that writes the rest of the input's output, or no input with this header has one
+-- the header opens the machine that writes what is written for the rest of the input, or nothing is, whatever follows
 abbrev pub Opens : {M : Type 0} → Output → (M → Future → Type 0) → List ℕ → Option M → Type 0
-Opens output will_write header None = (lines : List (List ℕ)) → output (header ∷ lines) ≡ None
+Opens output will_write header None = (lines : List (List ℕ)) → output (header ∷ lines) None
 Opens output will_write header (Some machine) =
-    (future : Future) × Will will_write machine future × ((lines : List (List ℕ)) → output (header ∷ lines) ≡ Some (future lines))
+    (future : Future) × Will will_write machine future × ((lines : List (List ℕ)) → output (header ∷ lines) (Some (future lines)))
 
 -- for a line the machine writes the text, and then what the new machine will write
 abbrev pub GoesOn : {M : Type 0} → (M → Future → Type 0) → M → M → List ℕ → List ℕ → Type 0

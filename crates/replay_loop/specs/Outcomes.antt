@@ -1,5 +1,5 @@
 -- What is written for an input.
-use Rattle.std.specs.Prelude.{ℕ, List, [], ◌∷◌, ◌++◌, Option, Some, None, if◌then◌else◌}
+use Rattle.std.specs.Prelude.{◌≡◌, ℕ, List, [], ◌∷◌, ◌++◌, Option, Some, None, if◌then◌else◌}
 use Rattle.std.specs.List.{take_while}
 use Rattle.ctl_protocol.specs.Lines.{lines_of, rest_of, is_short, fits}
 use Rattle.replay_loop.specs.Machine.{Output, Future}
@@ -8,10 +8,10 @@ use Rattle.replay_loop.specs.Machine.{Output, Future}
 abbrev pub limit : ℕ
 limit = 262144
 
--- what is written for the lines that still come: with no machine the header comes first
-abbrev pub answer : Output → Option Future → List (List ℕ) → Option (List ℕ)
-answer output None lines = output lines
-answer output (Some future) lines = Some (future lines)
+-- this is written for the lines that still come: with no machine the header comes first
+abbrev pub Answers : Output → Option Future → List (List ℕ) → Option (List ℕ) → Type 0
+Answers output None lines text = output lines text
+Answers output (Some future) lines text = text ≡ Some (future lines)
 
 -- what no newline has ended is a last line, unless it is empty
 abbrev pub last_line : List ℕ → List (List ℕ)

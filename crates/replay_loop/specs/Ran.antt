@@ -22,13 +22,15 @@ pub record Answered (output : Output) (left rest held holds : Option (List ℕ))
   pub ended : IsAtEnd rest
   pub text : List ℕ
   pub short : fits limit input ≡ true
-  pub is : output (input_lines input) ≡ Some text
+  pub is : output (input_lines input) (Some text)
   pub wrote : Appends held holds text
 
 -- what was written for these lines; nothing, where no header was read
 pub record Wrote (output : Output) (held holds : Option (List ℕ)) (lines : List (List ℕ)) : Type 0 where
+  pub answer : Option (List ℕ)
+  pub is : output lines answer
   pub text : List ℕ
-  pub is : text ≡ unwrap_or (output lines) []
+  pub all : text ≡ unwrap_or answer []
   pub wrote : Appends held holds text
 
 -- what was written is that for the lines before one at which memory ran out
@@ -37,11 +39,11 @@ RanOut output held holds lines = (done : List (List ℕ)) × (others : List (Lis
 
 -- what was written is a front of that for the lines
 abbrev pub CutOff : Output → Option (List ℕ) → Option (List ℕ) → List (List ℕ) → Type 0
-CutOff output held holds lines = (all : List ℕ) × (output lines ≡ Some all) × WritesFront held holds all
+CutOff output held holds lines = (all : List ℕ) × output lines (Some all) × WritesFront held holds all
 
 -- what was written where the run ended by a fault, after at most so many reads
 abbrev pub Failed : Output → ℕ → Option (List ℕ) → Option (List ℕ) → Option (List ℕ) → Option (List ℕ) → ReplayFault → Type 0
-Failed output reads left rest held holds Header = (input : List ℕ) × Consumes left rest input × (output (counted input) ≡ None) × Appends held holds []
+Failed output reads left rest held holds Header = (input : List ℕ) × Consumes left rest input × output (counted input) None × Appends held holds []
 Failed output reads left rest held holds Read = (input : List ℕ) × Consumes left rest input × Wrote output held holds (lines_of input)
 Failed output reads left rest held holds ReadCount = (input : List ℕ) × Consumes left rest input × (reads ≤ length input) × Wrote output held holds (lines_of input)
 Failed output reads left rest held holds TooLong =

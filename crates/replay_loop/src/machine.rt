@@ -1,13 +1,13 @@
 //! The machine that a run drives: a header line opens it, and it answers each line after that by a text.
-ghost use Rattle.std.specs.Prelude.{◌≡◌, ℕ, List, [], Option, None, IfOk};
+ghost use Rattle.std.specs.Prelude.{ℕ, List, [], Option, None, IfOk};
 ghost use Rattle.replay_loop.specs.Machine.{Future, Opens, GoesOn};
 
 use std::alloc::{AllocError, Global};
 
 /// A machine that a header line opens, and that answers each line after the header by a text.
 pub trait LineMachine: Drop + Sized {
-    /// What is written for all lines of an input, the header first: nothing is, where it is missing or refused.
-    ghost output: { List (List ℕ) → Option (List ℕ) };
+    /// This is written for all lines of an input, the header first: nothing, where it is missing or refused.
+    ghost output: { List (List ℕ) → Option (List ℕ) → Type 0 };
 
     /// The machine will write these texts for the lines that still come.
     ghost will_write: { Self → (List (List ℕ) → List ℕ) → Type 0 };
@@ -21,5 +21,5 @@ pub trait LineMachine: Drop + Sized {
         ensures { IfOk result (λ text. GoesOn will_write self.old self.new line.now text.items) };
 
     /// An input with no line has no header.
-    ghost no_header: { output [] ≡ None };
+    ghost no_header: { output [] None };
 }

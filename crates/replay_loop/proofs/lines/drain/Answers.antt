@@ -1,5 +1,5 @@
-use Rattle.std.proofs.Common.{[], ◌∷◌, ◌++◌, true, refl, sym, ap, ◌∙◌, append_assoc, append-nil}
-use Rattle.replay_loop.specs.Handling.{HandlesNext}
+use Rattle.std.proofs.Common.{[], ◌∷◌, ◌++◌, true, false, refl, sym, ap, ◌∙◌, subst, append_assoc, append-nil}
+use Rattle.replay_loop.specs.Handling.{HandlesNext, Leads}
 use Rattle.replay_loop.proofs.Handled.{nothing_leads, leads_more, ends_later}
 use Rattle.replay_loop.proofs.lines.drain.Goals as goal
 
@@ -27,3 +27,17 @@ returns-in-Err-clause-err g c =
 
 pub lines-init : goal.lines-init
 lines-init g c = ([], refl, refl, nothing_leads g.M.LineMachine.output g.M.LineMachine.will_write c.args.stage.now (g.W.Write.contents c.args.writer.now))
+
+pub returns-in-Ok-false-clause-ok : goal.returns-in-Ok-false-clause-ok
+returns-in-Ok-false-clause-ok g c =
+    let (done, split, same, handled) = c.lines.invariant in
+    let l = c.lines in
+    let k = c.handle_next.new in
+    let output = g.M.LineMachine.output in
+    let will_write = g.M.LineMachine.will_write in
+    let held = g.W.Write.contents c.args.writer.now in
+    let holds = g.W.Write.contents k.writer in
+    let next : HandlesNext output will_write false l.feed k.feed l.stage k.stage (g.W.Write.contents l.writer) holds = rw c.in-Ok-false.field-0-test at c.in-Ok-false.ensures.ok in
+    let (none, as_it_was, now) = next in
+    subst (Leads output will_write c.args.stage.now k.stage held holds) (sym (split ∙ ap (λ ls. done ++ ls) none))
+    (leads_more output will_write c.args.stage.now l.stage k.stage held (g.W.Write.contents l.writer) holds done [] handled now)
