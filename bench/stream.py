@@ -1,0 +1,102 @@
+#!/usr/bin/env python3
+"""Writes a journal for `jobd replay`: a header line, then one event a line.
+
+    stream.py KIND JOBS LINES
+
+JOBS jobs are loaded first. Then come about LINES lines of one KIND:
+  ticks     the clock is read each second, and no job has anything to do
+  starts    jobs are started in turn; each spawn is answered and each run ends
+  interval  the clock is read each second, and every job runs once a minute or so
+  looks     a watched path of one job after another is looked at, and changes at each fourth look
+  loads     a job is loaded and unloaded again, beside the others
+The stream is the same for the same words.
+"""
+import json
+import sys
+
+WALL = 1_700_000_000
+
+
+def line(members):
+    return json.dumps(members, separators=(",", ":"), sort_keys=True)
+
+
+def label(number):
+    return f"work.{number:04d}"
+
+
+def load(name, **more):
+    definition = {"Label": name, "ProgramArguments": ["/bin/true"], **more}
+    return line({"ev": "load", "def": line(definition)})
+
+
+def clock(second):
+    return line({"ev": "clock", "up": 1000 * second, "wall": WALL + second})
+
+
+def answered(name, run):
+    yield line({"ev": "spawned", "job": name, "pid": 2000 + run, "run": run})
+    yield line({"code": 0, "ev": "ended", "job": name, "run": run})
+
+
+def ticks(jobs, lines):
+    for number in range(jobs):
+        yield load(label(number), StartInterval=31_536_000)
+    for second in range(1, lines + 1):
+        yield clock(second)
+
+
+def starts(jobs, lines):
+    for number in range(jobs):
+        yield load(label(number), ThrottleInterval=0)
+    for turn in range(lines // 4):
+        name, run = label(turn % jobs), turn // jobs + 1
+        yield clock(turn + 1)
+        yield line({"ev": "start", "job": name})
+        yield from answered(name, run)
+
+
+def interval(jobs, lines):
+    every = [60 + number % 11 for number in range(jobs)]
+    for number in range(jobs):
+        yield load(label(number), StartInterval=every[number])
+    written = second = 0
+    while written < lines:
+        second += 1
+        written += 1
+        yield clock(second)
+        for number in range(jobs):
+            if second % every[number] == 0:
+                written += 2
+                yield from answered(label(number), second // every[number])
+
+
+def looks(jobs, lines):
+    for number in range(jobs):
+        yield load(label(number), WatchPaths=[f"/watched/{number}"], ThrottleInterval=86_400)
+    for turn in range(lines):
+        stamp = turn // jobs // 4
+        yield line({"ev": "saw", "exists": True, "nonempty": False, "path": f"/watched/{turn % jobs}", "stamp": stamp})
+
+
+def loads(jobs, lines):
+    for number in range(jobs):
+        yield load(label(number))
+    for turn in range(lines // 2):
+        name = f"guest.{turn % 7}"
+        yield load(name)
+        yield line({"ev": "unload", "job": name})
+
+
+KINDS = {kind.__name__: kind for kind in (ticks, starts, interval, looks, loads)}
+
+
+def main():
+    if len(sys.argv) != 4 or sys.argv[1] not in KINDS:
+        sys.exit(__doc__)
+    print(line({"up": 0, "wall": WALL, "zone": "UTC0"}))
+    for event in KINDS[sys.argv[1]](int(sys.argv[2]), int(sys.argv[3])):
+        print(event)
+
+
+main()
