@@ -6,7 +6,8 @@
 PROGRAM is build/jobd where none is given. Each stream is replayed ROUNDS times (3), and the best time counts; the lines
 that load the jobs are in it. Where valgrind is there, the instructions of an event line are counted, on two short
 streams whose difference leaves the start and the loads out. With BASELINE=PROGRAM in the environment, a second program
-that reads the same lines from standard input takes turns with it, and what the two write is compared.
+that reads the same lines from standard input takes turns with it, and what the two write is compared. STREAMS in the
+environment, as `ticks,interval`, leaves the other kinds of streams out.
 """
 import os
 import shlex
@@ -84,10 +85,11 @@ def main():
     programs = {"jobd": [program, "replay"]}
     if os.environ.get("BASELINE"):
         programs["baseline"] = shlex.split(os.environ["BASELINE"])
+    wanted = os.environ.get("STREAMS", "").split(",") if os.environ.get("STREAMS") else [stream[0] for stream in STREAMS]
     print("| stream | jobs | lines | program | seconds | lines a second | instructions a line |")
     print("|---|---|---|---|---|---|---|")
     with tempfile.TemporaryDirectory() as folder:
-        alike = [row(programs, *stream, rounds, folder) for stream in STREAMS]
+        alike = [row(programs, *stream, rounds, folder) for stream in STREAMS if stream[0] in wanted]
     sys.exit(0 if all(alike) else 1)
 
 
