@@ -157,6 +157,10 @@ all : "StartInterval":31536000,"ThrottleInterval":86400,"ExitTimeOut":0
 all : "WatchPaths":["~1024*w~"~63*,"/w"~]
 all : "EnvironmentVariables":{"~255*A~":"~4096*a~","B":1}
 all : "StartCalendarInterval":[{"Minute":59,"Hour":23,"Day":31,"Weekday":7,"Month":12}~63*,{"Minute":0,"Hour":0,"Day":1,"Weekday":0,"Month":1}~]
+all : "ProgramArguments":["/bin/x"]
+all : "ProgramArguments":["/bin/x"],"StartCalendarInterval":{"Hour":1,"Minute":30}
+all : "ProgramArguments":["/bin/x"],"StartCalendarInterval":{"Hour":2,"Minute":30}
+all : "ProgramArguments":["/bin/x"],"StartCalendarInterval":{"Day":1,"Weekday":3,"Hour":0,"Minute":0}
 all : "Sockets":{"s":[],"t":[]}
 all : "Sockets":{"s":[{"SockPathName":"/s"}~7*,{"SockServiceName":65535}~]},"inetdCompatibility":{"Wait":false}
 all : "Sockets":{"~300*s~":{"SockType":"stream","SockPassive":true,"SockFamily":"IPv4","SockProtocol":"TCP","SockPathName":"~107*s~","SockNodeName":"0.0.0.255","SockServiceName":"00001"}},"inetdCompatibility":{"Wait":false}
