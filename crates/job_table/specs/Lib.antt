@@ -14,4 +14,3 @@ pub mod Changes
 pub mod Shown
 pub mod Listed
 pub mod Ends
-pub mod Lent

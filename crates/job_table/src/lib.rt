@@ -29,7 +29,6 @@ use history_model::{Ask, Ended, JobNo, Obs, Order, Reading, Refusal, Setting};
 use job_core::JobEvent;
 use jobs::Jobs;
 pub use loading::Ready;
-pub use prepared::{Pending, Prepared, PreparedSet};
 use scan::{all_left, place_of_number};
 use std::alloc::Global;
 use std::marker::Model;
