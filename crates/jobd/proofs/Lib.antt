@@ -1,0 +1,2 @@
+pub mod Launching
+pub mod Changing

@@ -1,0 +1,5 @@
+use Rattle.jobd.proofs.Launching.{answered_goes_on}
+use Rattle.jobd.proofs.launcher.LauncherLineMachine.handle.Goals as goal
+
+pub returns-in-Ok : goal.returns-in-Ok
+returns-in-Ok c = answered_goes_on c.args.self.now.table c.answer.new.table c.args.line.now c.in-Ok.text.items c.in-Ok.ensures

@@ -1,0 +1,41 @@
+-- What the lines of a journal are to the machine.
+use Rattle.std.specs.Prelude.{ℕ, List, Option, Some, None, true, false}
+use Rattle.history_model.specs.declared.event.Event as journal
+use Rattle.history_model.specs.declared.event.Event.TheVariants as told
+use Rattle.history_model.specs.declared.Ask.TheVariants.{Start, Stop, Kickstart}
+use Rattle.history_model.specs.declared.Answer.TheVariants as answers
+use Rattle.history_model.specs.Items.{Asked, Answered, Came, Left, RunEnded, WaitRefused}
+use Rattle.history_model.specs.Machine.{Event, Unreadable, UnloadJob, Set, ListJobs, PrintJob, ShutDown, Tick, Sight, OfJob}
+use Rattle.job_table.specs.Loads.{load_of}
+use Rattle.ctl_protocol.specs.Rows.{event_at}
+
+-- the machine's event; a load's definition is what its text reads as
+abbrev pub event_of : journal.Event → Event
+event_of (told.Load def w force bind store) = load_of def w force bind store
+event_of (told.Unload job w store) = UnloadJob job w store
+event_of (told.Start job) = OfJob job (Asked Start)
+event_of (told.Stop job) = OfJob job (Asked Stop)
+event_of (told.Kickstart job k) = OfJob job (Asked (Kickstart k))
+event_of (told.Enable job store) = Set job false store
+event_of (told.Disable job store) = Set job true store
+event_of told.List = ListJobs
+event_of (told.Print job) = PrintJob job
+event_of told.Shutdown = ShutDown
+event_of (told.Clock at) = Tick at
+event_of (told.Saw path obs) = Sight path obs
+event_of (told.Came job conn) = OfJob job (Came conn)
+event_of (told.Left job conn) = OfJob job (Left conn)
+event_of (told.Spawned job run pid) = OfJob job (Answered (answers.Spawned run pid))
+event_of (told.SpawnRefused job run) = OfJob job (Answered (answers.SpawnRefused run))
+event_of (told.Termed job run ok) = OfJob job (Answered (answers.Termed run ok))
+event_of (told.Killed job run ok) = OfJob job (Answered (answers.Killed run ok))
+event_of (told.Ended job run how) = OfJob job (RunEnded run how)
+event_of (told.WaitRefused job run) = OfJob job (WaitRefused run)
+
+abbrev pub read_as : Option journal.Event → Event
+read_as None = Unreadable
+read_as (Some event) = event_of event
+
+-- the event of a line, which may be unreadable
+abbrev pub event_in : List ℕ → Event
+event_in line = read_as (event_at line)

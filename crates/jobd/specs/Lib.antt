@@ -1,0 +1,4 @@
+pub mod Events
+pub mod Output
+pub mod Answers
+pub mod Status

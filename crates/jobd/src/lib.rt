@@ -1,0 +1,15 @@
+//! The launcher: replays a journal through the table of jobs.
+#![tactic(auto)]
+
+mod events;
+mod launcher;
+mod lines;
+mod loads;
+mod opening;
+mod replaying;
+mod status;
+mod whole;
+
+pub use replay_loop::{LIMIT, ReplayFault};
+pub use replaying::{replay, replay_within};
+pub use status::status_of;

@@ -1,0 +1,25 @@
+//! The inputs that lie in `data/`: `rows.txt` lists them, each with the exit status that is wanted.
+
+use crate::judge::judge;
+use std::rt::Files;
+use std::{fs, io};
+
+fn judge_one<R: Files + Print + AllocGlobal>(rt: &R, name: &str, status: &str) -> io::Result<()> {
+    let input = fs::read(rt, format!(in rt.alloc(); "{name}.in")?)?;
+    let wanted = fs::read(rt, format!(in rt.alloc(); "{name}.out")?)?;
+    match status.parse::<u8>() {
+        Ok(status) => judge(rt, name, input.as_slice(), wanted.as_slice(), status),
+        Err(_) => println!(rt; "{name}: no status is wanted"),
+    }
+}
+
+/// Judges each input that the list names.
+pub fn judge_all<R: Files + Print + AllocGlobal>(rt: &R) -> io::Result<()> {
+    let list = fs::read_to_string(rt, "rows.txt")?;
+    for line in list.lines() {
+        if let Some((status, name)) = line.split_once(' ') {
+            judge_one(rt, name, status)?;
+        }
+    }
+    Ok(())
+}
