@@ -11,6 +11,3 @@ fn main(rt: HostRuntime) -> io::Result<()> {
     stored::judge_all(&rt)?;
     long::judge_all(&rt)
 }
-
-#[cfg(test)]
-mod tests;
