@@ -1,0 +1,129 @@
+-- An edge in memory: its script gives the answers, in order, and it lists the calls that it can hold.
+use Rattle.std.specs.Prelude.{ℕ, ◌+◌, List, [], ◌∷◌, ◌++◌, Option, Some, None, Bool, true, false, ◌&&◌, if◌then◌else◌, nat_lt, length, slice_get}
+use Rattle.child_edge.specs.declared.plain.EdgeCall.{EdgeCall}
+use Rattle.child_edge.specs.declared.plain.EdgeCall.TheVariants.{Start, Term, Kill, Poll, Bind, Close, Release, Look, Clock}
+use Rattle.child_edge.specs.declared.plain.Scripted.{Scripted}
+use Rattle.child_edge.specs.declared.plain.Scripted.TheVariants.{Started, Done, Running, Over, Seen, At, Refused, NoMemory}
+use Rattle.child_edge.specs.Calls.{one_more}
+
+-- The script, how many of its answers were given, the calls with their answers, how many of them there is room for,
+-- whether all calls that were made are among them, and the count of failures.
+pub record Memory : Type 0 where
+  pub script : List Scripted
+  pub given : ℕ
+  pub calls : List (EdgeCall × Scripted)
+  pub room : ℕ
+  pub is_telling : Bool
+  pub failures : ℕ
+
+-- what the edge tells
+abbrev pub told_by : Memory → Option (List (EdgeCall × Scripted))
+told_by m = if m.is_telling then Some m.calls else None
+
+-- a further call can be listed
+abbrev pub has_room : Memory → Bool
+has_room m = m.is_telling && nat_lt (length m.calls) m.room
+
+-- The answer is of the call's kind. A process id is at least 1.
+abbrev pub is_poll : Scripted → Bool
+is_poll Running = true
+is_poll (Over ended) = true
+is_poll (Started pid) = false
+is_poll Done = false
+is_poll (Seen seen) = false
+is_poll (At reading) = false
+is_poll Refused = false
+is_poll NoMemory = false
+
+abbrev pub is_start : Scripted → Bool
+is_start (Started pid) = nat_lt 0 pid
+is_start Running = false
+is_start (Over ended) = false
+is_start Done = false
+is_start (Seen seen) = false
+is_start (At reading) = false
+is_start Refused = false
+is_start NoMemory = false
+
+abbrev pub is_done : Scripted → Bool
+is_done Done = true
+is_done (Started pid) = false
+is_done Running = false
+is_done (Over ended) = false
+is_done (Seen seen) = false
+is_done (At reading) = false
+is_done Refused = false
+is_done NoMemory = false
+
+abbrev pub is_seen : Scripted → Bool
+is_seen (Seen seen) = true
+is_seen (Started pid) = false
+is_seen Done = false
+is_seen Running = false
+is_seen (Over ended) = false
+is_seen (At reading) = false
+is_seen Refused = false
+is_seen NoMemory = false
+
+abbrev pub is_reading : Scripted → Bool
+is_reading (At reading) = true
+is_reading (Started pid) = false
+is_reading Done = false
+is_reading Running = false
+is_reading (Over ended) = false
+is_reading (Seen seen) = false
+is_reading Refused = false
+is_reading NoMemory = false
+
+abbrev pub takes : EdgeCall → Scripted → Bool
+takes (Start job run conn) a = is_start a
+takes (Term job run) a = is_done a
+takes (Kill job run) a = is_done a
+takes (Poll job run) a = is_poll a
+takes (Bind job) a = is_done a
+takes (Close job conn) a = is_done a
+takes (Release job) a = is_done a
+takes Look a = is_seen a
+takes Clock a = is_reading a
+
+-- an answer that the call does not take is a refusal, but for want of memory
+abbrev pub refusal_of : Scripted → Scripted
+refusal_of NoMemory = NoMemory
+refusal_of (Started pid) = Refused
+refusal_of Done = Refused
+refusal_of Running = Refused
+refusal_of (Over ended) = Refused
+refusal_of (Seen seen) = Refused
+refusal_of (At reading) = Refused
+refusal_of Refused = Refused
+
+abbrev pub answer_to : EdgeCall → Option Scripted → Scripted
+answer_to call None = Refused
+answer_to call (Some a) = if takes call a then a else refusal_of a
+
+-- The call is answered by the script's next answer. Where there is none, or no room to list the call, it is refused.
+abbrev pub answer_of : EdgeCall → Memory → Scripted
+answer_of call m = if has_room m then answer_to call (slice_get m.script m.given) else Refused
+
+-- the count of failures after the answer
+abbrev pub counted : Scripted → ℕ → ℕ
+counted Refused n = one_more n
+counted NoMemory n = one_more n
+counted (Started pid) n = n
+counted Done n = n
+counted Running n = n
+counted (Over ended) n = n
+counted (Seen seen) n = n
+counted (At reading) n = n
+
+-- the edge after it gave a call the script's next answer: as given, or as the refusal that it is to the call
+abbrev pub entered : EdgeCall → Scripted → Memory → Memory
+entered call a m = record m { given = m.given + 1; calls = m.calls ++ (call, a) ∷ []; failures = counted a m.failures }
+
+-- the edge after a call that takes an answer of the script: it is listed with its answer, or the edge tells no more
+abbrev pub after_call : EdgeCall → Memory → Memory
+after_call call m = if has_room m then entered call (answer_of call m) m else record m { is_telling = false; failures = one_more m.failures }
+
+-- the edge after a call that takes none, and is done
+abbrev pub after_done : EdgeCall → Memory → Memory
+after_done call m = if has_room m then record m { calls = m.calls ++ (call, Done) ∷ [] } else record m { is_telling = false }

@@ -1,0 +1,98 @@
+//! The outside as traits: what the launcher asks of it, one small trait for each kind of call. A child is a process that
+//! the launcher started; its run is named by the job's number and the run's.
+
+ghost use Rattle.std.specs.Prelude.{◌≡◌, ◌<◌, ℕ, List, [], ◌∷◌, Option, IfOk, OnErr, OnOk};
+ghost use Rattle.child_edge.specs.Calls.{Tells, one_more, start_answer, done_answer, poll_answer, look_answer, read_answer};
+ghost use Rattle.child_edge.specs.declared.plain.EdgeCall.{EdgeCall as Call};
+ghost use Rattle.child_edge.specs.declared.plain.Scripted.{Scripted as Answer};
+
+use crate::{EdgeCall, EdgeFault, Scripted};
+use history_model::{Ended, JobNo, Obs, Reading};
+use job_defs::Def;
+
+/// What every trait of the outside tells: the calls that were made of it, each with its answer, and how many of them
+/// failed.
+pub trait Edge {
+    /// The calls with their answers, oldest first. An edge that does not tell them has none.
+    ghost told: { Self → Option (List (Call × Answer)) };
+
+    /// How many calls failed. After the greatest `u64` comes 0.
+    ghost failures: { Self → ℕ };
+}
+
+/// Starts children, signals them, and asks for their ends. Each call is told with its answer; it answers a fault exactly
+/// where it adds one to the count of failures.
+pub trait ChildEdge: Edge {
+    /// Starts the run's child as the definition says: its program, arguments, environment, directory and streams. A run
+    /// that carries a connection has the connection's request and reply in place of standard input and output. Answers
+    /// the child's process id, at least 1. After an `Err` there is no child.
+    fn start(
+        &mut self,
+        job: JobNo,
+        run: u64,
+        def: &Def,
+        conn: Option<u64>,
+    ) -> Result<u32, EdgeFault>
+        ensures told { Tells (Self.told self.old) ((EdgeCall.Start job run conn, start_answer result) ∷ []) (Self.told self.new) }
+        ensures pid { IfOk result (λ pid. 0 < pid) }
+        ensures fault { OnErr result (Self.failures self.new ≡ one_more (Self.failures self.old)) }
+        ensures success { OnOk result (Self.failures self.new ≡ Self.failures self.old) };
+
+    /// Gives the run's child TERM.
+    fn term(&mut self, job: JobNo, run: u64) -> Result<(), EdgeFault>
+        ensures told { Tells (Self.told self.old) ((EdgeCall.Term job run, done_answer result) ∷ []) (Self.told self.new) }
+        ensures fault { OnErr result (Self.failures self.new ≡ one_more (Self.failures self.old)) }
+        ensures success { OnOk result (Self.failures self.new ≡ Self.failures self.old) };
+
+    /// Gives the run's child KILL.
+    fn kill(&mut self, job: JobNo, run: u64) -> Result<(), EdgeFault>
+        ensures told { Tells (Self.told self.old) ((EdgeCall.Kill job run, done_answer result) ∷ []) (Self.told self.new) }
+        ensures fault { OnErr result (Self.failures self.new ≡ one_more (Self.failures self.old)) }
+        ensures success { OnOk result (Self.failures self.new ≡ Self.failures self.old) };
+
+    /// How the run's child ended, if it did; it does not wait for that. Once an end was answered, the child is gone.
+    fn poll(&mut self, job: JobNo, run: u64) -> Result<Option<Ended>, EdgeFault>
+        ensures told { Tells (Self.told self.old) ((EdgeCall.Poll job run, poll_answer result) ∷ []) (Self.told self.new) }
+        ensures fault { OnErr result (Self.failures self.new ≡ one_more (Self.failures self.old)) }
+        ensures success { OnOk result (Self.failures self.new ≡ Self.failures self.old) };
+}
+
+/// Binds the sockets of jobs, and gives them up. Each call is told with its answer; `bind` answers a fault exactly where
+/// it adds one to the count of failures, and the others, which answer nothing, add none.
+pub trait SocketEdge: Edge {
+    /// Binds each socket of the definition, for the job. After an `Err` none of them is bound.
+    fn bind(&mut self, job: JobNo, def: &Def) -> Result<(), EdgeFault>
+        ensures told { Tells (Self.told self.old) ((EdgeCall.Bind job, done_answer result) ∷ []) (Self.told self.new) }
+        ensures fault { OnErr result (Self.failures self.new ≡ one_more (Self.failures self.old)) }
+        ensures success { OnOk result (Self.failures self.new ≡ Self.failures self.old) };
+
+    /// Closes a connection of the job that waits.
+    fn close(&mut self, job: JobNo, conn: u64)
+        ensures told { Tells (Self.told self.old) ((EdgeCall.Close job conn, Scripted.Done) ∷ []) (Self.told self.new) }
+        ensures success { Self.failures self.new ≡ Self.failures self.old };
+
+    /// Gives up what was bound for the job.
+    fn release(&mut self, job: JobNo)
+        ensures told { Tells (Self.told self.old) ((EdgeCall.Release job, Scripted.Done) ∷ []) (Self.told self.new) }
+        ensures success { Self.failures self.new ≡ Self.failures self.old };
+}
+
+/// Looks at paths. Each call is told with its answer; it answers a fault exactly where it adds one to the count of
+/// failures.
+pub trait PathEdge: Edge {
+    /// What is at the path now. That nothing is there is an observation too.
+    fn look(&mut self, path: &str) -> Result<Obs, EdgeFault>
+        ensures told { Tells (Self.told self.old) ((EdgeCall.Look, look_answer result) ∷ []) (Self.told self.new) }
+        ensures fault { OnErr result (Self.failures self.new ≡ one_more (Self.failures self.old)) }
+        ensures success { OnOk result (Self.failures self.new ≡ Self.failures self.old) };
+}
+
+/// Reads the clocks. Each call is told with its answer; it answers a fault exactly where it adds one to the count of
+/// failures.
+pub trait ClockEdge: Edge {
+    /// The reading of now: `up` in milliseconds, `wall` in seconds of Unix time.
+    fn read(&mut self) -> Result<Reading, EdgeFault>
+        ensures told { Tells (Self.told self.old) ((EdgeCall.Clock, read_answer result) ∷ []) (Self.told self.new) }
+        ensures fault { OnErr result (Self.failures self.new ≡ one_more (Self.failures self.old)) }
+        ensures success { OnOk result (Self.failures self.new ≡ Self.failures self.old) };
+}

@@ -1,0 +1,11 @@
+//! The outside of the launcher as four small traits: children, sockets, paths and the clock. Each tells its calls with
+//! their answers, and counts its failures. [`MemoryEdge`] answers from a script, for tests.
+#![tactic(auto)]
+
+mod edge;
+mod memory;
+mod plain;
+
+pub use edge::{ChildEdge, ClockEdge, Edge, PathEdge, SocketEdge};
+pub use memory::MemoryEdge;
+pub use plain::{EdgeCall, EdgeFault, Scripted};
