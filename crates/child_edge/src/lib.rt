@@ -2,10 +2,16 @@
 //! their answers, and counts its failures. [`MemoryEdge`] answers from a script, for tests.
 #![tactic(auto)]
 
+mod children;
+mod command;
 mod edge;
+mod fault;
 mod memory;
+mod os;
 mod plain;
+mod streams;
 
 pub use edge::{ChildEdge, ClockEdge, Edge, PathEdge, SocketEdge};
 pub use memory::MemoryEdge;
+pub use os::OsEdge;
 pub use plain::{EdgeCall, EdgeFault, Scripted};

@@ -1,0 +1,129 @@
+//! The children that were started and not yet waited for, by job and run.
+
+ghost use Rattle.std.specs.Prelude.{◌<◌, IfOk};
+
+use history_model::{Ended, JobNo};
+use slab::Slab;
+use std::alloc::Global;
+use std::collections::BTreeMap;
+use std::io;
+use std::io::ErrorKind;
+use std::os::unix::process::ExitStatusExt;
+use std::process::{Child, Command, ExitStatus, OpenProcess, Processes, Stdio};
+
+/// Children, each under a number of its own, and the number of each run that has one. A child that was not waited for
+/// keeps its process id, so no signal can reach another process.
+#[derive(Drop)]
+pub(crate) struct Children<P: OpenProcess + Drop> {
+    alloc: Global,
+    started: Slab<Child<P>>,
+    numbers: BTreeMap<(JobNo, u64), usize>,
+}
+
+impl<P: OpenProcess + Drop> Children<P> {
+    pub(crate) fn new(alloc: Global) -> Children<P> {
+        Children {
+            alloc,
+            started: Slab::new(alloc),
+            numbers: BTreeMap::new(alloc),
+        }
+    }
+
+    /// Starts the command for the run, and answers its process id. The room for the child is made first: a child that was
+    /// started is kept. A run that has a child is refused another.
+    pub(crate) fn start<R: Processes<Started = P>>(
+        &mut self,
+        rt: &R,
+        job: JobNo,
+        run: u64,
+        command: &mut Command,
+    ) -> io::Result<u32>
+        ensures { IfOk result (λ pid. 0 < pid) }
+    {
+        if self.numbers.contains_key(&(job, run)) {
+            return Err(io::Error::from(ErrorKind::AlreadyExists));
+        }
+        self.started.reserve(1)?;
+        let number = self.started.vacant_key();
+        self.numbers.insert((job, run), number)?;
+        match spawn(rt, command) {
+            Ok((pid, child)) => {
+                self.started.insert_reserved(child);
+                Ok(pid)
+            }
+            Err(error) => {
+                self.numbers.remove(&(job, run));
+                Err(error)
+            }
+        }
+    }
+
+    fn child(&mut self, job: JobNo, run: u64) -> io::Result<&mut Child<P>> {
+        let number = self.numbers.get(&(job, run)).copied();
+        match self.started.get_mut(number.unwrap_or(usize::MAX)) {
+            Some(child) => Ok(child),
+            None => Err(io::Error::from(ErrorKind::NotFound)),
+        }
+    }
+
+    /// Gives the run's child TERM, by running `sh`, and says whether that ended well.
+    pub(crate) fn term<R: Processes<Started = P>>(
+        &mut self,
+        rt: &R,
+        job: JobNo,
+        run: u64,
+    ) -> io::Result<bool> {
+        let alloc = self.alloc;
+        let pid = self.child(job, run)?.id();
+        let text = format!(in alloc; "kill -s TERM {pid}")?;
+        let mut command = Command::new(alloc, "/bin/sh")?;
+        command.arg("-c")?;
+        command.arg(text.as_str())?;
+        command.stdin(Stdio::null());
+        command.stdout(Stdio::null());
+        command.stderr(Stdio::null());
+        Ok(command.status(rt)?.success())
+    }
+
+    /// Gives the run's child KILL.
+    pub(crate) fn kill(&mut self, job: JobNo, run: u64) -> io::Result<()> {
+        self.child(job, run)?.kill()
+    }
+
+    /// How the run's child ended, if it did. It is then waited for, and gone.
+    pub(crate) fn poll(&mut self, job: JobNo, run: u64) -> io::Result<Option<Ended>> {
+        let Some(status) = self.child(job, run)?.try_wait()? else {
+            return Ok(None);
+        };
+        if let Some(number) = self.numbers.remove(&(job, run)) {
+            self.started.try_remove(number);
+        }
+        Ok(Some(end_of(status)))
+    }
+}
+
+fn spawn<R: Processes>(rt: &R, command: &mut Command) -> io::Result<(u32, Child<R::Started>)>
+    ensures { IfOk result (λ started. 0 < started.0) }
+{
+    let child = command.spawn(rt)?;
+    let pid = child.id();
+    if pid == 0 {
+        return Err(io::Error::from(ErrorKind::InvalidData));
+    }
+    Ok((pid, child))
+}
+
+// The system tells a code of 0 to 255, or the number of a signal.
+fn end_of(status: ExitStatus) -> Ended {
+    match status.code() {
+        Some(code) => Ended::Code((code & 0xff).unsigned_abs() as u8),
+        None => Ended::Signal(signal_number(status)),
+    }
+}
+
+fn signal_number(status: ExitStatus) -> u8 {
+    match status.signal() {
+        Some(signal) => u8::try_from(signal).unwrap_or(0),
+        None => 0,
+    }
+}

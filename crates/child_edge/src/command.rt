@@ -1,0 +1,66 @@
+//! What a child is started with, out of its job's definition.
+
+ghost use Rattle.std.specs.Prelude.{◌≡◌, ◌++◌, Some, IfOk, OnOk};
+ghost use Rattle.std.specs.Process.{command_program, command_args, command_dir, command_arg0, SameEnv, SameDir, SameProgramAndArgs};
+
+use history_model::Text;
+use job_defs::{Def, Variable};
+use std::alloc::{AllocError, Global};
+use std::os::unix::process::CommandExt;
+use std::process::{Command, Stdio};
+
+/// A child's standard input, output and errors.
+#[derive(Drop)]
+pub(crate) struct Streams {
+    pub(crate) input: Stdio,
+    pub(crate) output: Stdio,
+    pub(crate) errors: Stdio,
+}
+
+/// The command that the definition says: its program, which is also the child's own name for itself, its arguments, its
+/// directory, and its variables beside the launcher's; with these streams.
+pub(crate) fn command_of(alloc: Global, def: &Def, streams: Streams) -> Result<Command, AllocError>
+    ensures program { IfOk result (λ c. command_program c ≡ def.now.program) }
+    ensures name { IfOk result (λ c. command_arg0 c ≡ Some def.now.program) }
+    ensures arguments { IfOk result (λ c. command_args c ≡ def.now.arguments) }
+    ensures directory { IfOk result (λ c. command_dir c ≡ def.now.working_directory) }
+{
+    let Streams {
+        input,
+        output,
+        errors,
+    } = streams;
+    let mut command = Command::new(alloc, def.program())?;
+    command.stdin(input);
+    command.stdout(output);
+    command.stderr(errors);
+    add_words(&mut command, def.arguments())?;
+    add_variables(&mut command, def.environment())?;
+    if let Some(directory) = def.working_directory() {
+        command.current_dir(directory)?;
+    }
+    command.arg0(def.program())?;
+    Ok(command)
+}
+
+fn add_words(command: &mut Command, words: &[Text]) -> Result<(), AllocError>
+    ensures words { OnOk result (command_args command.new ≡ command_args command.old ++ words.now) }
+    ensures program { OnOk result (command_program command.new ≡ command_program command.old) }
+    ensures env { OnOk result (SameEnv command.old command.new) }
+    ensures dir { OnOk result (SameDir command.old command.new) }
+{
+    for word in words {
+        command.arg(word.as_str())?;
+    }
+    Ok(())
+}
+
+fn add_variables(command: &mut Command, variables: &[Variable]) -> Result<(), AllocError>
+    ensures call { OnOk result (SameProgramAndArgs command.old command.new) }
+    ensures dir { OnOk result (SameDir command.old command.new) }
+{
+    for variable in variables {
+        command.env(variable.name.as_str(), variable.value.as_str())?;
+    }
+    Ok(())
+}

@@ -1,0 +1,119 @@
+//! The outside of the operating system: real children. It does not tell its calls.
+
+ghost use Rattle.std.specs.Prelude.{◌≡◌, ◌<◌, None, IfOk};
+ghost use Rattle.child_edge.specs.Calls.{one_more};
+
+use crate::children::Children;
+use crate::command::{Streams, command_of};
+use crate::fault::fault_of;
+use crate::streams::{read_from, write_to};
+use crate::{ChildEdge, Edge, EdgeFault};
+use history_model::{Ended, JobNo};
+use job_defs::Def;
+use std::alloc::Global;
+use std::fs::{File, Files};
+use std::io;
+use std::marker::Model;
+use std::process::Processes;
+
+/// Does what is asked by the system of its runtime, and counts what fails.
+#[derive(Drop)]
+pub struct OsEdge<R: Processes> {
+    rt: R,
+    alloc: Global,
+    children: Children<R::Started>,
+    failures: u64,
+}
+
+impl<R: Processes> Model for OsEdge<R> {
+    ghost use Rattle.std.specs.Prelude.{ℕ};
+
+    ghost Value = { ℕ };
+
+    ghost view = { λ e. e.failures };
+}
+
+impl<R: Files<File = File> + Processes + Drop> OsEdge<R> {
+    /// An edge with no children.
+    pub fn new(rt: R, alloc: Global) -> OsEdge<R>
+        ensures { result ≡ 0 }
+    {
+        OsEdge {
+            rt,
+            alloc,
+            children: Children::new(alloc),
+            failures: 0,
+        }
+    }
+
+    /// How many calls failed. After the greatest `u64` comes 0. Takes no memory.
+    pub fn failures(&self) -> u64
+        ensures { result ≡ self.now }
+    {
+        self.failures
+    }
+
+    // Counts an error as a failure.
+    fn fail(&mut self, error: io::Error) -> EdgeFault
+        ensures { self.new ≡ one_more self.old }
+    {
+        self.failures = self.failures.wrapping_add(1);
+        fault_of(error)
+    }
+
+    fn launch(&mut self, job: JobNo, run: u64, def: &Def) -> io::Result<u32>
+        ensures pid { IfOk result (λ pid. 0 < pid) }
+        ensures failures { self.new ≡ self.old }
+    {
+        let streams = Streams {
+            input: read_from(&self.rt, def.standard_in_path())?,
+            output: write_to(&self.rt, def.standard_out_path())?,
+            errors: write_to(&self.rt, def.standard_error_path())?,
+        };
+        let mut command = command_of(self.alloc, def, streams)?;
+        self.children.start(&self.rt, job, run, &mut command)
+    }
+}
+
+impl<R: Processes> Edge for OsEdge<R> {
+    ghost told = { λ _. None };
+
+    ghost failures = { λ failures. failures };
+}
+
+impl<R: Files<File = File> + Processes + Drop> ChildEdge for OsEdge<R> {
+    fn start(
+        &mut self,
+        job: JobNo,
+        run: u64,
+        def: &Def,
+        _conn: Option<u64>,
+    ) -> Result<u32, EdgeFault> {
+        match self.launch(job, run, def) {
+            Ok(pid) => Ok(pid),
+            Err(error) => Err(self.fail(error)),
+        }
+    }
+
+    fn term(&mut self, job: JobNo, run: u64) -> Result<(), EdgeFault> {
+        match self.children.term(&self.rt, job, run) {
+            Ok(true) => Ok(()),
+            Ok(false) => Err(self.fail(io::Error::from(io::ErrorKind::Other))),
+            Err(error) => Err(self.fail(error)),
+        }
+    }
+
+    fn kill(&mut self, job: JobNo, run: u64) -> Result<(), EdgeFault> {
+        match self.children.kill(job, run) {
+            Ok(()) => Ok(()),
+            Err(error) => Err(self.fail(error)),
+        }
+    }
+
+    fn poll(&mut self, job: JobNo, run: u64) -> Result<Option<Ended>, EdgeFault> {
+        match self.children.poll(job, run) {
+            Ok(ended) => Ok(ended),
+            Err(error) => Err(self.fail(error)),
+        }
+    }
+}
