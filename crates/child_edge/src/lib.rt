@@ -3,11 +3,13 @@
 #![tactic(auto)]
 
 mod children;
+mod clock;
 mod command;
 mod edge;
 mod fault;
 mod memory;
 mod os;
+mod paths;
 mod plain;
 mod streams;
 

@@ -7,20 +7,23 @@ use crate::children::Children;
 use crate::command::{Streams, command_of};
 use crate::fault::fault_of;
 use crate::streams::{read_from, write_to};
-use crate::{ChildEdge, Edge, EdgeFault};
-use history_model::{Ended, JobNo};
+use crate::{ChildEdge, ClockEdge, Edge, EdgeFault, PathEdge, clock, paths};
+use history_model::{Ended, JobNo, Obs, Reading};
 use job_defs::Def;
 use std::alloc::Global;
 use std::fs::{File, Files};
 use std::io;
 use std::marker::Model;
 use std::process::Processes;
+use std::rt::Clock;
+use std::time::Instant;
 
 /// Does what is asked by the system of its runtime, and counts what fails.
 #[derive(Drop)]
 pub struct OsEdge<R: Processes> {
     rt: R,
     alloc: Global,
+    made: Instant,
     children: Children<R::Started>,
     failures: u64,
 }
@@ -33,19 +36,23 @@ impl<R: Processes> Model for OsEdge<R> {
     ghost view = { λ e. e.failures };
 }
 
-impl<R: Files<File = File> + Processes + Drop> OsEdge<R> {
-    /// An edge with no children.
-    pub fn new(rt: R, alloc: Global) -> OsEdge<R>
-        ensures { result ≡ 0 }
+impl<R: Clock + Drop + Processes> OsEdge<R> {
+    /// An edge that has no children. Its `up` counts from now on; an `Err` where the clock could not be read.
+    pub fn new(rt: R, alloc: Global) -> io::Result<OsEdge<R>>
+        ensures { IfOk result (λ e. e ≡ 0) }
     {
-        OsEdge {
+        let made = Instant::now(&rt)?;
+        Ok(OsEdge {
             rt,
             alloc,
+            made,
             children: Children::new(alloc),
             failures: 0,
-        }
+        })
     }
+}
 
+impl<R: Processes> OsEdge<R> {
     /// How many calls failed. After the greatest `u64` comes 0. Takes no memory.
     pub fn failures(&self) -> u64
         ensures { result ≡ self.now }
@@ -60,7 +67,9 @@ impl<R: Files<File = File> + Processes + Drop> OsEdge<R> {
         self.failures = self.failures.wrapping_add(1);
         fault_of(error)
     }
+}
 
+impl<R: Files<File = File> + Processes> OsEdge<R> {
     fn launch(&mut self, job: JobNo, run: u64, def: &Def) -> io::Result<u32>
         ensures pid { IfOk result (λ pid. 0 < pid) }
         ensures failures { self.new ≡ self.old }
@@ -81,7 +90,7 @@ impl<R: Processes> Edge for OsEdge<R> {
     ghost failures = { λ failures. failures };
 }
 
-impl<R: Files<File = File> + Processes + Drop> ChildEdge for OsEdge<R> {
+impl<R: Files<File = File> + Processes> ChildEdge for OsEdge<R> {
     fn start(
         &mut self,
         job: JobNo,
@@ -113,6 +122,24 @@ impl<R: Files<File = File> + Processes + Drop> ChildEdge for OsEdge<R> {
     fn poll(&mut self, job: JobNo, run: u64) -> Result<Option<Ended>, EdgeFault> {
         match self.children.poll(job, run) {
             Ok(ended) => Ok(ended),
+            Err(error) => Err(self.fail(error)),
+        }
+    }
+}
+
+impl<R: AllocGlobal + Clone + Drop + Files + Processes> PathEdge for OsEdge<R> {
+    fn look(&mut self, path: &str) -> Result<Obs, EdgeFault> {
+        match paths::look(&self.rt, path) {
+            Ok(seen) => Ok(seen),
+            Err(error) => Err(self.fail(error)),
+        }
+    }
+}
+
+impl<R: Clock + Processes> ClockEdge for OsEdge<R> {
+    fn read(&mut self) -> Result<Reading, EdgeFault> {
+        match clock::read(&self.rt, self.made) {
+            Ok(reading) => Ok(reading),
             Err(error) => Err(self.fail(error)),
         }
     }

@@ -1,0 +1,16 @@
+//! The two clocks of a reading.
+
+use history_model::Reading;
+use std::io;
+use std::rt::Clock;
+use std::time::{Instant, SystemTime};
+
+/// Milliseconds since `start`, and seconds of Unix time.
+pub(crate) fn read(rt: &impl Clock, start: Instant) -> io::Result<Reading> {
+    let up = start.elapsed(rt)?.as_millis();
+    let wall = SystemTime::now(rt)?.duration_since(SystemTime::UNIX_EPOCH);
+    Ok(Reading {
+        up: u64::try_from(up).unwrap_or(u64::MAX),
+        wall: wall.map_or(0, |since| since.as_secs()),
+    })
+}

@@ -1,0 +1,52 @@
+//! Observations of paths, as launchd.plist(5) speaks of them under WatchPaths, QueueDirectories and PathState.
+
+ghost use Rattle.std.specs.Prelude.{◌≡◌, ◌+◌, ◌-◌, ◌*◌, ◌^◌, min};
+
+use history_model::Obs;
+use std::fs::Files;
+use std::io::ErrorKind;
+use std::os::unix::fs::MetadataExt;
+use std::{fs, io};
+
+const ABSENT: Obs = Obs {
+    present: false,
+    nonempty_dir: false,
+    stamp: 0,
+};
+
+/// Looks at the path. That nothing is there is an observation too, also where a folder above it is a file.
+pub(crate) fn look<R: Files + AllocGlobal + Clone + Drop>(rt: &R, path: &str) -> io::Result<Obs> {
+    let data = match fs::metadata(rt, path) {
+        Ok(data) => data,
+        Err(error) if is_absence(&error) => return Ok(ABSENT),
+        Err(error) => return Err(error),
+    };
+    let stamp = match u64::try_from(data.mtime()) {
+        Ok(seconds) => stamp_of(seconds, data.mtime_nsec().unsigned_abs()),
+        Err(_) => 0,
+    };
+    Ok(Obs {
+        present: true,
+        nonempty_dir: data.is_dir() && has_entry(rt, path)?,
+        stamp,
+    })
+}
+
+fn is_absence(error: &io::Error) -> bool {
+    matches!(error.kind(), ErrorKind::NotFound | ErrorKind::NotADirectory)
+}
+
+fn has_entry<R: Files + AllocGlobal + Clone + Drop>(rt: &R, path: &str) -> io::Result<bool> {
+    match fs::read_dir(rt, path)?.next() {
+        None => Ok(false),
+        Some(Ok(_)) => Ok(true),
+        Some(Err(error)) => Err(error),
+    }
+}
+
+// Nanoseconds of Unix time, or the greatest stamp where they are more.
+fn stamp_of(seconds: u64, nanos: u64) -> u64
+    ensures { result ≡ min (seconds * 1000000000 + nanos) (2 ^ 64 - 1) }
+{
+    seconds.saturating_mul(1_000_000_000).saturating_add(nanos)
+}
