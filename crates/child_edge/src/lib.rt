@@ -3,16 +3,20 @@
 #![tactic(auto)]
 
 mod children;
+mod client;
 mod clock;
 mod command;
 mod edge;
 mod fault;
+mod listener;
 mod memory;
 mod os;
 mod paths;
 mod plain;
+mod sockets;
 mod streams;
 
+pub use client::Client;
 pub use edge::{ChildEdge, ClockEdge, Edge, PathEdge, SocketEdge};
 pub use memory::MemoryEdge;
 pub use os::OsEdge;

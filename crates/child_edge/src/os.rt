@@ -6,14 +6,17 @@ ghost use Rattle.child_edge.specs.Calls.{one_more};
 use crate::children::Children;
 use crate::command::{Streams, command_of};
 use crate::fault::fault_of;
+use crate::sockets::Sockets;
 use crate::streams::{read_from, write_to};
-use crate::{ChildEdge, ClockEdge, Edge, EdgeFault, PathEdge, clock, paths};
+use crate::{ChildEdge, Client, ClockEdge, Edge, EdgeFault, PathEdge, SocketEdge, clock, paths};
 use history_model::{Ended, JobNo, Obs, Reading};
 use job_defs::Def;
+use mio::{Registry, Token};
 use std::alloc::Global;
 use std::fs::{File, Files};
 use std::io;
 use std::marker::Model;
+use std::net::Net;
 use std::process::Processes;
 use std::rt::Clock;
 use std::time::Instant;
@@ -25,6 +28,7 @@ pub struct OsEdge<R: Processes> {
     alloc: Global,
     made: Instant,
     children: Children<R::Started>,
+    sockets: Sockets,
     failures: u64,
 }
 
@@ -47,6 +51,7 @@ impl<R: Clock + Drop + Processes> OsEdge<R> {
             alloc,
             made,
             children: Children::new(alloc),
+            sockets: Sockets::new(alloc),
             failures: 0,
         })
     }
@@ -58,6 +63,19 @@ impl<R: Processes> OsEdge<R> {
         ensures { result ≡ self.now }
     {
         self.failures
+    }
+
+    /// The next client that waits at one of the job's sockets, if there is one. Takes no memory.
+    pub fn accept(&self, job: JobNo) -> Option<Client> {
+        self.sockets.accept(job)
+    }
+
+    /// Has clients that come to a job's socket wake the poll of this registry, under the token; asked again, it does so for
+    /// the sockets that were bound since. An `Err` where the poll refuses: it may be asked again.
+    pub fn register(&mut self, registry: &Registry, token: Token) -> io::Result<()>
+        ensures { self.new ≡ self.old }
+    {
+        self.sockets.register(registry, token)
     }
 
     // Counts an error as a failure.
@@ -142,5 +160,22 @@ impl<R: Clock + Processes> ClockEdge for OsEdge<R> {
             Ok(reading) => Ok(reading),
             Err(error) => Err(self.fail(error)),
         }
+    }
+}
+
+impl<
+    R: Files + Net<Listener = std::net::TcpListener, Stream = std::net::TcpStream> + Processes,
+> SocketEdge for OsEdge<R> {
+    fn bind(&mut self, job: JobNo, def: &Def) -> Result<(), EdgeFault> {
+        match self.sockets.bind(&self.rt, job, def) {
+            Ok(()) => Ok(()),
+            Err(error) => Err(self.fail(error)),
+        }
+    }
+
+    fn close(&mut self, _job: JobNo, _conn: u64) {}
+
+    fn release(&mut self, job: JobNo) {
+        self.sockets.release(&self.rt, job);
     }
 }
