@@ -11,12 +11,26 @@ use std::io::ErrorKind;
 use std::os::unix::process::ExitStatusExt;
 use std::process::{Child, Command, ExitStatus, OpenProcess, Processes, Stdio};
 
+/// A child, and the connection that its run serves.
+#[derive(Drop)]
+struct Started<P: OpenProcess + Drop> {
+    child: Child<P>,
+    conn: Option<u64>,
+}
+
+/// A run's end, and the connection that it served.
+#[derive(Clone, Copy)]
+pub(crate) struct End {
+    pub(crate) ended: Ended,
+    pub(crate) conn: Option<u64>,
+}
+
 /// Children, each under a number of its own, and the number of each run that has one. A child that was not waited for
 /// keeps its process id, so no signal can reach another process.
 #[derive(Drop)]
 pub(crate) struct Children<P: OpenProcess + Drop> {
     alloc: Global,
-    started: Slab<Child<P>>,
+    started: Slab<Started<P>>,
     numbers: BTreeMap<(JobNo, u64), usize>,
 }
 
@@ -36,6 +50,7 @@ impl<P: OpenProcess + Drop> Children<P> {
         rt: &R,
         job: JobNo,
         run: u64,
+        conn: Option<u64>,
         command: &mut Command,
     ) -> io::Result<u32>
         ensures { IfOk result (λ pid. 0 < pid) }
@@ -48,7 +63,7 @@ impl<P: OpenProcess + Drop> Children<P> {
         self.numbers.insert((job, run), number)?;
         match spawn(rt, command) {
             Ok((pid, child)) => {
-                self.started.insert_reserved(child);
+                self.started.insert_reserved(Started { child, conn });
                 Ok(pid)
             }
             Err(error) => {
@@ -61,7 +76,7 @@ impl<P: OpenProcess + Drop> Children<P> {
     fn child(&mut self, job: JobNo, run: u64) -> io::Result<&mut Child<P>> {
         let number = self.numbers.get(&(job, run)).copied();
         match self.started.get_mut(number.unwrap_or(usize::MAX)) {
-            Some(child) => Ok(child),
+            Some(started) => Ok(&mut started.child),
             None => Err(io::Error::from(ErrorKind::NotFound)),
         }
     }
@@ -91,14 +106,16 @@ impl<P: OpenProcess + Drop> Children<P> {
     }
 
     /// How the run's child ended, if it did. It is then waited for, and gone.
-    pub(crate) fn poll(&mut self, job: JobNo, run: u64) -> io::Result<Option<Ended>> {
+    pub(crate) fn poll(&mut self, job: JobNo, run: u64) -> io::Result<Option<End>> {
         let Some(status) = self.child(job, run)?.try_wait()? else {
             return Ok(None);
         };
-        if let Some(number) = self.numbers.remove(&(job, run)) {
-            self.started.try_remove(number);
-        }
-        Ok(Some(end_of(status)))
+        let number = self.numbers.remove(&(job, run));
+        let started = self.started.try_remove(number.unwrap_or(usize::MAX));
+        Ok(Some(End {
+            ended: end_of(status),
+            conn: started.and_then(|gone| gone.conn),
+        }))
     }
 }
 

@@ -6,6 +6,8 @@ mod children;
 mod client;
 mod clock;
 mod command;
+mod connection;
+mod connections;
 mod edge;
 mod fault;
 mod listener;
@@ -14,6 +16,7 @@ mod os;
 mod paths;
 mod plain;
 mod sockets;
+mod spool;
 mod streams;
 
 pub use client::Client;

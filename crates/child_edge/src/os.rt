@@ -1,10 +1,11 @@
 //! The outside of the operating system: real children. It does not tell its calls.
 
-ghost use Rattle.std.specs.Prelude.{◌≡◌, ◌<◌, None, IfOk};
+ghost use Rattle.std.specs.Prelude.{◌≡◌, ◌<◌, None, IfOk, OnOk, OnErr};
 ghost use Rattle.child_edge.specs.Calls.{one_more};
 
 use crate::children::Children;
 use crate::command::{Streams, command_of};
+use crate::connections::Connections;
 use crate::fault::fault_of;
 use crate::sockets::Sockets;
 use crate::streams::{read_from, write_to};
@@ -12,6 +13,7 @@ use crate::{ChildEdge, Client, ClockEdge, Edge, EdgeFault, PathEdge, SocketEdge,
 use history_model::{Ended, JobNo, Obs, Reading};
 use job_defs::Def;
 use mio::{Registry, Token};
+use socket_demand::Exchange;
 use std::alloc::Global;
 use std::fs::{File, Files};
 use std::io;
@@ -29,6 +31,7 @@ pub struct OsEdge<R: Processes> {
     made: Instant,
     children: Children<R::Started>,
     sockets: Sockets,
+    connections: Connections,
     failures: u64,
 }
 
@@ -41,8 +44,9 @@ impl<R: Processes> Model for OsEdge<R> {
 }
 
 impl<R: Clock + Drop + Processes> OsEdge<R> {
-    /// An edge that has no children. Its `up` counts from now on; an `Err` where the clock could not be read.
-    pub fn new(rt: R, alloc: Global) -> io::Result<OsEdge<R>>
+    /// An edge that has no children and no sockets, with the folder in which it spools connections. Its `up` counts from
+    /// now on; an `Err` where the clock could not be read.
+    pub fn new(rt: R, alloc: Global, spool: String) -> io::Result<OsEdge<R>>
         ensures { IfOk result (λ e. e ≡ 0) }
     {
         let made = Instant::now(&rt)?;
@@ -52,6 +56,7 @@ impl<R: Clock + Drop + Processes> OsEdge<R> {
             made,
             children: Children::new(alloc),
             sockets: Sockets::new(alloc),
+            connections: Connections::new(alloc, spool),
             failures: 0,
         })
     }
@@ -88,17 +93,68 @@ impl<R: Processes> OsEdge<R> {
 }
 
 impl<R: Files<File = File> + Processes> OsEdge<R> {
-    fn launch(&mut self, job: JobNo, run: u64, def: &Def) -> io::Result<u32>
+    /// Holds a connection whose request came whole, under the job and a number that it has had for no other: its request
+    /// is spooled, and the run that is started with the number serves it. After an `Err`, which is counted as a failure, the
+    /// client is let go and nothing is left.
+    pub fn take(
+        &mut self,
+        job: JobNo,
+        conn: u64,
+        client: Client,
+        exchange: Exchange,
+    ) -> Result<(), EdgeFault>
+        ensures fault { OnErr result (self.new ≡ one_more self.old) }
+        ensures success { OnOk result (self.new ≡ self.old) }
+    {
+        match self.connections.take(&self.rt, job, conn, client, exchange) {
+            Ok(()) => Ok(()),
+            Err(error) => Err(self.fail(error)),
+        }
+    }
+
+    /// Sends the client of each connection what its run has written since, as much as it takes at once. Lets those go that
+    /// have all that a run wrote which has ended, and those whose client is gone. It says whether one may go on at once.
+    pub fn forward(&mut self) -> bool
+        ensures { self.new ≡ self.old }
+    {
+        self.connections.forward(&self.rt)
+    }
+
+    // A run that serves a connection reads its request and writes its reply.
+    fn streams(&self, job: JobNo, def: &Def, conn: Option<u64>) -> io::Result<Streams> {
+        let (input, output) = match conn {
+            None => (def.standard_in_path(), def.standard_out_path()),
+            Some(conn) => {
+                let paths = self.connections.paths(job, conn)?;
+                (Some(paths.request()), Some(paths.reply()))
+            }
+        };
+        Ok(Streams {
+            input: read_from(&self.rt, input)?,
+            output: write_to(&self.rt, output)?,
+            errors: write_to(&self.rt, def.standard_error_path())?,
+        })
+    }
+
+    fn launch(&mut self, job: JobNo, run: u64, def: &Def, conn: Option<u64>) -> io::Result<u32>
         ensures pid { IfOk result (λ pid. 0 < pid) }
         ensures failures { self.new ≡ self.old }
     {
-        let streams = Streams {
-            input: read_from(&self.rt, def.standard_in_path())?,
-            output: write_to(&self.rt, def.standard_out_path())?,
-            errors: write_to(&self.rt, def.standard_error_path())?,
-        };
+        let streams = self.streams(job, def, conn)?;
         let mut command = command_of(self.alloc, def, streams)?;
-        self.children.start(&self.rt, job, run, &mut command)
+        self.children.start(&self.rt, job, run, conn, &mut command)
+    }
+
+    fn wait(&mut self, job: JobNo, run: u64) -> io::Result<Option<Ended>>
+        ensures { self.new ≡ self.old }
+    {
+        let Some(end) = self.children.poll(job, run)? else {
+            return Ok(None);
+        };
+        if let Some(conn) = end.conn {
+            self.connections.end(job, conn);
+        }
+        Ok(Some(end.ended))
     }
 }
 
@@ -114,9 +170,9 @@ impl<R: Files<File = File> + Processes> ChildEdge for OsEdge<R> {
         job: JobNo,
         run: u64,
         def: &Def,
-        _conn: Option<u64>,
+        conn: Option<u64>,
     ) -> Result<u32, EdgeFault> {
-        match self.launch(job, run, def) {
+        match self.launch(job, run, def, conn) {
             Ok(pid) => Ok(pid),
             Err(error) => Err(self.fail(error)),
         }
@@ -138,7 +194,7 @@ impl<R: Files<File = File> + Processes> ChildEdge for OsEdge<R> {
     }
 
     fn poll(&mut self, job: JobNo, run: u64) -> Result<Option<Ended>, EdgeFault> {
-        match self.children.poll(job, run) {
+        match self.wait(job, run) {
             Ok(ended) => Ok(ended),
             Err(error) => Err(self.fail(error)),
         }
@@ -173,7 +229,9 @@ impl<
         }
     }
 
-    fn close(&mut self, _job: JobNo, _conn: u64) {}
+    fn close(&mut self, job: JobNo, conn: u64) {
+        self.connections.close(&self.rt, job, conn);
+    }
 
     fn release(&mut self, job: JobNo) {
         self.sockets.release(&self.rt, job);
