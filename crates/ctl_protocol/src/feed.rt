@@ -1,3 +1,5 @@
+//! The feed of lines: a stream that comes in pieces, cut at its newlines.
+
 ghost use Rattle.std.specs.Prelude.{◌≡◌, ◌≤◌, [], length, IsTrue, OnOk, OnErr, IfOk, IsErrOf, IsOkUnless, false};
 ghost use Rattle.ctl_protocol.specs.Lines.{Feed, lines_of, rest_of, takes, fed, stopped, GivesLine};
 ghost use Rattle.ctl_protocol.specs.declared.feed.LineFault.TheVariants.{NoMemory};
@@ -7,9 +9,12 @@ use bytes::{Bytes, BytesMut};
 use std::alloc::{AllocError, Global};
 use std::marker::Model;
 
+/// Why a piece was not taken, or no line was given.
 #[derive(Clone, Copy, Debug, PartialEq, Eq)]
 pub enum LineFault {
+    /// Memory ran out. The piece was not taken, or the line still comes.
     NoMemory,
+    /// A line, or what no newline has ended, passes the limit; so is every later piece.
     TooLong,
 }
 
@@ -51,7 +56,8 @@ impl LineFeed {
         }
     }
 
-    /// Takes the next piece.
+    /// Takes the next piece. TooLong: it has a line, or leaves a rest, that passes the limit; the lines before that one
+    /// still come, and every later piece is refused too. NoMemory: the piece was not taken.
     pub fn feed(&mut self, piece: &[u8]) -> Result<(), LineFault>
         ensures ok { OnOk result (IsTrue (takes self.old piece.now)
             × (self.new ≡ fed self.old piece.now)) }
@@ -78,7 +84,8 @@ impl LineFeed {
         }
     }
 
-    /// The next line that a newline has ended.
+    /// The next line that a newline has ended, without its newline; None where there is none. NoMemory, the one fault,
+    /// leaves the line to come.
     pub fn next_line(&mut self) -> Result<Option<Bytes>, LineFault>
         ensures line { IfOk result (λ line. GivesLine self.old line self.new) }
         ensures err { OnErr result (self.new ≡ self.old) }
