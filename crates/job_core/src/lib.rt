@@ -94,6 +94,7 @@ impl Model for JobCore {
 impl JobCore {
     ghost use Rattle.job_core.specs.Events.{item_of};
     ghost use Rattle.job_core.specs.Rows.{row_of};
+    ghost use Rattle.job_core.specs.Memory.{NeedsNoMemory};
     ghost use Rattle.job_defs.specs.Definitions.{definition};
 
     /// A job that was loaded at this reading. It takes all memory that the job ever needs, and its one refusal is of memory.
@@ -117,6 +118,8 @@ impl JobCore {
     ///   connection that leaves and does not wait, or that comes to a job without sockets or with a number not above
     ///   every earlier one;
     /// - `TooManyConnections`: a connection where 64 wait.
+    ///
+    /// It takes no memory, and never answers `NoMemory`.
     pub fn event(&mut self, event: JobEvent<'_>, now: Reading) -> Result<(), Refusal>
         requires { now.up ≤ MAX_UP }
         ensures refused { (past : History) → Keeps self.old.facts past → now ≡ clock.now past →
@@ -125,6 +128,7 @@ impl JobCore {
             OnOk result (Keeps self.new.facts (item_of event.entry ∷ past)) }
         ensures unchanged { OnErr result (self.new ≡ self.old) }
         ensures decided { self.new.decided ≡ self.old.decided }
+        ensures memory { NeedsNoMemory result }
         ensures in_range { OnOk result ((clock.present_after (item_of event.entry) now).up ≤ MAX_UP) }
     {
         self.job.apply(event, now)

@@ -1,7 +1,6 @@
 -- When a load is refused, read off the table.
-use Rattle.std.proofs.Common.{◌≡◌, ℕ, suc, Bool, true, false, not, ◌&&◌, ◌||◌, nat_lt, List, [], ◌∷◌, map, length, get_or, Option, Some, None, is_some, refl, sym, ap, ◌∙◌, subst, ◌<◌, ◌≤◌, arith}
-use Rattle.std.specs.Prelude.{if◌then◌else◌}
-use Rattle.std.specs.List.{list_any, filter, position}
+use Rattle.std.proofs.Common.{◌≡◌, ℕ, suc, Bool, true, false, not, ◌&&◌, nat_lt, List, [], ◌∷◌, map, length, Option, Some, None, is_some, refl, sym, ap, ◌∙◌, subst, ◌<◌, ◌≤◌, arith}
+use Rattle.std.specs.List.{position}
 use Rattle.std.specs.Vec.{vec_capacity, vec_len}
 use Rattle.slab.specs.Slab.{Slab, get}
 use Rattle.history_model.specs.declared.Reading.{Reading}
@@ -9,22 +8,19 @@ use Rattle.history_model.specs.declared.Refusal.{Refusal}
 use Rattle.history_model.specs.declared.Refusal.TheVariants.{NoMemory, BadRequest, NoSuchJob, AlreadyLoaded, Disabled, Removing, NotRunning, BadDefinition, StoreRefused, TooManyJobs, SocketRefused, TooManyConnections, Stale, ClockRefused, ShuttingDown}
 use Rattle.history_model.specs.declared.event.Setting.{Setting}
 use Rattle.history_model.specs.Items.{Definition, History}
-use Rattle.history_model.specs.Search.{or_else, first}
-use Rattle.history_model.specs.Runs.{is_removed}
+use Rattle.history_model.specs.Search.{or_else}
 use Rattle.history_model.specs.Labels.{Label}
-use Rattle.history_model.specs.Machine.{State, Job, is_of, past_in, past_of, is_disabled, flag_in, sets}
+use Rattle.history_model.specs.Machine.{State, Job, past_of, is_disabled}
 use Rattle.history_model.specs.Acceptance.{refused_if, refusal_there, refusal_stored, refusal_of_load}
 use Rattle.history_model.specs.declared.TheConstants.{MAX_UP}
 use Rattle.job_table.specs.Rows.{IsOnce}
 use Rattle.job_table.specs.Kept.{KeepsJobs, KeepsState}
-use Rattle.job_table.specs.Entries.{row, name, rows, AllStay, has_label}
+use Rattle.job_table.specs.Entries.{row, name, AllStay, has_label}
 use Rattle.job_table.specs.Loads.{IsAbsent, enabled_if}
 use Rattle.job_table.specs.Outcomes.{Tells}
-use Rattle.job_table.specs.Minutes.{is_some_entry, has_calendars}
 use Rattle.job_table.specs.Sound.{seen, AreHeld, IsSound}
 use Rattle.job_table.specs.declared.entry.Entry.{Entry}
 use Rattle.job_table.specs.declared.jobs.Jobs.{Jobs}
-use Rattle.job_table.proofs.Lists.{any-map}
 use Rattle.job_table.proofs.Firsts.{NonePasses, none-where}
 use Rattle.job_table.proofs.Places.{rows-all}
 

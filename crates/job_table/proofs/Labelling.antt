@@ -1,5 +1,5 @@
 -- Orders by number are the machine's orders by label.
-use Rattle.std.proofs.Common.{◌≡◌, ℕ, ◌==◌, true, cond, List, [], ◌∷◌, ◌++◌, map, refl, ap, ◌∙◌, subst, arith}
+use Rattle.std.proofs.Common.{◌≡◌, ℕ, zero, suc, ◌<◌, length, get_or, sym, ◌==◌, true, cond, List, [], ◌∷◌, ◌++◌, map, refl, ap, ◌∙◌, subst, arith}
 use Rattle.std.specs.List.{flat_map}
 use Rattle.history_model.specs.declared.Reading.{Reading}
 use Rattle.history_model.specs.declared.Act.{Act}
@@ -13,7 +13,7 @@ use Rattle.job_table.specs.declared.entry.Entry.{Entry}
 use Rattle.job_table.proofs.Lists.{map-append}
 use Rattle.job_table.proofs.Places.{rows-all}
 
-abbrev IsNamed : List Name → List Entry → Type 0
+abbrev pub IsNamed : List Name → List Entry → Type 0
 IsNamed names [] = Unit {0}
 IsNamed names (e ∷ es) = (label_of names e.number ≡ (name e).described.label) × IsNamed names es
 
@@ -50,3 +50,13 @@ pub orders-labelled : (at : Reading) (names : List Name) (es : List Entry) (orde
 orders-labelled at names es orders jobs same stay once keeps given =
     (λ i. labelled (same i) (given i)) ∙ ap (λ rs. labelled (map name es) (numbered_all rs jobs)) (rows-all es stay)
     ∙ labels at (map name es) es jobs (is-named es once) (subst (λ rs. KeepsJobs at rs jobs) (rows-all es stay) keeps)
+
+named-at : (names : List Name) (es : List Entry) (k : ℕ) (d : Entry) → k < length es → IsNamed names es → label_of names (get_or es k d).number ≡ (get_or es k d).def.label
+named-at names [] k d within named = let none : k < 0 = within in absurd (omega (arith, none))
+named-at names (e ∷ es) zero d within named = named.0
+named-at names (e ∷ es) (suc k) d within named = named-at names es k d (omega arith) named.1
+
+-- the number of an entry stands for its label
+pub number-named : (es : List Entry) (k : ℕ) (e : Entry) → k < length es → e ≡ get_or es k e → IsOnce (map name es) → label_of (map name es) e.number ≡ e.def.label
+number-named es k e within is once =
+    ap (λ x. label_of (map name es) x.number) is ∙ named-at (map name es) es k e within (is-named es once) ∙ ap (λ x. x.def.label) (sym is)

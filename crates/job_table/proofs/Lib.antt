@@ -14,3 +14,6 @@ pub mod Showing
 pub mod Steps
 pub mod Handing
 pub mod Resting
+pub mod Seeking
+pub mod Children
+pub mod Counting

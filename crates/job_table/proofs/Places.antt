@@ -1,10 +1,10 @@
 -- The job with a label: where it stands, and what an event to it leaves.
-use Rattle.std.proofs.Common.{◌≡◌, ℕ, zero, suc, ◌+◌, ◌<◌, Bool, true, false, not, ◌&&◌, cond, List, [], ◌∷◌, map, length, get_or, Option, Some, None, refl, sym, ap, ◌∙◌, subst}
-use Rattle.std.specs.Prelude.{slice_set, unwrap_or, Result, Ok, Err, OnOk, if◌then◌else◌}
+use Rattle.std.proofs.Common.{◌≡◌, ℕ, zero, suc, Bool, true, false, not, ◌&&◌, cond, List, [], ◌∷◌, map, get_or, Some, None, refl, sym, ap, ◌∙◌, subst}
+use Rattle.std.specs.Prelude.{slice_set, unwrap_or, Result, Ok, Err, OnOk}
 use Rattle.std.specs.List.{position, filter}
 use Rattle.history_model.specs.declared.Reading.{Reading}
 use Rattle.history_model.specs.declared.Refusal.{Refusal}
-use Rattle.history_model.specs.Items.{Definition, Item, Loaded, Read, Saw, Asked, Came, Left, Ordered, Answered, RunEnded, WaitRefused, History}
+use Rattle.history_model.specs.Items.{Item, Loaded, Read, Saw, Asked, Came, Left, Ordered, Answered, RunEnded, WaitRefused, History}
 use Rattle.history_model.specs.Search.{first, first as head_of, or_else, latest}
 use Rattle.history_model.specs.Clock.{now, definition_of, reading_in, load_in, no_reading, no_definition}
 use Rattle.history_model.specs.Refusals.{refusal_of}
@@ -14,7 +14,6 @@ use Rattle.history_model.specs.Machine.{Job, is_of, past_in}
 use Rattle.history_model.specs.Acceptance.{refusal_at}
 use Rattle.history_model.specs.Step.{with_item, told_one}
 use Rattle.job_defs.specs.Definitions.{definition}
-use Rattle.job_table.specs.Rows.{Row}
 use Rattle.job_table.specs.Kept.{KeepsJob, KeepsJobs}
 use Rattle.job_table.specs.Entries.{row, name, rows, AllStay, has_label, is_here}
 use Rattle.job_table.specs.declared.entry.Entry.{Entry}

@@ -6,7 +6,7 @@ use Rattle.job_table.proofs.Lists.{at-drop, set-drop, set-take}
 use Rattle.history_model.specs.declared.Reading.{Reading}
 use Rattle.history_model.specs.declared.Act.{Act}
 use Rattle.history_model.specs.declared.Order.{Order}
-use Rattle.history_model.specs.Items.{History, Ordered}
+use Rattle.history_model.specs.Items.{History}
 use Rattle.history_model.specs.Clock.{now, definition_of}
 use Rattle.history_model.specs.Runs.{is_gone}
 use Rattle.history_model.specs.Due.{due}

@@ -12,10 +12,10 @@ use Rattle.history_model.specs.Machine.{Job}
 use Rattle.history_model.specs.Step.{told, with_item, lists}
 use Rattle.job_defs.specs.Definitions.{definition}
 use Rattle.job_defs.specs.Described.{Described}
-use Rattle.job_table.specs.Rows.{Row}
-use Rattle.job_table.specs.Kept.{KeepsJob, KeepsJobs}
+use Rattle.job_table.specs.Kept.{KeepsJobs}
 use Rattle.job_table.specs.Entries.{row, name, rows, AllStay}
 use Rattle.job_table.specs.News.{item_for}
+use Rattle.job_table.specs.Counts.{counts}
 use Rattle.job_table.specs.Telling.{followed, refusal_if, IsTold, AreTold, AreFor, IsAccepted, present_with}
 use Rattle.job_table.specs.declared.entry.Entry.{Entry}
 use Rattle.job_table.specs.declared.entry.News.{News}
@@ -32,7 +32,7 @@ pub told-as : {at : Moment} {o p : Option Item} {e new : Entry} → o ≡ p → 
 told-as {at} {o} {p} {e} {new} same told = subst (λ q. IsTold at q e new) same told
 
 pub told-nothing : {at : Moment} {e : Entry} → IsTold at None e e
-told-nothing = record { name = refl; left = refl; kept = λ past keeps present fine. keeps }
+told-nothing = record { name = refl; left = refl; decided = refl; kept = λ past keeps present fine. keeps }
 
 label-with : (job : Job) (o : Option Item) → job.label ≡ (with_item job o).label
 label-with job None = refl
@@ -68,7 +68,7 @@ present-news : (news : News) (at : Moment) (d : Described) (o : Option Item) (jo
     present_with news at ≡ now (with_item job o).past
 present-news news at d o job same is = news-present job news at d is ∙ ap (λ p. now (with_item job p).past) same
 
-take-of-drop : {X : Type 0} (xs : List X) (i : ℕ) (x : X) (rest : List X) → drop i xs ≡ x ∷ rest → take (suc i) xs ≡ take i xs ++ x ∷ []
+pub take-of-drop : {X : Type 0} (xs : List X) (i : ℕ) (x : X) (rest : List X) → drop i xs ≡ x ∷ rest → take (suc i) xs ≡ take i xs ++ x ∷ []
 take-of-drop [] zero x rest e = cc
 take-of-drop [] (suc i) x rest e = cc
 take-of-drop (y ∷ ys) zero x rest e = let same : y ≡ x = cc in ap (λ z. z ∷ []) same
@@ -98,6 +98,16 @@ module _ (at : Moment) (news : News) where
   told-stay [] (n ∷ ns) all stay = absurd all
   told-stay (e ∷ es) [] all stay = absurd all
   told-stay (e ∷ es) (n ∷ ns) all stay = (all.0.left ∙ stay.0, told-stay es ns all.1 stay.1)
+
+  counts-rows : (es later : List Entry) → AreTold at news es later → counts (map row later) ≡ counts (map row es)
+  counts-rows [] [] all = refl
+  counts-rows [] (n ∷ ns) all = absurd all
+  counts-rows (e ∷ es) [] all = absurd all
+  counts-rows (e ∷ es) (n ∷ ns) all = λ i. ((all.0.name i).described.label, all.0.decided i) ∷ counts-rows es ns all.1 i
+
+  -- no job is asked
+  pub told-counts : (es later : List Entry) → AreTold at news es later → AllStay es → counts (rows later) ≡ counts (rows es)
+  told-counts es later all stay = ap counts (rows-all later (told-stay es later all stay)) ∙ counts-rows es later all ∙ ap counts (sym (rows-all es stay))
 
   -- each job of the machine with its item
   told-rows : (item : Job → Option Item) (es later : List Entry) (jobs : List Job) → AreTold at news es later → AreFor news item (map row es) jobs → IsAccepted at item →

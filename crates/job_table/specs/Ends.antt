@@ -10,7 +10,8 @@ use Rattle.history_model.specs.Step.{Outcome, outcome}
 use Rattle.job_table.specs.Rows.{Table}
 use Rattle.job_table.specs.Kept.{KeepsState, labelled}
 use Rattle.job_table.specs.Entries.{name}
-use Rattle.job_table.specs.Outcomes.{refused, IsNext, IsSameFor, UnlessMemory, IsNextUnless}
+use Rattle.job_table.specs.Counts.{counts, IsCounted}
+use Rattle.job_table.specs.Outcomes.{refused, IsNext, IsNextUnless}
 use Rattle.job_table.specs.declared.Step.{Step}
 use Rattle.job_table.specs.contracts.JobTable.{the_row}
 
@@ -27,9 +28,14 @@ answered (Err refusal) = refused refusal
 abbrev pub IsAnswer : Event → Table → Result Step Refusal → Type 0
 IsAnswer e table result = (s : State) → KeepsState table s → outcome s e ≡ answered result
 
+-- each job was asked once or not at all, and the step tells how many were; a refused event asks none
+abbrev pub Visits : Result Step Refusal → Table → Table → Type 0
+Visits (Ok given) old new = IsCounted (counts old.rows) new.rows given.visited
+Visits (Err refusal) old new = new.rows ≡ old.rows
+
 -- the table ends as the one that stands for the machine's next state
-abbrev pub GoesOn : MutBor Table → Event → Fml
-GoesOn table e = Rests the_row table (IsNext e table.now)
+abbrev pub GoesOn : MutBor Table → Result Step Refusal → Event → Fml
+GoesOn table result e = Rests the_row table (λ new. IsNext e table.now new × Visits result table.now new)
 
 abbrev pub GoesOnUnless : MutBor Table → Result Step Refusal → Event → Fml
-GoesOnUnless table result e = Rests the_row table (IsNextUnless result e table.now)
+GoesOnUnless table result e = Rests the_row table (λ new. IsNextUnless result e table.now new × Visits result table.now new)

@@ -1,6 +1,7 @@
 pub mod Rows
 pub mod Kept
 pub mod Outcomes
+pub mod Counts
 pub mod Minutes
 pub mod Entries
 pub mod Asking
@@ -13,4 +14,5 @@ pub mod Loads
 pub mod Changes
 pub mod Shown
 pub mod Listed
+pub mod Nearest
 pub mod Ends

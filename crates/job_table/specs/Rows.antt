@@ -1,5 +1,5 @@
 -- What a contract sees of a table of jobs, as plain data.
-use Rattle.std.specs.Prelude.{◌≡◌, ℕ, ◌==◌, Bool, false, cond, List, [], ◌∷◌}
+use Rattle.std.specs.Prelude.{◌≡◌, ℕ, ◌==◌, Bool, false, cond, List, [], ◌∷◌, Option, Some, None}
 use Rattle.slab.specs.Slab.{Slab}
 use Rattle.history_model.specs.declared.Reading.{Reading}
 use Rattle.history_model.specs.declared.Order.{Order}
@@ -45,6 +45,11 @@ pub record Table : Type 0 where
 abbrev pub label_of : List Name → ℕ → Label
 label_of [] number = []
 label_of (name ∷ names) number = cond (name.number == number) name.described.label (label_of names number)
+
+-- the definition that a number stands for, if it stands for one
+abbrev pub definition_of_number : List Name → ℕ → Option Described
+definition_of_number [] number = None
+definition_of_number (name ∷ names) number = cond (name.number == number) (Some name.described) (definition_of_number names number)
 
 -- no other job has this number or this label
 abbrev pub IsOther : Name → List Name → Type 0

@@ -11,12 +11,14 @@ ghost use Rattle.history_model.specs.Items.{Asked, Answered, Came, Left, RunEnde
 ghost use Rattle.history_model.specs.declared.Refusal.TheVariants.{NoMemory};
 ghost use Rattle.history_model.specs.Machine.{State, opened, ListJobs, PrintJob, OfJob, UnloadJob, ShutDown, Tick, Sight};
 
+mod after;
 mod changing;
 mod entry;
 mod events;
 mod jobs;
 mod loading;
 mod opening;
+mod order;
 mod prepared;
 mod questions;
 mod scan;
@@ -27,6 +29,7 @@ use calendar_due::Zone;
 pub use changing::NewSetting;
 use history_model::{Ask, Ended, JobNo, Obs, Order, Reading, Refusal, Setting};
 use job_core::JobEvent;
+use job_defs::Def;
 use jobs::Jobs;
 pub use loading::Ready;
 use scan::{all_left, place_of_number};
@@ -63,7 +66,8 @@ pub struct Step<'a> {
 
 impl<'a> Step<'a> {
     ghost use Rattle.std.specs.Prelude.{map};
-    ghost use Rattle.job_table.specs.Rows.{label_of};
+    ghost use Rattle.job_table.specs.Rows.{label_of, definition_of_number};
+    ghost use Rattle.std.specs.Option.{option_map};
     ghost use Rattle.job_table.specs.Entries.{name};
 
     /// The label of the job with this number, also of one that just left; the empty text for a number that no job has.
@@ -76,11 +80,23 @@ impl<'a> Step<'a> {
             None => "",
         }
     }
+
+    /// The definition of the job with this number, also of one that just left; `None` for a number that no job has.
+    pub fn def(&self, job: JobNo) -> Option<&'a Def>
+        ensures { option_map (λ def. def.now) result ≡ definition_of_number (map name self.now.jobs.now.entries.items) job }
+    {
+        let jobs = self.jobs;
+        match place_of_number(&jobs.entries, job) {
+            Some(place) => Some(&jobs.entries[place].def),
+            None => None,
+        }
+    }
 }
 
 impl JobTable {
     ghost use Rattle.job_table.specs.Ends.{IsAnswer, GoesOn, GoesOnUnless, acts_of};
     ghost use Rattle.job_table.specs.Outcomes.{UnlessMemory, IsToldText, Tells};
+    ghost use Rattle.job_core.specs.Memory.{NeedsNoMemory};
     ghost use Rattle.job_table.specs.Kept.{acts_in, is_none, KeepsState};
     ghost use Rattle.job_table.specs.Opening.{opening_refusal};
     ghost use Rattle.job_table.specs.Minutes.{has_calendars};
@@ -124,7 +140,8 @@ impl JobTable {
     /// runs and is not being stopped is left as it is. Refusals: BadRequest (no label), NoSuchJob, Removing.
     pub fn start(&mut self, label: &str) -> Result<Step<'_>, Refusal>
         ensures answer { IsAnswer (OfJob label.now (Asked Ask.Start)) self.old result }
-        ensures* kept { sem 𝓛 (GoesOn self.entry (OfJob label.now (Asked Ask.Start))) }
+        ensures memory { NeedsNoMemory result }
+        ensures* kept { sem 𝓛 (GoesOn self.entry result (OfJob label.now (Asked Ask.Start))) }
     {
         self.jobs.tell(label, JobEvent::Asked(Ask::Start))?;
         Ok(self.given())
@@ -134,7 +151,8 @@ impl JobTable {
     /// Refusals: BadRequest (no label), NoSuchJob, Removing, NotRunning.
     pub fn stop(&mut self, label: &str) -> Result<Step<'_>, Refusal>
         ensures answer { IsAnswer (OfJob label.now (Asked Ask.Stop)) self.old result }
-        ensures* kept { sem 𝓛 (GoesOn self.entry (OfJob label.now (Asked Ask.Stop))) }
+        ensures memory { NeedsNoMemory result }
+        ensures* kept { sem 𝓛 (GoesOn self.entry result (OfJob label.now (Asked Ask.Stop))) }
     {
         self.jobs.tell(label, JobEvent::Asked(Ask::Stop))?;
         Ok(self.given())
@@ -144,7 +162,8 @@ impl JobTable {
     /// label), NoSuchJob, Removing.
     pub fn kickstart(&mut self, label: &str, k: bool) -> Result<Step<'_>, Refusal>
         ensures answer { IsAnswer (OfJob label.now (Asked (Ask.Kickstart k))) self.old result }
-        ensures* kept { sem 𝓛 (GoesOn self.entry (OfJob label.now (Asked (Ask.Kickstart k)))) }
+        ensures memory { NeedsNoMemory result }
+        ensures* kept { sem 𝓛 (GoesOn self.entry result (OfJob label.now (Asked (Ask.Kickstart k)))) }
     {
         self.jobs.tell(label, JobEvent::Asked(Ask::Kickstart(k)))?;
         Ok(self.given())
@@ -154,7 +173,8 @@ impl JobTable {
     /// (no label), NoSuchJob, Removing, Stale (no sockets, or a number that is not new), TooManyConnections (64 wait).
     pub fn came(&mut self, label: &str, conn: u64) -> Result<Step<'_>, Refusal>
         ensures answer { IsAnswer (OfJob label.now (Came conn)) self.old result }
-        ensures* kept { sem 𝓛 (GoesOn self.entry (OfJob label.now (Came conn))) }
+        ensures memory { NeedsNoMemory result }
+        ensures* kept { sem 𝓛 (GoesOn self.entry result (OfJob label.now (Came conn))) }
     {
         self.jobs.tell(label, JobEvent::Came(conn))?;
         Ok(self.given())
@@ -163,7 +183,8 @@ impl JobTable {
     /// A waiting connection was given up by its client. Refusals: BadRequest (no label), NoSuchJob, Stale (it does not wait).
     pub fn left(&mut self, label: &str, conn: u64) -> Result<Step<'_>, Refusal>
         ensures answer { IsAnswer (OfJob label.now (Left conn)) self.old result }
-        ensures* kept { sem 𝓛 (GoesOn self.entry (OfJob label.now (Left conn))) }
+        ensures memory { NeedsNoMemory result }
+        ensures* kept { sem 𝓛 (GoesOn self.entry result (OfJob label.now (Left conn))) }
     {
         self.jobs.tell(label, JobEvent::Left(conn))?;
         Ok(self.given())
@@ -173,7 +194,8 @@ impl JobTable {
     /// (this answer is not awaited).
     pub fn spawned(&mut self, label: &str, run: u64, pid: u32) -> Result<Step<'_>, Refusal>
         ensures answer { IsAnswer (OfJob label.now (Answered (answers.Spawned run pid))) self.old result }
-        ensures* kept { sem 𝓛 (GoesOn self.entry (OfJob label.now (Answered (answers.Spawned run pid)))) }
+        ensures memory { NeedsNoMemory result }
+        ensures* kept { sem 𝓛 (GoesOn self.entry result (OfJob label.now (Answered (answers.Spawned run pid)))) }
     {
         self.jobs.tell(label, JobEvent::Spawned { run, pid })?;
         Ok(self.given())
@@ -183,7 +205,8 @@ impl JobTable {
     /// label), NoSuchJob, Stale (this answer is not awaited).
     pub fn spawn_refused(&mut self, label: &str, run: u64) -> Result<Step<'_>, Refusal>
         ensures answer { IsAnswer (OfJob label.now (Answered (answers.SpawnRefused run))) self.old result }
-        ensures* kept { sem 𝓛 (GoesOn self.entry (OfJob label.now (Answered (answers.SpawnRefused run)))) }
+        ensures memory { NeedsNoMemory result }
+        ensures* kept { sem 𝓛 (GoesOn self.entry result (OfJob label.now (Answered (answers.SpawnRefused run)))) }
     {
         self.jobs.tell(label, JobEvent::SpawnRefused { run })?;
         Ok(self.given())
@@ -192,7 +215,8 @@ impl JobTable {
     /// TERM was given to a run, or refused. Refusals: BadRequest (no label), NoSuchJob, Stale (this answer is not awaited).
     pub fn term_answered(&mut self, label: &str, run: u64, ok: bool) -> Result<Step<'_>, Refusal>
         ensures answer { IsAnswer (OfJob label.now (Answered (answers.Termed run ok))) self.old result }
-        ensures* kept { sem 𝓛 (GoesOn self.entry (OfJob label.now (Answered (answers.Termed run ok)))) }
+        ensures memory { NeedsNoMemory result }
+        ensures* kept { sem 𝓛 (GoesOn self.entry result (OfJob label.now (Answered (answers.Termed run ok)))) }
     {
         self.jobs.tell(label, JobEvent::Termed { run, ok })?;
         Ok(self.given())
@@ -201,7 +225,8 @@ impl JobTable {
     /// KILL was given to a run, or refused. Refusals: BadRequest (no label), NoSuchJob, Stale (this answer is not awaited).
     pub fn kill_answered(&mut self, label: &str, run: u64, ok: bool) -> Result<Step<'_>, Refusal>
         ensures answer { IsAnswer (OfJob label.now (Answered (answers.Killed run ok))) self.old result }
-        ensures* kept { sem 𝓛 (GoesOn self.entry (OfJob label.now (Answered (answers.Killed run ok)))) }
+        ensures memory { NeedsNoMemory result }
+        ensures* kept { sem 𝓛 (GoesOn self.entry result (OfJob label.now (Answered (answers.Killed run ok)))) }
     {
         self.jobs.tell(label, JobEvent::Killed { run, ok })?;
         Ok(self.given())
@@ -210,7 +235,8 @@ impl JobTable {
     /// A run ended. Refusals: BadRequest (no label), NoSuchJob, Stale (it is not the present child's run).
     pub fn ended(&mut self, label: &str, run: u64, how: Ended) -> Result<Step<'_>, Refusal>
         ensures answer { IsAnswer (OfJob label.now (RunEnded run how)) self.old result }
-        ensures* kept { sem 𝓛 (GoesOn self.entry (OfJob label.now (RunEnded run how))) }
+        ensures memory { NeedsNoMemory result }
+        ensures* kept { sem 𝓛 (GoesOn self.entry result (OfJob label.now (RunEnded run how))) }
     {
         self.jobs.tell(label, JobEvent::Ended(run, how))?;
         Ok(self.given())
@@ -220,7 +246,8 @@ impl JobTable {
     /// not the present child's run).
     pub fn wait_refused(&mut self, label: &str, run: u64) -> Result<Step<'_>, Refusal>
         ensures answer { IsAnswer (OfJob label.now (WaitRefused run)) self.old result }
-        ensures* kept { sem 𝓛 (GoesOn self.entry (OfJob label.now (WaitRefused run))) }
+        ensures memory { NeedsNoMemory result }
+        ensures* kept { sem 𝓛 (GoesOn self.entry result (OfJob label.now (WaitRefused run))) }
     {
         self.jobs.tell(label, JobEvent::WaitRefused { run })?;
         Ok(self.given())
@@ -230,7 +257,8 @@ impl JobTable {
     /// was accepted before.
     pub fn shutdown(&mut self) -> Result<Step<'_>, Refusal>
         ensures answer { IsAnswer ShutDown self.old result }
-        ensures* kept { sem 𝓛 (GoesOn self.entry ShutDown) }
+        ensures memory { NeedsNoMemory result }
+        ensures* kept { sem 𝓛 (GoesOn self.entry result ShutDown) }
     {
         self.jobs.shut_down()?;
         Ok(self.given())
@@ -240,7 +268,8 @@ impl JobTable {
     /// BadRequest (no label), NoSuchJob, Removing.
     pub fn unload(&mut self, label: &str) -> Result<Step<'_>, Refusal>
         ensures answer { (store : Bool) → IsAnswer (UnloadJob label.now false store) self.old result }
-        ensures* kept { sem 𝓛 (GoesOn self.entry (UnloadJob label.now false true)) }
+        ensures memory { NeedsNoMemory result }
+        ensures* kept { sem 𝓛 (GoesOn self.entry result (UnloadJob label.now false true)) }
     {
         self.jobs.unload(label)?;
         Ok(self.given())
@@ -250,7 +279,7 @@ impl JobTable {
     pub fn saw(&mut self, path: &str, obs: Obs) -> Result<Step<'_>, Refusal>
         ensures answer { IsAnswer (Sight path.now obs) self.old result }
         ensures ok { IsOk result }
-        ensures* kept { sem 𝓛 (GoesOn self.entry (Sight path.now obs)) }
+        ensures* kept { sem 𝓛 (GoesOn self.entry result (Sight path.now obs)) }
     {
         self.jobs.saw(path, obs);
         Ok(self.given())

@@ -9,6 +9,7 @@ ghost use Rattle.history_model.specs.Machine.{Job};
 ghost use Rattle.history_model.specs.Step.{stays as job_stays};
 ghost use Rattle.job_table.specs.Kept.{KeepsJobs, numbered_all};
 ghost use Rattle.job_table.specs.Telling.{AreTold};
+ghost use Rattle.job_table.specs.Asking.{AreAskedOnce};
 ghost use Rattle.job_table.specs.Entries.{rows, name, stays, has_label, has_left_under, has_number, is_here, AllStay};
 
 use crate::entry::{Entry, News};
@@ -35,6 +36,7 @@ pub fn ask_all(entries: &mut [Entry], now: Reading, orders: &mut Vec<Order>) -> 
     ensures orders { (jobs : List Job) → KeepsJobs now (rows entries.old) jobs →
         orders.new.items ≡ orders.old.items ++ numbered_all (rows entries.old) jobs }
     ensures visited { result ≡ length (rows entries.new) }
+    ensures asked { AreAskedOnce entries.old entries.new }
     ensures names { map name entries.new ≡ map name entries.old }
     ensures capacity { vec_capacity orders.old ≤ vec_capacity orders.new }
 {

@@ -1,9 +1,10 @@
 -- The scan comes one place further at each job.
-use Rattle.std.proofs.Common.{◌≡◌, ◌+◌, ◌<◌, Bool, true, false, not, [], length, get_or, refl, sym, ap, ◌∙◌, add-one, arith}
+use Rattle.std.proofs.Common.{◌≡◌, ◌+◌, ◌<◌, true, false, [], length, get_or, refl, sym, ap, ◌∙◌, add-one, arith}
 use Rattle.job_table.specs.Entries.{name}
 use Rattle.job_table.specs.declared.entry.Entry.{Entry}
 use Rattle.job_table.proofs.Lists.{set-map, set-drop, drop-suc}
 use Rattle.job_table.proofs.Scanning.{Asks, scan_step, stay-next, stay-count}
+use Rattle.job_table.proofs.Counting.{asked-step}
 use Rattle.job_table.proofs.scan.ask_all.Goals as goal
 use Rattle.job_table.proofs.scan.ask_all.Goals.{then-not-entry, else-not-entry}
 
@@ -16,6 +17,7 @@ loop-entry-init c = record {
   capacity = omega arith;
   few = omega arith;
   visited = refl;
+  once = tt;
   asked = λ jobs keeps. record { before = []; rest = jobs; kept = tt; waits = keeps; leads = refl; told = refl };
 }
 
@@ -45,5 +47,6 @@ loop-entry-preserved c =
         | then-not-entry w ↦ w.visited-is ∙ ap (λ n. n + 1) inv.visited ∙ sym (stay-count entries i new false within w.if-not-entry.true)
         | else-not-entry w ↦ w.visited-is ∙ inv.visited ∙ sym (stay-count entries i new true within w.if-not-entry.false)
       ];
+      once = asked-step c.args.entries.now entries i e new within inv.untouched is (c.ask.ensures.name, c.ask.ensures.decided) inv.once;
       asked = λ jobs keeps. scan_step c.args.now entries i e new c.loop-entry.orders.items c.ask.new.orders.items _ _ within is inv.stay asks (inv.asked jobs keeps);
     }

@@ -1,10 +1,13 @@
 -- The orders' numbers stand for the labels.
-use Rattle.std.proofs.Common.{◌≡◌, ◌∙◌, ◌++◌, ap, sym, subst, map, drop, length, arith}
+use Rattle.std.proofs.Common.{◌∙◌, ◌++◌, ap, sym, subst, map, drop, length, arith}
 use Rattle.std.proofs.lemmas.Grind.{common_steps}
 use Rattle.job_table.specs.Rows.{IsOnce}
 use Rattle.job_table.specs.Kept.{numbered_all}
 use Rattle.job_table.specs.Entries.{name, rows}
 use Rattle.job_table.proofs.Labelling.{orders-labelled}
+use Rattle.job_table.specs.Asking.{AreAskedOnce}
+use Rattle.job_table.specs.Counts.{counts, IsCounted}
+use Rattle.job_table.proofs.Counting.{counted}
 use Rattle.job_table.proofs.Lists.{lent-back}
 use Rattle.job_table.proofs.Holding.{held-names}
 use Rattle.job_table.proofs.jobs.Jobs.ask.Goals as goal
@@ -25,3 +28,12 @@ returns-clause-sound c =
       few = omega arith;
       room = omega arith;
     }
+
+pub returns-clause-counted : goal.returns-clause-counted
+returns-clause-counted c =
+    let es = c.args.self.now.entries.items in
+    let later = c.ask_all-self.new.entries in
+    let whole = lent-back later (drop (length later) es) c.args.self.now.entries.len (omega arith) in
+    let once = subst (λ all. AreAskedOnce all later) c.deref_mut.ensures.value c.ask_all-self.ensures.asked in
+    subst (λ all. IsCounted (counts (rows es)) (rows all) c.ask_all-self.result) (sym whole)
+    (counted es later c.ask_all-self.result c.requires.stay c.requires.sound.once once c.ask_all-self.ensures.visited)

@@ -7,6 +7,9 @@ use Rattle.job_core.specs.Events.{item_of}
 use Rattle.job_table.specs.Rows.{IsOnce}
 use Rattle.job_table.specs.Entries.{has_label}
 use Rattle.job_table.proofs.Places.{is-absent, answers, told-kept, handed}
+use Rattle.job_table.specs.declared.entry.Entry.{Entry}
+use Rattle.job_table.proofs.Firsts.{first-where, within-where}
+use Rattle.job_table.proofs.Counting.{counts-set}
 use Rattle.job_table.proofs.Holding.{held-names}
 use Rattle.job_table.proofs.jobs.Jobs.hand.Goals as goal
 
@@ -47,3 +50,13 @@ returns-clause-sound c =
       few = c.requires.sound.few;
       room = c.requires.sound.room;
     }
+
+pub returns-clause-counts : goal.returns-clause-counts
+returns-clause-counts c =
+    let es = c.args.self.now.entries.items in
+    let e = c.index_mut-entry.result.now in
+    let new : Entry = record { number = e.number; def = e.def; core = c.event.new.self; has_left = e.has_left } in
+    let at = c.in-Some.ensures ∙ ap (position (has_label c.args.label.now)) c.deref.ensures.value in
+    let is = handed c.args.label.now es c.in-Some.place e new c.requires.stay at c.index_mut-entry.ensures.value refl refl in
+    counts-set es c.in-Some.place e new c.requires.stay is.stay (within-where (has_label c.args.label.now) es c.in-Some.place (first-where (has_label c.args.label.now) es c.in-Some.place at))
+    c.index_mut-entry.ensures.value refl c.event.ensures.decided

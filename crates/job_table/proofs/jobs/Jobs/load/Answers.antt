@@ -8,16 +8,19 @@ use Rattle.slab.specs.Slab.{get, Updates}
 use Rattle.calendar_due.specs.Rules.{minute_at}
 use Rattle.history_model.specs.declared.TheConstants.{MAX_UP}
 use Rattle.history_model.specs.Search.{first}
+use Rattle.history_model.specs.Labels.{Label}
 use Rattle.history_model.specs.Items.{Loaded}
 use Rattle.history_model.specs.Keeps.{Keeps}
-use Rattle.history_model.specs.Machine.{State, Job, Load, sets}
+use Rattle.history_model.specs.Machine.{Job, Load, sets}
 use Rattle.history_model.specs.Step.{taken, with_job}
 use Rattle.history_model.specs.Texts.{load_text}
 use Rattle.job_defs.specs.Definitions.{definition, given}
 use Rattle.job_table.specs.Rows.{IsOnce}
-use Rattle.job_table.specs.Kept.{KeepsJob, KeepsJobs, KeepsState}
-use Rattle.job_table.specs.Entries.{row, name, rows, AllStay, is_above, entered}
+use Rattle.job_table.specs.Kept.{KeepsJob, KeepsJobs}
+use Rattle.job_table.specs.Entries.{row, name, rows, AllStay, is_above}
 use Rattle.job_table.specs.Sound.{seen, AreHeld}
+use Rattle.job_table.specs.Counts.{counts, count_in}
+use Rattle.job_table.proofs.Counting.{counted-from, counts-placed}
 use Rattle.job_table.proofs.Steps.{accepted}
 use Rattle.job_table.proofs.Handing.{own-jobs, IsHead, asked-of}
 use Rattle.job_table.proofs.Setting.{settings-after}
@@ -80,3 +83,12 @@ returns-clause-loads c = λ s force bind store keeps none.
     let done = accepted (seen old) (seen c.ask.new.self) s e (load_text new.def.not_acted_on) c.requires.sound.in_range keeps none
     (asked-of told c.ask.new.self (taken s e) c.ask.ensures.alike after here c.ask.ensures.kept c.ask.ensures.orders) refl in
     record { kept = done.kept; outcome = done.outcome }
+
+pub returns-clause-counted : goal.returns-clause-counted
+returns-clause-counted c =
+    let es = c.args.self.now.entries.items in
+    let new = c.args.ready.entry in
+    let k = unwrap_or (position (is_above new.def.label) es) (length es) in
+    let same : (label : Label) → count_in (counts (rows c.enter.new.self.entries.items)) label ≡ count_in (counts (rows es)) label = λ label. ap (λ all. count_in (counts (rows all)) label) c.enter.ensures.entries
+    ∙ counts-placed new es k label (stay-names es c.requires.ready.tidy) c.requires.ready.stays c.requires.ready.absent c.requires.ready.fresh in
+    counted-from (counts (rows c.enter.new.self.entries.items)) (counts (rows es)) _ _ same c.ask.ensures.counted

@@ -5,9 +5,10 @@ use Rattle.job_table.specs.Rows.{IsOnce}
 use Rattle.job_table.specs.Kept.{KeepsJobs}
 use Rattle.job_table.specs.Entries.{name, rows, AllStay}
 use Rattle.job_table.specs.Telling.{AreTold, present_with}
+use Rattle.job_table.specs.Counts.{counts}
 use Rattle.job_table.proofs.Lists.{lent-back}
 use Rattle.job_table.proofs.Holding.{held-names}
-use Rattle.job_table.proofs.Telling.{told-all, told-stay, told-names}
+use Rattle.job_table.proofs.Telling.{told-all, told-stay, told-names, told-counts}
 use Rattle.job_table.proofs.jobs.Jobs.tell_all.Goals as goal
 
 pub returns-clause-kept : goal.returns-clause-kept
@@ -41,3 +42,11 @@ returns-clause-sound c =
       few = c.requires.sound.few;
       room = c.requires.sound.room;
     }
+
+pub returns-clause-counts : goal.returns-clause-counts
+returns-clause-counts c =
+    let at = c.args.self.now.reading in
+    let later = c.tell_all.new.entries in
+    let whole = lent-back later (drop (length later) c.args.self.now.entries.items) c.args.self.now.entries.len (omega arith) in
+    let all = subst (λ es. AreTold at c.args.news es later) c.deref_mut.ensures.value c.tell_all.ensures in
+    ap (λ es. counts (rows es)) whole ∙ told-counts at c.args.news c.args.self.now.entries.items later all c.requires.stay
