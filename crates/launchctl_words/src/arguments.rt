@@ -1,4 +1,4 @@
-// The forms of arguments of which both programs' words are made, and how their values are read.
+//! The forms of arguments of which both programs' words are made, and how their values are read.
 ghost use Rattle.std.specs.Prelude.{◌≡◌, IfOk, IfErr, Some, None, true, false, string_bytes, option_map, map};
 ghost use Rattle.clap.specs.Words.{app_of, rule_of, rows_of, found_of, first_of, all_of, with_rule, new_app};
 ghost use Rattle.launchctl_words.specs.Rules.{HasNoGlobals, flag_rule, option_rule, word_rule, words_rule, one_word_app};
@@ -61,18 +61,22 @@ pub fn words<'a>(alloc: Global, id: &'a str, value: &'a str, help: &'a str) -> A
         .help(help)
 }
 
-/// A subcommand with one word.
+/// A subcommand with one word; `after` ends its help.
 pub fn one_word<'a>(
     alloc: Global,
     name: &'a str,
     about: &'a str,
+    after: &'a str,
     word: Arg<'a>,
 ) -> Result<clap::Command<'a>, AllocError>
     requires local { word.global ≡ false }
     ensures app { IfOk result (λ c. app_of c ≡ with_rule (new_app name.now) (rule_of word.entry)) }
     ensures globals { IfOk result (λ c. HasNoGlobals c) }
 {
-    let command = clap::Command::new(alloc, name).about(about).arg(word)?;
+    let command = clap::Command::new(alloc, name)
+        .about(about)
+        .after_help(after)
+        .arg(word)?;
     Ok(command)
 }
 

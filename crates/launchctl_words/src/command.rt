@@ -1,4 +1,4 @@
-// The commands that words can mean.
+//! The commands that words can mean.
 use history_model::Text;
 use std::marker::Model;
 

@@ -1,4 +1,4 @@
-// The daemon's words: how clap takes them, and what they mean.
+//! The daemon's words: how clap takes them, and what they mean.
 ghost use Rattle.std.specs.Prelude.{◌≡◌, IfOk, true, false, map, string_bytes};
 ghost use Rattle.clap.specs.Words.{app_of, rows_of, found_of, subcommand_rows_of};
 ghost use Rattle.launchctl_words.specs.Rules.{HasNoGlobals};
@@ -75,7 +75,11 @@ fn serve_words<'a>(alloc: Global) -> Result<clap::Command<'a>, AllocError>
     ensures app { IfOk result (λ c. app_of c ≡ serve_app) }
     ensures globals { IfOk result (λ c. HasNoGlobals c) }
 {
-    let command = clap::Command::new(alloc, "serve").about("Run the launcher");
+    let command = clap::Command::new(alloc, "serve")
+        .about("Run the launcher")
+        .after_help(
+            "Exit status: 0 every job is gone after a shutdown; 1 no memory; 5 the store; 6 the control socket; 7 the zone; 8 the journal; 9 the clock, or waiting; 64 these words are no command.",
+        );
     let command = add_places(alloc, command)?;
     match add_choices(alloc, command) {
         Ok(command) => Ok(command),
@@ -90,6 +94,9 @@ fn overrides_words<'a>(alloc: Global) -> Result<clap::Command<'a>, AllocError>
     let store = option(alloc, "store", true, "PATH", "The database of overrides");
     let command = clap::Command::new(alloc, "overrides")
         .about("Print each label's override and the second of its last change")
+        .after_help(
+            "Exit status: 0 printed; 1 no memory; 5 the store; 64 these words are no command.",
+        )
         .arg(store)?;
     Ok(command)
 }
@@ -98,9 +105,11 @@ fn overrides_words<'a>(alloc: Global) -> Result<clap::Command<'a>, AllocError>
 fn jobd_words<'a>(alloc: Global) -> Result<clap::Command<'a>, AllocError>
     ensures app { IfOk result (λ c. app_of c ≡ jobd_app) }
 {
-    let replay = clap::Command::new(alloc, "replay").about(
-        "Run a journal from standard input, and write its outcomes",
-    );
+    let replay = clap::Command::new(alloc, "replay")
+        .about("Run a journal from standard input, and write its outcomes")
+        .after_help(
+            "Exit status: 0 each line has its outcome; 1 no memory; 2 no header; 3 input or output failed; 4 a line too long; 64 these words are no command.",
+        );
     let serve = serve_words(alloc)?;
     let overrides = overrides_words(alloc)?;
     let command = clap::Command::new(alloc, "jobd")

@@ -1,8 +1,9 @@
-// What the words of the two programs mean: launchctl's for the control program, and the daemon's own.
+//! What the words of the two programs mean: launchctl's for the control program, and the daemon's own.
 #![tactic(auto)]
 
 mod arguments;
 mod command;
+mod control_words;
 mod jobctl;
 mod jobd;
 mod parse;

@@ -1,4 +1,4 @@
-// One reading of words by clap, and the text for words that it does not take.
+//! One reading of words by clap, and the text for words that it does not take.
 ghost use Rattle.std.specs.Prelude.{◌≡◌, ◌≢◌, IfOk, true, false, map, string_bytes, IfErr};
 ghost use Rattle.clap.specs.Words.{app_of, fault_of, is_simple_and_free, kind_of};
 ghost use Rattle.launchctl_words.specs.Meaning.{IsFound, is_none_left};

@@ -1,5 +1,5 @@
-// What no contract says: that the texts of clap's command are read as an administrator means them, and that each call
-// succeeds. The wanted meanings were written by hand from launchctl(1) and the programs' own help.
+//! What no contract says: that the texts of clap's command are read as an administrator means them, and that each call
+//! succeeds. The wanted meanings were written by hand from launchctl(1) and the programs' own help.
 use super::*;
 use std::alloc::{AllocError, Global};
 use std::test::Fail;
@@ -59,30 +59,6 @@ fn told(alloc: Global, command: &Command) -> Result<String, AllocError> {
     }
 }
 
-#[test]
-fn reads_what_the_words_mean(rt: HostRuntime) -> Result<(), Fail> {
-    for (line, socket, want) in &cases::COMMANDS {
-        let words = words_of(rt.alloc(), line)?;
-        let Ok(read) = read_words(rt.alloc(), words.as_slice()) else {
-            return Err((*line).into());
-        };
-        assert_eq!(rt; read.socket.as_str(), *socket, "{line}");
-        let text = told(rt.alloc(), &read.command)?;
-        assert_eq!(rt; text.as_str(), *want, "{line}");
-    }
-    Ok(())
-}
-
-#[test]
-fn refuses_words_that_mean_nothing(rt: HostRuntime) -> Result<(), Fail> {
-    for line in &cases::MISTAKES {
-        let words = words_of(rt.alloc(), line)?;
-        let read = read_words(rt.alloc(), words.as_slice());
-        assert!(rt; matches!(read, Err(WordFault::Usage)), "{line}");
-    }
-    Ok(())
-}
-
 fn zone_told(zone: &ZoneWords) -> &str {
     match zone {
         ZoneWords::Default => "none",
@@ -113,21 +89,56 @@ fn served_told(alloc: Global, command: &DaemonCommand) -> Result<String, AllocEr
     }
 }
 
+/// What a line means to the control program.
+fn meaning_of(alloc: Global, words: &[String]) -> Result<String, AllocError> {
+    match read_words(alloc, words) {
+        Ok(read) => {
+            let command = told(alloc, &read.command)?;
+            let (socket, command) = (read.socket.as_str(), command.as_str());
+            format!(in alloc; "{socket} | {command}")
+        }
+        Err(WordFault::Usage) => String::from_str(alloc, "usage"),
+        Err(WordFault::NoMemory) => Err(AllocError),
+    }
+}
+
+/// What a line means to the daemon's program.
+fn daemon_meaning_of(alloc: Global, words: &[String]) -> Result<String, AllocError> {
+    match read_daemon_words(alloc, words) {
+        Ok(command) => served_told(alloc, &command),
+        Err(WordFault::Usage) => String::from_str(alloc, "usage"),
+        Err(WordFault::NoMemory) => Err(AllocError),
+    }
+}
+
+/// The first line that does not mean what stands behind it, or that is no usage fault where nothing stands there.
+fn misread(alloc: Global, cases: &str) -> Result<Option<&str>, AllocError> {
+    for case in cases.lines() {
+        let (line, wanted) = case.split_once(" | ").unwrap_or((case, "usage"));
+        let words = words_of(alloc, line)?;
+        let meaning = if line.starts_with("jobctl") {
+            meaning_of(alloc, words.as_slice())?
+        } else {
+            daemon_meaning_of(alloc, words.as_slice())?
+        };
+        if meaning.as_str() != wanted {
+            return Ok(Some(case));
+        }
+    }
+    Ok(None)
+}
+
+#[test]
+fn reads_what_the_words_mean(rt: HostRuntime) -> Result<(), Fail> {
+    assert_eq!(rt; misread(rt.alloc(), cases::COMMANDS)?, None);
+    assert_eq!(rt; misread(rt.alloc(), cases::MISTAKES)?, None);
+    Ok(())
+}
+
 #[test]
 fn reads_the_daemons_words(rt: HostRuntime) -> Result<(), Fail> {
-    for (line, want) in &cases::DAEMON_COMMANDS {
-        let words = words_of(rt.alloc(), line)?;
-        let Ok(read) = read_daemon_words(rt.alloc(), words.as_slice()) else {
-            return Err((*line).into());
-        };
-        let text = served_told(rt.alloc(), &read)?;
-        assert_eq!(rt; text.as_str(), *want, "{line}");
-    }
-    for line in &cases::DAEMON_MISTAKES {
-        let words = words_of(rt.alloc(), line)?;
-        let read = read_daemon_words(rt.alloc(), words.as_slice());
-        assert!(rt; matches!(read, Err(WordFault::Usage)), "{line}");
-    }
+    assert_eq!(rt; misread(rt.alloc(), cases::DAEMON_COMMANDS)?, None);
+    assert_eq!(rt; misread(rt.alloc(), cases::DAEMON_MISTAKES)?, None);
     Ok(())
 }
 
@@ -136,6 +147,12 @@ fn helps(rt: HostRuntime) -> Result<(), Fail> {
     for (line, is_help, part) in &cases::HELP {
         let words = words_of(rt.alloc(), line)?;
         let given = explain(rt.alloc(), words.as_slice())?;
+        assert_eq!(rt; given.is_help, *is_help, "{line}");
+        assert!(rt; given.text.contains(*part), "{line}");
+    }
+    for (line, is_help, part) in &cases::DAEMON_HELP {
+        let words = words_of(rt.alloc(), line)?;
+        let given = explain_daemon(rt.alloc(), words.as_slice())?;
         assert_eq!(rt; given.is_help, *is_help, "{line}");
         assert!(rt; given.text.contains(*part), "{line}");
     }

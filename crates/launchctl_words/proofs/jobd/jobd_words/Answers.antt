@@ -6,7 +6,7 @@ use Rattle.launchctl_words.proofs.jobd.jobd_words.Goals as goal
 pub returns : goal.returns
 returns c =
     let asks : app_of c.subcommand_required-command.result ≡ asked (app_of c.new-2.result) = search rules in
-    let replays : app_of c.about-replay.result ≡ app_of c.new.result = search rules in
+    let replays : app_of c.after_help-replay.result ≡ app_of c.new.result = search rules in
     record {
       app = c.in_ok-command-3.ensures.shape c.in_ok-overrides.ensures.globals ∙ ap₂ with_subcommand
           (c.in_ok-command-2.ensures.shape c.in_ok-serve.ensures.globals ∙ ap₂ with_subcommand

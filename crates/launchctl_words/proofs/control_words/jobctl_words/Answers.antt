@@ -3,7 +3,7 @@ use Rattle.clap.specs.Words.{app_of, with_rule, new_app}
 use Rattle.launchctl_words.specs.Rules.{option_rule}
 use Rattle.launchctl_words.specs.Meaning.{asked}
 use Rattle.launchctl_words.specs.Jobctl.{with_files, with_labels, with_settings, with_targets, with_bare}
-use Rattle.launchctl_words.proofs.jobctl.jobctl_words.Goals as goal
+use Rattle.launchctl_words.proofs.control_words.jobctl_words.Goals as goal
 
 pub returns-in-Ok : goal.returns-in-Ok
 returns-in-Ok c =
