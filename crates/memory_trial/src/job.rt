@@ -1,0 +1,67 @@
+//! The calls of one job and its parts that take memory.
+
+ghost use Rattle.std.specs.Prelude.{◌≤◌};
+
+use crate::trial::{Answer, Trial};
+use conditions::Conditions;
+use history_model::{MAX_UP, Reading};
+use job_core::JobCore;
+use job_defs::Def;
+use socket_demand::{Exchange, Waiting};
+use std::alloc::{AllocError, Global};
+
+/// A definition with two paths of each kind, two calendar entries and a socket.
+pub const DEFINITION: &str =
+    r#"{"Label":"a","Program":"/bin/x","StartCalendarInterval":[{"Minute":5},{"Hour":3}],"WatchPaths":["/w","/v"],"QueueDirectories":["/q","/r"],"KeepAlive":{"PathState":{"/f":true,"/g":false}},"Sockets":{"l":{"SockPathName":"/s"}},"inetdCompatibility":{"Wait":false}}"#;
+
+/// Which call makes something.
+#[derive(Clone, Copy)]
+pub enum Part {
+    Conditions,
+    Waiting,
+    Exchange,
+    JobCore,
+}
+
+/// A part of a job that is made of a definition.
+#[derive(Drop)]
+pub struct Making {
+    pub part: Part,
+    pub def: Def,
+}
+
+impl Trial for Making {
+    fn prepare(&mut self, _alloc: Global) -> bool {
+        true
+    }
+
+    fn call(&mut self, alloc: Global) -> Answer {
+        match self.part {
+            Part::Conditions => told(Conditions::new(alloc, &self.def)),
+            Part::Waiting => told(Waiting::new(alloc)),
+            Part::Exchange => told(Exchange::new(alloc)),
+            Part::JobCore => told(JobCore::new(alloc, &self.def, at_load())),
+        }
+    }
+
+    fn is_right(&mut self, _alloc: Global, _answer: Answer) -> bool {
+        true
+    }
+}
+
+/// The reading of the load.
+fn at_load() -> Reading
+    ensures { result.up ≤ MAX_UP }
+{
+    Reading {
+        up: 0,
+        wall: 1_700_000_000,
+    }
+}
+
+fn told<T: Drop>(made: Result<T, AllocError>) -> Answer {
+    match made {
+        Ok(_) => Answer::Made,
+        Err(_) => Answer::NoMemory,
+    }
+}

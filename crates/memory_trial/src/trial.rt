@@ -1,0 +1,85 @@
+//! A call under trial: made again and again where memory is short, by less and less, until it has enough.
+
+use crate::scarce::Hoard;
+use std::alloc::{AllocError, Global};
+
+/// What a call answered.
+#[derive(Clone, Copy, PartialEq, Eq)]
+pub enum Answer {
+    /// What it was asked for.
+    Made,
+    /// That no memory was to be had.
+    NoMemory,
+    /// Anything else.
+    Other,
+}
+
+/// A call that takes memory.
+pub trait Trial {
+    /// What is to be there before the call. Tells whether it is; there is ample memory.
+    fn prepare(&mut self, alloc: Global) -> bool;
+
+    /// The call.
+    fn call(&mut self, alloc: Global) -> Answer;
+
+    /// Whether what is there afterwards is what that answer leaves; there is ample memory.
+    fn is_right(&mut self, alloc: Global, answer: Answer) -> bool;
+}
+
+/// How a call stood its trial.
+#[derive(Clone, Copy, PartialEq, Eq)]
+pub enum Verdict {
+    /// It was refused memory so many times, each time answered so and left what it should, and then was made.
+    Stood(u32),
+    /// It answered or left something else, where so many bytes were left to it.
+    Fell(usize),
+    /// The memory was not limited, or what the call needs was not to be had.
+    NotTried,
+}
+
+/// How many times a call is made at most.
+const ROUNDS: u32 = 4096;
+
+/// Makes the call with no memory left, and then with more and more.
+pub fn stand<T: Trial>(
+    alloc: Global,
+    hoard: &mut Hoard,
+    trial: &mut T,
+) -> Result<Verdict, AllocError> {
+    let mut left = 0usize;
+    for refused in 0..ROUNDS {
+        if !trial.prepare(alloc) {
+            return Ok(Verdict::NotTried);
+        }
+        let Some(answer) = answer_with(alloc, hoard, trial, left)? else {
+            return Ok(Verdict::NotTried);
+        };
+        if answer == Answer::Other || !trial.is_right(alloc, answer) {
+            return Ok(Verdict::Fell(left));
+        }
+        if answer == Answer::Made {
+            return Ok(Verdict::Stood(refused));
+        }
+        left = left.saturating_add(16 + left / 64);
+    }
+    Ok(Verdict::NotTried)
+}
+
+/// What the call answers where so many bytes are left. None where the memory is not limited.
+fn answer_with<T: Trial>(
+    alloc: Global,
+    hoard: &mut Hoard,
+    trial: &mut T,
+    left: usize,
+) -> Result<Option<Answer>, AllocError> {
+    let kept: Vec<u8> = Vec::with_capacity(alloc, left)?;
+    let is_all = hoard.take_all(alloc);
+    drop(kept);
+    let answer = if is_all {
+        Some(trial.call(alloc))
+    } else {
+        None
+    };
+    hoard.give_back();
+    Ok(answer)
+}
