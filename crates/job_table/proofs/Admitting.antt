@@ -1,6 +1,6 @@
 -- When a load is refused, read off the table.
 use Rattle.std.proofs.Common.{◌≡◌, ℕ, suc, Bool, true, false, not, ◌&&◌, nat_lt, List, [], ◌∷◌, map, length, Option, Some, None, is_some, refl, sym, ap, ◌∙◌, subst, ◌<◌, ◌≤◌, arith}
-use Rattle.std.specs.List.{position}
+use Rattle.std.specs.List.{position, list_all}
 use Rattle.std.specs.Vec.{vec_capacity, vec_len}
 use Rattle.slab.specs.Slab.{Slab, get}
 use Rattle.history_model.specs.declared.Reading.{Reading}
@@ -13,7 +13,7 @@ use Rattle.history_model.specs.Labels.{Label}
 use Rattle.history_model.specs.Machine.{State, Job, past_of, is_disabled}
 use Rattle.history_model.specs.Acceptance.{refused_if, refusal_there, refusal_stored, refusal_of_load}
 use Rattle.history_model.specs.declared.TheConstants.{MAX_UP}
-use Rattle.job_table.specs.Rows.{IsOnce}
+use Rattle.job_table.specs.Rows.{IsOnce, is_known}
 use Rattle.job_table.specs.Kept.{KeepsJobs, KeepsState}
 use Rattle.job_table.specs.Entries.{row, name, AllStay, has_label}
 use Rattle.job_table.specs.Loads.{IsAbsent, enabled_if}
@@ -32,11 +32,12 @@ held-slots old new (e ∷ es) same held =
     (ap (λ slots. get (record { slots = slots; vacant_key = 0; capacity = 0 }) e.number) same ∙ held.0, held-slots old new es same held.1)
 
 pub grown-sound : (old new : Jobs) → IsSound old → new.reading ≡ old.reading → new.entries.items ≡ old.entries.items → vec_len new.entries ≡ vec_len old.entries →
-    new.numbers.slots ≡ old.numbers.slots → vec_capacity old.orders ≤ vec_capacity new.orders → IsSound new
-grown-sound old new sound reading items len slots capacity = record {
+    new.numbers.slots ≡ old.numbers.slots → new.orders.items ≡ old.orders.items → vec_capacity old.orders ≤ vec_capacity new.orders → IsSound new
+grown-sound old new sound reading items len slots orders capacity = record {
   in_range = subst (λ at. at.up ≤ MAX_UP) (sym reading) sound.in_range;
   once = subst (λ es. IsOnce (map name es)) (sym items) sound.once;
   held = subst (AreHeld new.numbers) (sym items) (held-slots old.numbers new.numbers old.entries.items slots sound.held);
+  known = (λ i. list_all (is_known (map name (items i))) (orders i)) ∙ sound.known;
   few = let few = sound.few in omega (arith, few, len);
   room = let room = sound.room in omega (arith, room, len, capacity);
 }

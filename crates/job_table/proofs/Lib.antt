@@ -15,5 +15,6 @@ pub mod Steps
 pub mod Handing
 pub mod Resting
 pub mod Seeking
+pub mod Known
 pub mod Children
 pub mod Counting

@@ -1,9 +1,10 @@
 -- What holds of the fields of every table.
-use Rattle.std.specs.Prelude.{◌≡◌, ◌*◌, ◌≤◌, map, Some, List, [], ◌∷◌}
+use Rattle.std.specs.Prelude.{◌≡◌, ◌*◌, ◌≤◌, map, true, Some, List, [], ◌∷◌}
 use Rattle.std.specs.Vec.{vec_len, vec_capacity}
 use Rattle.slab.specs.Slab.{Slab, get}
 use Rattle.history_model.specs.declared.TheConstants.{MAX_UP}
-use Rattle.job_table.specs.Rows.{Table, IsOnce}
+use Rattle.std.specs.List.{list_all}
+use Rattle.job_table.specs.Rows.{Table, IsOnce, is_known}
 use Rattle.job_table.specs.Entries.{name, rows}
 use Rattle.job_table.specs.declared.entry.Entry.{Entry}
 use Rattle.job_table.specs.declared.jobs.Jobs.{Jobs}
@@ -38,4 +39,5 @@ pub record IsSound (t : Jobs) : Type 0 where
   pub once : IsOnce (map name t.entries.items)
   pub held : AreHeld t.numbers t.entries.items
   pub few : vec_len t.entries ≤ 1024
+  pub known : list_all (is_known (map name t.entries.items)) t.orders.items ≡ true
   pub room : 66 * vec_len t.entries ≤ vec_capacity t.orders

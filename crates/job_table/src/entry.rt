@@ -17,6 +17,9 @@ ghost use Rattle.job_table.specs.Kept.{numbered};
 ghost use Rattle.job_table.specs.News.{item_for};
 ghost use Rattle.job_table.specs.Telling.{IsTold};
 ghost use Rattle.job_table.specs.Entries.{row, name};
+ghost use Rattle.job_table.specs.Rows.{Name, definition_of_number, is_known};
+ghost use Rattle.std.specs.Prelude.{List, is_some, true};
+ghost use Rattle.std.specs.List.{list_all};
 
 use calendar_due::Calendar;
 use history_model::{Act, Ask, CivilMinute, JobNo, Obs, Order, Reading, Text};
@@ -81,6 +84,7 @@ impl Entry {
         ensures kept { (past : History) → Keeps self.old.core.facts past → now ≡ clock.now past → is_gone past ≡ false →
             Keeps self.new.core.facts (ordered (due past) past) }
         ensures decided { self.new.core.decided ≡ cond self.new.has_left self.old.core.decided ((self.old.core.decided + 1) % 2 ^ 64) }
+        ensures known { (names : List Name) → is_some (definition_of_number names self.old.number) ≡ true → list_all (is_known names) orders.old.items ≡ true → list_all (is_known names) orders.new.items ≡ true }
         ensures name { name self.new ≡ name self.old }
         ensures count { vec_len orders.new ≤ vec_len orders.old + 66 }
         ensures capacity { vec_capacity orders.old ≤ vec_capacity orders.new }
@@ -104,6 +108,7 @@ impl Entry {
         requires room { vec_len orders.old + 66 ≤ vec_capacity orders.old }
         ensures orders { (past : History) → Keeps self.now.core.facts past →
             orders.new.items ≡ orders.old.items ++ numbered self.now.number (map Act.Close (waiting past) ++ Act.Gone ∷ []) }
+        ensures known { (names : List Name) → is_some (definition_of_number names self.now.number) ≡ true → list_all (is_known names) orders.old.items ≡ true → list_all (is_known names) orders.new.items ≡ true }
         ensures count { vec_len orders.new ≤ vec_len orders.old + 66 }
         ensures capacity { vec_capacity orders.old ≤ vec_capacity orders.new }
     {

@@ -65,9 +65,8 @@ pub struct Step<'a> {
 }
 
 impl<'a> Step<'a> {
-    ghost use Rattle.std.specs.Prelude.{map};
+    ghost use Rattle.std.specs.Prelude.{map, is_some};
     ghost use Rattle.job_table.specs.Rows.{label_of, definition_of_number};
-    ghost use Rattle.std.specs.Option.{option_map};
     ghost use Rattle.job_table.specs.Entries.{name};
 
     /// The label of the job with this number, also of one that just left; the empty text for a number that no job has.
@@ -81,20 +80,22 @@ impl<'a> Step<'a> {
         }
     }
 
-    /// The definition of the job with this number, also of one that just left; `None` for a number that no job has.
-    pub fn def(&self, job: JobNo) -> Option<&'a Def>
-        ensures { option_map (λ def. def.now) result ≡ definition_of_number (map name self.now.jobs.now.entries.items) job }
+    /// The definition of the job with this number, also of one that just left. The caller's condition: the number is that of
+    /// a job that is loaded or just left, as in each order of the step.
+    pub fn def(&self, job: JobNo) -> &'a Def
+        requires { is_some (definition_of_number (map name self.now.jobs.now.entries.items) job) ≡ true }
+        ensures { definition_of_number (map name self.now.jobs.now.entries.items) job ≡ Some result.now }
     {
         let jobs = self.jobs;
         match place_of_number(&jobs.entries, job) {
-            Some(place) => Some(&jobs.entries[place].def),
-            None => None,
+            Some(place) => &jobs.entries[place].def,
+            None => unreachable!(),
         }
     }
 }
 
 impl JobTable {
-    ghost use Rattle.job_table.specs.Ends.{IsAnswer, GoesOn, GoesOnUnless, acts_of};
+    ghost use Rattle.job_table.specs.Ends.{IsAnswer, GoesOn, GoesOnUnless, AreKnown, acts_of, names_in};
     ghost use Rattle.job_table.specs.Outcomes.{UnlessMemory, IsToldText, Tells};
     ghost use Rattle.job_core.specs.Memory.{NeedsNoMemory};
     ghost use Rattle.job_table.specs.Kept.{acts_in, is_none, KeepsState};
@@ -128,6 +129,8 @@ impl JobTable {
     pub fn given(&self) -> Step<'_>
         ensures orders { acts_of result ≡ acts_in self.now }
         ensures visited { result.visited ≡ self.now.visited }
+        ensures known { AreKnown result }
+        ensures names { names_in result ≡ self.now.names }
     {
         Step {
             orders: &self.jobs.orders,
@@ -141,6 +144,7 @@ impl JobTable {
     pub fn start(&mut self, label: &str) -> Result<Step<'_>, Refusal>
         ensures answer { IsAnswer (OfJob label.now (Asked Ask.Start)) self.old result }
         ensures memory { NeedsNoMemory result }
+        ensures known { IfOk result AreKnown }
         ensures* kept { sem 𝓛 (GoesOn self.entry result (OfJob label.now (Asked Ask.Start))) }
     {
         self.jobs.tell(label, JobEvent::Asked(Ask::Start))?;
@@ -152,6 +156,7 @@ impl JobTable {
     pub fn stop(&mut self, label: &str) -> Result<Step<'_>, Refusal>
         ensures answer { IsAnswer (OfJob label.now (Asked Ask.Stop)) self.old result }
         ensures memory { NeedsNoMemory result }
+        ensures known { IfOk result AreKnown }
         ensures* kept { sem 𝓛 (GoesOn self.entry result (OfJob label.now (Asked Ask.Stop))) }
     {
         self.jobs.tell(label, JobEvent::Asked(Ask::Stop))?;
@@ -163,6 +168,7 @@ impl JobTable {
     pub fn kickstart(&mut self, label: &str, k: bool) -> Result<Step<'_>, Refusal>
         ensures answer { IsAnswer (OfJob label.now (Asked (Ask.Kickstart k))) self.old result }
         ensures memory { NeedsNoMemory result }
+        ensures known { IfOk result AreKnown }
         ensures* kept { sem 𝓛 (GoesOn self.entry result (OfJob label.now (Asked (Ask.Kickstart k)))) }
     {
         self.jobs.tell(label, JobEvent::Asked(Ask::Kickstart(k)))?;
@@ -174,6 +180,7 @@ impl JobTable {
     pub fn came(&mut self, label: &str, conn: u64) -> Result<Step<'_>, Refusal>
         ensures answer { IsAnswer (OfJob label.now (Came conn)) self.old result }
         ensures memory { NeedsNoMemory result }
+        ensures known { IfOk result AreKnown }
         ensures* kept { sem 𝓛 (GoesOn self.entry result (OfJob label.now (Came conn))) }
     {
         self.jobs.tell(label, JobEvent::Came(conn))?;
@@ -184,6 +191,7 @@ impl JobTable {
     pub fn left(&mut self, label: &str, conn: u64) -> Result<Step<'_>, Refusal>
         ensures answer { IsAnswer (OfJob label.now (Left conn)) self.old result }
         ensures memory { NeedsNoMemory result }
+        ensures known { IfOk result AreKnown }
         ensures* kept { sem 𝓛 (GoesOn self.entry result (OfJob label.now (Left conn))) }
     {
         self.jobs.tell(label, JobEvent::Left(conn))?;
@@ -195,6 +203,7 @@ impl JobTable {
     pub fn spawned(&mut self, label: &str, run: u64, pid: u32) -> Result<Step<'_>, Refusal>
         ensures answer { IsAnswer (OfJob label.now (Answered (answers.Spawned run pid))) self.old result }
         ensures memory { NeedsNoMemory result }
+        ensures known { IfOk result AreKnown }
         ensures* kept { sem 𝓛 (GoesOn self.entry result (OfJob label.now (Answered (answers.Spawned run pid)))) }
     {
         self.jobs.tell(label, JobEvent::Spawned { run, pid })?;
@@ -206,6 +215,7 @@ impl JobTable {
     pub fn spawn_refused(&mut self, label: &str, run: u64) -> Result<Step<'_>, Refusal>
         ensures answer { IsAnswer (OfJob label.now (Answered (answers.SpawnRefused run))) self.old result }
         ensures memory { NeedsNoMemory result }
+        ensures known { IfOk result AreKnown }
         ensures* kept { sem 𝓛 (GoesOn self.entry result (OfJob label.now (Answered (answers.SpawnRefused run)))) }
     {
         self.jobs.tell(label, JobEvent::SpawnRefused { run })?;
@@ -216,6 +226,7 @@ impl JobTable {
     pub fn term_answered(&mut self, label: &str, run: u64, ok: bool) -> Result<Step<'_>, Refusal>
         ensures answer { IsAnswer (OfJob label.now (Answered (answers.Termed run ok))) self.old result }
         ensures memory { NeedsNoMemory result }
+        ensures known { IfOk result AreKnown }
         ensures* kept { sem 𝓛 (GoesOn self.entry result (OfJob label.now (Answered (answers.Termed run ok)))) }
     {
         self.jobs.tell(label, JobEvent::Termed { run, ok })?;
@@ -226,6 +237,7 @@ impl JobTable {
     pub fn kill_answered(&mut self, label: &str, run: u64, ok: bool) -> Result<Step<'_>, Refusal>
         ensures answer { IsAnswer (OfJob label.now (Answered (answers.Killed run ok))) self.old result }
         ensures memory { NeedsNoMemory result }
+        ensures known { IfOk result AreKnown }
         ensures* kept { sem 𝓛 (GoesOn self.entry result (OfJob label.now (Answered (answers.Killed run ok)))) }
     {
         self.jobs.tell(label, JobEvent::Killed { run, ok })?;
@@ -236,6 +248,7 @@ impl JobTable {
     pub fn ended(&mut self, label: &str, run: u64, how: Ended) -> Result<Step<'_>, Refusal>
         ensures answer { IsAnswer (OfJob label.now (RunEnded run how)) self.old result }
         ensures memory { NeedsNoMemory result }
+        ensures known { IfOk result AreKnown }
         ensures* kept { sem 𝓛 (GoesOn self.entry result (OfJob label.now (RunEnded run how))) }
     {
         self.jobs.tell(label, JobEvent::Ended(run, how))?;
@@ -247,6 +260,7 @@ impl JobTable {
     pub fn wait_refused(&mut self, label: &str, run: u64) -> Result<Step<'_>, Refusal>
         ensures answer { IsAnswer (OfJob label.now (WaitRefused run)) self.old result }
         ensures memory { NeedsNoMemory result }
+        ensures known { IfOk result AreKnown }
         ensures* kept { sem 𝓛 (GoesOn self.entry result (OfJob label.now (WaitRefused run))) }
     {
         self.jobs.tell(label, JobEvent::WaitRefused { run })?;
@@ -258,6 +272,7 @@ impl JobTable {
     pub fn shutdown(&mut self) -> Result<Step<'_>, Refusal>
         ensures answer { IsAnswer ShutDown self.old result }
         ensures memory { NeedsNoMemory result }
+        ensures known { IfOk result AreKnown }
         ensures* kept { sem 𝓛 (GoesOn self.entry result ShutDown) }
     {
         self.jobs.shut_down()?;
@@ -269,6 +284,7 @@ impl JobTable {
     pub fn unload(&mut self, label: &str) -> Result<Step<'_>, Refusal>
         ensures answer { (store : Bool) → IsAnswer (UnloadJob label.now false store) self.old result }
         ensures memory { NeedsNoMemory result }
+        ensures known { IfOk result AreKnown }
         ensures* kept { sem 𝓛 (GoesOn self.entry result (UnloadJob label.now false true)) }
     {
         self.jobs.unload(label)?;
@@ -279,6 +295,7 @@ impl JobTable {
     pub fn saw(&mut self, path: &str, obs: Obs) -> Result<Step<'_>, Refusal>
         ensures answer { IsAnswer (Sight path.now obs) self.old result }
         ensures ok { IsOk result }
+        ensures known { IfOk result AreKnown }
         ensures* kept { sem 𝓛 (GoesOn self.entry result (Sight path.now obs)) }
     {
         self.jobs.saw(path, obs);
@@ -292,6 +309,7 @@ impl JobTable {
     pub fn clock(&mut self, alloc: Global, at: Reading) -> Result<Step<'_>, Refusal>
         ensures answer { UnlessMemory result (IsAnswer (Tick at) self.old result) }
         ensures memory { result ≡ Err NoMemory → has_calendars self.old.rows ≡ true }
+        ensures known { IfOk result AreKnown }
         ensures* kept { sem 𝓛 (GoesOnUnless self.entry result (Tick at)) }
     {
         self.jobs.clock(alloc, at)?;

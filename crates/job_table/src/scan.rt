@@ -10,7 +10,9 @@ ghost use Rattle.history_model.specs.Step.{stays as job_stays};
 ghost use Rattle.job_table.specs.Kept.{KeepsJobs, numbered_all};
 ghost use Rattle.job_table.specs.Telling.{AreTold};
 ghost use Rattle.job_table.specs.Asking.{AreAskedOnce};
-ghost use Rattle.job_table.specs.Entries.{rows, name, stays, has_label, has_left_under, has_number, is_here, AllStay};
+ghost use Rattle.std.specs.Prelude.{true};
+ghost use Rattle.job_table.specs.Rows.{Name, is_known};
+ghost use Rattle.job_table.specs.Entries.{is_named, rows, name, stays, has_label, has_left_under, has_number, is_here, AllStay};
 
 use crate::entry::{Entry, News};
 use history_model::{JobNo, Order, Reading};
@@ -37,6 +39,8 @@ pub fn ask_all(entries: &mut [Entry], now: Reading, orders: &mut Vec<Order>) -> 
         orders.new.items ≡ orders.old.items ++ numbered_all (rows entries.old) jobs }
     ensures visited { result ≡ length (rows entries.new) }
     ensures asked { AreAskedOnce entries.old entries.new }
+    ensures known { (names : List Name) → list_all (is_named names) entries.old ≡ true → list_all (is_known names) orders.old.items ≡ true →
+        list_all (is_known names) orders.new.items ≡ true }
     ensures names { map name entries.new ≡ map name entries.old }
     ensures capacity { vec_capacity orders.old ≤ vec_capacity orders.new }
 {

@@ -1,9 +1,11 @@
 -- The orders' numbers stand for the labels.
-use Rattle.std.proofs.Common.{◌∙◌, ◌++◌, ap, sym, subst, map, drop, length, arith}
+use Rattle.std.proofs.Common.{◌≡◌, true, ◌∙◌, ◌++◌, ap, sym, subst, map, drop, length, arith}
 use Rattle.std.proofs.lemmas.Grind.{common_steps}
-use Rattle.job_table.specs.Rows.{IsOnce}
+use Rattle.std.specs.List.{list_all}
+use Rattle.job_table.specs.Rows.{IsOnce, is_known}
 use Rattle.job_table.specs.Kept.{numbered_all}
-use Rattle.job_table.specs.Entries.{name, rows}
+use Rattle.job_table.specs.Entries.{name, rows, is_named}
+use Rattle.job_table.proofs.Known.{all-named}
 use Rattle.job_table.proofs.Labelling.{orders-labelled}
 use Rattle.job_table.specs.Asking.{AreAskedOnce}
 use Rattle.job_table.specs.Counts.{counts, IsCounted}
@@ -25,6 +27,9 @@ returns-clause-sound c =
       in_range = c.requires.sound.in_range;
       once = subst IsOnce (sym names) c.requires.sound.once;
       held = held-names _ _ c.args.self.now.numbers (sym names) c.requires.sound.held;
+      known = subst (λ ns. list_all (is_known ns) c.ask_all-self.new.orders.items ≡ true) (sym names)
+          (c.ask_all-self.ensures.known (map name c.args.self.now.entries.items) (ap (list_all (is_named (map name c.args.self.now.entries.items))) c.deref_mut.ensures.value ∙ all-named c.args.self.now.entries.items)
+          (ap (list_all (is_known (map name c.args.self.now.entries.items))) c.requires.empty));
       few = omega arith;
       room = omega arith;
     }

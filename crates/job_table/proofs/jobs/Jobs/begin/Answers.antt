@@ -1,8 +1,8 @@
 -- Dropping the jobs that left changes no row.
 use Rattle.std.proofs.Common.{◌≡◌, ℕ, false, ap, subst, sym, ◌∙◌, map, arith}
-use Rattle.std.specs.List.{list_any}
+use Rattle.std.specs.List.{list_any, list_all}
 use Rattle.slab.specs.Slab.{get}
-use Rattle.job_table.specs.Rows.{IsOnce}
+use Rattle.job_table.specs.Rows.{IsOnce, is_known}
 use Rattle.job_table.specs.Entries.{name, rows, AllStay, has_left_under}
 use Rattle.job_table.specs.Sound.{AreHeld}
 use Rattle.job_table.proofs.Tidying.{tidy-rows, tidy-stay, tidy-once, tidy-held}
@@ -17,6 +17,7 @@ returns-clause-sound c =
       in_range = c.requires.in_range;
       once = subst (λ es. IsOnce (map name es)) (sym c.tidy.ensures.items) (tidy-once entries c.requires.once);
       held = subst (AreHeld c.release.new.numbers) (sym c.tidy.ensures.items) (tidy-held c.args.self.now.numbers c.release.new.numbers entries kept c.requires.once c.requires.held);
+      known = ap (list_all (is_known _)) c.clear.ensures.items;
       few = omega arith;
       room = omega arith;
     }

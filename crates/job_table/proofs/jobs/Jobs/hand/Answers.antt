@@ -1,10 +1,11 @@
 -- The event goes to the one job with the label.
-use Rattle.std.proofs.Common.{ap, subst, sym, ◌∙◌, refl}
+use Rattle.std.proofs.Common.{◌≡◌, true, ap, subst, sym, ◌∙◌, refl}
 use Rattle.std.specs.List.{position}
 use Rattle.history_model.specs.Keeps.{reply}
 use Rattle.history_model.specs.Acceptance.{refusal_at}
 use Rattle.job_core.specs.Events.{item_of}
-use Rattle.job_table.specs.Rows.{IsOnce}
+use Rattle.std.specs.List.{list_all}
+use Rattle.job_table.specs.Rows.{IsOnce, is_known}
 use Rattle.job_table.specs.Entries.{has_label}
 use Rattle.job_table.proofs.Places.{is-absent, answers, told-kept, handed}
 use Rattle.job_table.specs.declared.entry.Entry.{Entry}
@@ -47,6 +48,7 @@ returns-clause-sound c =
       in_range = c.requires.sound.in_range;
       once = subst IsOnce (sym is.names) c.requires.sound.once;
       held = held-names _ _ c.args.self.now.numbers (sym is.names) c.requires.sound.held;
+      known = subst (λ ns. list_all (is_known ns) c.args.self.now.orders.items ≡ true) (sym is.names) c.requires.sound.known;
       few = c.requires.sound.few;
       room = c.requires.sound.room;
     }

@@ -2,7 +2,7 @@
 use Rattle.std.proofs.Common.{◌≡◌, Some, None, map, refl, ap, sym, subst, ◌∙◌, [], ◌∷◌, length, ◌≤◌, arith}
 use Rattle.std.specs.Prelude.{is_some, Ok, unwrap_or}
 use Rattle.std.specs.List.{position}
-use Rattle.std.specs.List.{filter}
+use Rattle.std.specs.List.{filter, list_all}
 use Rattle.std.specs.Vec.{vec_capacity}
 use Rattle.slab.specs.Slab.{get, Updates}
 use Rattle.calendar_due.specs.Rules.{minute_at}
@@ -15,7 +15,7 @@ use Rattle.history_model.specs.Machine.{Job, Load, sets}
 use Rattle.history_model.specs.Step.{taken, with_job}
 use Rattle.history_model.specs.Texts.{load_text}
 use Rattle.job_defs.specs.Definitions.{definition, given}
-use Rattle.job_table.specs.Rows.{IsOnce}
+use Rattle.job_table.specs.Rows.{IsOnce, is_known}
 use Rattle.job_table.specs.Kept.{KeepsJob, KeepsJobs}
 use Rattle.job_table.specs.Entries.{row, name, rows, AllStay, is_above}
 use Rattle.job_table.specs.Sound.{seen, AreHeld}
@@ -50,6 +50,7 @@ ask-requires-clause-sound c =
       once = subst (λ all. IsOnce (map name all)) (sym c.enter.ensures.entries) (once-placed new es k sound.once other);
       held = subst (AreHeld c.enter.new.self.numbers) (sym c.enter.ensures.entries)
           (held-placed old.numbers c.enter.new.self.numbers new es k (subst (λ n. Updates old.numbers c.enter.new.self.numbers n (Some tt)) (sym number) c.enter.ensures.numbers) other sound.held);
+      known = ap (list_all (is_known (map name c.enter.new.self.entries.items))) (ap (λ orders. orders.items) c.enter.ensures.orders ∙ c.requires.ready.empty);
       few = let few = c.requires.ready.few in let count = c.enter.ensures.count in omega (arith, few, count);
       room = let room = c.requires.ready.orders in let count = c.enter.ensures.count in let same = ap vec_capacity c.enter.ensures.orders in omega (arith, room, count, same);
     }

@@ -1,7 +1,8 @@
 -- Every job has heard the news.
-use Rattle.std.proofs.Common.{ap, subst, sym, ◌∙◌, map, drop, length, arith}
+use Rattle.std.proofs.Common.{◌≡◌, true, ap, subst, sym, ◌∙◌, map, drop, length, arith}
 use Rattle.history_model.specs.Step.{told}
-use Rattle.job_table.specs.Rows.{IsOnce}
+use Rattle.std.specs.List.{list_all}
+use Rattle.job_table.specs.Rows.{IsOnce, is_known}
 use Rattle.job_table.specs.Kept.{KeepsJobs}
 use Rattle.job_table.specs.Entries.{name, rows, AllStay}
 use Rattle.job_table.specs.Telling.{AreTold, present_with}
@@ -39,6 +40,7 @@ returns-clause-sound c =
       in_range = c.requires.sound.in_range;
       once = subst IsOnce (sym names) c.requires.sound.once;
       held = held-names _ _ c.args.self.now.numbers (sym names) c.requires.sound.held;
+      known = subst (λ ns. list_all (is_known ns) c.args.self.now.orders.items ≡ true) (sym names) c.requires.sound.known;
       few = c.requires.sound.few;
       room = c.requires.sound.room;
     }
