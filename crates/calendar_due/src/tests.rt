@@ -4,6 +4,7 @@ use history_model::CivilMinute;
 use std::test::Fail;
 
 mod cases;
+mod steps;
 
 // The zone of a rule that is one.
 fn rule(text: &str) -> Result<Zone, Fail> {
@@ -75,7 +76,7 @@ fn crosses_the_minutes_of_a_fixed_zone(rt: HostRuntime) -> Result<(), Fail> {
 
 #[test]
 fn fires_where_an_entry_matches_a_crossed_minute(rt: HostRuntime) -> Result<(), Fail> {
-    for (text, entry, previous, now, want) in &cases::STEPS {
+    for (text, entry, previous, now, want) in &steps::STEPS {
         assert!(rt; *now <= 250_000_000_000);
         let crossed = rule(text)?.crossed(rt.alloc(), *previous, *now)?;
         let fires = Calendar::fires(&[*entry], crossed.as_slice());

@@ -37,6 +37,10 @@ pub enum Verdict {
     NotTried,
 }
 
+/// What is taken of the block that is given back. An allocator may keep a small block for a growth of just its size; what is
+/// left of a greater one serves any growth that fits.
+const FILLER: usize = 4096;
+
 /// How many times a call is made at most.
 const ROUNDS: u32 = 4096;
 
@@ -72,14 +76,16 @@ fn answer_with<T: Trial>(
     trial: &mut T,
     left: usize,
 ) -> Result<Option<Answer>, AllocError> {
-    let kept: Vec<u8> = Vec::with_capacity(alloc, left)?;
+    let kept: Vec<u8> = Vec::with_capacity(alloc, FILLER.saturating_add(left))?;
     let is_all = hoard.take_all(alloc);
     drop(kept);
+    let filler: Vec<u8> = Vec::with_capacity(alloc, FILLER)?;
     let answer = if is_all {
         Some(trial.call(alloc))
     } else {
         None
     };
+    drop(filler);
     hoard.give_back();
     Ok(answer)
 }
