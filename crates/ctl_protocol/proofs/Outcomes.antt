@@ -1,7 +1,9 @@
 -- The line of an outcome, as the texts of its parts.
-use Rattle.std.proofs.Common.{◌≡◌, ℕ, List, [], ◌∷◌, ◌++◌, length, map, codes, refl, sym, ap, ◌∙◌, append_assoc, arith}
+use Rattle.std.proofs.Common.{◌≡◌, ℕ, List, [], ◌++◌, length, codes, decimal, ◌==◌, true, refl, sym, ap, ◌∙◌, append_assoc}
+use Rattle.std.proofs.lemmas.Bool.{eqb-true}
+use Rattle.std.proofs.lemmas.List.{nil_from_length}
 use Rattle.std.specs.Borrow.{Bor}
-use Rattle.serde_json.specs.Data.{Data, Items, array, number, string, unsigned, object, member, no_members}
+use Rattle.serde_json.specs.Data.{Items, no_items, array, number, string, unsigned, object, member, no_members}
 use Rattle.serde_json.specs.Written.{compact_text}
 use Rattle.serde_json.proofs.OnLiterals.{serde_json_on_literals}
 use Rattle.history_model.specs.declared.Act.{Act}
@@ -22,3 +24,27 @@ pub from_parts : (code : ℕ) (said : List ℕ) (orders : List (List ℕ × Act)
     → line ≡ parts number_text list_text said_text → number_text ≡ compact_text (number (unsigned code)) → list_text ≡ compact_text (array (orders_data orders)) → said_text ≡ compact_text (string said)
     → line ≡ line_of (outcome_object code said orders)
 from_parts code said orders line number_text list_text said_text whole n l t = whole ∙ rw (n, l, t) (sym (in_parts code said (orders_data orders)))
+
+pub number_written : (code : ℕ) → decimal code ≡ compact_text (number (unsigned code))
+unfolding serde_json_on_literals
+number_written code = refl
+
+pub no_orders_written : codes "[]" ≡ compact_text (array no_items)
+unfolding serde_json_on_literals
+no_orders_written = refl
+
+pub no_text_written : codes "\"\"" ≡ compact_text (string [])
+unfolding serde_json_on_literals
+no_text_written = refl
+
+empty : {X : Type 0} (xs : List X) → true ≡ (length xs == 0) → xs ≡ []
+empty xs is = nil_from_length xs (eqb-true (length xs) 0 (sym is))
+
+-- the line of an outcome with no order and no text
+pub bare_parts : (code : ℕ) (said : List ℕ) (orders : List (Bor (List ℕ) × Act)) (line digits : List ℕ)
+    → true ≡ (length orders == 0) → true ≡ (length said == 0) → digits ≡ decimal code → line ≡ parts digits (codes "[]") (codes "\"\"")
+    → line ≡ line_of (outcome_object code said (orders_of orders))
+bare_parts code said orders line digits no_orders no_text d whole =
+    from_parts code said (orders_of orders) line digits (codes "[]") (codes "\"\"") whole (d ∙ number_written code)
+    (no_orders_written ∙ ap (λ os. compact_text (array (orders_data (orders_of os)))) (sym (empty orders no_orders)))
+    (no_text_written ∙ ap (λ t. compact_text (string t)) (sym (empty said no_text)))

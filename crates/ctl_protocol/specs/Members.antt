@@ -1,5 +1,5 @@
 -- The members of a line's object, by key and kind. None is a bad request.
-use Rattle.std.specs.Prelude.{◌≡◌, ℕ, List, [], ◌∷◌, map, Bool, true, false, ◌&&◌, ◌||◌, Result, Ok, Err, Option, Some, None, option_and_then, if◌then◌else◌, codes}
+use Rattle.std.specs.Prelude.{◌≡◌, ℕ, List, map, Bool, true, false, ◌&&◌, ◌||◌, Result, Ok, Err, Option, Some, None, option_and_then, if◌then◌else◌, codes}
 use Rattle.std.specs.Borrow.{Bor}
 use Rattle.std.specs.List.{list_any}
 use Rattle.std.specs.Str.{bytes_eq}
@@ -39,7 +39,7 @@ number_key key d = option_and_then as_u64 (option_and_then as_number (get key d)
 unfoldable pub flag_key : List ℕ → Data → Option Bool
 flag_key key d = option_and_then as_bool (get key d)
 
-abbrev or_absent : Bool → Option Data → Option Bool
+abbrev pub or_absent : Bool → Option Data → Option Bool
 or_absent absent None = Some absent
 or_absent absent (Some d) = as_bool d
 

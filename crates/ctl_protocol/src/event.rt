@@ -2,22 +2,22 @@
 
 ghost use Rattle.std.specs.Prelude.{◌≡◌};
 ghost use Rattle.history_model.specs.declared.event.Event.TheVariants as events;
-ghost use Rattle.serde_json.specs.View.{view};
 ghost use Rattle.ctl_protocol.specs.declared.members.Form.TheVariants as forms;
 ghost use Rattle.ctl_protocol.specs.Members.{Reads};
+ghost use Rattle.ctl_protocol.specs.Seen.{seen};
 ghost use Rattle.ctl_protocol.specs.Rows.{event_at, event_row, request_at, request_row, asked_row, told_row, load_row, unload_row, job_row, target_row, setting_row, kickstart_row, bare_row, clock_row, saw_row, sight_keys, has_saw_keys as saw_keys, connection_row, pid_key, spawned_row, run_row, answer_row, byte_key, end_key, ended_row};
 
+use crate::line::Line;
 use crate::members::{
-    Form, ReadFault, flag_in, flag_or_in, has_only_keys, json_line, label_in, number_in, target_in,
-    text_in,
+    Form, ReadFault, flag_in, flag_or_in, has_only_keys, label_in, number_in, target_in, text_in,
 };
 use history_model::{Ended, Event, Obs, Reading, Text};
-use serde_json::Value;
-use std::alloc::Global;
+use json::Scratch;
+use std::alloc::{AllocError, Global};
 
 #[tactic(auto, unfolding(crate::specs::Rows::load_row))]
-fn load_in(alloc: Global, form: Form, line: &Value) -> Result<Event, ReadFault>
-    ensures { Reads result (load_row form (view line.now)) }
+fn load_in(alloc: Global, form: Form, line: &Line<'_>) -> Result<Event, ReadFault>
+    ensures { Reads result (load_row form (seen line.now)) }
 {
     if !has_only_keys(form, line, &["def", "w", "F"], &["bind", "store"]) {
         return Err(ReadFault::BadRequest);
@@ -38,8 +38,8 @@ fn load_in(alloc: Global, form: Form, line: &Value) -> Result<Event, ReadFault>
 }
 
 #[tactic(auto, unfolding(crate::specs::Rows::unload_row))]
-fn unload_in(alloc: Global, form: Form, line: &Value) -> Result<Event, ReadFault>
-    ensures { Reads result (unload_row form (view line.now)) }
+fn unload_in(alloc: Global, form: Form, line: &Line<'_>) -> Result<Event, ReadFault>
+    ensures { Reads result (unload_row form (seen line.now)) }
 {
     if !has_only_keys(form, line, &["job", "w"], &["store"]) {
         return Err(ReadFault::BadRequest);
@@ -51,8 +51,8 @@ fn unload_in(alloc: Global, form: Form, line: &Value) -> Result<Event, ReadFault
 }
 
 #[tactic(auto, unfolding(crate::specs::Rows::job_row))]
-fn job_in(alloc: Global, form: Form, line: &Value) -> Result<Text, ReadFault>
-    ensures { Reads result (job_row form (view line.now)) }
+fn job_in(alloc: Global, form: Form, line: &Line<'_>) -> Result<Text, ReadFault>
+    ensures { Reads result (job_row form (seen line.now)) }
 {
     if !has_only_keys(form, line, &["job"], &[]) {
         return Err(ReadFault::BadRequest);
@@ -61,8 +61,8 @@ fn job_in(alloc: Global, form: Form, line: &Value) -> Result<Text, ReadFault>
 }
 
 #[tactic(auto, unfolding(crate::specs::Rows::target_row))]
-fn lone_target_in(alloc: Global, form: Form, line: &Value) -> Result<Text, ReadFault>
-    ensures { Reads result (target_row form (view line.now)) }
+fn lone_target_in(alloc: Global, form: Form, line: &Line<'_>) -> Result<Text, ReadFault>
+    ensures { Reads result (target_row form (seen line.now)) }
 {
     if !has_only_keys(form, line, &["job"], &[]) {
         return Err(ReadFault::BadRequest);
@@ -71,8 +71,8 @@ fn lone_target_in(alloc: Global, form: Form, line: &Value) -> Result<Text, ReadF
 }
 
 #[tactic(auto, unfolding(crate::specs::Rows::setting_row))]
-fn setting_in(alloc: Global, form: Form, line: &Value) -> Result<(Text, bool), ReadFault>
-    ensures { Reads result (setting_row form (view line.now)) }
+fn setting_in(alloc: Global, form: Form, line: &Line<'_>) -> Result<(Text, bool), ReadFault>
+    ensures { Reads result (setting_row form (seen line.now)) }
 {
     if !has_only_keys(form, line, &["job"], &["store"]) {
         return Err(ReadFault::BadRequest);
@@ -83,8 +83,8 @@ fn setting_in(alloc: Global, form: Form, line: &Value) -> Result<(Text, bool), R
 }
 
 #[tactic(auto, unfolding(crate::specs::Rows::kickstart_row))]
-fn kickstart_in(alloc: Global, form: Form, line: &Value) -> Result<Event, ReadFault>
-    ensures { Reads result (kickstart_row form (view line.now)) }
+fn kickstart_in(alloc: Global, form: Form, line: &Line<'_>) -> Result<Event, ReadFault>
+    ensures { Reads result (kickstart_row form (seen line.now)) }
 {
     if !has_only_keys(form, line, &["job", "k"], &[]) {
         return Err(ReadFault::BadRequest);
@@ -95,8 +95,8 @@ fn kickstart_in(alloc: Global, form: Form, line: &Value) -> Result<Event, ReadFa
 }
 
 #[tactic(auto, unfolding(crate::specs::Rows::bare_row))]
-fn bare_in(event: Event, form: Form, line: &Value) -> Result<Event, ReadFault>
-    ensures { Reads result (bare_row event form (view line.now)) }
+fn bare_in(event: Event, form: Form, line: &Line<'_>) -> Result<Event, ReadFault>
+    ensures { Reads result (bare_row event form (seen line.now)) }
 {
     if !has_only_keys(form, line, &[], &[]) {
         return Err(ReadFault::BadRequest);
@@ -106,8 +106,8 @@ fn bare_in(event: Event, form: Form, line: &Value) -> Result<Event, ReadFault>
 
 /// The row of what a client asks, of either form.
 #[tactic(auto, unfolding(crate::specs::Rows::asked_row))]
-fn asked_in(alloc: Global, name: &str, form: Form, line: &Value) -> Result<Event, ReadFault>
-    ensures { Reads result (asked_row name.now form (view line.now)) }
+fn asked_in(alloc: Global, name: &str, form: Form, line: &Line<'_>) -> Result<Event, ReadFault>
+    ensures { Reads result (asked_row name.now form (seen line.now)) }
 {
     match name {
         "load" => load_in(alloc, form, line),
@@ -140,8 +140,8 @@ fn asked_in(alloc: Global, name: &str, form: Form, line: &Value) -> Result<Event
 }
 
 #[tactic(auto, unfolding(crate::specs::Rows::clock_row))]
-fn clock_in(line: &Value) -> Result<Event, ReadFault>
-    ensures { Reads result (clock_row (view line.now)) }
+fn clock_in(line: &Line<'_>) -> Result<Event, ReadFault>
+    ensures { Reads result (clock_row (seen line.now)) }
 {
     if !has_only_keys(Form::Event, line, &["up", "wall"], &[]) {
         return Err(ReadFault::BadRequest);
@@ -152,8 +152,8 @@ fn clock_in(line: &Value) -> Result<Event, ReadFault>
 }
 
 #[tactic(auto, unfolding(crate::specs::Rows::sight_keys))]
-fn sight_in(line: &Value) -> Result<Obs, ReadFault>
-    ensures { Reads result (sight_keys (view line.now)) }
+fn sight_in(line: &Line<'_>) -> Result<Obs, ReadFault>
+    ensures { Reads result (sight_keys (seen line.now)) }
 {
     let present = flag_in(line, "exists")?;
     let nonempty_dir = flag_in(line, "nonempty")?;
@@ -166,8 +166,8 @@ fn sight_in(line: &Value) -> Result<Obs, ReadFault>
 }
 
 #[tactic(auto, unfolding(crate::specs::Rows::has_saw_keys))]
-fn has_saw_keys(line: &Value) -> bool
-    ensures { result ≡ saw_keys (view line.now) }
+fn has_saw_keys(line: &Line<'_>) -> bool
+    ensures { result ≡ saw_keys (seen line.now) }
 {
     has_only_keys(
         Form::Event,
@@ -178,8 +178,8 @@ fn has_saw_keys(line: &Value) -> bool
 }
 
 #[tactic(auto, unfolding(crate::specs::Rows::saw_row))]
-fn saw_in(alloc: Global, line: &Value) -> Result<Event, ReadFault>
-    ensures { Reads result (saw_row (view line.now)) }
+fn saw_in(alloc: Global, line: &Line<'_>) -> Result<Event, ReadFault>
+    ensures { Reads result (saw_row (seen line.now)) }
 {
     if !has_saw_keys(line) {
         return Err(ReadFault::BadRequest);
@@ -193,8 +193,8 @@ fn saw_in(alloc: Global, line: &Value) -> Result<Event, ReadFault>
 }
 
 #[tactic(auto, unfolding(crate::specs::Rows::connection_row))]
-fn connection_in(alloc: Global, line: &Value) -> Result<(Text, u64), ReadFault>
-    ensures { Reads result (connection_row (view line.now)) }
+fn connection_in(alloc: Global, line: &Line<'_>) -> Result<(Text, u64), ReadFault>
+    ensures { Reads result (connection_row (seen line.now)) }
 {
     if !has_only_keys(Form::Event, line, &["job", "conn"], &[]) {
         return Err(ReadFault::BadRequest);
@@ -205,8 +205,8 @@ fn connection_in(alloc: Global, line: &Value) -> Result<(Text, u64), ReadFault>
 }
 
 #[tactic(auto, unfolding(crate::specs::Rows::pid_key))]
-fn pid_in(line: &Value) -> Result<u32, ReadFault>
-    ensures { Reads result (pid_key (view line.now)) }
+fn pid_in(line: &Line<'_>) -> Result<u32, ReadFault>
+    ensures { Reads result (pid_key (seen line.now)) }
 {
     match number_in(line, "pid")? {
         pid if 0 < pid && pid <= 0xffff_ffff => Ok(pid as u32),
@@ -215,8 +215,8 @@ fn pid_in(line: &Value) -> Result<u32, ReadFault>
 }
 
 #[tactic(auto, unfolding(crate::specs::Rows::spawned_row))]
-fn spawned_in(alloc: Global, line: &Value) -> Result<Event, ReadFault>
-    ensures { Reads result (spawned_row (view line.now)) }
+fn spawned_in(alloc: Global, line: &Line<'_>) -> Result<Event, ReadFault>
+    ensures { Reads result (spawned_row (seen line.now)) }
 {
     if !has_only_keys(Form::Event, line, &["job", "run", "pid"], &[]) {
         return Err(ReadFault::BadRequest);
@@ -228,8 +228,8 @@ fn spawned_in(alloc: Global, line: &Value) -> Result<Event, ReadFault>
 }
 
 #[tactic(auto, unfolding(crate::specs::Rows::run_row))]
-fn run_in(alloc: Global, line: &Value) -> Result<(Text, u64), ReadFault>
-    ensures { Reads result (run_row (view line.now)) }
+fn run_in(alloc: Global, line: &Line<'_>) -> Result<(Text, u64), ReadFault>
+    ensures { Reads result (run_row (seen line.now)) }
 {
     if !has_only_keys(Form::Event, line, &["job", "run"], &[]) {
         return Err(ReadFault::BadRequest);
@@ -240,8 +240,8 @@ fn run_in(alloc: Global, line: &Value) -> Result<(Text, u64), ReadFault>
 }
 
 #[tactic(auto, unfolding(crate::specs::Rows::answer_row))]
-fn answer_in(alloc: Global, line: &Value) -> Result<(Text, u64, bool), ReadFault>
-    ensures { Reads result (answer_row (view line.now)) }
+fn answer_in(alloc: Global, line: &Line<'_>) -> Result<(Text, u64, bool), ReadFault>
+    ensures { Reads result (answer_row (seen line.now)) }
 {
     if !has_only_keys(Form::Event, line, &["job", "run", "ok"], &[]) {
         return Err(ReadFault::BadRequest);
@@ -253,8 +253,8 @@ fn answer_in(alloc: Global, line: &Value) -> Result<(Text, u64, bool), ReadFault
 }
 
 #[tactic(auto, unfolding(crate::specs::Rows::byte_key))]
-fn byte_in(line: &Value, key: &str) -> Result<u8, ReadFault>
-    ensures { Reads result (byte_key key.now (view line.now)) }
+fn byte_in(line: &Line<'_>, key: &str) -> Result<u8, ReadFault>
+    ensures { Reads result (byte_key key.now (seen line.now)) }
 {
     match number_in(line, key)? {
         n if n < 256 => Ok(n as u8),
@@ -264,15 +264,15 @@ fn byte_in(line: &Value, key: &str) -> Result<u8, ReadFault>
 
 /// Exactly one of `code` and `signal`.
 #[tactic(auto, unfolding(crate::specs::Rows::end_key))]
-fn end_in(line: &Value) -> Result<Ended, ReadFault>
-    ensures { Reads result (end_key (view line.now)) }
+fn end_in(line: &Line<'_>) -> Result<Ended, ReadFault>
+    ensures { Reads result (end_key (seen line.now)) }
 {
-    match (line.get("code"), line.get("signal")) {
-        (Some(_), None) => {
+    match (line.has("code"), line.has("signal")) {
+        (true, false) => {
             let code = byte_in(line, "code")?;
             Ok(Ended::Code(code))
         }
-        (None, Some(_)) => {
+        (false, true) => {
             let signal = byte_in(line, "signal")?;
             Ok(Ended::Signal(signal))
         }
@@ -281,8 +281,8 @@ fn end_in(line: &Value) -> Result<Ended, ReadFault>
 }
 
 #[tactic(auto, unfolding(crate::specs::Rows::ended_row))]
-fn ended_in(alloc: Global, line: &Value) -> Result<Event, ReadFault>
-    ensures { Reads result (ended_row (view line.now)) }
+fn ended_in(alloc: Global, line: &Line<'_>) -> Result<Event, ReadFault>
+    ensures { Reads result (ended_row (seen line.now)) }
 {
     if !has_only_keys(Form::Event, line, &["job", "run", "code", "signal"], &[]) {
         return Err(ReadFault::BadRequest);
@@ -295,8 +295,8 @@ fn ended_in(alloc: Global, line: &Value) -> Result<Event, ReadFault>
 
 /// The row of any event.
 #[tactic(auto, unfolding(crate::specs::Rows::told_row, crate::specs::Rows::asked_row))]
-fn told_in(alloc: Global, name: &str, line: &Value) -> Result<Event, ReadFault>
-    ensures { Reads result (told_row name.now (view line.now)) }
+fn told_in(alloc: Global, name: &str, line: &Line<'_>) -> Result<Event, ReadFault>
+    ensures { Reads result (told_row name.now (seen line.now)) }
 {
     match name {
         "clock" => clock_in(line),
@@ -332,37 +332,66 @@ fn told_in(alloc: Global, name: &str, line: &Value) -> Result<Event, ReadFault>
 }
 
 #[tactic(auto, unfolding(crate::specs::Rows::event_row))]
-fn event_in(alloc: Global, line: &Value) -> Result<Event, ReadFault>
-    ensures { Reads result (event_row (view line.now)) }
+fn event_in(alloc: Global, line: &Line<'_>) -> Result<Event, ReadFault>
+    ensures { Reads result (event_row (seen line.now)) }
 {
     let name = text_in(line, Form::Event.tag())?;
     told_in(alloc, name, line)
 }
 
 #[tactic(auto, unfolding(crate::specs::Rows::request_row))]
-fn request_in(alloc: Global, line: &Value) -> Result<Event, ReadFault>
-    ensures { Reads result (request_row (view line.now)) }
+fn request_in(alloc: Global, line: &Line<'_>) -> Result<Event, ReadFault>
+    ensures { Reads result (request_row (seen line.now)) }
 {
     let name = text_in(line, Form::Request.tag())?;
     asked_in(alloc, name, Form::Request, line)
 }
 
+/// Reads lines, and keeps the room that this takes from line to line.
+#[derive(Drop)]
+pub struct LineReader {
+    scratch: Box<Scratch>,
+}
+
+impl LineReader {
+    /// `Err` says that memory ran out.
+    pub fn new(alloc: Global) -> Result<LineReader, AllocError> {
+        Ok(LineReader {
+            scratch: Box::new(alloc, Scratch::new(alloc))?,
+        })
+    }
+
+    /// As [`read_event`].
+    #[tactic(auto, unfolding(crate::specs::Rows::event_at))]
+    pub fn event(&mut self, alloc: Global, line: &[u8]) -> Result<Event, ReadFault>
+        ensures { Reads result (event_at line.now) }
+    {
+        let line = Line::read(alloc, line, &mut self.scratch)?;
+        event_in(alloc, &line)
+    }
+
+    /// As [`read_request`].
+    #[tactic(auto, unfolding(crate::specs::Rows::request_at))]
+    pub fn request(&mut self, alloc: Global, line: &[u8]) -> Result<Event, ReadFault>
+        ensures { Reads result (request_at line.now) }
+    {
+        let line = Line::read(alloc, line, &mut self.scratch)?;
+        request_in(alloc, &line)
+    }
+}
+
 /// The event that a line of a journal tells, the newline left out. BadRequest where it is none: no JSON object (RFC
 /// 8259), a key too few or too many, or a value of another kind or range.
-#[tactic(auto, unfolding(crate::specs::Rows::event_at))]
 pub fn read_event(alloc: Global, line: &[u8]) -> Result<Event, ReadFault>
     ensures { Reads result (event_at line.now) }
 {
-    let line = json_line(alloc, line)?;
-    event_in(alloc, &line)
+    LineReader::new(alloc)?.event(alloc, line)
 }
 
 /// The event that a control client's line asks for, the newline left out. The outside's answers, which a client
 /// doesn't tell, stand as given. BadRequest where it is no request.
-#[tactic(auto, unfolding(crate::specs::Rows::request_at))]
 pub fn read_request(alloc: Global, line: &[u8]) -> Result<Event, ReadFault>
     ensures { Reads result (request_at line.now) }
 {
-    let line = json_line(alloc, line)?;
-    request_in(alloc, &line)
+    LineReader::new(alloc)?.request(alloc, line)
 }

@@ -1,17 +1,39 @@
 //! Reads a header.
 
 ghost use Rattle.std.specs.Prelude.{◌≡◌, List, ℕ};
+ghost use Rattle.job_defs.specs.Json.{json_in};
 ghost use Rattle.serde_json.specs.View.{view, members_view};
 ghost use Rattle.ctl_protocol.specs.Headers as headers;
 ghost use Rattle.ctl_protocol.specs.Headers.{are_among, bytes_of_hex, digit_of, file_of, header_at, header_keys, header_row, offset_of, overrides_key, posix_of, reading_keys, setting_of, settings_of, up_to, zone_key};
-ghost use Rattle.ctl_protocol.specs.Members.{Gives, Reads, names_of};
+ghost use Rattle.ctl_protocol.specs.Members.{Gives, Reads, names_of, number_key};
 
 use crate::header::{Header, Settings, ZoneFile, ZoneText};
-use crate::members::{ReadFault, is_among, json_line, number_in};
+use crate::members::{ReadFault, is_among};
 use history_model::{MAX_UP, MAX_WALL, Reading, Setting, Text};
-use job_defs::is_label;
+use job_defs::{is_label, json_value};
 use serde_json::{Map, Value};
 use std::alloc::Global;
+
+/// The JSON value that the bytes are.
+fn json_line(alloc: Global, bytes: &[u8]) -> Result<Value, ReadFault>
+    ensures { Gives view result (json_in bytes.now) }
+{
+    match json_value(alloc, bytes)? {
+        Some(value) => Ok(value),
+        None => Err(ReadFault::BadRequest),
+    }
+}
+
+/// The integer under a key, from 0 on.
+#[tactic(auto, unfolding(crate::specs::Members::number_key))]
+fn number_in(line: &Value, key: &str) -> Result<u64, ReadFault>
+    ensures { Reads result (number_key key.now (view line.now)) }
+{
+    match line.get(key).and_then(Value::as_u64) {
+        Some(n) => Ok(n),
+        None => Err(ReadFault::BadRequest),
+    }
+}
 
 #[tactic(auto, unfolding(crate::specs::Headers::up_to))]
 fn up_to_in(line: &Value, most: u64, key: &str) -> Result<u64, ReadFault>

@@ -1,16 +1,18 @@
 //! The members of a line's object, by key and kind.
 
 ghost use Rattle.std.specs.Prelude.{◌≡◌};
-ghost use Rattle.job_defs.specs.Json.{json_in};
-ghost use Rattle.serde_json.specs.View.{view, members_view};
-ghost use Rattle.ctl_protocol.specs.Members.{Gives, Reads, text_key, number_key, flag_key, flag_or, label_key, target_key, has_only, names_of, tag_of, members_are};
+ghost use Rattle.json.specs.Value.{members_view};
+ghost use Rattle.ctl_protocol.specs.Members.{Gives, Reads, text_key, number_key, flag_key, flag_or, label_key, target_key, has_only, names_of, tag_of, is_key};
+ghost use Rattle.ctl_protocol.specs.Seen.{seen};
+ghost use Rattle.ctl_protocol.specs.Trees.{keys_pass};
 ghost use Rattle.ctl_protocol.specs.Members.{is_among as among};
 ghost use Rattle.ctl_protocol.specs.declared.members.ReadFault.TheVariants.{NoMemory};
 
+use crate::line::Line;
 use crate::target::label_named;
 use history_model::Text;
-use job_defs::{is_label, json_value};
-use serde_json::{Map, Value};
+use job_defs::is_label;
+use json::Value;
 use std::alloc::{AllocError, AllocFailed, Global};
 use thiserror::Error;
 
@@ -60,22 +62,12 @@ impl Form {
     }
 }
 
-/// The JSON value that the bytes are.
-pub(crate) fn json_line(alloc: Global, bytes: &[u8]) -> Result<Value, ReadFault>
-    ensures { Gives view result (json_in bytes.now) }
-{
-    match json_value(alloc, bytes)? {
-        Some(value) => Ok(value),
-        None => Err(ReadFault::BadRequest),
-    }
-}
-
 /// The text under a key.
 #[tactic(auto, unfolding(crate::specs::Members::text_key))]
-pub(crate) fn text_in<'v>(line: &'v Value, key: &str) -> Result<&'v str, ReadFault>
-    ensures { Gives (λ s. s.now) result (text_key key.now (view line.now)) }
+pub(crate) fn text_in<'a>(line: &Line<'a>, key: &str) -> Result<&'a str, ReadFault>
+    ensures { Gives (λ s. s.now) result (text_key key.now (seen line.now)) }
 {
-    match line.get(key).and_then(Value::as_str) {
+    match line.text(key) {
         Some(text) => Ok(text),
         None => Err(ReadFault::BadRequest),
     }
@@ -83,10 +75,10 @@ pub(crate) fn text_in<'v>(line: &'v Value, key: &str) -> Result<&'v str, ReadFau
 
 /// The integer under a key, from 0 on.
 #[tactic(auto, unfolding(crate::specs::Members::number_key))]
-pub(crate) fn number_in(line: &Value, key: &str) -> Result<u64, ReadFault>
-    ensures { Reads result (number_key key.now (view line.now)) }
+pub(crate) fn number_in(line: &Line<'_>, key: &str) -> Result<u64, ReadFault>
+    ensures { Reads result (number_key key.now (seen line.now)) }
 {
-    match line.get(key).and_then(Value::as_u64) {
+    match line.number(key) {
         Some(n) => Ok(n),
         None => Err(ReadFault::BadRequest),
     }
@@ -94,33 +86,29 @@ pub(crate) fn number_in(line: &Value, key: &str) -> Result<u64, ReadFault>
 
 /// The flag under a key.
 #[tactic(auto, unfolding(crate::specs::Members::flag_key))]
-pub(crate) fn flag_in(line: &Value, key: &str) -> Result<bool, ReadFault>
-    ensures { Reads result (flag_key key.now (view line.now)) }
+pub(crate) fn flag_in(line: &Line<'_>, key: &str) -> Result<bool, ReadFault>
+    ensures { Reads result (flag_key key.now (seen line.now)) }
 {
-    match line.get(key).and_then(Value::as_bool) {
+    match line.flag(key) {
         Some(set) => Ok(set),
         None => Err(ReadFault::BadRequest),
     }
 }
 
 /// The flag under a key that may be absent.
-#[tactic(auto, unfolding(crate::specs::Members::flag_or))]
-pub(crate) fn flag_or_in(line: &Value, key: &str, absent: bool) -> Result<bool, ReadFault>
-    ensures { Reads result (flag_or key.now absent (view line.now)) }
+pub(crate) fn flag_or_in(line: &Line<'_>, key: &str, absent: bool) -> Result<bool, ReadFault>
+    ensures { Reads result (flag_or key.now absent (seen line.now)) }
 {
-    match line.get(key) {
-        None => Ok(absent),
-        Some(found) => match found.as_bool() {
-            Some(set) => Ok(set),
-            None => Err(ReadFault::BadRequest),
-        },
+    match line.flag_or(key, absent) {
+        Some(set) => Ok(set),
+        None => Err(ReadFault::BadRequest),
     }
 }
 
 /// A copy of the label under a key.
 #[tactic(auto, unfolding(crate::specs::Members::label_key))]
-pub(crate) fn label_in(alloc: Global, line: &Value, key: &str) -> Result<Text, ReadFault>
-    ensures { Reads result (label_key key.now (view line.now)) }
+pub(crate) fn label_in(alloc: Global, line: &Line<'_>, key: &str) -> Result<Text, ReadFault>
+    ensures { Reads result (label_key key.now (seen line.now)) }
 {
     let label = text_in(line, key)?;
     if !is_label(label) {
@@ -131,8 +119,8 @@ pub(crate) fn label_in(alloc: Global, line: &Value, key: &str) -> Result<Text, R
 
 /// A copy of the label that the target under a key names.
 #[tactic(auto, unfolding(crate::specs::Members::target_key))]
-pub(crate) fn target_in(alloc: Global, line: &Value, key: &str) -> Result<Text, ReadFault>
-    ensures { Reads result (target_key key.now (view line.now)) }
+pub(crate) fn target_in(alloc: Global, line: &Line<'_>, key: &str) -> Result<Text, ReadFault>
+    ensures { Reads result (target_key key.now (seen line.now)) }
 {
     let target = text_in(line, key)?;
     match label_named(target) {
@@ -142,21 +130,25 @@ pub(crate) fn target_in(alloc: Global, line: &Value, key: &str) -> Result<Text, 
 }
 
 /// Whether the line is an object with no key but its tag, those of its row and, in a journal, the answers.
-#[tactic(auto, unfolding(crate::specs::Members::has_only))]
-pub(crate) fn has_only_keys(form: Form, line: &Value, keys: &[&str], answers: &[&str]) -> bool
-    ensures { result ≡ has_only form (names_of keys.now) (names_of answers.now) (view line.now) }
+pub(crate) fn has_only_keys(form: Form, line: &Line<'_>, keys: &[&str], answers: &[&str]) -> bool
+    ensures { result ≡ has_only form (names_of keys.now) (names_of answers.now) (seen line.now) }
 {
-    match line.as_object() {
+    match line.members() {
         Some(members) => all_are_keys(form, members, keys, answers),
         None => false,
     }
 }
 
-fn all_are_keys(form: Form, members: &Map<String, Value>, keys: &[&str], answers: &[&str]) -> bool
-    ensures { result ≡ members_are form (names_of keys.now) (names_of answers.now) (members_view members.now.entries) }
+fn all_are_keys(
+    form: Form,
+    members: &Vec<(&str, Value<'_>)>,
+    keys: &[&str],
+    answers: &[&str],
+) -> bool
+    ensures { result ≡ keys_pass (is_key form (names_of keys.now) (names_of answers.now)) (members_view members.now.items) }
 {
-    for (key, _) in members.iter() {
-        let name = key.as_str();
+    for member in members {
+        let name = member.0;
         let is_answer = form == Form::Event && is_among(name, answers);
         if name != form.tag() && !is_among(name, keys) && !is_answer {
             return false;

@@ -1,7 +1,7 @@
 //! Writes the lines of outcomes and of replies.
 
 ghost use Rattle.std.specs.Prelude.{◌≡◌, IfOk};
-ghost use Rattle.serde_json.specs.Data.{array, number, string, unsigned};
+ghost use Rattle.serde_json.specs.Data.{array, string};
 ghost use Rattle.serde_json.specs.View.{view};
 ghost use Rattle.serde_json.specs.Written.{compact_text};
 ghost use Rattle.ctl_protocol.specs.Outcomes.{parts};
@@ -11,6 +11,7 @@ ghost use Rattle.ctl_protocol.specs.Outcomes.{answered, order_members, orders_da
 use crate::object::{Cell, line_from, object_of};
 use crate::texts::refusal_text;
 use history_model::{Act, Reply};
+use itoa::Buffer;
 use serde_json::Value;
 use std::alloc::{AllocError, Global};
 
@@ -77,12 +78,6 @@ fn orders_value(alloc: Global, orders: &[(&str, Act)]) -> Result<Value, AllocErr
     Ok(Value::Array(values))
 }
 
-fn code_text(alloc: Global, code: u8) -> Result<Vec<u8>, AllocError>
-    ensures { IfOk result (λ t. t.items ≡ compact_text (number (unsigned code))) }
-{
-    Value::from(code).to_vec(alloc)
-}
-
 #[tactic(auto, using(crate::proofs::Objects::orders_no_float))]
 fn orders_text(alloc: Global, orders: &[(&str, Act)]) -> Result<Vec<u8>, AllocError>
     ensures { IfOk result (λ t. t.items ≡ compact_text (array (orders_data (orders_of orders.now)))) }
@@ -121,11 +116,14 @@ fn outcome_from(
 ) -> Result<Vec<u8>, AllocError>
     ensures { IfOk result (λ line. line.items ≡ line_of (outcome_object code text.now (orders_of orders.now))) }
 {
-    let number = code_text(alloc, code)?;
+    let mut buffer = Buffer::new();
+    let number = buffer.format(code).as_bytes();
+    if orders.is_empty() && text.is_empty() {
+        return joined(alloc, number, b"[]", b"\"\"");
+    }
     let list = orders_text(alloc, orders)?;
     let said = said_text(alloc, text)?;
-    let line = joined(alloc, number.as_slice(), list.as_slice(), said.as_slice())?;
-    Ok(line)
+    joined(alloc, number, list.as_slice(), said.as_slice())
 }
 
 /// The line of an event's outcome, with its newline: the reply's code (0 where there is no refusal), the orders with

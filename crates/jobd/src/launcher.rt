@@ -7,7 +7,7 @@ ghost use Rattle.jobd.specs.Output.{IsOutput};
 
 use crate::loads::LoadWords;
 use crate::{events, loads, opening, whole};
-use ctl_protocol::{ReadFault, read_event};
+use ctl_protocol::{LineReader, ReadFault};
 use history_model::Event;
 use job_table::JobTable;
 use replay_loop::LineMachine;
@@ -17,6 +17,7 @@ use std::alloc::{AllocError, Global};
 #[derive(Drop)]
 pub(crate) struct Launcher {
     table: JobTable,
+    reader: LineReader,
 }
 
 /// Events that a control client asks for, and the clock.
@@ -76,10 +77,15 @@ fn asked(alloc: Global, table: &mut JobTable, event: Event) -> Result<Vec<u8>, A
 }
 
 /// The line that answers a line of a journal, which is an event or unreadable.
-fn answer(alloc: Global, table: &mut JobTable, line: &[u8]) -> Result<Vec<u8>, AllocError>
+fn answer(
+    alloc: Global,
+    table: &mut JobTable,
+    reader: &mut LineReader,
+    line: &[u8],
+) -> Result<Vec<u8>, AllocError>
     ensures { IfOk result (λ text. IsAnswered (event_in line.now) table.old table.new text.items) }
 {
-    match read_event(alloc, line) {
+    match reader.event(alloc, line) {
         Ok(event) => asked(alloc, table, event),
         Err(ReadFault::NoMemory) => Err(AllocError),
         Err(ReadFault::BadRequest) => whole::unreadable(alloc, table),
@@ -93,14 +99,17 @@ impl LineMachine for Launcher {
 
     fn open(alloc: Global, header: &[u8]) -> Result<Option<Launcher>, AllocError> {
         match opening::open(alloc, header) {
-            Ok(Some(table)) => Ok(Some(Launcher { table })),
+            Ok(Some(table)) => Ok(Some(Launcher {
+                table,
+                reader: LineReader::new(alloc)?,
+            })),
             Ok(None) => Ok(None),
             Err(e) => Err(e),
         }
     }
 
     fn handle(&mut self, alloc: Global, line: &[u8]) -> Result<Vec<u8>, AllocError> {
-        match answer(alloc, &mut self.table, line) {
+        match answer(alloc, &mut self.table, &mut self.reader, line) {
             Ok(text) => Ok(text),
             Err(e) => Err(e),
         }

@@ -1,9 +1,16 @@
 use Rattle.std.proofs.Common.{◌∙◌}
+use Rattle.std.proofs.lemmas.Result.{IfOk-weaker}
 use Rattle.ctl_protocol.specs.Outcomes.{orders_of}
-use Rattle.ctl_protocol.proofs.Outcomes.{from_parts}
+use Rattle.ctl_protocol.proofs.Outcomes.{bare_parts, from_parts, number_written}
 use Rattle.ctl_protocol.proofs.outcome.outcome_from.Goals as goal
+
+pub returns-then-is_empty-2 : goal.returns-then-is_empty-2
+returns-then-is_empty-2 c =
+    let digits = c.as_bytes-number.ensures.value ∙ c.format.ensures.text in
+    IfOk-weaker c.joined.result _ _ (λ line whole. bare_parts c.args.code c.args.text.now c.args.orders.now line.items _ c.if-is_empty.ensures c.if-is_empty-2.ensures digits whole) c.joined.ensures
 
 pub returns : goal.returns
 returns c =
-    from_parts c.args.code c.args.text.now (orders_of c.args.orders.now) c.in_ok-line.line.items c.as_slice.result.now c.as_slice-2.result.now c.as_slice-3.result.now c.in_ok-line.ensures
-    (c.as_slice.ensures.value ∙ c.in_ok-number.ensures) (c.as_slice-2.ensures.value ∙ c.in_ok-list.ensures) (c.as_slice-3.ensures.value ∙ c.in_ok-said.ensures)
+    let digits = c.as_bytes-number.ensures.value ∙ c.format.ensures.text ∙ number_written c.args.code in
+    IfOk-weaker c.joined-2.result _ _ (λ line whole. from_parts c.args.code c.args.text.now (orders_of c.args.orders.now) line.items _ _ _ whole
+    digits (c.as_slice.ensures.value ∙ c.in_ok-list.ensures) (c.as_slice-2.ensures.value ∙ c.in_ok-said.ensures)) c.joined-2.ensures

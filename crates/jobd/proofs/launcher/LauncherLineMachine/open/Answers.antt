@@ -1,5 +1,5 @@
 use Rattle.jobd.proofs.Launching.{opened_writes}
 use Rattle.jobd.proofs.launcher.LauncherLineMachine.open.Goals as goal
 
-pub returns-in-Ok-Some : goal.returns-in-Ok-Some
-returns-in-Ok-Some c = opened_writes c.args.header.now c.in-Ok-Some.table (rw c.in-Ok-Some.field-0-is at c.in-Ok-Some.ensures)
+pub returns-in_ok-new-in-Ok-Some : goal.returns-in_ok-new-in-Ok-Some
+returns-in_ok-new-in-Ok-Some c = opened_writes c.args.header.now c.in-Ok-Some.table (rw c.in-Ok-Some.field-0-is at c.in-Ok-Some.ensures)
