@@ -1,7 +1,8 @@
 //! What a child is started with, out of its job's definition.
 
-ghost use Rattle.std.specs.Prelude.{◌≡◌, ◌++◌, Some, IfOk, OnOk};
-ghost use Rattle.std.specs.Process.{command_program, command_args, command_dir, command_arg0, SameEnv, SameDir, SameProgramAndArgs};
+ghost use Rattle.std.specs.Prelude.{◌≡◌, ◌++◌, ℕ, List, None, Some, IfOk, OnOk};
+ghost use Rattle.std.specs.Process.{command_program, command_args, command_dir, command_arg0, command_var, SameEnv, SameDir, SameOtherVars, SameProgramAndArgs};
+ghost use Rattle.child_edge.specs.Launch.{said_after};
 
 use history_model::Text;
 use job_defs::{Def, Variable};
@@ -24,6 +25,7 @@ pub(crate) fn command_of(alloc: Global, def: &Def, streams: Streams) -> Result<C
     ensures name { IfOk result (λ c. command_arg0 c ≡ Some def.now.program) }
     ensures arguments { IfOk result (λ c. command_args c ≡ def.now.arguments) }
     ensures directory { IfOk result (λ c. command_dir c ≡ def.now.working_directory) }
+    ensures variables { IfOk result (λ c. (name : List ℕ) → command_var c name ≡ said_after name None def.now.environment) }
 {
     let Streams {
         input,
@@ -58,9 +60,20 @@ fn add_words(command: &mut Command, words: &[Text]) -> Result<(), AllocError>
 fn add_variables(command: &mut Command, variables: &[Variable]) -> Result<(), AllocError>
     ensures call { OnOk result (SameProgramAndArgs command.old command.new) }
     ensures dir { OnOk result (SameDir command.old command.new) }
+    ensures set { OnOk result ((name : List ℕ) → command_var command.new name ≡ said_after name (command_var command.old name) variables.now) }
 {
     for variable in variables {
-        command.env(variable.name.as_str(), variable.value.as_str())?;
+        set_variable(command, variable)?;
     }
+    Ok(())
+}
+
+fn set_variable(command: &mut Command, variable: &Variable) -> Result<(), AllocError>
+    ensures call { OnOk result (SameProgramAndArgs command.old command.new) }
+    ensures dir { OnOk result (SameDir command.old command.new) }
+    ensures set { OnOk result (command_var command.new variable.now.name ≡ Some (Some variable.now.value)) }
+    ensures others { OnOk result (SameOtherVars command.old command.new variable.now.name) }
+{
+    command.env(variable.name.as_str(), variable.value.as_str())?;
     Ok(())
 }

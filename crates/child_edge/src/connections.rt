@@ -35,11 +35,12 @@ impl Connections {
         job: JobNo,
         conn: u64,
         client: Client,
-        exchange: Exchange,
+        mut exchange: Exchange,
     ) -> io::Result<()> {
         if self.held.contains_key(&(job, conn)) {
             return Err(io::Error::from(ErrorKind::AlreadyExists));
         }
+        exchange.request_end();
         let paths = SpoolPaths::new(self.alloc, self.folder.as_str(), job, conn)?;
         let reply = match paths.fill(rt, exchange.request_bytes()) {
             Ok(reply) => reply,

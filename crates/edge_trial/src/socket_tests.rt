@@ -1,0 +1,232 @@
+//! What is expected of sockets and of the connections that come to them, step by step.
+
+use crate::stage::first_fault;
+use crate::steps::Step::*;
+use history_model::Ended;
+use std::test::Fail;
+
+const UNIX: &str =
+    "\"Program\":\"/bin/cat\",\"inetdCompatibility\":{\"Wait\":false},\"Sockets\":{\"s\":{\"SockPathName\":\"@/s\"}}";
+
+const INET: &str =
+    "\"Program\":\"/bin/cat\",\"inetdCompatibility\":{\"Wait\":false},\"Sockets\":{\"s\":{\"SockPathName\":\"@/s\"},\"t\":{\"SockNodeName\":\"localhost\",\"SockServiceName\":\"#\"}}";
+
+/// The keys of a socket beside a script.
+const SOCKET: &str =
+    ",\"inetdCompatibility\":{\"Wait\":false},\"Sockets\":{\"s\":{\"SockPathName\":\"@/s\"}}";
+
+#[test]
+fn a_unix_socket_is_its_owners(rt: HostRuntime) -> Result<(), Fail> {
+    let steps = [
+        Keys(UNIX),
+        Bind(0, true),
+        IsPrivate("@/s"),
+        Silence(0),
+        Calls("@/s", "hello"),
+        Takes("hello", 1, true),
+        Close(1),
+        Hears(""),
+        Release(0),
+        Goes("@/s"),
+        Silence(0),
+        Failures(0),
+        NothingOpen,
+    ];
+    assert_eq!(rt; first_fault(&rt, "unix", &steps)?, None);
+    Ok(())
+}
+
+#[test]
+fn only_a_stale_socket_is_replaced(rt: HostRuntime) -> Result<(), Fail> {
+    let steps = [
+        Keys(UNIX),
+        Make("@/s", "text"),
+        Bind(0, false),
+        Holds("@/s", "text"),
+        Keys("\"Program\":\"/bin/rm\",\"ProgramArguments\":[\"rm\",\"@/s\"]"),
+        Start(1, None, true),
+        Ends(1, Ended::Code(0)),
+        ListensAt("@/s"),
+        Keys(UNIX),
+        Bind(0, false),
+        Appears("@/s"),
+        Failures(2),
+        Hangs,
+        Appears("@/s"),
+        Bind(0, true),
+        Calls("@/s", "hello"),
+        Takes("hello", 1, true),
+    ];
+    assert_eq!(rt; first_fault(&rt, "stale", &steps)?, None);
+    Ok(())
+}
+
+/// To ask who listens at the path would be a client's call to the job that has it.
+#[test]
+fn a_path_that_a_job_has_is_not_called(rt: HostRuntime) -> Result<(), Fail> {
+    let steps = [
+        Keys(UNIX),
+        Bind(0, true),
+        Bind(1, false),
+        Bind(0, false),
+        Silence(0),
+        Failures(2),
+    ];
+    assert_eq!(rt; first_fault(&rt, "same", &steps)?, None);
+    Ok(())
+}
+
+#[test]
+fn a_port_in_use_leaves_nothing_bound(rt: HostRuntime) -> Result<(), Fail> {
+    let steps = [
+        ListensOnPort,
+        Keys(INET),
+        Bind(0, false),
+        Failures(1),
+        Goes("@/s"),
+        Hangs,
+        NothingOpen,
+        Bind(0, true),
+        CallsPort("hello"),
+        Takes("hello", 1, true),
+        Start(1, Some(1), true),
+        Ends(1, Ended::Code(0)),
+        Goes("@/0-1.reply"),
+        Hears("hello"),
+        Release(0),
+        Failures(1),
+        NothingOpen,
+    ];
+    assert_eq!(rt; first_fault(&rt, "port", &steps)?, None);
+    Ok(())
+}
+
+#[test]
+fn a_job_has_eight_sockets(rt: HostRuntime) -> Result<(), Fail> {
+    let steps = [
+        Keys(
+            "\"Program\":\"/bin/cat\",\"inetdCompatibility\":{\"Wait\":false},\"Sockets\":{\"s\":[{\"SockPathName\":\"@/1\"},{\"SockPathName\":\"@/2\"},{\"SockPathName\":\"@/3\"},{\"SockPathName\":\"@/4\"},{\"SockPathName\":\"@/5\"},{\"SockPathName\":\"@/6\"},{\"SockPathName\":\"@/7\"},{\"SockPathName\":\"@/8\"}]}",
+        ),
+        Bind(0, true),
+        Calls("@/1", "first"),
+        Takes("first", 1, true),
+        Calls("@/8", "last"),
+        Takes("last", 2, true),
+        Vanishes,
+        Close(1),
+        Close(2),
+        Release(0),
+        Goes("@/1"),
+        Goes("@/8"),
+        NothingOpen,
+    ];
+    assert_eq!(rt; first_fault(&rt, "eight", &steps)?, None);
+    Ok(())
+}
+
+/// `$0` and `$1` of the shell are the program's name and word; the request comes before them.
+#[test]
+fn a_request_is_answered(rt: HostRuntime) -> Result<(), Fail> {
+    let steps = [
+        Script("cat; echo $0", SOCKET),
+        Bind(0, true),
+        Calls("@/s", "hello "),
+        Takes("hello ", 1, true),
+        Holds("@/0-1.request", "hello "),
+        Start(1, Some(1), true),
+        Ends(1, Ended::Code(0)),
+        Goes("@/0-1.reply"),
+        Goes("@/0-1.request"),
+        Hears("hello /bin/sh\n"),
+        Release(0),
+        Failures(0),
+        NothingOpen,
+    ];
+    assert_eq!(rt; first_fault(&rt, "served", &steps)?, None);
+    Ok(())
+}
+
+#[test]
+fn a_reply_is_sent_on_as_it_grows(rt: HostRuntime) -> Result<(), Fail> {
+    let steps = [
+        Script(
+            "echo one; while [ ! -e @/go ]; do sleep 0.01; done; head -c 300000 /dev/zero",
+            SOCKET,
+        ),
+        Bind(0, true),
+        Calls("@/s", ""),
+        Takes("", 1, true),
+        Start(1, Some(1), true),
+        Gets(4),
+        Lives(1),
+        Make("@/go", ""),
+        Ends(1, Ended::Code(0)),
+        Gets(300_000),
+        Goes("@/0-1.reply"),
+        Hears(""),
+        Failures(0),
+    ];
+    assert_eq!(rt; first_fault(&rt, "grows", &steps)?, None);
+    Ok(())
+}
+
+#[test]
+fn a_client_may_vanish(rt: HostRuntime) -> Result<(), Fail> {
+    let steps = [
+        Script("cat > @/got; head -c 300000 /dev/zero", SOCKET),
+        Bind(0, true),
+        Calls("@/s", "hello"),
+        Takes("hello", 1, true),
+        Vanishes,
+        Start(1, Some(1), true),
+        Goes("@/0-1.reply"),
+        Ends(1, Ended::Code(0)),
+        Holds("@/got", "hello"),
+        Release(0),
+        Failures(0),
+        NothingOpen,
+    ];
+    assert_eq!(rt; first_fault(&rt, "vanish", &steps)?, None);
+    Ok(())
+}
+
+#[test]
+fn a_waiting_connection_is_closed(rt: HostRuntime) -> Result<(), Fail> {
+    let steps = [
+        Script("cat", SOCKET),
+        Bind(0, true),
+        Calls("@/s", "more"),
+        Takes("more", 1, true),
+        Calls("@/s", "hello"),
+        Takes("hello", 1, false),
+        Vanishes,
+        Holds("@/0-1.request", "more"),
+        Close(1),
+        Goes("@/0-1.request"),
+        Goes("@/0-1.reply"),
+        Start(1, Some(1), false),
+        Failures(2),
+        Release(0),
+        NothingOpen,
+    ];
+    assert_eq!(rt; first_fault(&rt, "closed", &steps)?, None);
+    Ok(())
+}
+
+/// Two names of paths that are 107 bytes long, one of them in a missing folder: the longest that a definition may have.
+#[test]
+fn a_path_of_107_bytes(rt: HostRuntime) -> Result<(), Fail> {
+    let steps = [
+        LongSocket("@/none/"),
+        Bind(0, false),
+        Failures(1),
+        NothingOpen,
+        LongSocket("@/"),
+        Bind(0, true),
+        Release(0),
+        Failures(1),
+        NothingOpen,
+    ];
+    assert_eq!(rt; first_fault(&rt, "long", &steps)?, None);
+    Ok(())
+}

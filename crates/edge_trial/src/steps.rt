@@ -1,0 +1,69 @@
+//! The steps of a test. `@` in a text is the test's own folder, `#` its port.
+
+use history_model::{Ended, Obs};
+
+/// What is done, and what is expected of it. Times out after five seconds. All calls are for job 0 unless said otherwise.
+#[derive(Clone, Copy)]
+pub enum Step {
+    /// From here on the definition is that of a shell with this script and these further keys.
+    Script(&'static str, &'static str),
+    /// From here on the definition has these keys beside its label.
+    Keys(&'static str),
+    /// From here on the definition has a Unix socket in this folder, with a path of 107 bytes.
+    LongSocket(&'static str),
+    /// The run is started, with the connection it serves; whether it is to succeed.
+    Start(u64, Option<u64>, bool),
+    /// The run's child is alive, and stays so for a tenth of a second.
+    Lives(u64),
+    /// The run's child ends so.
+    Ends(u64, Ended),
+    /// A poll of the run is refused.
+    Lost(u64),
+    /// TERM for the run, and whether it is to succeed.
+    Term(u64, bool),
+    /// KILL for the run, and whether it is to succeed.
+    Kill(u64, bool),
+    /// So many calls have failed since the beginning.
+    Failures(u64),
+    /// As many descriptors are open as at the beginning.
+    NothingOpen,
+    /// The file comes to be there.
+    Appears(&'static str),
+    /// The file comes to be away.
+    Goes(&'static str),
+    /// The file holds the text.
+    Holds(&'static str, &'static str),
+    /// A file is made that holds the text.
+    Make(&'static str, &'static str),
+    /// A look at the path sees this, or is refused.
+    Sees(&'static str, Option<Obs>),
+    /// The clocks are read, a hundredth of a second apart.
+    Clocks,
+    /// The sockets are bound for the job, and whether that is to succeed.
+    Bind(u32, bool),
+    /// The job's sockets are given up.
+    Release(u32),
+    /// The file is a socket of its owner alone.
+    IsPrivate(&'static str),
+    /// Somebody else listens at the path, or on the port.
+    ListensAt(&'static str),
+    ListensOnPort,
+    /// Who listened does no more.
+    Hangs,
+    /// Somebody calls the Unix socket at the path, or the port, sends the text and half-closes.
+    Calls(&'static str, &'static str),
+    CallsPort(&'static str),
+    /// No client of the job waits.
+    Silence(u32),
+    /// The next client of job 0 sends the text and half-closes. The connection is held under the number; whether that is to
+    /// succeed.
+    Takes(&'static str, u64, bool),
+    /// The caller gets so many bytes in time, while replies are sent on.
+    Gets(usize),
+    /// The caller gets the text, and then the end, after replies were sent on.
+    Hears(&'static str),
+    /// The caller goes away.
+    Vanishes,
+    /// The waiting connection is closed.
+    Close(u64),
+}
