@@ -5,9 +5,9 @@
 
 PROGRAM is build/jobd where none is given. Each stream is replayed ROUNDS times (3), and the best time counts; the lines
 that load the jobs are in it. Where valgrind is there, the instructions of an event line are counted, on two short
-streams whose difference leaves the start and the loads out. With BASELINE=PROGRAM in the environment, a second program
-that reads the same lines from standard input takes turns with it, and what the two write is compared. STREAMS in the
-environment, as `ticks,interval`, leaves the other kinds of streams out.
+streams whose difference leaves the start and the loads out. MB is the most memory that the program held (on Linux). With
+BASELINE=PROGRAM in the environment, a second program that reads the same lines from standard input takes turns with it,
+and what the two write is compared. STREAMS in the environment, as `ticks,interval`, leaves the other kinds of streams out.
 """
 import os
 import shlex
@@ -43,6 +43,24 @@ def seconds(command, path, written):
         return time.monotonic() - begun
 
 
+def high_water(command, path):
+    """The most memory that the program held, in megabytes, as /proc told it last before the program ended."""
+    most = 0
+    with open(path) as given:
+        running = subprocess.Popen(command, stdin=given, stdout=subprocess.DEVNULL)
+        while running.poll() is None:
+            try:
+                with open(f"/proc/{running.pid}/status") as status:
+                    for line in status:
+                        if line.startswith("VmHWM"):
+                            most = max(most, int(line.split()[1]))
+            except OSError:
+                break
+            time.sleep(0.002)
+        running.wait()
+    return f"{most / 1024:.1f}" if most else "-"
+
+
 def instructions(command, path, folder):
     wrapped = ["valgrind", "--tool=callgrind", f"--callgrind-out-file={folder}/counted", *command]
     with open(path) as given:
@@ -74,7 +92,7 @@ def row(programs, kind, jobs, lines, rounds, folder):
     for name, command in programs.items():
         same = written[name] == written["jobd"]
         counted = per_line(command, kind, jobs, folder) if shutil.which("valgrind") else "-"
-        print(f"| {kind} | {jobs} | {count} | {name} | {best[name]:.3f} | {count / best[name]:,.0f} | {counted} |"
+        print(f"| {kind} | {jobs} | {count} | {name} | {best[name]:.3f} | {count / best[name]:,.0f} | {counted} | {high_water(command, path)} |"
               + ("" if same else " OUTCOMES DIFFER"), flush=True)
     return all(text == written["jobd"] for text in written.values())
 
@@ -86,8 +104,8 @@ def main():
     if os.environ.get("BASELINE"):
         programs["baseline"] = shlex.split(os.environ["BASELINE"])
     wanted = os.environ.get("STREAMS", "").split(",") if os.environ.get("STREAMS") else [stream[0] for stream in STREAMS]
-    print("| stream | jobs | lines | program | seconds | lines a second | instructions a line |")
-    print("|---|---|---|---|---|---|---|")
+    print("| stream | jobs | lines | program | seconds | lines a second | instructions a line | MB |")
+    print("|---|---|---|---|---|---|---|---|")
     with tempfile.TemporaryDirectory() as folder:
         alike = [row(programs, *stream, rounds, folder) for stream in STREAMS if stream[0] in wanted]
     sys.exit(0 if all(alike) else 1)
