@@ -5,12 +5,14 @@ ghost use Rattle.std.specs.Prelude.{◌≤◌, length};
 use crate::files::pause;
 use crate::stage::Stage;
 use child_edge::Client;
+use mio::{Events, Poll, Token};
 use socket_demand::Exchange;
 use std::io;
 use std::io::{ErrorKind, Read, Write};
 use std::net::{Ipv4Addr, Shutdown, SocketAddr, TcpStream};
 use std::os::unix::net::UnixStream;
 use std::test::Fail;
+use std::time::Duration;
 
 /// Somebody calls the Unix socket, sends the text and half-closes.
 pub fn calls(rt: &HostRuntime, stage: &mut Stage, path: &str, text: &str) -> Result<bool, Fail> {
@@ -30,6 +32,18 @@ pub fn calls_port(rt: &HostRuntime, stage: &mut Stage, text: &str) -> Result<boo
     caller.shutdown(Shutdown::Write)?;
     stage.far = Some(caller);
     Ok(true)
+}
+
+/// The sockets are registered with a poll, which somebody's call wakes under the token, and nothing before.
+pub fn wakes(rt: &HostRuntime, stage: &mut Stage, path: &str) -> Result<bool, Fail> {
+    let mut poll = Poll::new(rt)?;
+    let mut events = Events::with_capacity(rt.alloc(), 8)?;
+    stage.edge.register(poll.registry(), Token(7))?;
+    poll.poll(&mut events, Some(Duration::from_millis(50)))?;
+    let is_quiet = events.is_empty();
+    calls(rt, stage, path, "")?;
+    poll.poll(&mut events, Some(Duration::from_millis(5_000)))?;
+    Ok(is_quiet && events.iter().any(|event| event.token() == Token(7)))
 }
 
 /// The next client of the job, if one comes in so many hundredths of a second.

@@ -37,6 +37,23 @@ fn a_unix_socket_is_its_owners(rt: HostRuntime) -> Result<(), Fail> {
 }
 
 #[test]
+fn a_client_wakes_the_poll(rt: HostRuntime) -> Result<(), Fail> {
+    let steps = [
+        Keys(UNIX),
+        Bind(0, true),
+        Wakes("@/s"),
+        Takes("", 1, true),
+        Close(1),
+        Hears(""),
+        Release(0),
+        Failures(0),
+        NothingOpen,
+    ];
+    assert_eq!(rt; first_fault(&rt, "wakes", &steps)?, None);
+    Ok(())
+}
+
+#[test]
 fn only_a_stale_socket_is_replaced(rt: HostRuntime) -> Result<(), Fail> {
     let steps = [
         Keys(UNIX),

@@ -1,6 +1,6 @@
 //! Plays the steps of a test in a folder of its own.
 
-use crate::client_steps::{accepts, calls, calls_port, gets, hears, takes};
+use crate::client_steps::{accepts, calls, calls_port, gets, hears, takes, wakes};
 use crate::files::{fill, holds, is_there, open_count, pause, placed};
 use crate::steps::Step;
 use child_edge::{ChildEdge, ClockEdge, OsEdge, PathEdge, SocketEdge};
@@ -221,6 +221,7 @@ fn play(rt: &HostRuntime, stage: &mut Stage, step: Step) -> Result<bool, Fail> {
         Step::ListensOnPort => stage.listens_on_port(rt),
         Step::Calls(path, text) => calls(rt, stage, path, text),
         Step::CallsPort(text) => calls_port(rt, stage, text),
+        Step::Wakes(path) => wakes(rt, stage, path),
         Step::Takes(text, conn, ok) => takes(rt, stage, text, conn, ok),
         Step::Gets(count) => gets(rt, stage, count),
         Step::Hears(text) => hears(rt, stage, text),

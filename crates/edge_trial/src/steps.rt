@@ -53,6 +53,8 @@ pub enum Step {
     /// Somebody calls the Unix socket at the path, or the port, sends the text and half-closes.
     Calls(&'static str, &'static str),
     CallsPort(&'static str),
+    /// The sockets are registered with a poll, which somebody's call of the Unix socket at the path wakes, and nothing before.
+    Wakes(&'static str),
     /// No client of the job waits.
     Silence(u32),
     /// The next client of job 0 sends the text and half-closes. The connection is held under the number; whether that is to
