@@ -4,8 +4,6 @@
 
 mod calendar;
 pub mod laws;
-#[cfg(test)]
-mod tests;
 mod zone;
 
 pub use calendar::Calendar;

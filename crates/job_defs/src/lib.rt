@@ -27,6 +27,3 @@ pub use label::is_label;
 pub use names::{key_name, reason_name};
 pub use parts::{Address, PathState, Socket, Variable};
 pub use read::read_def;
-
-#[cfg(test)]
-mod tests;

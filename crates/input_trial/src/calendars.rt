@@ -1,5 +1,5 @@
 //! What no contract says: that the definitions show what the C library shows, and that each call succeeds.
-use super::*;
+use calendar_due::{Calendar, Zone, ZoneFault};
 use history_model::CivilMinute;
 use std::test::Fail;
 

@@ -1,7 +1,7 @@
 //! The definitions of the folder `examples/jobs`, byte for byte.
 
-use crate::{Address, DefFault, Variable, read_def};
 use history_model::{Entry, Text};
+use job_defs::{Address, DefFault, Variable, read_def};
 use std::test::Fail;
 
 const KEPT_ALIVE: &str = r#"{

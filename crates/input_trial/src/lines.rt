@@ -1,5 +1,8 @@
 //! What no clause says: lines as other programs write and read them, and that each call succeeds.
-use super::*;
+use ctl_protocol::{
+    LineFault, LineFeed, ReadFault, event_line, header_line, outcome_line, read_event, read_header,
+    read_request, read_target, reply_line, request_line,
+};
 use history_model::{Act, KeyName, Reason, Refusal, Reply, Text};
 use std::alloc::Global;
 use std::test::Fail;

@@ -1,7 +1,7 @@
 //! Definitions with each fault of each row of the table, definitions at its bounds, and the examples.
 
-use crate::{DefFault, key_name, read_def, reason_name};
 use history_model::Text;
+use job_defs::{DefFault, key_name, read_def, reason_name};
 use std::alloc::{AllocError, Global};
 use std::test::Fail;
 
