@@ -3,6 +3,7 @@ pub mod Scanning
 pub mod Firsts
 pub mod Places
 pub mod Tidying
+pub mod Releasing
 pub mod Holding
 pub mod Labelling
 pub mod Telling
