@@ -1,5 +1,6 @@
 -- Lists of which one part is done and the rest is to do.
 use Rattle.std.proofs.Common.{◌≡◌, ℕ, zero, suc, Bool, true, false, ◌||◌, List, [], ◌∷◌, ◌++◌, map, take, drop, Some, None, length, get_or, ◌<◌, arith, refl, sym, ap, ◌∙◌}
+use Rattle.std.proofs.Math.Seq.{take-suc}
 use Rattle.std.specs.List.{slice_get, list_any}
 use Rattle.std.specs.Prelude.{slice_set}
 
@@ -36,6 +37,9 @@ module _ {X : Type 0} where
   set-take [] i v within = absurd (not-below-zero i within)
   set-take (y ∷ ys) zero v within = refl
   set-take (y ∷ ys) (suc i) v within = ap (λ zs. y ∷ zs) (set-take ys i v (omega arith))
+
+  pub at-take : (xs : List X) (i : ℕ) (x : X) → i < length xs → x ≡ get_or xs i x → take (suc i) xs ≡ take i xs ++ x ∷ []
+  at-take xs i x within is = take-suc xs i x within ∙ ap (λ y. take i xs ++ y ∷ []) (sym is)
 
   pub set-map : {Y : Type 0} (f : X → Y) (xs : List X) (i : ℕ) (x v : X) → i < length xs → x ≡ get_or xs i x → f v ≡ f x → map f (slice_set xs i v) ≡ map f xs
   set-map f [] i x v within is same = refl

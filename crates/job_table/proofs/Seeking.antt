@@ -1,6 +1,6 @@
--- The nearest of many texts, text by text.
-use Rattle.std.proofs.Common.{◌≡◌, ℕ, zero, suc, ◌+◌, ◌<◌, Bool, true, false, not, ◌&&◌, ◌||◌, cond, List, [], ◌∷◌, ◌++◌, map, drop, length, get_or, Option, Some, None, is_some, refl, sym, ap, ◌∙◌, subst, add-one}
-use Rattle.std.specs.Prelude.{if◌then◌else◌}
+-- The nearest of the texts seen so far, and of one text more.
+use Rattle.std.proofs.Common.{◌≡◌, ℕ, zero, suc, ◌+◌, ◌<◌, Bool, true, false, not, ◌&&◌, ◌||◌, cond, List, [], ◌∷◌, ◌++◌, map, take, length, get_or, Option, Some, None, is_some, refl, sym, ap, ◌∙◌, subst, add-one, append_assoc, append-nil}
+use Rattle.std.specs.Prelude.{unwrap_or}
 use Rattle.std.specs.List.{list_any, cons_option}
 use Rattle.std.specs.Option.{option_map}
 use Rattle.std.specs.Ordering.{nat_cmp, is_eq, ordering_reverse}
@@ -9,18 +9,21 @@ use Rattle.std.specs.declared.cmp.Ordering.{Ordering}
 use Rattle.std.specs.declared.cmp.Ordering.TheVariants.{Less, Equal, Greater}
 use Rattle.std.proofs.lemmas.List.Folds.{list_any-append}
 use Rattle.history_model.specs.declared.Reading.{Reading}
+use Rattle.history_model.specs.Items.{History}
 use Rattle.history_model.specs.Runs.{child}
+use Rattle.history_model.specs.Keeps.{Keeps}
 use Rattle.history_model.specs.Labels.{Label, is_same, is_less, is_before}
 use Rattle.history_model.specs.Machine.{Job}
 use Rattle.job_defs.specs.Described.{Described}
 use Rattle.job_defs.specs.Definitions.{definition, path_wish}
 use Rattle.job_defs.specs.declared.parts.PathState.{PathState}
 use Rattle.job_table.specs.Rows.{Row}
-use Rattle.job_table.specs.Kept.{KeepsJob, KeepsJobs}
+use Rattle.job_table.specs.Kept.{KeepsJobs}
 use Rattle.job_table.specs.Entries.{row, rows, has_label, is_here}
-use Rattle.job_table.specs.Nearest.{IsNearest, IsNearestOf, is_nearer, nearer, nearest, paths_of, listed_paths, paths_in, with_child, IsSought}
+use Rattle.job_table.specs.Nearest.{IsNearest, IsNearestOf, paths_of, listed_paths, paths_in, parent_in, with_child}
 use Rattle.job_table.specs.declared.entry.Entry.{Entry}
-use Rattle.job_table.proofs.Lists.{at-drop}
+use Rattle.job_table.proofs.Lists.{at-take, map-append}
+use Rattle.job_table.proofs.Scanning.{rows-append}
 use Rattle.job_table.proofs.Firsts.{IsFirstWhere}
 use Rattle.job_table.proofs.Setting.{is-label}
 
@@ -109,42 +112,29 @@ module _ (given : List ℕ) where
       go true false is none = refl
       go true true is none = let clash : true ≡ false = sym (before-trans other x found is closer) ∙ none in absurd (cc clash)
 
-  one-more : (done : List (List ℕ)) (best : Option (List ℕ)) (x : List ℕ) → IsNearestOf given done best → IsNearestOf given (done ++ x ∷ []) (nearer given best x)
-  one-more done best x is = go (is_before given x) refl best is
-    where
-      closer : (found : List ℕ) (b : Bool) → is_before given x ≡ true → is_before x found ≡ b → IsNearest given done found →
-          IsNearestOf given (done ++ x ∷ []) (if b then Some x else Some found)
-      closer found true after nears is =
-          new-one done x after (any-implied (λ other. is_before given other && is_before other x) (λ other. is_before given other && is_before other found) (λ other none. nearer-none x found other nears none) done is.nearest)
-      closer found false after nears is = kept-Some done x found (λ i. after i && nears i) is
+  and-true : (a : Bool) → (a && true) ≡ false → a ≡ false
+  and-true true e = e
+  and-true false e = refl
 
-      go : (a : Bool) → is_before given x ≡ a → (best : Option (List ℕ)) → IsNearestOf given done best →
-          IsNearestOf given (done ++ x ∷ []) (if a && is_nearer x best then Some x else best)
-      go false apart None is = kept-None done x apart is
-      go false apart (Some found) is = kept-Some done x found (both-false (is_before given x) (is_before x found) apart) is
-      go true after None is = new-one done x after (any-implied (λ other. is_before given other && is_before other x) (is_before given) (λ other none. both-false (is_before given other) (is_before other x) none) done is)
-      go true after (Some found) is = closer found (is_before x found) after refl is
+  pub one-nearer : (done : List (List ℕ)) (best : Option (List ℕ)) (x : List ℕ) → is_before given x ≡ true → unwrap_or (option_map (is_before x) best) true ≡ true →
+      IsNearestOf given done best → IsNearestOf given (done ++ x ∷ []) (Some x)
+  one-nearer done None x after nears is =
+      new-one done x after (any-implied (λ other. is_before given other && is_before other x) (is_before given) (λ other none. both-false (is_before given other) (is_before other x) none) done is)
+  one-nearer done (Some found) x after nears is =
+      new-one done x after (any-implied (λ other. is_before given other && is_before other x) (λ other. is_before given other && is_before other found) (λ other none. nearer-none x found other nears none) done is.nearest)
 
-  more : (done xs : List (List ℕ)) (best : Option (List ℕ)) → IsNearestOf given done best → IsNearestOf given (done ++ xs) (nearest given best xs)
-  more done [] best is = subst (λ all. IsNearestOf given all best) (sym (nothing done)) is
-    where
-      nothing : (xs : List (List ℕ)) → xs ++ [] ≡ xs
-      nothing [] = refl
-      nothing (x ∷ xs) = ap (λ ys. x ∷ ys) (nothing xs)
-  more done (x ∷ xs) best is =
-      subst (λ all. IsNearestOf given all (nearest given (nearer given best x) xs)) (joined done) (more (done ++ x ∷ []) xs (nearer given best x) (one-more done best x is))
-    where
-      joined : (ys : List (List ℕ)) → (ys ++ x ∷ []) ++ xs ≡ ys ++ x ∷ xs
-      joined [] = refl
-      joined (y ∷ ys) = ap (λ zs. y ∷ zs) (joined ys)
+  pub one-farther : (done : List (List ℕ)) (best : Option (List ℕ)) (x : List ℕ) → (is_before given x && unwrap_or (option_map (is_before x) best) true) ≡ false →
+      IsNearestOf given done best → IsNearestOf given (done ++ x ∷ []) best
+  one-farther done None x apart is = kept-None done x (and-true (is_before given x) apart) is
+  one-farther done (Some found) x apart is = kept-Some done x found apart is
 
-  -- the search finds the nearest
-  pub nearest-is : (texts : List (List ℕ)) → IsNearestOf given texts (nearest given None texts)
-  nearest-is texts = more [] texts None refl
+-- what was found, once these texts were looked at or not
+abbrev pub Finds : List ℕ → List (List ℕ) → (best later : Option (List ℕ)) → Bool → Type 0
+Finds given texts best later true = (seen : List (List ℕ)) → IsNearestOf given seen best → IsNearestOf given (seen ++ texts) later
+Finds given texts best later false = later ≡ best
 
-  pub nearest-append : (best : Option (List ℕ)) (xs ys : List (List ℕ)) → nearest given best (xs ++ ys) ≡ nearest given (nearest given best xs) ys
-  nearest-append best [] ys = refl
-  nearest-append best (x ∷ xs) ys = nearest-append (nearer given best x) xs ys
+not-looked : (given : List ℕ) (seen : List (List ℕ)) (best later : Option (List ℕ)) → later ≡ best → IsNearestOf given seen best → IsNearestOf given (seen ++ []) later
+not-looked given seen best later same near = rw append-nil (subst (IsNearestOf given seen) (sym same) near)
 
 -- ---- the paths of rows and of jobs
 
@@ -153,12 +143,11 @@ states-paths [] = refl
 states-paths (state ∷ states) = ap (λ paths. state.path ∷ paths) (states-paths states)
 
 -- the paths of a definition, list by list
-pub nearest-listed : (given : List ℕ) (best : Option (List ℕ)) (d : Described) →
-    nearest given (nearest given (nearest given best (map (λ state. state.path) d.path_state)) d.watch_paths) d.queue_directories ≡ nearest given best (paths_of (definition d))
-nearest-listed given best d =
-    sym (nearest-append given (nearest given best (map (λ state. state.path) d.path_state)) d.watch_paths d.queue_directories)
-    ∙ sym (nearest-append given best (map (λ state. state.path) d.path_state) (d.watch_paths ++ d.queue_directories))
-    ∙ ap (λ paths. nearest given best (paths ++ (d.watch_paths ++ d.queue_directories))) (sym (states-paths d.path_state))
+pub listed-all : (seen : List (List ℕ)) (d : Described) → ((seen ++ map (λ state. state.path) d.path_state) ++ d.watch_paths) ++ d.queue_directories ≡ seen ++ paths_of (definition d)
+listed-all seen d =
+    append_assoc (seen ++ map (λ state. state.path) d.path_state) d.watch_paths d.queue_directories
+    ∙ append_assoc seen (map (λ state. state.path) d.path_state) (d.watch_paths ++ d.queue_directories)
+    ∙ ap (λ paths. seen ++ (paths ++ (d.watch_paths ++ d.queue_directories))) (sym (states-paths d.path_state))
 
 pub paths-same : (at : Reading) (rs : List Row) (jobs : List Job) → KeepsJobs at rs jobs → paths_in rs ≡ listed_paths jobs
 paths-same at [] [] keeps = refl
@@ -166,61 +155,99 @@ paths-same at [] (job ∷ jobs) keeps = absurd keeps
 paths-same at (r ∷ rs) [] keeps = absurd keeps
 paths-same at (r ∷ rs) (job ∷ jobs) keeps = λ i. paths_of (keeps.0.definition i) ++ paths-same at rs jobs keeps.1 i
 
+paths-append : (xs ys : List Row) → paths_in (xs ++ ys) ≡ paths_in xs ++ paths_in ys
+paths-append [] ys = refl
+paths-append (x ∷ xs) ys =
+    let own = paths_of (definition x.described) in
+    ap (λ paths. own ++ paths) (paths-append xs ys) ∙ sym (append_assoc own (paths_in xs) (paths_in ys))
+
+rows-next : (es : List Entry) (i : ℕ) (e : Entry) → i < length es → e ≡ get_or es i e → rows (take (suc i) es) ≡ rows (take i es) ++ cond e.has_left [] (row e ∷ [])
+rows-next es i e within is = ap rows (at-take es i e within is) ∙ rows-append (take i es) (e ∷ [])
+
 -- one entry more
-pub paths-step : (given : List ℕ) (es : List Entry) (i : ℕ) (e : Entry) (best later whole : Option (List ℕ)) → i < length es → e ≡ get_or es i e →
-    later ≡ cond e.has_left best (nearest given best (paths_of (definition e.def))) →
-    nearest given best (paths_in (rows (drop i es))) ≡ whole → nearest given later (paths_in (rows (drop (i + 1) es))) ≡ whole
-paths-step given es i e best later whole within is looked way =
-    rw add-one (go e.has_left looked (ap (λ all. nearest given best (paths_in (rows all))) (sym (at-drop es i e within is)) ∙ way))
+pub paths-step : (given : List ℕ) (es : List Entry) (i : ℕ) (e : Entry) (best later : Option (List ℕ)) → i < length es → e ≡ get_or es i e →
+    Finds given (paths_of (definition e.def)) best later (not e.has_left) →
+    IsNearestOf given (paths_in (rows (take i es))) best → IsNearestOf given (paths_in (rows (take (i + 1) es))) later
+paths-step given es i e best later within is found near =
+    rw (add-one, rows-next es i e within is, paths-append (rows (take i es)) (cond e.has_left [] (row e ∷ []))) (go e.has_left found)
   where
-    go : (b : Bool) → later ≡ cond b best (nearest given best (paths_of (definition e.def))) →
-        nearest given best (paths_in (cond b (rows (drop (suc i) es)) (row e ∷ rows (drop (suc i) es)))) ≡ whole → nearest given later (paths_in (rows (drop (suc i) es))) ≡ whole
-    go true looked way = ap (λ l. nearest given l (paths_in (rows (drop (suc i) es)))) looked ∙ way
-    go false looked way =
-        ap (λ l. nearest given l (paths_in (rows (drop (suc i) es)))) looked ∙ sym (nearest-append given best (paths_of (definition e.def)) (paths_in (rows (drop (suc i) es)))) ∙ way
+    go : (b : Bool) → Finds given (paths_of (definition e.def)) best later (not b) → IsNearestOf given (paths_in (rows (take i es)) ++ paths_in (cond b [] (row e ∷ []))) later
+    go true found = not-looked given (paths_in (rows (take i es))) best later found near
+    go false found = rw append-nil (found (paths_in (rows (take i es))) near)
 
 -- one text more, of a list of texts and of a list of conditions
-pub text-step : (given : List ℕ) (xs : List (List ℕ)) (i : ℕ) (x : List ℕ) (best later whole : Option (List ℕ)) → i < length xs → x ≡ get_or xs i x →
-    later ≡ nearer given best x → nearest given best (drop i xs) ≡ whole → nearest given later (drop (i + 1) xs) ≡ whole
-text-step given xs i x best later whole within is looked way =
-    rw add-one (ap (λ l. nearest given l (drop (suc i) xs)) looked ∙ ap (nearest given best) (sym (at-drop xs i x within is)) ∙ way)
+pub text-step : (given : List ℕ) (seen xs : List (List ℕ)) (i : ℕ) (x : List ℕ) (later : Option (List ℕ)) → i < length xs → x ≡ get_or xs i x →
+    IsNearestOf given ((seen ++ take i xs) ++ x ∷ []) later → IsNearestOf given (seen ++ take (i + 1) xs) later
+text-step given seen xs i x later within is near =
+    rw add-one (subst (λ all. IsNearestOf given all later) (append_assoc seen (take i xs) (x ∷ []) ∙ ap (λ ys. seen ++ ys) (sym (at-take xs i x within is))) near)
 
-pub state-step : (given : List ℕ) (xs : List PathState) (i : ℕ) (x : PathState) (best later whole : Option (List ℕ)) → i < length xs → x ≡ get_or xs i x →
-    later ≡ nearer given best x.path → nearest given best (map (λ state. state.path) (drop i xs)) ≡ whole → nearest given later (map (λ state. state.path) (drop (i + 1) xs)) ≡ whole
-state-step given xs i x best later whole within is looked way =
-    rw add-one (ap (λ l. nearest given l (map (λ state. state.path) (drop (suc i) xs))) looked ∙ ap (λ ys. nearest given best (map (λ state. state.path) ys)) (sym (at-drop xs i x within is)) ∙ way)
+pub state-step : (given : List ℕ) (seen : List (List ℕ)) (xs : List PathState) (i : ℕ) (x : PathState) (later : Option (List ℕ)) → i < length xs → x ≡ get_or xs i x →
+    IsNearestOf given ((seen ++ map (λ state. state.path) (take i xs)) ++ x.path ∷ []) later → IsNearestOf given (seen ++ map (λ state. state.path) (take (i + 1) xs)) later
+state-step given seen xs i x later within is near =
+    let next : map (λ state. state.path) (take (suc i) xs) ≡ map (λ state. state.path) (take i xs) ++ x.path ∷ [] =
+    ap (map (λ state. state.path)) (at-take xs i x within is) ∙ map-append (λ state. state.path) (take i xs) (x ∷ []) in
+    rw add-one (subst (λ all. IsNearestOf given all later) (append_assoc seen (map (λ state. state.path) (take i xs)) (x.path ∷ []) ∙ ap (λ ys. seen ++ ys) (sym next)) near)
 
 -- ---- jobs with a child
 
+children-append : (js ks : List Job) → with_child (js ++ ks) ≡ with_child js ++ with_child ks
+children-append [] ks = refl
+children-append (job ∷ js) ks = go (parent_in job) (children-append js ks)
+  where
+    go : (o : Option Label) → with_child (js ++ ks) ≡ with_child js ++ with_child ks → cons_option o (with_child (js ++ ks)) ≡ cons_option o (with_child js) ++ with_child ks
+    go None later = later
+    go (Some label) later = ap (λ labels. label ∷ labels) later
+
+-- the jobs of the rows passed, and those of the rows behind them
+record AreJobs (at : Reading) (xs ys : List Row) (jobs : List Job) : Type 0 where
+  pub before : List Job
+  pub behind : List Job
+  pub all : jobs ≡ before ++ behind
+  pub keeps_before : KeepsJobs at xs before
+  pub keeps_behind : KeepsJobs at ys behind
+
+jobs-of : (at : Reading) (xs ys : List Row) (jobs : List Job) → KeepsJobs at (xs ++ ys) jobs → AreJobs at xs ys jobs
+jobs-of at [] ys jobs keeps = record { before = []; behind = jobs; all = refl; keeps_before = tt; keeps_behind = keeps }
+jobs-of at (x ∷ xs) ys [] keeps = absurd keeps
+jobs-of at (x ∷ xs) ys (job ∷ jobs) keeps =
+    let rest = jobs-of at xs ys jobs keeps.1 in
+    record {
+      before = job ∷ rest.before;
+      behind = rest.behind;
+      all = ap (λ js. job ∷ js) rest.all;
+      keeps_before = (keeps.0, rest.keeps_before);
+      keeps_behind = rest.keeps_behind;
+    }
+
+pub none-passed : (at : Reading) (given : List ℕ) (jobs : List Job) → KeepsJobs at [] jobs → IsNearestOf given (with_child jobs) None
+none-passed at given [] keeps = refl
+none-passed at given (job ∷ jobs) keeps = absurd keeps
+
 -- one entry more
-pub sought-step : (at : Reading) (given : List ℕ) (es : List Entry) (i : ℕ) (e : Entry) (best later whole : Option (List ℕ)) → i < length es → e ≡ get_or es i e →
-    (e.has_left ≡ true → later ≡ best) →
-    ((job : Job) → e.has_left ≡ false → KeepsJob at (row e) job → later ≡ cond (is_some (child job.past)) (nearer given best job.label) best) →
-    IsSought at (rows (drop i es)) given best whole → IsSought at (rows (drop (i + 1) es)) given later whole
-sought-step at given es i e best later whole within is left looked way =
-    rw add-one (go e.has_left refl (subst (λ all. IsSought at (rows all) given best whole) (at-drop es i e within is) way))
+pub children-step : (at : Reading) (given : List ℕ) (es : List Entry) (i : ℕ) (e : Entry) (best later : Option (List ℕ)) (has : Bool) → i < length es → e ≡ get_or es i e →
+    Finds given (e.def.label ∷ []) best later has →
+    (e.has_left ≡ true → has ≡ false) → ((past : History) → e.has_left ≡ false → Keeps e.core.facts past → has ≡ is_some (child past)) →
+    ((jobs : List Job) → KeepsJobs at (rows (take i es)) jobs → IsNearestOf given (with_child jobs) best) →
+    (jobs : List Job) → KeepsJobs at (rows (take (i + 1) es)) jobs → IsNearestOf given (with_child jobs) later
+children-step at given es i e best later has within is found left stays near jobs keeps =
+    let parts = jobs-of at (rows (take i es)) (cond e.has_left [] (row e ∷ [])) jobs
+    (subst (λ rs. KeepsJobs at rs jobs) (rows-next es i e within is) (subst (λ n. KeepsJobs at (rows (take n es)) jobs) (add-one i) keeps)) in
+    subst (λ labels. IsNearestOf given labels later) (sym (ap with_child parts.all ∙ children-append parts.before parts.behind))
+    (go (with_child parts.before) (near parts.before parts.keeps_before) e.has_left refl parts.behind parts.keeps_behind)
   where
-    found : (job : Job) (rest : List Job) (o : Option (ℕ × ℕ)) → later ≡ cond (is_some o) (nearer given best job.label) best →
-        nearest given best (cons_option (option_map (λ c. job.label) o) (with_child rest)) ≡ whole → nearest given later (with_child rest) ≡ whole
-    found job rest None looked leads = ap (λ l. nearest given l (with_child rest)) looked ∙ leads
-    found job rest (Some c) looked leads = ap (λ l. nearest given l (with_child rest)) looked ∙ leads
+    looked : (seen : List (List ℕ)) → IsNearestOf given seen best → (o : Option (ℕ × ℕ)) (label : Label) → e.def.label ≡ label → has ≡ is_some o →
+        IsNearestOf given (seen ++ cons_option (option_map (λ c. label) o) []) later
+    looked seen near None label same none = not-looked given seen best later (subst (Finds given (e.def.label ∷ []) best later) none found) near
+    looked seen near (Some c) label same some =
+        subst (λ l. IsNearestOf given (seen ++ l ∷ []) later) same (subst (Finds given (e.def.label ∷ []) best later) some found seen near)
 
-    go : (b : Bool) → e.has_left ≡ b → IsSought at (cond e.has_left (rows (drop (suc i) es)) (row e ∷ rows (drop (suc i) es))) given best whole → IsSought at (rows (drop (suc i) es)) given later whole
-    go true stays way =
-        let kept = subst (λ b. KeepsJobs at (cond b (rows (drop (suc i) es)) (row e ∷ rows (drop (suc i) es))) way.rest) stays way.keeps in
-        record { rest = way.rest; keeps = kept; leads = ap (λ l. nearest given l (with_child way.rest)) (left stays) ∙ way.leads }
-    go false stays way = one way.rest (subst (λ b. KeepsJobs at (cond b (rows (drop (suc i) es)) (row e ∷ rows (drop (suc i) es))) way.rest) stays way.keeps) way.leads
-      where
-        one : (rest : List Job) → KeepsJobs at (row e ∷ rows (drop (suc i) es)) rest → nearest given best (with_child rest) ≡ whole → IsSought at (rows (drop (suc i) es)) given later whole
-        one [] keeps leads = absurd keeps
-        one (job ∷ rest) keeps leads = record { rest = rest; keeps = keeps.1; leads = found job rest (child job.past) (looked job stays keeps.0) leads }
-
-pub sought-end : (at : Reading) (given : List ℕ) (best whole : Option (List ℕ)) → IsSought at [] given best whole → best ≡ whole
-sought-end at given best whole way = go way.rest way.keeps way.leads
-  where
-    go : (rest : List Job) → KeepsJobs at [] rest → nearest given best (with_child rest) ≡ whole → best ≡ whole
-    go [] keeps leads = leads
-    go (job ∷ rest) keeps leads = absurd keeps
+    go : (seen : List (List ℕ)) → IsNearestOf given seen best → (b : Bool) → e.has_left ≡ b → (behind : List Job) → KeepsJobs at (cond b [] (row e ∷ [])) behind →
+        IsNearestOf given (seen ++ with_child behind) later
+    go seen near true gone [] keeps = not-looked given seen best later (subst (Finds given (e.def.label ∷ []) best later) (left gone) found) near
+    go seen near true gone (job ∷ behind) keeps = absurd keeps
+    go seen near false here [] keeps = absurd keeps
+    go seen near false here (job ∷ []) keeps = looked seen near (child job.past) job.label keeps.0.label (stays job.past here keeps.0.keeps)
+    go seen near false here (job ∷ other ∷ behind) keeps = absurd keeps.1
 
 -- ---- the entry with a label
 
