@@ -7,5 +7,5 @@ use Rattle.override_store.proofs.again.all_again.Goals as goal
 pub returns : goal.returns
 returns g c clean ours =
     let early : HasCleanDisk (state g.S.Store c.in_ok-again.again) = omega (arith, clean, c.all.ensures.crash.clean) in
-    let it = c.in_ok-again.ensures early ours in
+    let it = c.in_ok-again.ensures.same early ours in
     holds_back _ _ (reverse c.in_ok-all.all.items) it.1 (c.in_ok-all.ensures.each clean it.0)
