@@ -39,16 +39,21 @@ zone_meant (Some rule) None = Some (zone.Rule rule)
 zone_meant None (Some file) = Some (zone.File file)
 zone_meant (Some rule) (Some file) = None
 
+-- the values of two options
+abbrev pub pair_in : Text → Text → List Row → Option Text × Option Text
+pair_in first second rows = (first_of first rows, first_of second rows)
+
 abbrev pub zone_in : List Row → Option ZoneWords
 zone_in rows = zone_meant (first_of (codes "zone") rows) (first_of (codes "zone-file") rows)
 
-abbrev pub served : List Row → Option Text → Option Text → Option Text → Option ZoneWords → Option DaemonCommand
-served rows (Some socket) (Some store) (Some spool) (Some zone) = Some (Serve socket store spool (first_of (codes "journal") rows) zone)
-served rows _ _ _ _ = None
+-- the launcher with these places, where each that it needs is there
+abbrev pub served : Option Text → Option Text → Option Text → Option Text → Option ZoneWords → Option DaemonCommand
+served (Some socket) (Some store) (Some spool) journal (Some zone) = Some (Serve socket store spool journal zone)
+served _ _ _ _ _ = None
 
 -- what serve means
 abbrev pub serve_meant : List Row → Option DaemonCommand
-serve_meant rows = served rows (first_of (codes "socket") rows) (first_of (codes "store") rows) (first_of (codes "spool") rows) (zone_in rows)
+serve_meant rows = served (first_of (codes "socket") rows) (first_of (codes "store") rows) (first_of (codes "spool") rows) (first_of (codes "journal") rows) (zone_in rows)
 
 -- what a subcommand and its values mean
 abbrev pub daemon_command_meant : Text → List Row → Option DaemonCommand

@@ -1,7 +1,7 @@
 -- Arguments and commands in clap's own words: the forms of which both programs' words are made.
 use Rattle.clap.specs.declared.Command.{Command, out-Command}
-use Rattle.std.specs.Prelude.{◌≡◌, ℕ, List, [], ◌∷◌, Bool, Some, true, false, codes}
-use Rattle.clap.specs.Words.{App, Row, Rule, Text, new_app, new_rule, with_rule, first_of, all_of}
+use Rattle.std.specs.Prelude.{◌≡◌, ℕ, List, [], ◌∷◌, Bool, Some, true, false, codes, Result, IfOk}
+use Rattle.clap.specs.Words.{App, Rule, Text, app_of, new_app, new_rule, with_rule}
 use Rattle.clap.specs.declared.builder.action.ArgAction.TheVariants.{SetTrue, Append}
 
 -- a flag of one letter, as -w
@@ -24,6 +24,11 @@ words_rule id = record (new_rule id) { action = Some Append; required = true; va
 abbrev pub one_word_app : Text → Text → App
 one_word_app name id = with_rule (new_app name) (word_rule id)
 
--- no argument of the command is one of its subcommands too
-abbrev pub HasNoGlobals : Command → Type 0
-HasNoGlobals c = (out-Command c).has_globals ≡ false
+-- the command has these words, and no argument of it is one of its subcommands too
+pub record HasWords (a : App) (c : Command) : Type 0 where
+  pub app : app_of c ≡ a
+  pub globals : (out-Command c).has_globals ≡ false
+
+-- a command of these words is made, but for want of memory
+abbrev pub Makes : {E : Type 0} → Result Command E → App → Type 0
+Makes made a = IfOk made (λ c. HasWords a c)

@@ -1,7 +1,7 @@
 //! The forms of arguments of which both programs' words are made, and how their values are read.
 ghost use Rattle.std.specs.Prelude.{◌≡◌, IfOk, IfErr, Some, None, true, false, string_bytes, option_map, map};
-ghost use Rattle.clap.specs.Words.{app_of, rule_of, rows_of, found_of, first_of, all_of, with_rule, new_app};
-ghost use Rattle.launchctl_words.specs.Rules.{HasNoGlobals, flag_rule, option_rule, word_rule, words_rule, one_word_app};
+ghost use Rattle.clap.specs.Words.{app_of, rule_of, rows_of, found_of, first_of, all_of, with_rule, with_subcommand, new_app, App, Rule};
+ghost use Rattle.launchctl_words.specs.Rules.{HasWords, Makes, flag_rule, option_rule, word_rule, words_rule};
 ghost use Rattle.launchctl_words.specs.Meaning.{is_set};
 
 use crate::command::Paths;
@@ -61,23 +61,45 @@ pub fn words<'a>(alloc: Global, id: &'a str, value: &'a str, help: &'a str) -> A
         .help(help)
 }
 
-/// A subcommand with one word; `after` ends its help.
-pub fn one_word<'a>(
-    alloc: Global,
-    name: &'a str,
-    about: &'a str,
-    after: &'a str,
-    word: Arg<'a>,
-) -> Result<clap::Command<'a>, AllocError>
-    requires local { word.global ≡ false }
-    ensures app { IfOk result (λ c. app_of c ≡ with_rule (new_app name.now) (rule_of word.entry)) }
-    ensures globals { IfOk result (λ c. HasNoGlobals c) }
+/// A command with no argument yet; `after` ends its help.
+pub fn bare<'a>(alloc: Global, name: &'a str, about: &'a str, after: &'a str) -> clap::Command<'a>
+    ensures { HasWords (new_app name.now) result }
 {
-    let command = clap::Command::new(alloc, name)
+    clap::Command::new(alloc, name)
         .about(about)
         .after_help(after)
-        .arg(word)?;
-    Ok(command)
+}
+
+// A command that lives across a `?` is dear to prove, so what makes one takes and gives a `Result`.
+
+/// The command with an argument more; want of memory is passed on.
+pub fn add_arg<'a>(
+    command: Result<clap::Command<'a>, AllocError>,
+    arg: Arg<'a>,
+) -> Result<clap::Command<'a>, AllocError>
+    requires local { arg.global ≡ false }
+    ensures { (a : App) (r : Rule) → Makes command.entry a → rule_of arg.entry ≡ r → Makes result (with_rule a r) }
+{
+    match command {
+        Ok(command) => command.arg(arg),
+        Err(e) => Err(e),
+    }
+}
+
+/// The command with a subcommand more, if both are there.
+pub fn add_subcommand<'a>(
+    command: Result<clap::Command<'a>, AllocError>,
+    subcommand: Result<clap::Command<'a>, AllocError>,
+) -> Result<clap::Command<'a>, AllocError>
+    ensures { (a s : App) → Makes command.entry a → Makes subcommand.entry s → Makes result (with_subcommand a s.top) }
+{
+    match command {
+        Ok(command) => match subcommand {
+            Ok(subcommand) => command.subcommand(subcommand),
+            Err(e) => Err(e),
+        },
+        Err(e) => Err(e),
+    }
 }
 
 /// Whether a flag was given.

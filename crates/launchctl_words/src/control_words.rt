@@ -1,10 +1,10 @@
 //! The control program's command, in clap's words, with a help text for each.
-ghost use Rattle.std.specs.Prelude.{◌≡◌, IfOk, true, false};
-ghost use Rattle.clap.specs.Words.{app_of, rule_of};
-ghost use Rattle.launchctl_words.specs.Rules.{HasNoGlobals};
+ghost use Rattle.std.specs.Prelude.{◌≡◌, false};
+ghost use Rattle.clap.specs.Words.{App, rule_of};
+ghost use Rattle.launchctl_words.specs.Rules.{Makes};
 ghost use Rattle.launchctl_words.specs.Jobctl.{write_rule, load_app, unload_app, kickstart_app, label_app, target_app, with_files, with_labels, with_settings, with_targets, with_bare, jobctl_app};
 
-use crate::arguments::{flag, one_word, option, word, words};
+use crate::arguments::{add_arg, add_subcommand, bare, flag, option, word, words};
 use clap::Arg;
 use std::alloc::{AllocError, Global};
 
@@ -24,43 +24,35 @@ fn write_flag<'a>(alloc: Global, help: &'a str) -> Arg<'a>
 }
 
 fn load_words<'a>(alloc: Global) -> Result<clap::Command<'a>, AllocError>
-    ensures app { IfOk result (λ c. app_of c ≡ load_app) }
-    ensures globals { IfOk result (λ c. HasNoGlobals c) }
+    ensures { Makes result load_app }
 {
-    let write = write_flag(alloc, "Also enable the label");
     let force = flag(alloc, "force", 'F', "Load a disabled definition too");
     let paths = words(alloc, "paths", "PATH", PATHS_HELP);
-    let command = clap::Command::new(alloc, "load")
-        .about("Load job definitions")
-        .after_help(EXIT_HELP);
-    let command = command.arg(write)?.arg(force)?.arg(paths)?;
-    Ok(command)
+    let command = bare(alloc, "load", "Load job definitions", EXIT_HELP);
+    let command = add_arg(Ok(command), write_flag(alloc, "Also enable the label"));
+    let command = add_arg(command, force);
+    add_arg(command, paths)
 }
 
 fn unload_words<'a>(alloc: Global) -> Result<clap::Command<'a>, AllocError>
-    ensures app { IfOk result (λ c. app_of c ≡ unload_app) }
-    ensures globals { IfOk result (λ c. HasNoGlobals c) }
+    ensures { Makes result unload_app }
 {
-    let write = write_flag(alloc, "Also disable the label");
+    let about = "Stop and remove the jobs of these definitions";
     let paths = words(alloc, "paths", "PATH", PATHS_HELP);
-    let command = clap::Command::new(alloc, "unload")
-        .about("Stop and remove the jobs of these definitions")
-        .after_help(EXIT_HELP);
-    let command = command.arg(write)?.arg(paths)?;
-    Ok(command)
+    let command = bare(alloc, "unload", about, EXIT_HELP);
+    let command = add_arg(Ok(command), write_flag(alloc, "Also disable the label"));
+    add_arg(command, paths)
 }
 
 fn kickstart_words<'a>(alloc: Global) -> Result<clap::Command<'a>, AllocError>
-    ensures app { IfOk result (λ c. app_of c ≡ kickstart_app) }
-    ensures globals { IfOk result (λ c. HasNoGlobals c) }
+    ensures { Makes result kickstart_app }
 {
+    let about = "Start a job now, within its throttle";
     let kill = flag(alloc, "kill", 'k', "End a running child by KILL first");
     let target = word(alloc, "target", "TARGET", TARGET_HELP);
-    let command = clap::Command::new(alloc, "kickstart")
-        .about("Start a job now, within its throttle")
-        .after_help(EXIT_HELP);
-    let command = command.arg(kill)?.arg(target)?;
-    Ok(command)
+    let command = bare(alloc, "kickstart", about, EXIT_HELP);
+    let command = add_arg(Ok(command), kill);
+    add_arg(command, target)
 }
 
 /// A subcommand with a label.
@@ -69,14 +61,10 @@ fn label_words<'a>(
     name: &'a str,
     about: &'a str,
 ) -> Result<clap::Command<'a>, AllocError>
-    ensures app { IfOk result (λ c. app_of c ≡ label_app name.now) }
-    ensures globals { IfOk result (λ c. HasNoGlobals c) }
+    ensures { Makes result (label_app name.now) }
 {
     let label = word(alloc, "label", "LABEL", "The job's label");
-    match one_word(alloc, name, about, EXIT_HELP, label) {
-        Ok(command) => Ok(command),
-        Err(e) => Err(e),
-    }
+    add_arg(Ok(bare(alloc, name, about, EXIT_HELP)), label)
 }
 
 /// A subcommand with a target.
@@ -85,86 +73,74 @@ fn target_words<'a>(
     name: &'a str,
     about: &'a str,
 ) -> Result<clap::Command<'a>, AllocError>
-    ensures app { IfOk result (λ c. app_of c ≡ target_app name.now) }
-    ensures globals { IfOk result (λ c. HasNoGlobals c) }
+    ensures { Makes result (target_app name.now) }
 {
     let target = word(alloc, "target", "TARGET", TARGET_HELP);
-    match one_word(alloc, name, about, EXIT_HELP, target) {
-        Ok(command) => Ok(command),
-        Err(e) => Err(e),
-    }
+    add_arg(Ok(bare(alloc, name, about, EXIT_HELP)), target)
 }
 
-fn add_files<'a>(alloc: Global, command: clap::Command<'a>) -> Result<clap::Command<'a>, AllocError>
-    ensures app { IfOk result (λ c. app_of c ≡ with_files (app_of command.entry)) }
+fn add_files<'a>(
+    alloc: Global,
+    command: Result<clap::Command<'a>, AllocError>,
+) -> Result<clap::Command<'a>, AllocError>
+    ensures { (a : App) → Makes command.entry a → Makes result (with_files a) }
 {
-    let load = load_words(alloc)?;
-    let unload = unload_words(alloc)?;
-    let command = command.subcommand(load)?;
-    let command = command.subcommand(unload)?;
-    Ok(command)
+    let command = add_subcommand(command, load_words(alloc));
+    add_subcommand(command, unload_words(alloc))
 }
 
 fn add_labels<'a>(
     alloc: Global,
-    command: clap::Command<'a>,
+    command: Result<clap::Command<'a>, AllocError>,
 ) -> Result<clap::Command<'a>, AllocError>
-    ensures app { IfOk result (λ c. app_of c ≡ with_labels (app_of command.entry)) }
+    ensures { (a : App) → Makes command.entry a → Makes result (with_labels a) }
 {
-    let start = label_words(alloc, "start", "Start a job")?;
-    let stop = label_words(alloc, "stop", "Stop a job's running child")?;
-    let command = command.subcommand(start)?;
-    let command = command.subcommand(stop)?;
-    Ok(command)
+    let start = label_words(alloc, "start", "Start a job");
+    let stop = label_words(alloc, "stop", "Stop a job's running child");
+    add_subcommand(add_subcommand(command, start), stop)
 }
 
 fn add_settings<'a>(
     alloc: Global,
-    command: clap::Command<'a>,
+    command: Result<clap::Command<'a>, AllocError>,
 ) -> Result<clap::Command<'a>, AllocError>
-    ensures app { IfOk result (λ c. app_of c ≡ with_settings (app_of command.entry)) }
+    ensures { (a : App) → Makes command.entry a → Makes result (with_settings a) }
 {
-    let enable = target_words(alloc, "enable", "Let a label be loaded, from now on")?;
+    let enable = target_words(alloc, "enable", "Let a label be loaded, from now on");
     let disable = target_words(
         alloc,
         "disable",
         "Keep a label from being loaded, from now on",
-    )?;
-    let command = command.subcommand(enable)?;
-    let command = command.subcommand(disable)?;
-    Ok(command)
+    );
+    add_subcommand(add_subcommand(command, enable), disable)
 }
 
 fn add_targets<'a>(
     alloc: Global,
-    command: clap::Command<'a>,
+    command: Result<clap::Command<'a>, AllocError>,
 ) -> Result<clap::Command<'a>, AllocError>
-    ensures app { IfOk result (λ c. app_of c ≡ with_targets (app_of command.entry)) }
+    ensures { (a : App) → Makes command.entry a → Makes result (with_targets a) }
 {
-    let kickstart = kickstart_words(alloc)?;
-    let print = target_words(alloc, "print", "Show what a job does")?;
-    let command = command.subcommand(kickstart)?;
-    let command = command.subcommand(print)?;
-    Ok(command)
+    let kickstart = kickstart_words(alloc);
+    let print = target_words(alloc, "print", "Show what a job does");
+    add_subcommand(add_subcommand(command, kickstart), print)
 }
 
-fn add_bare<'a>(alloc: Global, command: clap::Command<'a>) -> Result<clap::Command<'a>, AllocError>
-    ensures app { IfOk result (λ c. app_of c ≡ with_bare (app_of command.entry)) }
+fn add_bare<'a>(
+    alloc: Global,
+    command: Result<clap::Command<'a>, AllocError>,
+) -> Result<clap::Command<'a>, AllocError>
+    ensures { (a : App) → Makes command.entry a → Makes result (with_bare a) }
 {
-    let list = clap::Command::new(alloc, "list")
-        .about("List the loaded jobs")
-        .after_help(EXIT_HELP);
-    let shutdown = clap::Command::new(alloc, "shutdown")
-        .about("Stop every job, then the daemon")
-        .after_help(EXIT_HELP);
-    let command = command.subcommand(list)?;
-    let command = command.subcommand(shutdown)?;
-    Ok(command)
+    let list = bare(alloc, "list", "List the loaded jobs", EXIT_HELP);
+    let about = "Stop every job, then the daemon";
+    let shutdown = bare(alloc, "shutdown", about, EXIT_HELP);
+    add_subcommand(add_subcommand(command, Ok(list)), Ok(shutdown))
 }
 
 /// The whole command, with a help text for every word.
 pub fn jobctl_words<'a>(alloc: Global) -> Result<clap::Command<'a>, AllocError>
-    ensures app { IfOk result (λ c. app_of c ≡ jobctl_app) }
+    ensures { Makes result jobctl_app }
 {
     let socket = option(
         alloc,
@@ -173,17 +149,12 @@ pub fn jobctl_words<'a>(alloc: Global) -> Result<clap::Command<'a>, AllocError>
         "PATH",
         "The daemon's control socket; jobd.sock where absent",
     );
-    let command = clap::Command::new(alloc, "jobctl")
-        .about("Control the job launcher jobd")
-        .after_help(EXIT_HELP)
-        .subcommand_required(true)
-        .arg(socket)?;
-    let command = add_files(alloc, command)?;
-    let command = add_labels(alloc, command)?;
-    let command = add_settings(alloc, command)?;
-    let command = add_targets(alloc, command)?;
-    match add_bare(alloc, command) {
-        Ok(command) => Ok(command),
-        Err(e) => Err(e),
-    }
+    let about = "Control the job launcher jobd";
+    let command = bare(alloc, "jobctl", about, EXIT_HELP).subcommand_required(true);
+    let command = add_arg(Ok(command), socket);
+    let command = add_files(alloc, command);
+    let command = add_labels(alloc, command);
+    let command = add_settings(alloc, command);
+    let command = add_targets(alloc, command);
+    add_bare(alloc, command)
 }

@@ -236,5 +236,5 @@ pub fn read_words(alloc: Global, words: &[String]) -> Result<Words, WordFault>
 
 /// The text to print where the words are no command of jobctl, or ask for help.
 pub fn explain(alloc: Global, words: &[String]) -> Result<Explanation, AllocError> {
-    explain_by(alloc, jobctl_words(alloc)?, words)
+    explain_by(alloc, jobctl_words(alloc), words)
 }

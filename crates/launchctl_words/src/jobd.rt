@@ -1,24 +1,24 @@
 //! The daemon's words: how clap takes them, and what they mean.
-ghost use Rattle.std.specs.Prelude.{◌≡◌, IfOk, true, false, map, string_bytes};
-ghost use Rattle.clap.specs.Words.{app_of, rows_of, found_of, subcommand_rows_of};
-ghost use Rattle.launchctl_words.specs.Rules.{HasNoGlobals};
+ghost use Rattle.std.specs.Prelude.{◌≡◌, IfOk, map, string_bytes};
+ghost use Rattle.clap.specs.Words.{App, rows_of, found_of, subcommand_rows_of};
+ghost use Rattle.launchctl_words.specs.Rules.{Makes};
 ghost use Rattle.launchctl_words.specs.Meaning.{Says};
 ghost use Rattle.launchctl_words.specs.Jobd as spec;
 ghost use Rattle.launchctl_words.specs.Jobd.{with_places, with_choices, serve_app, overrides_app, jobd_app};
 
-use crate::arguments::{option, value_of};
+use crate::arguments::{add_arg, add_subcommand, bare, option, value_of};
 use crate::command::{DaemonCommand, WordFault, ZoneWords};
 use crate::parse::{Explanation, explain_by, parse};
 use clap::ArgMatches;
+use history_model::Text;
 use std::alloc::{AllocError, Global};
 
 /// The paths that the launcher must be given.
 fn add_places<'a>(
     alloc: Global,
-    command: clap::Command<'a>,
+    command: Result<clap::Command<'a>, AllocError>,
 ) -> Result<clap::Command<'a>, AllocError>
-    ensures app { IfOk result (λ c. app_of c ≡ with_places (app_of command.entry)) }
-    ensures globals { HasNoGlobals command.entry → IfOk result (λ c. HasNoGlobals c) }
+    ensures { (a : App) → Makes command.entry a → Makes result (with_places a) }
 {
     let socket = option(alloc, "socket", true, "PATH", "The control socket to make");
     let store = option(
@@ -35,16 +35,16 @@ fn add_places<'a>(
         "DIR",
         "The folder for requests and replies of job sockets",
     );
-    let command = command.arg(socket)?.arg(store)?.arg(spool)?;
-    Ok(command)
+    let command = add_arg(command, socket);
+    let command = add_arg(command, store);
+    add_arg(command, spool)
 }
 
 fn add_choices<'a>(
     alloc: Global,
-    command: clap::Command<'a>,
+    command: Result<clap::Command<'a>, AllocError>,
 ) -> Result<clap::Command<'a>, AllocError>
-    ensures app { IfOk result (λ c. app_of c ≡ with_choices (app_of command.entry)) }
-    ensures globals { HasNoGlobals command.entry → IfOk result (λ c. HasNoGlobals c) }
+    ensures { (a : App) → Makes command.entry a → Makes result (with_choices a) }
 {
     let journal = option(
         alloc,
@@ -67,84 +67,86 @@ fn add_choices<'a>(
         "PATH",
         "The zone as a zone file, in place of --zone",
     );
-    let command = command.arg(journal)?.arg(zone)?.arg(zone_file)?;
-    Ok(command)
+    let command = add_arg(command, journal);
+    let command = add_arg(command, zone);
+    add_arg(command, zone_file)
 }
 
 fn serve_words<'a>(alloc: Global) -> Result<clap::Command<'a>, AllocError>
-    ensures app { IfOk result (λ c. app_of c ≡ serve_app) }
-    ensures globals { IfOk result (λ c. HasNoGlobals c) }
+    ensures { Makes result serve_app }
 {
-    let command = clap::Command::new(alloc, "serve")
-        .about("Run the launcher")
-        .after_help(
-            "Exit status: 0 every job is gone after a shutdown; 1 no memory; 5 the store; 6 the control socket; 7 the zone; 8 the journal; 9 the clock, or waiting; 64 these words are no command.",
-        );
-    let command = add_places(alloc, command)?;
-    match add_choices(alloc, command) {
-        Ok(command) => Ok(command),
-        Err(e) => Err(e),
-    }
+    let command = bare(
+        alloc,
+        "serve",
+        "Run the launcher",
+        "Exit status: 0 every job is gone after a shutdown; 1 no memory; 5 the store; 6 the control socket; 7 the zone; 8 the journal; 9 the clock, or waiting; 64 these words are no command.",
+    );
+    let command = add_places(alloc, Ok(command));
+    add_choices(alloc, command)
 }
 
 fn overrides_words<'a>(alloc: Global) -> Result<clap::Command<'a>, AllocError>
-    ensures app { IfOk result (λ c. app_of c ≡ overrides_app) }
-    ensures globals { IfOk result (λ c. HasNoGlobals c) }
+    ensures { Makes result overrides_app }
 {
     let store = option(alloc, "store", true, "PATH", "The database of overrides");
-    let command = clap::Command::new(alloc, "overrides")
-        .about("Print each label's override and the second of its last change")
-        .after_help(
-            "Exit status: 0 printed; 1 no memory; 5 the store; 64 these words are no command.",
-        )
-        .arg(store)?;
-    Ok(command)
+    let command = bare(
+        alloc,
+        "overrides",
+        "Print each label's override and the second of its last change",
+        "Exit status: 0 printed; 1 no memory; 5 the store; 64 these words are no command.",
+    );
+    add_arg(Ok(command), store)
 }
 
 /// The whole command, with a help text for every word.
 fn jobd_words<'a>(alloc: Global) -> Result<clap::Command<'a>, AllocError>
-    ensures app { IfOk result (λ c. app_of c ≡ jobd_app) }
+    ensures { Makes result jobd_app }
 {
-    let replay = clap::Command::new(alloc, "replay")
-        .about("Run a journal from standard input, and write its outcomes")
-        .after_help(
-            "Exit status: 0 each line has its outcome; 1 no memory; 2 no header; 3 input or output failed; 4 a line too long; 64 these words are no command.",
-        );
-    let serve = serve_words(alloc)?;
-    let overrides = overrides_words(alloc)?;
+    let replay = bare(
+        alloc,
+        "replay",
+        "Run a journal from standard input, and write its outcomes",
+        "Exit status: 0 each line has its outcome; 1 no memory; 2 no header; 3 input or output failed; 4 a line too long; 64 these words are no command.",
+    );
     let command = clap::Command::new(alloc, "jobd")
         .about("The job launcher")
         .subcommand_required(true);
-    let command = command.subcommand(replay)?;
-    let command = command.subcommand(serve)?;
-    let command = command.subcommand(overrides)?;
-    Ok(command)
+    let command = add_subcommand(Ok(command), Ok(replay));
+    let command = add_subcommand(command, serve_words(alloc));
+    add_subcommand(command, overrides_words(alloc))
+}
+
+/// The zone that these name; none where both do.
+fn zone_meant(rule: Option<Text>, file: Option<Text>) -> Option<ZoneWords>
+    ensures { result ≡ spec.zone_meant rule file }
+{
+    match (rule, file) {
+        (None, None) => Some(ZoneWords::Default),
+        (Some(rule), None) => Some(ZoneWords::Rule(rule)),
+        (None, Some(file)) => Some(ZoneWords::File(file)),
+        (Some(_), Some(_)) => None,
+    }
 }
 
 /// The zone that was named; none where both forms were.
 fn zone_in(alloc: Global, found: &ArgMatches<'_>) -> Result<Option<ZoneWords>, AllocError>
     ensures { IfOk result (λ zone. zone ≡ spec.zone_in (rows_of (found_of found.now))) }
 {
-    let rule = value_of(alloc, found, "zone")?;
-    let file = value_of(alloc, found, "zone-file")?;
-    Ok(match (rule, file) {
-        (None, None) => Some(ZoneWords::Default),
-        (Some(rule), None) => Some(ZoneWords::Rule(rule)),
-        (None, Some(file)) => Some(ZoneWords::File(file)),
-        (Some(_), Some(_)) => None,
-    })
+    let (rule, file) = pair_of(alloc, found, "zone", "zone-file")?;
+    Ok(zone_meant(rule, file))
 }
 
-/// What serve means.
-fn read_serve(alloc: Global, found: &ArgMatches<'_>) -> Result<Option<DaemonCommand>, AllocError>
-    ensures { IfOk result (λ command. command ≡ spec.serve_meant (rows_of (found_of found.now))) }
+/// The launcher with these places, where each that it needs is there.
+fn served(
+    socket: Option<Text>,
+    store: Option<Text>,
+    spool: Option<Text>,
+    journal: Option<Text>,
+    zone: Option<ZoneWords>,
+) -> Option<DaemonCommand>
+    ensures { result ≡ spec.served socket store spool journal zone }
 {
-    let socket = value_of(alloc, found, "socket")?;
-    let store = value_of(alloc, found, "store")?;
-    let spool = value_of(alloc, found, "spool")?;
-    let journal = value_of(alloc, found, "journal")?;
-    let zone = zone_in(alloc, found)?;
-    Ok(match (socket, store, spool, zone) {
+    match (socket, store, spool, zone) {
         (Some(socket), Some(store), Some(spool), Some(zone)) => Some(DaemonCommand::Serve {
             socket,
             store,
@@ -153,7 +155,31 @@ fn read_serve(alloc: Global, found: &ArgMatches<'_>) -> Result<Option<DaemonComm
             zone,
         }),
         _ => None,
-    })
+    }
+}
+
+/// Copies of the values of two options.
+fn pair_of(
+    alloc: Global,
+    found: &ArgMatches<'_>,
+    first: &str,
+    second: &str,
+) -> Result<(Option<Text>, Option<Text>), AllocError>
+    ensures { IfOk result (λ pair. pair ≡ spec.pair_in first.now second.now (rows_of (found_of found.now))) }
+{
+    let first = value_of(alloc, found, first)?;
+    let second = value_of(alloc, found, second)?;
+    Ok((first, second))
+}
+
+/// What serve means.
+fn read_serve(alloc: Global, found: &ArgMatches<'_>) -> Result<Option<DaemonCommand>, AllocError>
+    ensures { IfOk result (λ command. command ≡ spec.serve_meant (rows_of (found_of found.now))) }
+{
+    let (socket, store) = pair_of(alloc, found, "socket", "store")?;
+    let (spool, journal) = pair_of(alloc, found, "spool", "journal")?;
+    let zone = zone_in(alloc, found)?;
+    Ok(served(socket, store, spool, journal, zone))
 }
 
 /// What a subcommand and its values mean; none where the words are no command.
@@ -217,5 +243,5 @@ pub fn read_daemon_words(alloc: Global, words: &[String]) -> Result<DaemonComman
 
 /// The text to print where the words are no command of jobd, or ask for help.
 pub fn explain_daemon(alloc: Global, words: &[String]) -> Result<Explanation, AllocError> {
-    explain_by(alloc, jobd_words(alloc)?, words)
+    explain_by(alloc, jobd_words(alloc), words)
 }

@@ -45,20 +45,35 @@ pub struct Explanation {
 /// The text for words that clap does not take; the whole help where it takes them.
 pub fn explain_by<'a>(
     alloc: Global,
-    mut command: clap::Command<'a>,
+    command: Result<clap::Command<'a>, AllocError>,
+    words: &'a [String],
+) -> Result<Explanation, AllocError> {
+    explain_with(alloc, &mut command?, words)
+}
+
+fn explain_with<'a>(
+    alloc: Global,
+    command: &mut clap::Command<'a>,
     words: &'a [String],
 ) -> Result<Explanation, AllocError> {
     match command.try_get_matches_from_mut(words) {
-        Ok(_) => Ok(Explanation {
-            text: command.render_help()?,
-            is_help: false,
-        }),
-        Err(error) => {
-            let is_help = !error.use_stderr();
-            Ok(Explanation {
-                text: format!(in alloc; "{error}")?,
-                is_help,
-            })
-        }
+        Ok(_) => whole_help(command),
+        Err(error) => fault_text(alloc, &error),
     }
+}
+
+fn whole_help(command: &mut clap::Command<'_>) -> Result<Explanation, AllocError> {
+    let text = command.render_help()?;
+    Ok(Explanation {
+        text,
+        is_help: false,
+    })
+}
+
+fn fault_text(alloc: Global, error: &Error) -> Result<Explanation, AllocError> {
+    let text = format!(in alloc; "{error}")?;
+    Ok(Explanation {
+        text,
+        is_help: !error.use_stderr(),
+    })
 }

@@ -1,0 +1,5 @@
+use Rattle.launchctl_words.proofs.Made.{joined}
+use Rattle.launchctl_words.proofs.arguments.add_subcommand.Goals as goal
+
+pub returns-in-Ok-subcommand : goal.returns-in-Ok-subcommand
+returns-in-Ok-subcommand c = λ a s made subs. joined _ _ _ a s c.subcommand.ensures (rw c.in-Ok.is at made) (rw c.in-Ok-subcommand.is at subs)
