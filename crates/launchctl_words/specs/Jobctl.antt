@@ -1,5 +1,5 @@
 -- The words of the control program as a command of clap, and what they mean. They follow launchctl(1).
-use Rattle.std.specs.Prelude.{◌≡◌, ℕ, List, [], ◌∷◌, Bool, true, false, Option, Some, None, codes, if◌then◌else◌, unwrap_or, option_and_then}
+use Rattle.std.specs.Prelude.{List, false, Option, Some, None, codes, if◌then◌else◌, unwrap_or, option_and_then}
 use Rattle.std.specs.Option.{option_map}
 use Rattle.clap.specs.Words.{App, Rule, Row, Text, new_app, with_rule, with_subcommand, first_of, all_of, fault_of, matches_of, subcommand_of}
 use Rattle.ctl_protocol.specs.Targets.{label_named}

@@ -1,5 +1,5 @@
 -- The words of the daemon's program as a command of clap, and what they mean.
-use Rattle.std.specs.Prelude.{◌≡◌, ℕ, List, [], ◌∷◌, Bool, true, false, Option, Some, None, codes, if◌then◌else◌, option_and_then}
+use Rattle.std.specs.Prelude.{List, true, false, Option, Some, None, codes, if◌then◌else◌, option_and_then}
 use Rattle.std.specs.Option.{option_map}
 use Rattle.clap.specs.Words.{App, Row, Text, new_app, with_rule, with_subcommand, first_of, fault_of, subcommand_of}
 use Rattle.launchctl_words.specs.Rules.{option_rule}

@@ -1,6 +1,6 @@
 -- Arguments and commands in clap's own words: the forms of which both programs' words are made.
 use Rattle.clap.specs.declared.Command.{Command, out-Command}
-use Rattle.std.specs.Prelude.{◌≡◌, ℕ, List, [], ◌∷◌, Bool, Some, true, false, codes, Result, IfOk}
+use Rattle.std.specs.Prelude.{◌≡◌, ℕ, Bool, Some, true, false, Result, IfOk}
 use Rattle.clap.specs.Words.{App, Rule, Text, app_of, new_app, new_rule, with_rule}
 use Rattle.clap.specs.declared.builder.action.ArgAction.TheVariants.{SetTrue, Append}
 

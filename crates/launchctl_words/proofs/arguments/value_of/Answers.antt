@@ -1,4 +1,4 @@
-use Rattle.std.proofs.Common.{◌≡◌, ◌∙◌, ap, sym, Some, None, option_map}
+use Rattle.std.proofs.Common.{◌∙◌, ap, sym, Some, option_map}
 use Rattle.clap.specs.Words.{found_of}
 use Rattle.clap.proofs.WalkLemmas.{first_value-rows}
 use Rattle.launchctl_words.proofs.arguments.value_of.Goals as goal

@@ -1,4 +1,4 @@
-use Rattle.std.proofs.Common.{◌≡◌, ◌∙◌, ap, sym, Some, None, option_map, map}
+use Rattle.std.proofs.Common.{◌∙◌, ap, sym, Some, option_map, map}
 use Rattle.clap.specs.Words.{found_of}
 use Rattle.clap.proofs.WalkLemmas.{raw_values-rows}
 use Rattle.launchctl_words.proofs.arguments.values_of.Goals as goal

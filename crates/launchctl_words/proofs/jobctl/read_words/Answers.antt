@@ -1,4 +1,4 @@
-use Rattle.std.proofs.Common.{◌≡◌, ◌∙◌, sym}
+use Rattle.std.proofs.Common.{◌∙◌, sym}
 use Rattle.launchctl_words.proofs.Meant.{meant_found, meant_faulty, says_fault}
 use Rattle.launchctl_words.proofs.jobctl.read_words.Goals as goal
 
