@@ -1,4 +1,4 @@
-//! What comes in from outside, as its callers read it: definitions, lines and calendars, each over a table of cases. Beside
+//! What comes in from outside, as its callers read it: definitions, lines, calendars and words, each over a table of cases. Beside
 //! the answers they show that each call succeeds. Nothing but tests is here, so that the libraries are proved once.
 #![tactic(auto)]
 
@@ -8,3 +8,5 @@ mod calendars;
 mod definitions;
 #[cfg(test)]
 mod lines;
+#[cfg(test)]
+mod words;

@@ -7,8 +7,6 @@ mod control_words;
 mod jobctl;
 mod jobd;
 mod parse;
-#[cfg(test)]
-mod tests;
 
 pub use command::{Command, DaemonCommand, Paths, WordFault, Words, ZoneWords};
 pub use jobctl::{explain, read_words};

@@ -1,6 +1,9 @@
 //! What no contract says: that the texts of clap's command are read as an administrator means them, and that each call
 //! succeeds. The wanted meanings were written by hand from launchctl(1) and the programs' own help.
-use super::*;
+use launchctl_words::{
+    Command, DaemonCommand, Paths, WordFault, ZoneWords, explain, explain_daemon,
+    read_daemon_words, read_words,
+};
 use std::alloc::{AllocError, Global};
 use std::test::Fail;
 
