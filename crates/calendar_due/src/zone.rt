@@ -32,7 +32,7 @@ enum Rules {
 }
 
 /// Why no zone was made.
-#[derive(Clone, Copy, Debug, PartialEq, Eq, Drop)]
+#[derive(Clone, Copy, PartialEq, Eq, Drop)]
 pub enum ZoneFault {
     /// Memory ran out.
     NoMemory,

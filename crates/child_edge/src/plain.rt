@@ -15,7 +15,7 @@ pub enum EdgeFault {
 }
 
 /// A call of the outside: which one, and for whose run. A path and a definition that were handed in are not told.
-#[derive(Clone, Copy, Debug, PartialEq, Eq)]
+#[derive(Clone, Copy, PartialEq, Eq)]
 pub enum EdgeCall {
     /// The job's run is to be started, with the connection that it serves if there is one.
     Start {
@@ -58,7 +58,7 @@ pub enum EdgeCall {
 }
 
 /// An answer of the outside to one call.
-#[derive(Clone, Copy, Debug, PartialEq, Eq)]
+#[derive(Clone, Copy, PartialEq, Eq)]
 pub enum Scripted {
     /// A start: the process id of the child, at least 1.
     Started(u32),

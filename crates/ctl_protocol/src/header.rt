@@ -7,7 +7,7 @@ use history_model::{Reading, Setting, Text};
 use std::marker::Model;
 
 /// The bytes of a zone file, as tzfile(5) has them. To a contract it is these bytes.
-#[derive(Debug, Drop)]
+#[derive(Drop)]
 pub struct ZoneFile {
     bytes: Vec<u8>,
 }
@@ -35,7 +35,7 @@ impl ZoneFile {
 }
 
 /// The settings of labels that a journal begins with. To a contract it is their list.
-#[derive(Debug, Drop)]
+#[derive(Drop)]
 pub struct Settings {
     items: Vec<Setting>,
 }
@@ -71,7 +71,7 @@ impl Settings {
 }
 
 /// The zone of civil time, as a header tells it.
-#[derive(Debug, Drop)]
+#[derive(Drop)]
 pub enum ZoneText {
     /// A rule in the form of POSIX `TZ`, as `EST5EDT,M3.2.0,M11.1.0`.
     Posix(Text),
@@ -83,7 +83,7 @@ pub enum ZoneText {
 
 /// What a journal begins with: the clocks' first reading (milliseconds and seconds), the zone, and the settings of
 /// labels.
-#[derive(Debug, Drop)]
+#[derive(Drop)]
 pub struct Header {
     pub reading: Reading,
     pub zone: ZoneText,

@@ -44,7 +44,7 @@ impl<T: Drop> From<AllocFailed<T>> for ReadFault {
 }
 
 /// The two kinds of lines that tell an event: a journal's, which has the outside's answers, and a client's.
-#[derive(Clone, Copy, Debug, PartialEq, Eq)]
+#[derive(Clone, Copy, PartialEq, Eq)]
 pub(crate) enum Form {
     Event,
     Request,

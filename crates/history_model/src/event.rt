@@ -4,7 +4,7 @@ use crate::{Ended, Obs, Reading};
 
 /// A label's setting, made by `enable` and `disable` and by `-w` of load and unload (launchctl(1)): it decides over the
 /// definition's `Disabled`, and needs no loaded job.
-#[derive(Debug, Drop)]
+#[derive(Drop)]
 pub struct Setting {
     pub label: Text,
     pub disabled: bool,
@@ -12,7 +12,7 @@ pub struct Setting {
 
 /// An event of the launcher, as a line of a journal tells it (launchctl(1) for what a control client asks). `bind` and `store`
 /// are the outside's answers; they count only where a load has sockets, and where a setting is written.
-#[derive(Debug, Drop)]
+#[derive(Drop)]
 pub enum Event {
     /// A definition's JSON text is handed in. `w` also enables the label; with `force` a disabled one is loaded too.
     Load {

@@ -14,7 +14,7 @@ pub use text::Text;
 
 /// A reading of the clocks. `up` counts milliseconds and never falls (at most `MAX_UP`); `wall` counts seconds of Unix time
 /// and may be set back (at most `MAX_WALL`).
-#[derive(Clone, Copy, Debug, PartialEq, Eq)]
+#[derive(Clone, Copy, PartialEq, Eq)]
 pub struct Reading {
     pub up: u64,
     pub wall: u64,
@@ -23,7 +23,7 @@ pub struct Reading {
 /// An entry of StartCalendarInterval (launchd.plist(5)): minute 0 to 59, hour 0 to 23, day 1 to 31, weekday 0 to 7 (0 and 7
 /// are Sunday), month 1 to 12. A key that is absent matches everything; of a day and a weekday that both stand one suffices
 /// (crontab(5)).
-#[derive(Clone, Copy, Debug, PartialEq, Eq)]
+#[derive(Clone, Copy, PartialEq, Eq)]
 pub struct Entry {
     pub minute: Option<u8>,
     pub hour: Option<u8>,
@@ -33,7 +33,7 @@ pub struct Entry {
 }
 
 /// A minute of civil time, its seconds dropped. Months and days count from 1, weekdays from Sunday as 0.
-#[derive(Clone, Copy, Debug, PartialEq, Eq)]
+#[derive(Clone, Copy, PartialEq, Eq)]
 pub struct CivilMinute {
     pub year: i16,
     pub month: u8,
@@ -97,7 +97,7 @@ pub enum KeyName {
 /// What was seen at a path: whether it exists, whether it is a directory that is not empty, and its stamp, which differs where
 /// the path was changed (its time of modification in nanoseconds). Follows launchd.plist(5), WatchPaths, QueueDirectories and
 /// PathState.
-#[derive(Clone, Copy, Debug, PartialEq, Eq)]
+#[derive(Clone, Copy, PartialEq, Eq)]
 pub struct Obs {
     pub present: bool,
     pub nonempty_dir: bool,
@@ -105,7 +105,7 @@ pub struct Obs {
 }
 
 /// How a run ended: with an exit code, or by a signal. `Signal(0)` is a signal whose number is unknown.
-#[derive(Clone, Copy, Debug, PartialEq, Eq)]
+#[derive(Clone, Copy, PartialEq, Eq)]
 pub enum Ended {
     Code(u8),
     Signal(u8),
@@ -113,7 +113,7 @@ pub enum Ended {
 
 /// What a job orders: the spawn of its next run, with the connection that it carries if one waits; TERM or KILL for its child's
 /// run; the close of a connection that waits where the job leaves; and that it is gone.
-#[derive(Clone, Copy, Debug, PartialEq, Eq)]
+#[derive(Clone, Copy, PartialEq, Eq)]
 pub enum Act {
     Spawn { run: u64, conn: Option<u64> },
     Term { run: u64 },
@@ -126,14 +126,14 @@ pub enum Act {
 pub type JobNo = u32;
 
 /// An order, and the number of the job that gives it.
-#[derive(Clone, Copy, Debug, PartialEq, Eq)]
+#[derive(Clone, Copy, PartialEq, Eq)]
 pub struct Order {
     pub job: JobNo,
     pub act: Act,
 }
 
 /// What a control client asks of a job (launchctl(1): start, stop, unload, kickstart; shutdown is this project's own).
-#[derive(Clone, Copy, Debug, PartialEq, Eq)]
+#[derive(Clone, Copy, PartialEq, Eq)]
 pub enum Ask {
     Start,
     Stop,
@@ -145,7 +145,7 @@ pub enum Ask {
 
 /// The answer to an order: a spawn succeeded, with the process id of the child (at least 1), or was refused; TERM or KILL was
 /// sent (`ok`), or could not be.
-#[derive(Clone, Copy, Debug, PartialEq, Eq)]
+#[derive(Clone, Copy, PartialEq, Eq)]
 pub enum Answer {
     Spawned { run: u64, pid: u32 },
     SpawnRefused { run: u64 },
@@ -155,7 +155,7 @@ pub enum Answer {
 
 /// Why an event is refused. After each of them jobs, settings, readings and timers are as they were. The codes and their order
 /// are this project's own.
-#[derive(Clone, Copy, Debug, PartialEq, Eq)]
+#[derive(Clone, Copy, PartialEq, Eq)]
 pub enum Refusal {
     /// A growth was refused.
     NoMemory,
@@ -218,7 +218,7 @@ impl Refusal {
 
 /// What an event is answered: a refusal, or none and a text. The text is empty at a refusal; the writers of lines put the
 /// refusal's own text there.
-#[derive(Debug, Drop)]
+#[derive(Drop)]
 pub struct Reply {
     pub refusal: Option<Refusal>,
     pub text: Text,

@@ -23,7 +23,7 @@ use std::alloc::{AllocError, Global};
 use std::marker::Model;
 
 /// What a job is doing, the first that applies.
-#[derive(Clone, Copy, Debug, PartialEq, Eq)]
+#[derive(Clone, Copy, PartialEq, Eq)]
 pub enum JobState {
     /// An unload or a shutdown was asked.
     Removing,
@@ -37,7 +37,7 @@ pub enum JobState {
 }
 
 /// What `print` and `list` of launchctl(1) show of a job.
-#[derive(Clone, Copy, Debug, PartialEq, Eq)]
+#[derive(Clone, Copy, PartialEq, Eq)]
 pub struct JobRow {
     pub state: JobState,
     /// The child's.

@@ -4,27 +4,27 @@ use history_model::{Entry, Text};
 
 /// A condition of `KeepAlive.PathState`: the job is wanted while something is at the path (`present`), or while nothing
 /// is.
-#[derive(Debug, Drop)]
+#[derive(Drop)]
 pub struct PathState {
     pub path: Text,
     pub present: bool,
 }
 
 /// A variable of the child's environment.
-#[derive(Debug, Drop)]
+#[derive(Drop)]
 pub struct Variable {
     pub name: Text,
     pub value: Text,
 }
 
 /// A stream socket that waits for connections.
-#[derive(Debug, Drop)]
+#[derive(Drop)]
 pub struct Socket {
     pub address: Address,
 }
 
 /// Where a socket waits.
-#[derive(Debug, Drop)]
+#[derive(Drop)]
 pub enum Address {
     /// The path of a Unix socket.
     Unix(Text),

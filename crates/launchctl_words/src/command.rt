@@ -3,7 +3,7 @@ use history_model::Text;
 use std::marker::Model;
 
 /// The paths of a command line, in their order. To a contract, a list of their bytes.
-#[derive(Debug, Drop)]
+#[derive(Drop)]
 pub struct Paths {
     items: Vec<Text>,
 }
@@ -35,7 +35,7 @@ impl Paths {
 }
 
 /// What the control program is asked to do. A label is that of launchctl(1)'s `label`; a target names one too.
-#[derive(Debug, Drop)]
+#[derive(Drop)]
 pub enum Command {
     /// Hand in each definition; `write` also enables its label, `force` loads a disabled one too.
     Load {
@@ -73,14 +73,14 @@ pub enum Command {
 }
 
 /// A whole command line of the control program: the path of the daemon's control socket, and the command.
-#[derive(Debug, Drop)]
+#[derive(Drop)]
 pub struct Words {
     pub socket: Text,
     pub command: Command,
 }
 
 /// The zone in which calendar entries are read.
-#[derive(Debug, Drop)]
+#[derive(Drop)]
 pub enum ZoneWords {
     /// Nothing was said: Universal Time.
     Default,
@@ -91,7 +91,7 @@ pub enum ZoneWords {
 }
 
 /// What the daemon's program is asked to do.
-#[derive(Debug, Drop)]
+#[derive(Drop)]
 pub enum DaemonCommand {
     /// Run a journal from standard input through the launcher's machine.
     Replay,
@@ -110,7 +110,7 @@ pub enum DaemonCommand {
 }
 
 /// Why words mean nothing.
-#[derive(Clone, Copy, Debug, PartialEq, Eq)]
+#[derive(Clone, Copy, PartialEq, Eq)]
 pub enum WordFault {
     /// There was no memory to read them.
     NoMemory,

@@ -35,7 +35,7 @@ fn fault_in(error: &Error) -> WordFault
 }
 
 /// What to print for words that are no command.
-#[derive(Debug, Drop)]
+#[derive(Drop)]
 pub struct Explanation {
     pub text: String,
     /// Help was asked for: the text belongs to standard output.

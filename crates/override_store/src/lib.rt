@@ -27,7 +27,7 @@ use std::alloc::Global;
 use std::marker::Model;
 
 /// Why a store refuses.
-#[derive(Clone, Copy, Debug, PartialEq, Eq)]
+#[derive(Clone, Copy, PartialEq, Eq)]
 pub enum StoreFault {
     /// No memory was to be had.
     NoMemory,

@@ -15,7 +15,7 @@ use history_model::MAX_UP;
 use std::marker::Model;
 
 /// What a run is told by.
-#[derive(Clone, Copy, Debug, PartialEq, Eq)]
+#[derive(Clone, Copy, PartialEq, Eq)]
 pub enum Signal {
     Term,
     Kill,

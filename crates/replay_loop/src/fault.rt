@@ -1,7 +1,7 @@
 //! Why a run over an input ends before the input's end.
 
 /// Why a run ended before its input did.
-#[derive(Clone, Copy, Debug, PartialEq, Eq)]
+#[derive(Clone, Copy, PartialEq, Eq)]
 pub enum ReplayFault {
     /// No memory was left. What stands written is the output of the lines before.
     NoMemory,

@@ -11,7 +11,7 @@ use std::marker::Model;
 pub const MAX_WAITING: usize = 64;
 
 /// The queue has no room for one more.
-#[derive(Clone, Copy, Debug, PartialEq, Eq)]
+#[derive(Clone, Copy, PartialEq, Eq)]
 pub struct Full;
 
 /// Connections in order of arrival: to a contract, the list of their numbers.
