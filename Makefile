@@ -1,14 +1,23 @@
-# make run    proves and builds what is needed, then runs the first example
+# make run    builds jobd without a proof and runs the first example: a look, in about a minute
 # make test   the gate: every proof from nothing, the wrong bodies, the tests, the programs
+# make times  the gate, and then what each crate cost it, in processor seconds
 # make build  proves, and leaves the program as build/jobd
 # make bench  times build/jobd and the calendar; BASELINE=PROGRAM takes turns with another program
-.PHONY: run test build bench need_rt
+.PHONY: run test times build bench need_rt
 
-run: build
-	@build/jobd replay < examples/first.jsonl
+# One job a check, as many checks side by side as there are processors: two jobs of one check cost a quarter more.
+RT_JOBS ?= $(shell nproc)
+
+run: need_rt
+	@mkdir -p build
+	@cd crates/jobd_program && { rt try -- replay < ../../examples/first.jsonl 2> ../../build/run.log || { cat ../../build/run.log >&2; exit 1; }; }
+	@echo "make run: nothing was proved for this look; make build proves the program and leaves it as build/jobd" >&2
 
 test: need_rt
-	@rt ci
+	@RT_JOBS=$(RT_JOBS) rt ci
+
+times: need_rt
+	@RT_JOBS=$(RT_JOBS) python3 bench/times.py
 
 build: need_rt
 	@mkdir -p build

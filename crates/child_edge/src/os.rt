@@ -1,4 +1,4 @@
-//! The outside of the operating system: real children. It does not tell its calls.
+//! The edge of the operating system: real children, job sockets with their connections, paths and the clock. It does not tell its calls.
 
 ghost use Rattle.std.specs.Prelude.{◌≡◌, ◌<◌, None, IfOk, OnOk, OnErr};
 ghost use Rattle.child_edge.specs.Calls.{one_more};

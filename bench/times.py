@@ -1,0 +1,111 @@
+#!/usr/bin/env python3
+"""Runs the gate as `rt ci` does, and prints what it cost: the processor seconds of each crate's proof, tests and edits.
+
+    bench/times.py
+
+It calls the same function of rt that `rt ci` calls, over the same files, with RT_JOBS lanes (as many as there are
+processors where it is unset). Each process that rt starts is counted by its user and system time, its own children
+included, and put down to the crate that it names:
+
+    proof    the check of the crate from nothing; of a program also its two compilers
+    tests    the check of the crate with its tests, and their compiler
+    edits    the must-fail edits, the first check that they share and the last one
+    runs     programs and tests that were run, and what is of no crate
+
+The last lines are those of rt, then the sum and the time by the clock. The status is rt's.
+"""
+import importlib.machinery
+import importlib.util
+import os
+import shutil
+import subprocess
+import sys
+import threading
+import time
+
+HERE = os.path.dirname(os.path.abspath(__file__))
+COLUMNS = ("proof", "tests", "edits", "runs")
+
+
+def load_rt():
+    sys.dont_write_bytecode = True
+    path = shutil.which("rt") or sys.exit("times.py: rt is not on the PATH")
+    loader = importlib.machinery.SourceFileLoader("rt_main", os.path.realpath(path))
+    module = importlib.util.module_from_spec(importlib.util.spec_from_loader("rt_main", loader))
+    loader.exec_module(module)
+    return module
+
+
+def place_of(words, folder):
+    """The crate and the column of a process, by its words and the folder that it works in."""
+    words = [it for it in words if isinstance(it, str)]
+    if "--crate-name" not in words:
+        return "-", "runs"
+    crate = words[words.index("--crate-name") + 1]
+    if os.path.basename(str(folder or "")).startswith("rt-edit-"):
+        return crate, "edits"
+    return crate, "tests" if "--test" in words else "proof"
+
+
+class Timed(subprocess.Popen):
+    """A process whose processor time is put down once it was waited for."""
+
+    spent = {}
+    guard = threading.Lock()
+
+    def __init__(self, args, *others, **how):
+        self.place = place_of(args if isinstance(args, list) else [args], how.get("cwd"))
+        super().__init__(args, *others, **how)
+
+    def note(self, used):
+        with self.guard:
+            self.spent[self.place] = self.spent.get(self.place, 0.0) + used.ru_utime + used.ru_stime
+
+    def _try_wait(self, wait_flags):
+        try:
+            found, status, used = os.wait4(self.pid, wait_flags)
+        except ChildProcessError:
+            return self.pid, 0
+        if found == self.pid:
+            self.note(used)
+        return found, status
+
+    def _internal_poll(self, _deadstate=None, **_others):
+        if self.returncode is None and self._waitpid_lock.acquire(False):
+            try:
+                if self.returncode is None:
+                    found, status = self._try_wait(os.WNOHANG)
+                    if found == self.pid:
+                        self._handle_exitstatus(status)
+            finally:
+                self._waitpid_lock.release()
+        return self.returncode
+
+
+def print_table(spent, begun):
+    crates = {crate for crate, _ in spent}
+    rows = [(crate, [spent.get((crate, it), 0.0) for it in COLUMNS]) for crate in crates]
+    rows.sort(key=lambda it: -sum(it[1]))
+    print(f"\n{'crate':24}" + "".join(f"{it:>9}" for it in (*COLUMNS, "sum")) + "  (processor seconds)")
+    for crate, cells in rows:
+        print(f"{crate:24}" + "".join(f"{it:9.1f}" for it in (*cells, sum(cells))))
+    sums = [sum(cells[at] for _, cells in rows) for at in range(len(COLUMNS))]
+    print(f"{'sum':24}" + "".join(f"{it:9.1f}" for it in (*sums, sum(sums))))
+    minutes = (time.monotonic() - begun) / 60
+    print(f"{sum(sums) / 60:.1f} processor minutes, {minutes:.1f} minutes by the clock, RT_JOBS={os.environ['RT_JOBS']}")
+
+
+def main():
+    os.chdir(os.path.dirname(HERE))
+    os.environ.setdefault("RT_JOBS", str(os.cpu_count()))
+    rt = load_rt()
+    begun = time.monotonic()
+    subprocess.Popen = Timed
+    status = rt.ci()
+    sys.stdout.flush()
+    print_table(Timed.spent, begun)
+    return status
+
+
+if __name__ == "__main__":
+    sys.exit(main())
