@@ -9,7 +9,7 @@ use Rattle.std.specs.declared.cmp.Ordering.TheVariants.{Less, Equal, Greater}
 use Rattle.serde_json.specs.Data.{Data, Members, no_members, member, boolean, put, depth}
 use Rattle.serde_json.specs.Read.{max_depth}
 use Rattle.serde_json.specs.Written.{compact_text}
-use Rattle.job_defs.specs.Json.{json_in}
+use Rattle.json_kinds.specs.Json.{json_in}
 use Rattle.history_model.specs.declared.Reading.{Reading}
 use Rattle.history_model.specs.declared.TheConstants.{MAX_UP, MAX_WALL}
 use Rattle.history_model.specs.declared.event.Setting.{Setting}
@@ -18,7 +18,7 @@ use Rattle.history_model.specs.WholeLaws.{AreInOrder}
 use Rattle.ctl_protocol.specs.declared.header.Header.{Header}
 use Rattle.ctl_protocol.specs.declared.header.ZoneText.{ZoneText}
 use Rattle.ctl_protocol.specs.declared.header.ZoneText.TheVariants.{Posix, Offset, File}
-use Rattle.ctl_protocol.specs.Members.{◌>>=◌, number_key}
+use Rattle.event_reader.specs.Members.{◌>>=◌, number_key}
 use Rattle.ctl_protocol.specs.Objects.{with_members}
 use Rattle.ctl_protocol.specs.Headers.{digit_of, byte_of, bytes_of_hex, up_to, zone_key, setting_of, settings_of, overrides_key, has_header_keys, header_row, header_at}
 use Rattle.ctl_protocol.specs.HeaderLines.{hex_digit, hex_pair, hex_of, setting_members, header_object, is_zone, is_setting, IsHeader}

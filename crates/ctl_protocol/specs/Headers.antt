@@ -9,8 +9,9 @@ use Rattle.history_model.specs.Labels.{is_label}
 use Rattle.ctl_protocol.specs.declared.header.Header.{Header}
 use Rattle.ctl_protocol.specs.declared.header.ZoneText.{ZoneText}
 use Rattle.ctl_protocol.specs.declared.header.ZoneText.TheVariants.{Posix, Offset, File}
-use Rattle.job_defs.specs.Json.{json_in}
-use Rattle.ctl_protocol.specs.Members.{◌>>=◌, number_key, is_among}
+use Rattle.json_kinds.specs.Json.{json_in}
+use Rattle.json_kinds.specs.Kinds.{is_among}
+use Rattle.event_reader.specs.Members.{◌>>=◌, number_key}
 
 -- ---- bytes in lower case hexadecimal
 

@@ -6,9 +6,9 @@ use Rattle.history_model.specs.declared.Ended.TheVariants.{Code, Signal}
 use Rattle.history_model.specs.declared.event.Event.{Event}
 use Rattle.history_model.specs.declared.event.Event.TheVariants as events
 use Rattle.history_model.specs.Labels.{is_label}
-use Rattle.ctl_protocol.specs.declared.members.Form.{Form}
-use Rattle.ctl_protocol.specs.declared.members.Form.TheVariants as forms
-use Rattle.ctl_protocol.specs.Members.{tag_of, has_answers}
+use Rattle.event_reader.specs.declared.members.Form.{Form}
+use Rattle.event_reader.specs.declared.members.Form.TheVariants as forms
+use Rattle.event_reader.specs.Members.{tag_of, has_answers}
 use Rattle.ctl_protocol.specs.Objects.{Plain, text, flag, count, plain_data, with_members, line_of}
 
 abbrev pub name_of : Event → List ℕ

@@ -1,16 +1,17 @@
 //! Reads a header.
 
 ghost use Rattle.std.specs.Prelude.{◌≡◌, List, ℕ};
-ghost use Rattle.job_defs.specs.Json.{json_in};
+ghost use Rattle.json_kinds.specs.Json.{json_in};
 ghost use Rattle.serde_json.specs.View.{view, members_view};
 ghost use Rattle.ctl_protocol.specs.Headers as headers;
 ghost use Rattle.ctl_protocol.specs.Headers.{are_among, bytes_of_hex, digit_of, file_of, header_at, header_keys, header_row, offset_of, overrides_key, posix_of, reading_keys, setting_of, settings_of, up_to, zone_key};
-ghost use Rattle.ctl_protocol.specs.Members.{Gives, Reads, names_of, number_key};
+ghost use Rattle.event_reader.specs.Members.{Gives, Reads, names_of, number_key};
 
 use crate::header::{Header, Settings, ZoneFile, ZoneText};
-use crate::members::{ReadFault, is_among};
+use event_reader::ReadFault;
 use history_model::{MAX_UP, MAX_WALL, Reading, Setting, Text};
-use job_defs::{is_label, json_value};
+use json_kinds::kinds::is_among;
+use json_kinds::{is_label, json_value};
 use serde_json::{Map, Value};
 use std::alloc::Global;
 
@@ -25,7 +26,7 @@ fn json_line(alloc: Global, bytes: &[u8]) -> Result<Value, ReadFault>
 }
 
 /// The integer under a key, from 0 on.
-#[tactic(auto, unfolding(crate::specs::Members::number_key))]
+#[tactic(auto, unfolding(event_reader::specs::Members::number_key))]
 fn number_in(line: &Value, key: &str) -> Result<u64, ReadFault>
     ensures { Reads result (number_key key.now (view line.now)) }
 {
@@ -183,7 +184,7 @@ fn all_are_among(members: &Map<String, Value>, keys: &[&str]) -> bool
     ensures { result ≡ are_among (names_of keys.now) (members_view members.now.entries) }
 {
     for (key, _) in members.iter() {
-        if !is_among(key.as_str(), keys) {
+        if !is_among(keys, key.as_str()) {
             return false;
         }
     }

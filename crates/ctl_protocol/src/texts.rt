@@ -6,7 +6,7 @@ ghost use Rattle.history_model.specs.Texts as texts;
 ghost use Rattle.history_model.specs.declared.Refusal.TheVariants.{BadDefinition};
 
 use history_model::{KeyName, Reason, Refusal};
-use job_defs::{key_name, reason_name};
+use json_kinds::{key_name, reason_name};
 use std::alloc::{AllocError, Global};
 
 fn fault_text(alloc: Global, reason: Reason, key: KeyName) -> Result<String, AllocError>

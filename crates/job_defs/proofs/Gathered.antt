@@ -7,7 +7,7 @@ use Rattle.std.specs.String.{string_cmp}
 use Rattle.std.specs.declared.alloc.Global.{Global}
 use Rattle.std.specs.declared.cmp.Ordering.{Ordering}
 use Rattle.std.specs.declared.cmp.Ordering.TheVariants.{Less, Equal, Greater}
-use Rattle.job_defs.specs.Names.{Key}
+use Rattle.json_kinds.specs.Names.{Key}
 use Rattle.job_defs.specs.Ignored.{with_names}
 
 -- some names, and then others

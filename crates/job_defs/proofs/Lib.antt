@@ -1,5 +1,1 @@
-pub mod Counts
-pub mod Each
-pub mod Hosts
-pub mod IsText
 pub mod Gathered

@@ -9,9 +9,9 @@ use Rattle.history_model.specs.declared.Reason.TheVariants.{TooLong}
 use Rattle.history_model.specs.declared.KeyName.TheVariants.{StartCalendarInterval}
 use Rattle.history_model.specs.Machine.{Fault}
 use Rattle.history_model.specs.Texts.{key_text}
-use Rattle.job_defs.specs.Faults.{bad, ◌>>=◌}
-use Rattle.job_defs.specs.Names.{Key, day, hour, minute, month, weekday}
-use Rattle.job_defs.specs.Kinds.{object_at, integer_at, each_item, members_or_one, where_given, optional}
+use Rattle.json_kinds.specs.Faults.{bad, ◌>>=◌}
+use Rattle.json_kinds.specs.Names.{Key, day, hour, minute, month, weekday}
+use Rattle.json_kinds.specs.Kinds.{object_at, integer_at, each_item, members_or_one, where_given, optional}
 
 -- one key of an entry
 unfoldable pub part : ℕ → ℕ → Key → Data → Result (Option ℕ) Fault

@@ -8,8 +8,8 @@ use Rattle.history_model.specs.declared.KeyName.TheVariants.{Label, ProgramArgum
 use Rattle.history_model.specs.Machine.{Fault}
 use Rattle.history_model.specs.Texts.{key_text}
 use Rattle.history_model.specs.Labels.{is_label}
-use Rattle.job_defs.specs.Faults.{bad, ◌>>=◌}
-use Rattle.job_defs.specs.Kinds.{text_at, array_at, plain_at, filled_at, each_item, required}
+use Rattle.json_kinds.specs.Faults.{bad, ◌>>=◌}
+use Rattle.json_kinds.specs.Kinds.{text_at, array_at, plain_at, filled_at, each_item, required}
 
 -- the label
 unfoldable pub label_row : Data → Result (List ℕ) Fault

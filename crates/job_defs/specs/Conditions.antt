@@ -9,9 +9,9 @@ use Rattle.history_model.specs.declared.KeyName.TheVariants.{KeepAlive}
 use Rattle.history_model.specs.Machine.{Fault}
 use Rattle.history_model.specs.Texts.{key_text}
 use Rattle.job_defs.specs.declared.parts.PathState.{PathState}
-use Rattle.job_defs.specs.Faults.{bad, ◌>>=◌}
-use Rattle.job_defs.specs.Names.{Key, crashed, path_state, successful_exit}
-use Rattle.job_defs.specs.Kinds.{bool_at, object_at, filled, each_member, where_given, optional}
+use Rattle.json_kinds.specs.Faults.{bad, ◌>>=◌}
+use Rattle.json_kinds.specs.Names.{Key, crashed, path_state, successful_exit}
+use Rattle.json_kinds.specs.Kinds.{bool_at, object_at, filled, each_member, where_given, optional}
 
 -- what `KeepAlive` says
 pub record Keep : Type 0 where

@@ -1,9 +1,9 @@
 -- What a job's definition says, key by key, as launchd.plist(5) names them. A text or a path is its bytes.
-use Rattle.std.specs.Prelude.{ℕ, ◌==◌, Bool, not, List, length, Option}
+use Rattle.std.specs.Prelude.{ℕ, Bool, List, Option}
 use Rattle.history_model.specs.declared.Entry.{Entry}
 use Rattle.job_defs.specs.declared.parts.PathState.{PathState}
 use Rattle.job_defs.specs.declared.parts.Variable.{Variable}
-use Rattle.job_defs.specs.declared.parts.Socket.{Socket}
+use Rattle.socket_defs.specs.declared.parts.Socket.{Socket}
 
 -- the definition as its getters give it
 pub record Described : Type 0 where
@@ -30,7 +30,3 @@ pub record Described : Type 0 where
   pub standard_error_path : Option (List ℕ)
   pub sockets : List Socket
   pub not_acted_on : List (List ℕ)
-
--- there is one at least
-abbrev pub has_some : List Socket → Bool
-has_some sockets = not (length sockets == 0)

@@ -10,8 +10,8 @@ use Rattle.serde_json.specs.Find.{get, as_object}
 use Rattle.history_model.specs.declared.KeyName.{KeyName}
 use Rattle.history_model.specs.declared.KeyName.TheVariants.{Label, Program, ProgramArguments, RunAtLoad, LaunchOnlyOnce, DisabledKey, OnDemand, KeepAlive, WatchPaths, QueueDirectories, StartInterval, StartCalendarInterval, ThrottleInterval, ExitTimeOut, EnvironmentVariables, WorkingDirectory, StandardInPath, StandardOutPath, StandardErrorPath, Sockets, InetdCompatibility, UserName, GroupName, RootDirectory}
 use Rattle.history_model.specs.Texts.{key_text}
-use Rattle.job_defs.specs.Names.{Key, crashed, path_state, successful_exit, day, hour, minute, month, weekday, secure_key, socket_type, passive, family, protocol, path_name, node_name, service_name, wait}
-use Rattle.job_defs.specs.Kinds.{is_among, members_or_one}
+use Rattle.json_kinds.specs.Names.{Key, crashed, path_state, successful_exit, day, hour, minute, month, weekday, secure_key, socket_type, passive, family, protocol, path_name, node_name, service_name, wait}
+use Rattle.json_kinds.specs.Kinds.{is_among, members_or_one}
 
 -- ---- the keys that are read
 

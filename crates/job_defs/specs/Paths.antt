@@ -7,8 +7,8 @@ use Rattle.history_model.specs.declared.Reason.TheVariants.{TooLong}
 use Rattle.history_model.specs.declared.KeyName.{KeyName}
 use Rattle.history_model.specs.Machine.{Fault}
 use Rattle.history_model.specs.Texts.{key_text}
-use Rattle.job_defs.specs.Faults.{bad, ◌>>=◌}
-use Rattle.job_defs.specs.Kinds.{array_at, path_at, each_item, where_given}
+use Rattle.json_kinds.specs.Faults.{bad, ◌>>=◌}
+use Rattle.json_kinds.specs.Kinds.{array_at, path_at, each_item, where_given}
 
 -- at most 64 paths in a definition, of which so many were counted before
 unfoldable pub paths_at : ℕ → KeyName → Data → Result (List (List ℕ)) Fault

@@ -2,7 +2,7 @@
 use Rattle.std.specs.Prelude.{List, map, String, string_bytes}
 use Rattle.std.specs.declared.alloc.Global.{Global}
 use Rattle.std.specs.BTreeSet.{BTreeSet}
-use Rattle.job_defs.specs.Names.{Key}
+use Rattle.json_kinds.specs.Names.{Key}
 use Rattle.job_defs.specs.declared.parts.Command.{Command}
 use Rattle.job_defs.specs.declared.parts.Launch.{Launch}
 use Rattle.job_defs.specs.declared.parts.Keep.{Keep}

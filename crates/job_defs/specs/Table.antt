@@ -4,22 +4,22 @@ use Rattle.std.specs.Prelude.{ℕ, ◌+◌, List, length, Bool, true, false, Res
 use Rattle.serde_json.specs.Data.{Data}
 use Rattle.serde_json.specs.Find.{as_object}
 use Rattle.history_model.specs.declared.Entry.{Entry}
-use Rattle.history_model.specs.declared.Reason.TheVariants.{NotObject}
+use Rattle.history_model.specs.declared.Reason.TheVariants.{NotJson, NotObject}
 use Rattle.history_model.specs.declared.KeyName.TheVariants.{NoKey, Program, RunAtLoad, LaunchOnlyOnce, DisabledKey, OnDemand, WatchPaths, QueueDirectories, StartInterval, ThrottleInterval, ExitTimeOut, WorkingDirectory, StandardInPath, StandardOutPath, StandardErrorPath, UserName, GroupName, RootDirectory}
 use Rattle.history_model.specs.Machine.{Fault}
 use Rattle.job_defs.specs.declared.parts.Variable.{Variable}
-use Rattle.job_defs.specs.declared.parts.Socket.{Socket}
-use Rattle.job_defs.specs.Described.{Described, has_some}
-use Rattle.job_defs.specs.Faults.{bad, or_fault, ◌>>=◌}
-use Rattle.job_defs.specs.Json.{json_at}
-use Rattle.job_defs.specs.Names.{Key}
-use Rattle.job_defs.specs.Kinds.{bool_row, integer_row, optional_integer, optional_text, optional_path, refused_row}
+use Rattle.socket_defs.specs.declared.parts.Socket.{Socket}
+use Rattle.job_defs.specs.Described.{Described}
+use Rattle.json_kinds.specs.Faults.{bad, or_fault, ◌>>=◌}
+use Rattle.json_kinds.specs.Json.{json_in}
+use Rattle.json_kinds.specs.Names.{Key}
+use Rattle.json_kinds.specs.Kinds.{bool_row, integer_row, optional_integer, optional_text, optional_path, refused_row}
 use Rattle.job_defs.specs.Commands.{Command, label_row, command_row}
 use Rattle.job_defs.specs.Conditions.{Keep, keep_row}
 use Rattle.job_defs.specs.Paths.{paths_row}
 use Rattle.job_defs.specs.Calendars.{calendar_row}
 use Rattle.job_defs.specs.Variables.{environment_row}
-use Rattle.job_defs.specs.Sockets.{sockets_row, inetd_row}
+use Rattle.socket_defs.specs.Sockets.{has_some, sockets_and_inetd}
 use Rattle.job_defs.specs.Ignored.{not_acted_on}
 
 -- ---- what is run
@@ -94,14 +94,7 @@ surroundings_at d = do
   error ← optional_path StandardErrorPath d
   Ok (record { environment = environment; working_directory = directory; standard_in_path = input; standard_out_path = output; standard_error_path = error })
 
--- ---- who connects, and what is not supported
-
--- `Sockets` and `inetdCompatibility`
-unfoldable pub sockets_and_inetd : Data → Result (List Socket) Fault
-sockets_and_inetd d = do
-  sockets ← sockets_row d
-  inetd ← inetd_row (has_some sockets) d
-  Ok sockets
+-- ---- what is not supported
 
 -- what would change who or where the job is
 unfoldable pub refusals_at : Data → Result ⊤ Fault
@@ -151,6 +144,10 @@ def_at d = do
   sockets ← sockets_and_inetd d
   nothing ← refusals_at d
   Ok (described launch demand pace surroundings sockets (not_acted_on (has_some sockets) d))
+
+-- the value that the bytes are, or the fault of a definition
+abbrev pub json_at : List ℕ → Result Data Fault
+json_at bytes = or_fault (json_in bytes) (bad NotJson NoKey)
 
 -- what the bytes define, or the first fault
 unfoldable pub def_of : List ℕ → Result Described Fault

@@ -2,14 +2,14 @@
 
 ghost use Rattle.std.specs.Prelude.{◌≡◌};
 ghost use Rattle.serde_json.specs.View.{view, items_view};
-ghost use Rattle.job_defs.specs.Faults.{Gives};
-ghost use Rattle.job_defs.specs.Kinds.{each_item};
+ghost use Rattle.json_kinds.specs.Faults.{Gives};
+ghost use Rattle.json_kinds.specs.Kinds.{each_item};
 ghost use Rattle.job_defs.specs.Calendars.{part, entry_at, calendar_at, calendar_row};
 
-use crate::fault::DefFault;
-use crate::kinds::{integer_of, members_or_one_of, object_of};
-use crate::names::{DAY, HOUR, MINUTE, MONTH, WEEKDAY, key_name};
 use history_model::{Entry, KeyName, Reason};
+use json_kinds::DefFault;
+use json_kinds::kinds::{integer_of, members_or_one_of, object_of};
+use json_kinds::names::{DAY, HOUR, MINUTE, MONTH, WEEKDAY, key_name};
 use serde_json::Value;
 use std::alloc::Global;
 
@@ -23,7 +23,7 @@ pub(crate) fn calendar_row_of(alloc: Global, def: &Value) -> Result<Vec<Entry>, 
     }
 }
 
-#[tactic(auto, using(crate::proofs::Counts::items_count), unfolding(crate::specs::Calendars::calendar_at))]
+#[tactic(auto, using(json_kinds::proofs::Counts::items_count), unfolding(crate::specs::Calendars::calendar_at))]
 fn calendar_of(alloc: Global, found: &Value) -> Result<Vec<Entry>, DefFault>
     ensures { Gives (λ calendar. calendar.items) result (calendar_at (view found.now)) }
 {

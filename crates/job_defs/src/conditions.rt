@@ -2,17 +2,17 @@
 
 ghost use Rattle.std.specs.Prelude.{◌≡◌, ◌≤◌, [], ◌∷◌, length, vec_len, not, IfOk};
 ghost use Rattle.serde_json.specs.View.{view, members_view};
-ghost use Rattle.job_defs.specs.Faults.{Gives};
-ghost use Rattle.job_defs.specs.Kinds.{each_member};
+ghost use Rattle.json_kinds.specs.Faults.{Gives};
+ghost use Rattle.json_kinds.specs.Kinds.{each_member};
 ghost use Rattle.job_defs.specs.Conditions.{path_state_in, path_state_at, conditions_at, keep_at, keep_row};
 ghost use Rattle.job_defs.specs.Seen.{keep_of};
 
-use crate::fault::DefFault;
-use crate::kinds::{bool_of, filled_text, object_of};
-use crate::names::{CRASHED, PATH_STATE, SUCCESSFUL_EXIT, key_name};
 use crate::parts::{Keep, PathState};
-use crate::rows::{PATH_LIMIT, optional_bool_of};
 use history_model::{KeyName, Reason, Text};
+use json_kinds::DefFault;
+use json_kinds::kinds::{bool_of, filled_text, object_of};
+use json_kinds::names::{CRASHED, PATH_STATE, SUCCESSFUL_EXIT, key_name};
+use json_kinds::rows::{PATH_LIMIT, optional_bool_of};
 use serde_json::{Map, Value};
 use std::alloc::Global;
 
@@ -71,7 +71,7 @@ fn conditions_of(alloc: Global, found: &Value) -> Result<Keep, DefFault>
     })
 }
 
-#[tactic(auto, using(crate::proofs::Counts::members_count), unfolding(crate::specs::Conditions::path_state_at))]
+#[tactic(auto, using(json_kinds::proofs::Counts::members_count), unfolding(crate::specs::Conditions::path_state_at))]
 fn path_state_of(alloc: Global, found: &Value) -> Result<Vec<PathState>, DefFault>
     ensures value { Gives (λ paths. paths.items) result (path_state_at (view found.now)) }
     ensures count { IfOk result (λ paths. vec_len paths ≤ 64) }

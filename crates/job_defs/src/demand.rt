@@ -2,20 +2,20 @@
 
 ghost use Rattle.std.specs.Prelude.{◌≡◌, ◌≤◌, ◌+◌, length, vec_len, IfOk, IfSome};
 ghost use Rattle.serde_json.specs.View.{view, items_view};
-ghost use Rattle.job_defs.specs.Faults.{Gives};
-ghost use Rattle.job_defs.specs.Kinds.{each_item, path_at};
+ghost use Rattle.json_kinds.specs.Faults.{Gives};
+ghost use Rattle.json_kinds.specs.Kinds.{each_item, path_at};
 ghost use Rattle.job_defs.specs.Paths.{paths_at, paths_row};
 ghost use Rattle.job_defs.specs.Table.{demand_at, pace_at};
 ghost use Rattle.job_defs.specs.Seen.{demand_of, pace_of};
 
 use crate::calendars::calendar_row_of;
 use crate::conditions::keep_row_of;
-use crate::fault::DefFault;
-use crate::kinds::{array_of, filled_of};
-use crate::names::key_name;
 use crate::parts::{Demand, Pace};
-use crate::rows::{PATH_LIMIT, bool_row_of, integer_row_of, optional_integer_of};
 use history_model::{KeyName, Reason, Text};
+use json_kinds::DefFault;
+use json_kinds::kinds::{array_of, filled_of};
+use json_kinds::names::key_name;
+use json_kinds::rows::{PATH_LIMIT, bool_row_of, integer_row_of, optional_integer_of};
 use serde_json::Value;
 use std::alloc::Global;
 
@@ -72,7 +72,7 @@ fn paths_row_of(
     }
 }
 
-#[tactic(auto, using(crate::proofs::Counts::items_count), unfolding(crate::specs::Paths::paths_at))]
+#[tactic(auto, using(json_kinds::proofs::Counts::items_count), unfolding(crate::specs::Paths::paths_at))]
 fn paths_of(
     alloc: Global,
     before: usize,

@@ -8,12 +8,12 @@ ghost use Rattle.serde_json.specs.Find.{as_object};
 ghost use Rattle.job_defs.specs.Ignored as ignored;
 ghost use Rattle.job_defs.specs.Seen.{names_of};
 
-use crate::kinds::{is_among, members_or_one_of};
-use crate::names::{
+use history_model::{KeyName, Text};
+use json_kinds::kinds::{is_among, members_or_one_of};
+use json_kinds::names::{
     ALL, CRASHED, DAY, FAMILY, HOUR, MINUTE, MONTH, NODE_NAME, PASSIVE, PATH_NAME, PATH_STATE,
     PROTOCOL, SECURE_KEY, SERVICE_NAME, SOCKET_TYPE, SUCCESSFUL_EXIT, WAIT, WEEKDAY, key_name,
 };
-use history_model::{KeyName, Text};
 use serde_json::{Map, Value};
 use std::alloc::{AllocError, Global};
 use std::collections::BTreeSet;

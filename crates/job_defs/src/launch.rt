@@ -2,19 +2,18 @@
 
 ghost use Rattle.std.specs.Prelude.{◌≡◌, None, Some};
 ghost use Rattle.serde_json.specs.View.{view, items_view};
-ghost use Rattle.job_defs.specs.Faults.{Gives};
-ghost use Rattle.job_defs.specs.Kinds.{each_item};
+ghost use Rattle.json_kinds.specs.Faults.{Gives};
+ghost use Rattle.json_kinds.specs.Kinds.{each_item};
 ghost use Rattle.job_defs.specs.Commands.{label_row, word_at, command_in, command_at, command_row};
 ghost use Rattle.job_defs.specs.Table.{launch_at};
 ghost use Rattle.job_defs.specs.Seen.{command_of, launch_of};
 
-use crate::fault::DefFault;
-use crate::kinds::{array_of, filled_of, plain_of, text_of};
-use crate::label::is_label;
-use crate::names::key_name;
 use crate::parts::{Command, Launch};
-use crate::rows::{bool_row_of, optional_text_of, required_of};
 use history_model::{KeyName, Reason, Text};
+use json_kinds::kinds::{array_of, filled_of, plain_of, text_of};
+use json_kinds::names::key_name;
+use json_kinds::rows::{bool_row_of, optional_text_of, required_of};
+use json_kinds::{DefFault, is_label};
 use serde_json::Value;
 use std::alloc::Global;
 
@@ -71,7 +70,7 @@ fn command_row_of(alloc: Global, program: Option<Text>, def: &Value) -> Result<C
     }
 }
 
-#[tactic(auto, using(crate::proofs::Counts::items_count), unfolding(crate::specs::Commands::command_at))]
+#[tactic(auto, using(json_kinds::proofs::Counts::items_count), unfolding(crate::specs::Commands::command_at))]
 fn command_of(alloc: Global, program: Option<Text>, found: &Value) -> Result<Command, DefFault>
     ensures { Gives command_of result (command_at program (view found.now)) }
 {

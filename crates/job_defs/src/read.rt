@@ -2,20 +2,19 @@
 
 ghost use Rattle.std.specs.Prelude.{◌≡◌};
 ghost use Rattle.serde_json.specs.View.{view};
-ghost use Rattle.job_defs.specs.Faults.{Gives};
+ghost use Rattle.json_kinds.specs.Faults.{Gives};
 ghost use Rattle.job_defs.specs.Table.{refusals_at, def_at, def_of};
 
 use crate::def::Def;
 use crate::demand::{demand_row, pace_row};
-use crate::fault::DefFault;
 use crate::ignored::not_acted_on_of;
-use crate::json::json_value;
 use crate::launch::launch_row;
-use crate::rows::refused_row_of;
-use crate::sockets::sockets_and_inetd_of;
 use crate::surroundings::surroundings_row;
 use history_model::{KeyName, Reason};
+use json_kinds::rows::refused_row_of;
+use json_kinds::{DefFault, json_value};
 use serde_json::Value;
+use socket_defs::sockets_and_inetd_of;
 use std::alloc::Global;
 
 /// Reads the bytes of a job's definition: a JSON object (RFC 8259) with the keys of launchd.plist(5).

@@ -5,18 +5,18 @@ ghost use Rattle.std.specs.List.{list_any};
 ghost use Rattle.std.specs.Option.{option_to_list};
 ghost use Rattle.serde_json.specs.View.{view, members_view};
 ghost use Rattle.serde_json.specs.Find.{as_str};
-ghost use Rattle.job_defs.specs.Faults.{Gives};
-ghost use Rattle.job_defs.specs.Kinds.{each_member};
+ghost use Rattle.json_kinds.specs.Faults.{Gives};
+ghost use Rattle.json_kinds.specs.Kinds.{each_member};
 ghost use Rattle.job_defs.specs.Variables.{is_equals, variable_in, variable_by, environment_at, environment_row};
 ghost use Rattle.job_defs.specs.Table.{surroundings_at};
 ghost use Rattle.job_defs.specs.Seen.{surroundings_of};
 
-use crate::fault::DefFault;
-use crate::kinds::{filled_text, object_of, plain_text};
-use crate::names::key_name;
 use crate::parts::{Surroundings, Variable};
-use crate::rows::optional_path_of;
 use history_model::{KeyName, Reason, Text};
+use json_kinds::DefFault;
+use json_kinds::kinds::{filled_text, object_of, plain_text};
+use json_kinds::names::key_name;
+use json_kinds::rows::optional_path_of;
 use serde_json::{Map, Value};
 use std::alloc::Global;
 
@@ -48,7 +48,7 @@ fn environment_row_of(alloc: Global, def: &Value) -> Result<Vec<Variable>, DefFa
     }
 }
 
-#[tactic(auto, using(crate::proofs::Counts::members_count), unfolding(crate::specs::Variables::environment_at))]
+#[tactic(auto, using(json_kinds::proofs::Counts::members_count), unfolding(crate::specs::Variables::environment_at))]
 fn environment_of(alloc: Global, found: &Value) -> Result<Vec<Variable>, DefFault>
     ensures { Gives (λ variables. variables.items) result (environment_at (view found.now)) }
 {

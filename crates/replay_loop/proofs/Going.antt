@@ -4,8 +4,8 @@ use Rattle.std.proofs.lemmas.List.Folds.{list_all-append}
 use Rattle.std.specs.Io.KnownBytes.{Appends, Consumes, Keeps, IsAtEnd}
 use Rattle.std.specs.List.{list_all, take_while}
 use Rattle.std.proofs.KnownBytes.{Appends-trans, Consumes-trans, Consumes-kept, Consumes-nil}
-use Rattle.ctl_protocol.specs.Lines.{Feed, lines_of, rest_of, fits, takes, fed, stopped, is_short}
-use Rattle.ctl_protocol.proofs.Cuts.{lines_none, rest_none, lines_joined, rest_joined, while_append}
+use Rattle.line_feed.specs.Lines.{Feed, lines_of, rest_of, fits, takes, fed, stopped, is_short}
+use Rattle.line_feed.proofs.Cuts.{lines_none, rest_none, lines_joined, rest_joined, while_append}
 use Rattle.replay_loop.specs.Machine.{Output, Future}
 use Rattle.replay_loop.specs.Handling.{Handles, Stops, IsShown, drained, come, LastStops, PieceStops}
 use Rattle.replay_loop.specs.Outcomes.{Answers, last_line, input_lines, counted, limit}

@@ -3,7 +3,7 @@ use Rattle.std.specs.Prelude.{◌≡◌, ◌≢◌, ℕ, List, [], ◌∷◌, �
 use Rattle.std.specs.Io.KnownBytes.{Appends}
 use Rattle.replay_loop.specs.declared.fault.ReplayFault.{ReplayFault}
 use Rattle.replay_loop.specs.declared.fault.ReplayFault.TheVariants.{NoMemory, Header, Read, Write, TooLong, ReadCount}
-use Rattle.ctl_protocol.specs.Lines.{Feed, takes, fed, stopped}
+use Rattle.line_feed.specs.Lines.{Feed, takes, fed, stopped}
 use Rattle.replay_loop.specs.Machine.{Output, Future, Will}
 use Rattle.replay_loop.specs.Outcomes.{Answers, last_line}
 use Rattle.replay_loop.specs.Ran.{WritesFront}

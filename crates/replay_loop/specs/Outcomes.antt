@@ -1,7 +1,7 @@
 -- What is written for an input.
 use Rattle.std.specs.Prelude.{◌≡◌, ℕ, List, [], ◌∷◌, ◌++◌, Option, Some, None, if◌then◌else◌}
 use Rattle.std.specs.List.{take_while}
-use Rattle.ctl_protocol.specs.Lines.{lines_of, rest_of, is_short, fits}
+use Rattle.line_feed.specs.Lines.{lines_of, rest_of, is_short, fits}
 use Rattle.replay_loop.specs.Machine.{Output, Future}
 
 -- the most bytes of a line, before its newline

@@ -6,7 +6,7 @@ ghost use Rattle.replay_loop.specs.Ran.{WritesFront};
 
 use crate::fault::ReplayFault;
 use crate::machine::LineMachine;
-use ctl_protocol::LineFeed;
+use line_feed::LineFeed;
 use std::alloc::Global;
 use std::io::Write;
 

@@ -1,6 +1,6 @@
 //! The loop over reads.
 ghost use Rattle.std.specs.Prelude.{◌≡◌, ◌≢◌, IfErr, OnOk, None, true};
-ghost use Rattle.ctl_protocol.specs.Lines.{fed, takes};
+ghost use Rattle.line_feed.specs.Lines.{fed, takes};
 ghost use Rattle.replay_loop.specs.Handling.{Leads, LeadsPast, Ends, Stops, LastStops, PieceStops, drained};
 ghost use Rattle.replay_loop.specs.Outcomes.{last_line};
 ghost use Rattle.replay_loop.specs.Ran.{Answered, Failed};
@@ -8,7 +8,7 @@ ghost use Rattle.replay_loop.specs.Ran.{Answered, Failed};
 use crate::fault::ReplayFault;
 use crate::lines::{drain, handle};
 use crate::machine::LineMachine;
-use ctl_protocol::{LineFault, LineFeed};
+use line_feed::{LineFault, LineFeed};
 use std::alloc::Global;
 use std::io::{Read, Write};
 

@@ -1,6 +1,6 @@
 use Rattle.std.proofs.Common.{◌≡◌}
 use Rattle.serde_json.specs.View.{members_view}
-use Rattle.ctl_protocol.specs.Members.{names_of}
+use Rattle.event_reader.specs.Members.{names_of}
 use Rattle.ctl_protocol.specs.Headers.{are_among}
 use Rattle.ctl_protocol.proofs.header_reader.all_are_among.Given as goal
 

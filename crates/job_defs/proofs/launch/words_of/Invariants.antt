@@ -1,8 +1,8 @@
 use Rattle.std.proofs.Common.{◌≡◌, drop}
 use Rattle.serde_json.specs.View.{items_view}
-use Rattle.job_defs.specs.Kinds.{each_item}
+use Rattle.json_kinds.specs.Kinds.{each_item}
 use Rattle.job_defs.specs.Commands.{word_at}
-use Rattle.job_defs.proofs.Each.{with_front}
+use Rattle.json_kinds.proofs.Each.{with_front}
 use Rattle.job_defs.proofs.launch.words_of.Given as goal
 
 abbrev pub invariant-loop-item : goal.invariant-loop-item

@@ -1,5 +1,5 @@
 use Rattle.std.proofs.Common.{◌≡◌, [], ◌∷◌, ◌++◌, ap, subst}
-use Rattle.ctl_protocol.specs.Lines.{Feed}
+use Rattle.line_feed.specs.Lines.{Feed}
 use Rattle.replay_loop.specs.Handling.{Ends, Stops}
 use Rattle.replay_loop.proofs.Handled.{stands_quiet, nothing_leads, ends_later, out_of_memory}
 use Rattle.replay_loop.proofs.lines.handle_next.Goals as goal

@@ -1,5 +1,0 @@
-use Rattle.ctl_protocol.proofs.Cuts.{lines_joined, rest_joined}
-use Rattle.ctl_protocol.proofs.laws.any_pieces.Goals as goal
-
-pub returns : goal.returns
-returns c = record { lines = lines_joined; rest = rest_joined }

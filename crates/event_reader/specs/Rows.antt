@@ -1,0 +1,204 @@
+-- The lines that tell an event, row by row: the keys that each must or may have, their kinds, and the event that they give.
+-- A request is the same row under the key `req`, without the answers of the outside.
+use Rattle.std.specs.Prelude.{ℕ, ◌^◌, List, [], ◌∷◌, ◌++◌, codes, Bool, true, false, ◌&&◌, Option, Some, None, nat_lt, if◌then◌else◌}
+use Rattle.std.specs.Str.{bytes_eq}
+use Rattle.serde_json.specs.Data.{Data}
+use Rattle.serde_json.specs.Find.{get}
+use Rattle.history_model.specs.declared.Obs.{Obs}
+use Rattle.history_model.specs.declared.Ended.{Ended}
+use Rattle.history_model.specs.declared.Ended.TheVariants.{Code, Signal}
+use Rattle.history_model.specs.declared.event.Event.{Event}
+use Rattle.history_model.specs.declared.event.Event.TheVariants as events
+use Rattle.event_reader.specs.declared.members.Form.{Form}
+use Rattle.event_reader.specs.declared.members.Form.TheVariants as forms
+use Rattle.json_kinds.specs.Json.{json_in}
+use Rattle.event_reader.specs.Members.{◌>>=◌, text_key, number_key, flag_key, flag_or, label_key, target_key, has_only, tag_of}
+
+-- ---- what clients ask
+
+-- `load`: the text `def`; the flags `w` and `F` (false); the answers `bind` and `store` (true)
+unfoldable pub load_row : Form → Data → Option Event
+load_row form d = if has_only form (codes "def" ∷ codes "w" ∷ codes "F" ∷ []) (codes "bind" ∷ codes "store" ∷ []) d then (do
+  def ← text_key (codes "def") d
+  w ← flag_or (codes "w") false d
+  force ← flag_or (codes "F") false d
+  bind ← flag_or (codes "bind") true d
+  store ← flag_or (codes "store") true d
+  Some (events.Load def w force bind store)) else None
+
+-- `unload`: the label `job`; the flag `w` (false); the answer `store` (true)
+unfoldable pub unload_row : Form → Data → Option Event
+unload_row form d = if has_only form (codes "job" ∷ codes "w" ∷ []) (codes "store" ∷ []) d then (do
+  job ← label_key (codes "job") d
+  w ← flag_or (codes "w") false d
+  store ← flag_or (codes "store") true d
+  Some (events.Unload job w store)) else None
+
+-- `start` and `stop`: the label `job`
+unfoldable pub job_row : Form → Data → Option (List ℕ)
+job_row form d = if has_only form (codes "job" ∷ []) [] d then label_key (codes "job") d else None
+
+-- `print`: the target `job`
+unfoldable pub target_row : Form → Data → Option (List ℕ)
+target_row form d = if has_only form (codes "job" ∷ []) [] d then target_key (codes "job") d else None
+
+-- `enable` and `disable`: the target `job`; the answer `store` (true)
+unfoldable pub setting_row : Form → Data → Option (List ℕ × Bool)
+setting_row form d = if has_only form (codes "job" ∷ []) (codes "store" ∷ []) d then (do
+  job ← target_key (codes "job") d
+  store ← flag_or (codes "store") true d
+  Some (job, store)) else None
+
+-- `kickstart`: the target `job`; the flag `k` (false)
+unfoldable pub kickstart_row : Form → Data → Option Event
+kickstart_row form d = if has_only form (codes "job" ∷ codes "k" ∷ []) [] d then (do
+  job ← target_key (codes "job") d
+  k ← flag_or (codes "k") false d
+  Some (events.Kickstart job k)) else None
+
+-- `list` and `shutdown`: no key beside the tag
+unfoldable pub bare_row : Event → Form → Data → Option Event
+bare_row event form d = if has_only form [] [] d then Some event else None
+
+-- a row under its name
+abbrev Row : Type 0
+Row = List ℕ × (Data → Option Event)
+
+-- the event that a line of this name tells
+abbrev row_of : List ℕ → List Row → Data → Option Event
+row_of name [] d = None
+row_of name (r ∷ rows) d = if bytes_eq name r.0 then r.1 d else row_of name rows d
+
+abbrev pub asked_rows : Form → List Row
+asked_rows form =
+    (codes "load", load_row form)
+    ∷ (codes "unload", unload_row form)
+    ∷ (codes "start", λ d. job_row form d >>= λ job. Some (events.Start job))
+    ∷ (codes "stop", λ d. job_row form d >>= λ job. Some (events.Stop job))
+    ∷ (codes "kickstart", kickstart_row form)
+    ∷ (codes "enable", λ d. setting_row form d >>= λ s. Some (events.Enable s.0 s.1))
+    ∷ (codes "disable", λ d. setting_row form d >>= λ s. Some (events.Disable s.0 s.1))
+    ∷ (codes "list", bare_row events.List form)
+    ∷ (codes "print", λ d. target_row form d >>= λ job. Some (events.Print job))
+    ∷ (codes "shutdown", bare_row events.Shutdown form)
+    ∷ []
+
+unfoldable pub asked_row : List ℕ → Form → Data → Option Event
+asked_row name form d = row_of name (asked_rows form) d
+
+-- ---- what the outside tells
+
+-- `clock`: the numbers `up` and `wall`
+unfoldable pub clock_row : Data → Option Event
+clock_row d = if has_only forms.Event (codes "up" ∷ codes "wall" ∷ []) [] d then (do
+  up ← number_key (codes "up") d
+  wall ← number_key (codes "wall") d
+  Some (events.Clock (record { up = up; wall = wall }))) else None
+
+-- the flags `exists` and `nonempty`; the number `stamp`
+unfoldable pub sight_keys : Data → Option Obs
+sight_keys d = do
+  present ← flag_key (codes "exists") d
+  nonempty ← flag_key (codes "nonempty") d
+  stamp ← number_key (codes "stamp") d
+  Some (record { present = present; nonempty_dir = nonempty; stamp = stamp })
+
+unfoldable pub has_saw_keys : Data → Bool
+has_saw_keys d = has_only forms.Event (codes "path" ∷ codes "exists" ∷ codes "nonempty" ∷ codes "stamp" ∷ []) [] d
+
+-- `saw`: the text `path`; what was seen
+unfoldable pub saw_row : Data → Option Event
+saw_row d = if has_saw_keys d then (do
+  path ← text_key (codes "path") d
+  obs ← sight_keys d
+  Some (events.Saw path obs)) else None
+
+-- `came` and `left`: the label `job`; the number `conn`
+unfoldable pub connection_row : Data → Option (List ℕ × ℕ)
+connection_row d = if has_only forms.Event (codes "job" ∷ codes "conn" ∷ []) [] d then (do
+  job ← label_key (codes "job") d
+  conn ← number_key (codes "conn") d
+  Some (job, conn)) else None
+
+-- from 1 to 2^32 - 1
+unfoldable pub pid_key : Data → Option ℕ
+pid_key d = number_key (codes "pid") d >>= λ pid. if nat_lt 0 pid && nat_lt pid (2 ^ 32) then Some pid else None
+
+-- `spawned`: the label `job`; the number `run`; the process id `pid`
+unfoldable pub spawned_row : Data → Option Event
+spawned_row d = if has_only forms.Event (codes "job" ∷ codes "run" ∷ codes "pid" ∷ []) [] d then (do
+  job ← label_key (codes "job") d
+  run ← number_key (codes "run") d
+  pid ← pid_key d
+  Some (events.Spawned job run pid)) else None
+
+-- `spawn_refused` and `wait_refused`: the label `job`; the number `run`
+unfoldable pub run_row : Data → Option (List ℕ × ℕ)
+run_row d = if has_only forms.Event (codes "job" ∷ codes "run" ∷ []) [] d then (do
+  job ← label_key (codes "job") d
+  run ← number_key (codes "run") d
+  Some (job, run)) else None
+
+-- `termed` and `killed`: the label `job`; the number `run`; the flag `ok`
+unfoldable pub answer_row : Data → Option (List ℕ × ℕ × Bool)
+answer_row d = if has_only forms.Event (codes "job" ∷ codes "run" ∷ codes "ok" ∷ []) [] d then (do
+  job ← label_key (codes "job") d
+  run ← number_key (codes "run") d
+  ok ← flag_key (codes "ok") d
+  Some (job, run, ok)) else None
+
+-- from 0 to 255
+unfoldable pub byte_key : List ℕ → Data → Option ℕ
+byte_key key d = number_key key d >>= λ n. if nat_lt n 256 then Some n else None
+
+abbrev one_of : Option Data → Option Data → Data → Option Ended
+one_of (Some x) None d = byte_key (codes "code") d >>= λ n. Some (Code n)
+one_of None (Some x) d = byte_key (codes "signal") d >>= λ n. Some (Signal n)
+one_of None None d = None
+one_of (Some x) (Some y) d = None
+
+-- exactly one of `code` and `signal`
+unfoldable pub end_key : Data → Option Ended
+end_key d = one_of (get (codes "code") d) (get (codes "signal") d) d
+
+-- `ended`: the label `job`; the number `run`; one of the bytes `code` and `signal`
+unfoldable pub ended_row : Data → Option Event
+ended_row d = if has_only forms.Event (codes "job" ∷ codes "run" ∷ codes "code" ∷ codes "signal" ∷ []) [] d then (do
+  job ← label_key (codes "job") d
+  run ← number_key (codes "run") d
+  how ← end_key d
+  Some (events.Ended job run how)) else None
+
+abbrev pub told_rows : List Row
+told_rows =
+    (codes "clock", clock_row)
+    ∷ (codes "saw", saw_row)
+    ∷ (codes "came", λ d. connection_row d >>= λ c. Some (events.Came c.0 c.1))
+    ∷ (codes "left", λ d. connection_row d >>= λ c. Some (events.Left c.0 c.1))
+    ∷ (codes "spawned", spawned_row)
+    ∷ (codes "spawn_refused", λ d. run_row d >>= λ r. Some (events.SpawnRefused r.0 r.1))
+    ∷ (codes "termed", λ d. answer_row d >>= λ a. Some (events.Termed a.0 a.1 a.2))
+    ∷ (codes "killed", λ d. answer_row d >>= λ a. Some (events.Killed a.0 a.1 a.2))
+    ∷ (codes "ended", ended_row)
+    ∷ (codes "wait_refused", λ d. run_row d >>= λ r. Some (events.WaitRefused r.0 r.1))
+    ∷ []
+
+-- a line of a journal has a row of either table
+unfoldable pub told_row : List ℕ → Data → Option Event
+told_row name d = row_of name (told_rows ++ asked_rows forms.Event) d
+
+-- ---- whole lines
+
+unfoldable pub event_row : Data → Option Event
+event_row d = text_key (tag_of forms.Event) d >>= λ name. told_row name d
+
+unfoldable pub request_row : Data → Option Event
+request_row d = text_key (tag_of forms.Request) d >>= λ name. asked_row name forms.Request d
+
+-- the event that a line of a journal tells
+unfoldable pub event_at : List ℕ → Option Event
+event_at line = json_in line >>= event_row
+
+-- the event that a request asks for; the outside's answers count as given
+unfoldable pub request_at : List ℕ → Option Event
+request_at line = json_in line >>= request_row

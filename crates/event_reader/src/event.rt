@@ -1,0 +1,397 @@
+//! Reads the lines that tell an event: those of a journal, and requests.
+
+ghost use Rattle.std.specs.Prelude.{◌≡◌};
+ghost use Rattle.history_model.specs.declared.event.Event.TheVariants as events;
+ghost use Rattle.event_reader.specs.declared.members.Form.TheVariants as forms;
+ghost use Rattle.event_reader.specs.Members.{Reads};
+ghost use Rattle.event_reader.specs.Seen.{seen};
+ghost use Rattle.event_reader.specs.Rows.{event_at, event_row, request_at, request_row, asked_row, told_row, load_row, unload_row, job_row, target_row, setting_row, kickstart_row, bare_row, clock_row, saw_row, sight_keys, has_saw_keys as saw_keys, connection_row, pid_key, spawned_row, run_row, answer_row, byte_key, end_key, ended_row};
+
+use crate::line::Line;
+use crate::members::{
+    Form, ReadFault, flag_in, flag_or_in, has_only_keys, label_in, number_in, target_in, text_in,
+};
+use history_model::{Ended, Event, Obs, Reading, Text};
+use json::Scratch;
+use std::alloc::{AllocError, Global};
+
+#[tactic(auto, unfolding(crate::specs::Rows::load_row))]
+fn load_in(alloc: Global, form: Form, line: &Line<'_>) -> Result<Event, ReadFault>
+    ensures { Reads result (load_row form (seen line.now)) }
+{
+    if !has_only_keys(form, line, &["def", "w", "F"], &["bind", "store"]) {
+        return Err(ReadFault::BadRequest);
+    }
+    let def = text_in(line, "def")?;
+    let w = flag_or_in(line, "w", false)?;
+    let force = flag_or_in(line, "F", false)?;
+    let bind = flag_or_in(line, "bind", true)?;
+    let store = flag_or_in(line, "store", true)?;
+    let def = Text::copy_of(alloc, def)?;
+    Ok(Event::Load {
+        def,
+        w,
+        force,
+        bind,
+        store,
+    })
+}
+
+#[tactic(auto, unfolding(crate::specs::Rows::unload_row))]
+fn unload_in(alloc: Global, form: Form, line: &Line<'_>) -> Result<Event, ReadFault>
+    ensures { Reads result (unload_row form (seen line.now)) }
+{
+    if !has_only_keys(form, line, &["job", "w"], &["store"]) {
+        return Err(ReadFault::BadRequest);
+    }
+    let job = label_in(alloc, line, "job")?;
+    let w = flag_or_in(line, "w", false)?;
+    let store = flag_or_in(line, "store", true)?;
+    Ok(Event::Unload { job, w, store })
+}
+
+#[tactic(auto, unfolding(crate::specs::Rows::job_row))]
+fn job_in(alloc: Global, form: Form, line: &Line<'_>) -> Result<Text, ReadFault>
+    ensures { Reads result (job_row form (seen line.now)) }
+{
+    if !has_only_keys(form, line, &["job"], &[]) {
+        return Err(ReadFault::BadRequest);
+    }
+    label_in(alloc, line, "job")
+}
+
+#[tactic(auto, unfolding(crate::specs::Rows::target_row))]
+fn lone_target_in(alloc: Global, form: Form, line: &Line<'_>) -> Result<Text, ReadFault>
+    ensures { Reads result (target_row form (seen line.now)) }
+{
+    if !has_only_keys(form, line, &["job"], &[]) {
+        return Err(ReadFault::BadRequest);
+    }
+    target_in(alloc, line, "job")
+}
+
+#[tactic(auto, unfolding(crate::specs::Rows::setting_row))]
+fn setting_in(alloc: Global, form: Form, line: &Line<'_>) -> Result<(Text, bool), ReadFault>
+    ensures { Reads result (setting_row form (seen line.now)) }
+{
+    if !has_only_keys(form, line, &["job"], &["store"]) {
+        return Err(ReadFault::BadRequest);
+    }
+    let job = target_in(alloc, line, "job")?;
+    let store = flag_or_in(line, "store", true)?;
+    Ok((job, store))
+}
+
+#[tactic(auto, unfolding(crate::specs::Rows::kickstart_row))]
+fn kickstart_in(alloc: Global, form: Form, line: &Line<'_>) -> Result<Event, ReadFault>
+    ensures { Reads result (kickstart_row form (seen line.now)) }
+{
+    if !has_only_keys(form, line, &["job", "k"], &[]) {
+        return Err(ReadFault::BadRequest);
+    }
+    let job = target_in(alloc, line, "job")?;
+    let k = flag_or_in(line, "k", false)?;
+    Ok(Event::Kickstart { job, k })
+}
+
+#[tactic(auto, unfolding(crate::specs::Rows::bare_row))]
+fn bare_in(event: Event, form: Form, line: &Line<'_>) -> Result<Event, ReadFault>
+    ensures { Reads result (bare_row event form (seen line.now)) }
+{
+    if !has_only_keys(form, line, &[], &[]) {
+        return Err(ReadFault::BadRequest);
+    }
+    Ok(event)
+}
+
+/// The row of what a client asks, of either form.
+#[tactic(auto, unfolding(crate::specs::Rows::asked_row))]
+fn asked_in(alloc: Global, name: &str, form: Form, line: &Line<'_>) -> Result<Event, ReadFault>
+    ensures { Reads result (asked_row name.now form (seen line.now)) }
+{
+    match name {
+        "load" => load_in(alloc, form, line),
+        "unload" => unload_in(alloc, form, line),
+        "start" => {
+            let job = job_in(alloc, form, line)?;
+            Ok(Event::Start { job })
+        }
+        "stop" => {
+            let job = job_in(alloc, form, line)?;
+            Ok(Event::Stop { job })
+        }
+        "kickstart" => kickstart_in(alloc, form, line),
+        "enable" => {
+            let (job, store) = setting_in(alloc, form, line)?;
+            Ok(Event::Enable { job, store })
+        }
+        "disable" => {
+            let (job, store) = setting_in(alloc, form, line)?;
+            Ok(Event::Disable { job, store })
+        }
+        "list" => bare_in(Event::List, form, line),
+        "print" => {
+            let job = lone_target_in(alloc, form, line)?;
+            Ok(Event::Print { job })
+        }
+        "shutdown" => bare_in(Event::Shutdown, form, line),
+        _ => Err(ReadFault::BadRequest),
+    }
+}
+
+#[tactic(auto, unfolding(crate::specs::Rows::clock_row))]
+fn clock_in(line: &Line<'_>) -> Result<Event, ReadFault>
+    ensures { Reads result (clock_row (seen line.now)) }
+{
+    if !has_only_keys(Form::Event, line, &["up", "wall"], &[]) {
+        return Err(ReadFault::BadRequest);
+    }
+    let up = number_in(line, "up")?;
+    let wall = number_in(line, "wall")?;
+    Ok(Event::Clock(Reading { up, wall }))
+}
+
+#[tactic(auto, unfolding(crate::specs::Rows::sight_keys))]
+fn sight_in(line: &Line<'_>) -> Result<Obs, ReadFault>
+    ensures { Reads result (sight_keys (seen line.now)) }
+{
+    let present = flag_in(line, "exists")?;
+    let nonempty_dir = flag_in(line, "nonempty")?;
+    let stamp = number_in(line, "stamp")?;
+    Ok(Obs {
+        present,
+        nonempty_dir,
+        stamp,
+    })
+}
+
+#[tactic(auto, unfolding(crate::specs::Rows::has_saw_keys))]
+fn has_saw_keys(line: &Line<'_>) -> bool
+    ensures { result ≡ saw_keys (seen line.now) }
+{
+    has_only_keys(
+        Form::Event,
+        line,
+        &["path", "exists", "nonempty", "stamp"],
+        &[],
+    )
+}
+
+#[tactic(auto, unfolding(crate::specs::Rows::saw_row))]
+fn saw_in(alloc: Global, line: &Line<'_>) -> Result<Event, ReadFault>
+    ensures { Reads result (saw_row (seen line.now)) }
+{
+    if !has_saw_keys(line) {
+        return Err(ReadFault::BadRequest);
+    }
+    let path = text_in(line, "path")?;
+    let obs = sight_in(line)?;
+    Ok(Event::Saw {
+        path: Text::copy_of(alloc, path)?,
+        obs,
+    })
+}
+
+#[tactic(auto, unfolding(crate::specs::Rows::connection_row))]
+fn connection_in(alloc: Global, line: &Line<'_>) -> Result<(Text, u64), ReadFault>
+    ensures { Reads result (connection_row (seen line.now)) }
+{
+    if !has_only_keys(Form::Event, line, &["job", "conn"], &[]) {
+        return Err(ReadFault::BadRequest);
+    }
+    let job = label_in(alloc, line, "job")?;
+    let conn = number_in(line, "conn")?;
+    Ok((job, conn))
+}
+
+#[tactic(auto, unfolding(crate::specs::Rows::pid_key))]
+fn pid_in(line: &Line<'_>) -> Result<u32, ReadFault>
+    ensures { Reads result (pid_key (seen line.now)) }
+{
+    match number_in(line, "pid")? {
+        pid if 0 < pid && pid <= 0xffff_ffff => Ok(pid as u32),
+        _ => Err(ReadFault::BadRequest),
+    }
+}
+
+#[tactic(auto, unfolding(crate::specs::Rows::spawned_row))]
+fn spawned_in(alloc: Global, line: &Line<'_>) -> Result<Event, ReadFault>
+    ensures { Reads result (spawned_row (seen line.now)) }
+{
+    if !has_only_keys(Form::Event, line, &["job", "run", "pid"], &[]) {
+        return Err(ReadFault::BadRequest);
+    }
+    let job = label_in(alloc, line, "job")?;
+    let run = number_in(line, "run")?;
+    let pid = pid_in(line)?;
+    Ok(Event::Spawned { job, run, pid })
+}
+
+#[tactic(auto, unfolding(crate::specs::Rows::run_row))]
+fn run_in(alloc: Global, line: &Line<'_>) -> Result<(Text, u64), ReadFault>
+    ensures { Reads result (run_row (seen line.now)) }
+{
+    if !has_only_keys(Form::Event, line, &["job", "run"], &[]) {
+        return Err(ReadFault::BadRequest);
+    }
+    let job = label_in(alloc, line, "job")?;
+    let run = number_in(line, "run")?;
+    Ok((job, run))
+}
+
+#[tactic(auto, unfolding(crate::specs::Rows::answer_row))]
+fn answer_in(alloc: Global, line: &Line<'_>) -> Result<(Text, u64, bool), ReadFault>
+    ensures { Reads result (answer_row (seen line.now)) }
+{
+    if !has_only_keys(Form::Event, line, &["job", "run", "ok"], &[]) {
+        return Err(ReadFault::BadRequest);
+    }
+    let job = label_in(alloc, line, "job")?;
+    let run = number_in(line, "run")?;
+    let ok = flag_in(line, "ok")?;
+    Ok((job, run, ok))
+}
+
+#[tactic(auto, unfolding(crate::specs::Rows::byte_key))]
+fn byte_in(line: &Line<'_>, key: &str) -> Result<u8, ReadFault>
+    ensures { Reads result (byte_key key.now (seen line.now)) }
+{
+    match number_in(line, key)? {
+        n if n < 256 => Ok(n as u8),
+        _ => Err(ReadFault::BadRequest),
+    }
+}
+
+/// Exactly one of `code` and `signal`.
+#[tactic(auto, unfolding(crate::specs::Rows::end_key))]
+fn end_in(line: &Line<'_>) -> Result<Ended, ReadFault>
+    ensures { Reads result (end_key (seen line.now)) }
+{
+    match (line.has("code"), line.has("signal")) {
+        (true, false) => {
+            let code = byte_in(line, "code")?;
+            Ok(Ended::Code(code))
+        }
+        (false, true) => {
+            let signal = byte_in(line, "signal")?;
+            Ok(Ended::Signal(signal))
+        }
+        _ => Err(ReadFault::BadRequest),
+    }
+}
+
+#[tactic(auto, unfolding(crate::specs::Rows::ended_row))]
+fn ended_in(alloc: Global, line: &Line<'_>) -> Result<Event, ReadFault>
+    ensures { Reads result (ended_row (seen line.now)) }
+{
+    if !has_only_keys(Form::Event, line, &["job", "run", "code", "signal"], &[]) {
+        return Err(ReadFault::BadRequest);
+    }
+    let job = label_in(alloc, line, "job")?;
+    let run = number_in(line, "run")?;
+    let how = end_in(line)?;
+    Ok(Event::Ended { job, run, how })
+}
+
+/// The row of any event.
+#[tactic(auto, unfolding(crate::specs::Rows::told_row, crate::specs::Rows::asked_row))]
+fn told_in(alloc: Global, name: &str, line: &Line<'_>) -> Result<Event, ReadFault>
+    ensures { Reads result (told_row name.now (seen line.now)) }
+{
+    match name {
+        "clock" => clock_in(line),
+        "saw" => saw_in(alloc, line),
+        "came" => {
+            let (job, conn) = connection_in(alloc, line)?;
+            Ok(Event::Came { job, conn })
+        }
+        "left" => {
+            let (job, conn) = connection_in(alloc, line)?;
+            Ok(Event::Left { job, conn })
+        }
+        "spawned" => spawned_in(alloc, line),
+        "spawn_refused" => {
+            let (job, run) = run_in(alloc, line)?;
+            Ok(Event::SpawnRefused { job, run })
+        }
+        "termed" => {
+            let (job, run, ok) = answer_in(alloc, line)?;
+            Ok(Event::Termed { job, run, ok })
+        }
+        "killed" => {
+            let (job, run, ok) = answer_in(alloc, line)?;
+            Ok(Event::Killed { job, run, ok })
+        }
+        "ended" => ended_in(alloc, line),
+        "wait_refused" => {
+            let (job, run) = run_in(alloc, line)?;
+            Ok(Event::WaitRefused { job, run })
+        }
+        _ => asked_in(alloc, name, Form::Event, line),
+    }
+}
+
+#[tactic(auto, unfolding(crate::specs::Rows::event_row))]
+fn event_in(alloc: Global, line: &Line<'_>) -> Result<Event, ReadFault>
+    ensures { Reads result (event_row (seen line.now)) }
+{
+    let name = text_in(line, Form::Event.tag())?;
+    told_in(alloc, name, line)
+}
+
+#[tactic(auto, unfolding(crate::specs::Rows::request_row))]
+fn request_in(alloc: Global, line: &Line<'_>) -> Result<Event, ReadFault>
+    ensures { Reads result (request_row (seen line.now)) }
+{
+    let name = text_in(line, Form::Request.tag())?;
+    asked_in(alloc, name, Form::Request, line)
+}
+
+/// Reads lines, and keeps the room that this takes from line to line.
+#[derive(Drop)]
+pub struct LineReader {
+    scratch: Box<Scratch>,
+}
+
+impl LineReader {
+    /// `Err` says that memory ran out.
+    pub fn new(alloc: Global) -> Result<LineReader, AllocError> {
+        Ok(LineReader {
+            scratch: Box::new(alloc, Scratch::new(alloc))?,
+        })
+    }
+
+    /// As [`read_event`].
+    #[tactic(auto, unfolding(crate::specs::Rows::event_at))]
+    pub fn event(&mut self, alloc: Global, line: &[u8]) -> Result<Event, ReadFault>
+        ensures { Reads result (event_at line.now) }
+    {
+        let line = Line::read(alloc, line, &mut self.scratch)?;
+        event_in(alloc, &line)
+    }
+
+    /// As [`read_request`].
+    #[tactic(auto, unfolding(crate::specs::Rows::request_at))]
+    pub fn request(&mut self, alloc: Global, line: &[u8]) -> Result<Event, ReadFault>
+        ensures { Reads result (request_at line.now) }
+    {
+        let line = Line::read(alloc, line, &mut self.scratch)?;
+        request_in(alloc, &line)
+    }
+}
+
+/// The event that a line of a journal tells, the newline left out. BadRequest where it is none: no JSON object (RFC
+/// 8259), a key too few or too many, or a value of another kind or range.
+pub fn read_event(alloc: Global, line: &[u8]) -> Result<Event, ReadFault>
+    ensures { Reads result (event_at line.now) }
+{
+    LineReader::new(alloc)?.event(alloc, line)
+}
+
+/// The event that a control client's line asks for, the newline left out. The outside's answers, which a client
+/// doesn't tell, stand as given. BadRequest where it is no request.
+pub fn read_request(alloc: Global, line: &[u8]) -> Result<Event, ReadFault>
+    ensures { Reads result (request_at line.now) }
+{
+    LineReader::new(alloc)?.request(alloc, line)
+}

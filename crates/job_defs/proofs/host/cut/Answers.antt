@@ -1,5 +1,0 @@
-use Rattle.job_defs.proofs.Hosts.{parts_of}
-use Rattle.job_defs.proofs.host.cut.Goals as goal
-
-pub returns : goal.returns
-returns c = parts_of _ _ c.split_once.ensures.cases

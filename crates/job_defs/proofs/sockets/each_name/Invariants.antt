@@ -1,9 +1,0 @@
-use Rattle.std.proofs.Common.{◌≡◌}
-use Rattle.serde_json.specs.View.{members_view}
-use Rattle.job_defs.specs.Kinds.{each_member}
-use Rattle.job_defs.specs.Sockets.{sockets_in}
-use Rattle.job_defs.proofs.Each.{with_front}
-use Rattle.job_defs.proofs.sockets.each_name.Given as goal
-
-abbrev pub invariant-loop-found : goal.invariant-loop-found
-invariant-loop-found l = with_front l.sockets.items (each_member sockets_in (members_view l.found-iterator)) ≡ each_member sockets_in (members_view l.members.entries)

@@ -1,0 +1,5 @@
+use Rattle.socket_defs.proofs.Hosts.{parts_of}
+use Rattle.socket_defs.proofs.host.cut.Goals as goal
+
+pub returns : goal.returns
+returns c = parts_of _ _ c.split_once.ensures.cases

@@ -1,0 +1,2 @@
+pub use Rattle.json_kinds.specs.Faults
+pub mod Sockets

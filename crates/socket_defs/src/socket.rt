@@ -1,0 +1,175 @@
+//! The keys of one socket.
+
+ghost use Rattle.std.specs.Prelude.{◌≡◌, List, ℕ, map, ⊤};
+ghost use Rattle.serde_json.specs.View.{view};
+ghost use Rattle.serde_json.specs.Find.{get};
+ghost use Rattle.history_model.specs.declared.KeyName.TheVariants as keys;
+ghost use Rattle.json_kinds.specs.Faults.{Gives};
+ghost use Rattle.json_kinds.specs.Names as names;
+ghost use Rattle.socket_defs.specs.Sockets as sockets;
+ghost use Rattle.json_kinds.specs.Kinds.{where_given, optional, filled_at};
+ghost use Rattle.socket_defs.specs.Sockets.{one_of, passive_at, host_at, any_host, port_in, port_at, port_by, address_of, socket_at};
+
+use crate::host::{host_in, number_in};
+use crate::parts::{Address, Socket};
+use history_model::{KeyName, Reason, Text};
+use json_kinds::DefFault;
+use json_kinds::kinds::{bool_of, filled_of, is_among, number_of, object_of, text_of};
+use json_kinds::names::{
+    FAMILY, NODE_NAME, PASSIVE, PATH_NAME, PROTOCOL, SECURE_KEY, SERVICE_NAME, SOCKET_TYPE,
+};
+use json_kinds::rows::refused_of;
+use serde_json::Value;
+use std::alloc::Global;
+
+/// The longest path of a Unix socket, in bytes.
+const SOCKET_PATH_LIMIT: usize = 107;
+
+#[tactic(auto, unfolding(crate::specs::Sockets::socket_at))]
+pub(crate) fn socket_of(alloc: Global, found: &Value) -> Result<Socket, DefFault>
+    ensures { Gives (λ socket. socket) result (socket_at (view found.now)) }
+{
+    object_of(found, KeyName::Sockets)?;
+    refused_of(found, SECURE_KEY, KeyName::Sockets)?;
+    one_of_row(found, SOCKET_TYPE, &["stream"])?;
+    passive_row(found)?;
+    one_of_row(found, FAMILY, &["IPv4", "Unix"])?;
+    one_of_row(found, PROTOCOL, &["TCP"])?;
+    let path = path_row(alloc, found)?;
+    let host = host_row(found)?;
+    let port = port_row(found)?;
+    Ok(Socket {
+        address: address(path, host, port)?,
+    })
+}
+
+#[tactic(auto, unfolding(crate::specs::Sockets::address_of))]
+fn address(path: Option<Text>, host: [u8; 4], port: Option<u16>) -> Result<Address, DefFault>
+    ensures { Gives (λ address. address) result (address_of path host port) }
+{
+    match (path, port) {
+        (Some(path), _) => Ok(Address::Unix(path)),
+        (None, Some(port)) => Ok(Address::Inet { host, port }),
+        (None, None) => Err(DefFault::Bad {
+            reason: Reason::Missing,
+            key: KeyName::Sockets,
+        }),
+    }
+}
+
+/// A text that has to be one of `texts`.
+fn one_of_row(socket: &Value, name: &str, texts: &[&str]) -> Result<(), DefFault>
+    ensures { Gives (λ done. done) result (where_given (one_of (map (λ text. text.now) texts.now)) tt (get name.now (view socket.now))) }
+{
+    match socket.get(name) {
+        Some(found) => one_of(found, texts),
+        None => Ok(()),
+    }
+}
+
+#[tactic(auto, unfolding(crate::specs::Sockets::one_of))]
+fn one_of(found: &Value, texts: &[&str]) -> Result<(), DefFault>
+    ensures { Gives (λ done. done) result (sockets.one_of (map (λ text. text.now) texts.now) (view found.now)) }
+{
+    let text = text_of(found, KeyName::Sockets)?;
+    if is_among(texts, text) {
+        return Ok(());
+    }
+    Err(DefFault::Bad {
+        reason: Reason::Unsupported,
+        key: KeyName::Sockets,
+    })
+}
+
+fn passive_row(socket: &Value) -> Result<(), DefFault>
+    ensures { Gives (λ done. done) result (where_given passive_at tt (get names.passive (view socket.now))) }
+{
+    match socket.get(PASSIVE) {
+        Some(found) => listens(found),
+        None => Ok(()),
+    }
+}
+
+#[tactic(auto, unfolding(crate::specs::Sockets::passive_at))]
+fn listens(found: &Value) -> Result<(), DefFault>
+    ensures { Gives (λ done. done) result (passive_at (view found.now)) }
+{
+    if bool_of(found, KeyName::Sockets)? {
+        return Ok(());
+    }
+    Err(DefFault::Bad {
+        reason: Reason::Unsupported,
+        key: KeyName::Sockets,
+    })
+}
+
+fn path_row(alloc: Global, socket: &Value) -> Result<Option<Text>, DefFault>
+    ensures { Gives (λ path. path) result (optional (filled_at 107 keys.Sockets) (get names.path_name (view socket.now))) }
+{
+    match socket.get(PATH_NAME) {
+        Some(found) => {
+            let path = filled_of(found, KeyName::Sockets, SOCKET_PATH_LIMIT)?;
+            Ok(Some(Text::copy_of(alloc, path)?))
+        }
+        None => Ok(None),
+    }
+}
+
+fn host_row(socket: &Value) -> Result<[u8; 4], DefFault>
+    ensures { Gives (λ host. host) result (where_given host_at any_host (get names.node_name (view socket.now))) }
+{
+    match socket.get(NODE_NAME) {
+        Some(found) => host_of(found),
+        None => Ok([0, 0, 0, 0]),
+    }
+}
+
+#[tactic(auto, unfolding(crate::specs::Sockets::host_at))]
+fn host_of(found: &Value) -> Result<[u8; 4], DefFault>
+    ensures { Gives (λ host. host) result (host_at (view found.now)) }
+{
+    match host_in(text_of(found, KeyName::Sockets)?) {
+        Some(host) => Ok(host),
+        None => Err(DefFault::Bad {
+            reason: Reason::Unsupported,
+            key: KeyName::Sockets,
+        }),
+    }
+}
+
+fn port_row(socket: &Value) -> Result<Option<u16>, DefFault>
+    ensures { Gives (λ port. port) result (optional port_at (get names.service_name (view socket.now))) }
+{
+    match socket.get(SERVICE_NAME) {
+        Some(found) => Ok(Some(port_of(found)?)),
+        None => Ok(None),
+    }
+}
+
+/// A port, as a number or as the digits of one.
+#[tactic(auto, unfolding(crate::specs::Sockets::port_at, crate::specs::Sockets::port_by))]
+fn port_of(found: &Value) -> Result<u16, DefFault>
+    ensures { Gives (λ port. port) result (port_at (view found.now)) }
+{
+    match found.as_number() {
+        Some(number) => Ok(number_of(number, KeyName::Sockets, 1, 65_535)? as u16),
+        None => port_in(text_of(found, KeyName::Sockets)?),
+    }
+}
+
+#[tactic(auto, unfolding(crate::specs::Sockets::port_in))]
+fn port_in(text: &str) -> Result<u16, DefFault>
+    ensures { Gives (λ port. port) result (sockets.port_in text.now) }
+{
+    match number_in(text, 5) {
+        Some(port) if 1 <= port && port <= 65_535 => Ok(port as u16),
+        Some(_) => Err(DefFault::Bad {
+            reason: Reason::OutOfRange,
+            key: KeyName::Sockets,
+        }),
+        None => Err(DefFault::Bad {
+            reason: Reason::Unsupported,
+            key: KeyName::Sockets,
+        }),
+    }
+}

@@ -1,0 +1,119 @@
+//! `Sockets` and `inetdCompatibility`.
+
+ghost use Rattle.std.specs.Prelude.{◌≡◌, ◌+◌, nat_lt};
+ghost use Rattle.serde_json.specs.View.{view, items_view, members_view};
+ghost use Rattle.json_kinds.specs.Faults.{Gives};
+ghost use Rattle.json_kinds.specs.Kinds.{each_item, each_member};
+ghost use Rattle.socket_defs.specs.Sockets.{socket_at, socket_count, sockets_in, sockets_at, sockets_row, inetd_at, inetd_row, has_some, sockets_and_inetd};
+
+use crate::parts::Socket;
+use crate::socket::socket_of;
+use history_model::{KeyName, Reason};
+use json_kinds::DefFault;
+use json_kinds::kinds::{members_or_one_of, object_of};
+use json_kinds::names::{WAIT, key_name};
+use json_kinds::rows::optional_bool_of;
+use serde_json::{Map, Value};
+use std::alloc::Global;
+
+/// The sockets of a definition. A fault names `Sockets` or `inetdCompatibility`; `NoMemory` says only that memory ran
+/// out.
+#[tactic(auto, unfolding(crate::specs::Sockets::sockets_and_inetd))]
+pub fn sockets_and_inetd_of(alloc: Global, def: &Value) -> Result<Vec<Socket>, DefFault>
+    ensures { Gives (λ sockets. sockets.items) result (sockets_and_inetd (view def.now)) }
+{
+    let sockets = sockets_row_of(alloc, def)?;
+    inetd_row_of(!sockets.is_empty(), def)?;
+    Ok(sockets)
+}
+
+#[tactic(auto, unfolding(crate::specs::Sockets::sockets_row))]
+fn sockets_row_of(alloc: Global, def: &Value) -> Result<Vec<Socket>, DefFault>
+    ensures { Gives (λ sockets. sockets.items) result (sockets_row (view def.now)) }
+{
+    match def.get(key_name(KeyName::Sockets)) {
+        Some(found) => sockets_of(alloc, found),
+        None => Ok(Vec::new(alloc)),
+    }
+}
+
+#[tactic(auto, unfolding(crate::specs::Sockets::sockets_at))]
+fn sockets_of(alloc: Global, found: &Value) -> Result<Vec<Socket>, DefFault>
+    ensures { Gives (λ sockets. sockets.items) result (sockets_at (view found.now)) }
+{
+    let members = object_of(found, KeyName::Sockets)?;
+    if has_too_many(members) {
+        return Err(DefFault::Bad {
+            reason: Reason::TooLong,
+            key: KeyName::Sockets,
+        });
+    }
+    each_name(alloc, members)
+}
+
+/// Whether there are more than 8 sockets under all names.
+#[tactic(auto, using(json_kinds::proofs::Counts::items_count))]
+fn has_too_many(members: &Map<String, Value>) -> bool
+    ensures { result ≡ nat_lt 8 (socket_count (members_view members.now.entries)) }
+{
+    let mut room: usize = 8;
+    for (_, found) in members.iter() {
+        let count = members_or_one_of(found).len();
+        if count > room {
+            return true;
+        }
+        room -= count;
+    }
+    false
+}
+
+#[tactic(auto, unfolding(crate::specs::Sockets::sockets_in))]
+fn each_name(alloc: Global, members: &Map<String, Value>) -> Result<Vec<Socket>, DefFault>
+    ensures { Gives (λ sockets. sockets.items) result (each_member sockets_in (members_view members.now.entries)) }
+{
+    let mut sockets = Vec::new(alloc);
+    for (_, found) in members.iter() {
+        let mut named = each_socket(alloc, members_or_one_of(found))?;
+        sockets.append(&mut named)?;
+    }
+    Ok(sockets)
+}
+
+fn each_socket(alloc: Global, items: &[Value]) -> Result<Vec<Socket>, DefFault>
+    ensures { Gives (λ sockets. sockets.items) result (each_item socket_at (items_view items.now)) }
+{
+    let mut sockets = Vec::new(alloc);
+    for item in items {
+        sockets.push(socket_of(alloc, item)?)?;
+    }
+    Ok(sockets)
+}
+
+#[tactic(auto, unfolding(crate::specs::Sockets::inetd_row))]
+fn inetd_row_of(has_sockets: bool, def: &Value) -> Result<(), DefFault>
+    ensures { Gives (λ done. done) result (inetd_row has_sockets (view def.now)) }
+{
+    match def.get(key_name(KeyName::InetdCompatibility)) {
+        Some(found) => inetd_of(has_sockets, found),
+        None if has_sockets => Err(DefFault::Bad {
+            reason: Reason::Unsupported,
+            key: KeyName::InetdCompatibility,
+        }),
+        None => Ok(()),
+    }
+}
+
+#[tactic(auto, unfolding(crate::specs::Sockets::inetd_at))]
+fn inetd_of(has_sockets: bool, found: &Value) -> Result<(), DefFault>
+    ensures { Gives (λ done. done) result (inetd_at has_sockets (view found.now)) }
+{
+    object_of(found, KeyName::InetdCompatibility)?;
+    match optional_bool_of(found, WAIT, KeyName::InetdCompatibility)? {
+        Some(false) => Ok(()),
+        _ if has_sockets => Err(DefFault::Bad {
+            reason: Reason::Unsupported,
+            key: KeyName::InetdCompatibility,
+        }),
+        _ => Ok(()),
+    }
+}
