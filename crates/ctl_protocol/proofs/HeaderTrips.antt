@@ -1,15 +1,13 @@
 -- What was written for a header is read as that header.
-use Rattle.std.proofs.Common.{◌≡◌, ◌<◌, ◌≤◌, ℕ, ◌+◌, ◌-◌, ◌*◌, ◌/◌, ◌%◌, ◌^◌, List, [], ◌∷◌, ◌++◌, map, codes, Bool, true, false, ◌&&◌, nat_lt, nat_le, Option, Some, None, refl, sym, ap, ◌∙◌, subst, if◌then◌else◌, arith, true≢false, append_assoc, append-nil, pos, negsuc}
+use Rattle.std.proofs.Common.{◌≡◌, ◌<◌, ◌≤◌, ℕ, ◌+◌, ◌-◌, ◌*◌, ◌/◌, ◌%◌, ◌^◌, List, [], ◌∷◌, ◌++◌, map, Bool, true, false, nat_lt, nat_le, Some, refl, sym, ap, ◌∙◌, subst, if◌then◌else◌, arith, append_assoc, append-nil, pos, negsuc}
 use Rattle.std.specs.Prelude.{⊤}
-use Rattle.std.specs.List.{list_all, AllByRecursion, flat_map}
+use Rattle.std.specs.List.{list_all, AllByRecursion}
 use Rattle.std.specs.Ordering.{nat_cmp}
 use Rattle.std.specs.Cmp.Lexicographic.{slice_cmp, nat_list_cmp_total}
 use Rattle.std.specs.declared.cmp.Ordering.{Ordering}
 use Rattle.std.specs.declared.cmp.Ordering.TheVariants.{Less, Equal, Greater}
-use Rattle.serde_json.specs.Data.{Data, Members, no_members, member, boolean, put, depth}
-use Rattle.serde_json.specs.Read.{max_depth}
+use Rattle.serde_json.specs.Data.{Data, Members, no_members, member, boolean, put}
 use Rattle.serde_json.specs.Written.{compact_text}
-use Rattle.json_kinds.specs.Json.{json_in}
 use Rattle.history_model.specs.declared.Reading.{Reading}
 use Rattle.history_model.specs.declared.TheConstants.{MAX_UP, MAX_WALL}
 use Rattle.history_model.specs.declared.event.Setting.{Setting}
@@ -20,8 +18,8 @@ use Rattle.ctl_protocol.specs.declared.header.ZoneText.{ZoneText}
 use Rattle.ctl_protocol.specs.declared.header.ZoneText.TheVariants.{Posix, Offset, File}
 use Rattle.event_reader.specs.Members.{◌>>=◌, number_key}
 use Rattle.ctl_protocol.specs.Objects.{with_members}
-use Rattle.ctl_protocol.specs.Headers.{digit_of, byte_of, bytes_of_hex, up_to, zone_key, setting_of, settings_of, overrides_key, has_header_keys, header_row, header_at}
-use Rattle.ctl_protocol.specs.HeaderLines.{hex_digit, hex_pair, hex_of, setting_members, header_object, is_zone, is_setting, IsHeader}
+use Rattle.ctl_protocol.specs.Headers.{digit_of, byte_of, bytes_of_hex, up_to, zone_key, settings_of, overrides_key, has_header_keys, header_row, header_at}
+use Rattle.ctl_protocol.specs.HeaderLines.{hex_digit, hex_of, setting_members, header_object, is_zone, is_setting, IsHeader}
 use Rattle.ctl_protocol.proofs.Objects.{header_depth}
 use Rattle.ctl_protocol.proofs.RoundTrips.{IsRead, kept, left_of, right_of, read_at}
 

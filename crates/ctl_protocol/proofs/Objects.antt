@@ -1,10 +1,10 @@
 -- What is written has no float.
-use Rattle.std.proofs.Common.{◌≡◌, ℕ, List, [], ◌∷◌, ◌++◌, map, Bool, false, ◌||◌, Some, None, refl, ap, ◌∙◌, sym, codes, arith, if◌then◌else◌, ◌≤◌, max, pos, negsuc}
+use Rattle.std.proofs.Common.{◌≡◌, ℕ, List, [], ◌∷◌, Bool, false, ◌||◌, refl, codes, arith, if◌then◌else◌, ◌≤◌, max, pos, negsuc}
 use Rattle.std.specs.Ordering.{nat_cmp, match_ordering}
 use Rattle.std.specs.Cmp.Lexicographic.{slice_cmp}
 use Rattle.std.specs.declared.cmp.Ordering.{Ordering}
 use Rattle.std.specs.declared.cmp.Ordering.TheVariants.{Less, Equal, Greater}
-use Rattle.serde_json.specs.Data.{Data, Members, no_members, member, object, array, put, depth, members_depth}
+use Rattle.serde_json.specs.Data.{Data, Members, no_members, member, put, depth, members_depth}
 use Rattle.serde_json.specs.Read.{max_depth}
 use Rattle.serde_json.specs.Written.{has_float, members_have_float, items_have_float}
 use Rattle.ctl_protocol.specs.Objects.{Plain, text, flag, count, whole, plain_data, with_members, plain_object}

@@ -1,5 +1,5 @@
 -- Headers as they are written: the keys that are there, and always the overrides.
-use Rattle.std.specs.Prelude.{◌≡◌, ℕ, ◌+◌, ◌/◌, ◌%◌, ◌^◌, List, [], ◌∷◌, ◌++◌, map, codes, Bool, true, false, ◌&&◌, nat_lt, nat_le, pos, negsuc, if◌then◌else◌}
+use Rattle.std.specs.Prelude.{◌≡◌, ℕ, ◌+◌, ◌/◌, ◌%◌, ◌^◌, List, [], ◌∷◌, ◌++◌, map, codes, Bool, true, nat_lt, nat_le, pos, negsuc, if◌then◌else◌}
 use Rattle.std.specs.List.{flat_map, list_all}
 use Rattle.serde_json.specs.Data.{Data, object, no_members, put}
 use Rattle.history_model.specs.declared.TheConstants.{MAX_UP, MAX_WALL}

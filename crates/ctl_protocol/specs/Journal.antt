@@ -1,6 +1,6 @@
 -- The lines that tell an event, as they are written: every key of the event's row, in byte order.
 use Rattle.std.specs.Prelude.{ℕ, List, [], ◌∷◌, ◌^◌, codes, Bool, true, false, ◌&&◌, nat_lt, if◌then◌else◌}
-use Rattle.serde_json.specs.Data.{Data, Members, object, no_members, put}
+use Rattle.serde_json.specs.Data.{Data, object, no_members}
 use Rattle.history_model.specs.declared.Ended.{Ended}
 use Rattle.history_model.specs.declared.Ended.TheVariants.{Code, Signal}
 use Rattle.history_model.specs.declared.event.Event.{Event}
@@ -9,7 +9,7 @@ use Rattle.history_model.specs.Labels.{is_label}
 use Rattle.event_reader.specs.declared.members.Form.{Form}
 use Rattle.event_reader.specs.declared.members.Form.TheVariants as forms
 use Rattle.event_reader.specs.Members.{tag_of, has_answers}
-use Rattle.ctl_protocol.specs.Objects.{Plain, text, flag, count, plain_data, with_members, line_of}
+use Rattle.ctl_protocol.specs.Objects.{Plain, text, flag, count, with_members, line_of}
 
 abbrev pub name_of : Event → List ℕ
 name_of (events.Load def w force bind store) = codes "load"
