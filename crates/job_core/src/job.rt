@@ -1,6 +1,6 @@
 //! The facts that one job keeps of its past, and what they decide.
 
-ghost use Rattle.std.specs.Prelude.{None, slice_get, ◌&&◌, ◌||◌, not, nat_lt, ◌*◌, ◌≡◌, ℕ, false, ◌+◌, ◌%◌, ◌^◌, ◌≤◌, [], ◌∷◌, filter, IfOk, OnOk, OnErr, ◌<◌};
+ghost use Rattle.std.specs.Prelude.{None, is_some, slice_get, ◌&&◌, ◌||◌, not, nat_lt, ◌*◌, ◌≡◌, ℕ, false, ◌+◌, ◌%◌, ◌^◌, ◌≤◌, [], ◌∷◌, filter, IfOk, OnOk, OnErr, ◌<◌};
 ghost use Rattle.std.specs.Option.{ForSome};
 ghost use Rattle.history_model.specs.Items.{History, Loaded, Read, Saw, Asked, Came, Left, Ordered, Answered, RunEnded, WaitRefused};
 ghost use Rattle.history_model.specs.declared.Answer.TheVariants.{Spawned as SpawnOk, SpawnRefused as SpawnNo, Termed as TermAnswer, Killed as KillAnswer};
@@ -61,7 +61,7 @@ impl Job {
         requires { at.up ≤ MAX_UP }
         ensures { IfOk result (λ job. facts job ≡ facts_of (Loaded (definition def.now) at ∷ [])) }
     {
-        let fires = def.run_at_load() || def.successful_exit().is_some();
+        let fires = fires_at_load(def);
         let calendar = Calendar::new(alloc, def.calendar())?;
         let conditions = Conditions::new(alloc, def)?;
         let watches = Watches::new(alloc, def.watch_paths())?;
@@ -176,4 +176,11 @@ impl Job {
     {
         self.waiting.get(position)
     }
+}
+
+/// Whether the load itself is a demand: by `RunAtLoad`, or by the condition `SuccessfulExit`, which implies it.
+fn fires_at_load(def: &Def) -> bool
+    ensures { result ≡ (def.now.run_at_load || is_some def.now.successful_exit) }
+{
+    def.run_at_load() || def.successful_exit().is_some()
 }

@@ -5,20 +5,14 @@ use Rattle.job_core.specs.Fields.{facts}
 use Rattle.job_core.proofs.Looked.{or-false}
 use Rattle.pace.specs.Paces.{no_ends}
 use Rattle.job_core.proofs.job.Job.new.Goals as goal
-use Rattle.job_core.proofs.job.Job.new.Goals.{then-run_at_load, else-run_at_load}
 
 pub returns : goal.returns
 returns c =
     let run = c.args.def.now.run_at_load in
     let exit = is_some c.args.def.now.successful_exit in
-    let told = c.run_at_load.ensures in
-    let fires : c.if-run_at_load.fires ≡ ((run || exit) || false) =
-    (elim c.if-run_at_load.branch [
-      | then-run_at_load w ↦ w.fires-is ∙ w.if-run_at_load.true ∙ sym (ap (λ b. b || exit) (sym told ∙ w.if-run_at_load.true))
-      | else-run_at_load w ↦ w.fires-is ∙ w.is_some-fires.ensures ∙ ap is_some w.successful_exit.ensures ∙ sym (ap (λ b. b || exit) (sym told ∙ w.if-run_at_load.false))
-    ]) ∙ sym (or-false (run || exit)) in
+    let fires : c.fires_at_load-fires.result ≡ ((run || exit) || false) = c.fires_at_load-fires.ensures ∙ sym (or-false (run || exit)) in
     λ i. facts (record {
-      run_at_load = c.run_at_load-2.ensures i;
+      run_at_load = c.run_at_load.ensures i;
       launch_only_once = c.launch_only_once.ensures i;
       has_sockets = c.has_sockets.ensures i;
       disabled = c.disabled.ensures i;

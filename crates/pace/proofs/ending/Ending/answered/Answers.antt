@@ -1,0 +1,5 @@
+use Rattle.std.proofs.Common.{rules}
+use Rattle.pace.proofs.ending.Ending.answered.Goals as goal
+
+pub returns-in-Term : goal.returns-in-Term
+returns-in-Term c = search rules
