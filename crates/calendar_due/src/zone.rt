@@ -6,7 +6,7 @@ ghost use Rattle.jiff_core.specs.Timestamp.{nanos_of_seconds};
 ghost use Rattle.jiff_tz.specs.PosixReader.{read_whole};
 ghost use Rattle.jiff_tz.specs.Tzif.{HasBadRule};
 ghost use Rattle.jiff_tz.specs.TzifReader.{read_tzif};
-ghost use Rattle.history_model.specs.Calendar.{crossed};
+ghost use Rattle.history_model.specs.Calendar.{crossed, last_before};
 ghost use Rattle.calendar_due.specs.Minute.{shown_minute};
 ghost use Rattle.calendar_due.specs.Offsets.{always, clock_seconds};
 ghost use Rattle.calendar_due.specs.Rules.{offsets, minute_at};
@@ -115,6 +115,7 @@ impl Zone {
 
     /// What a clock in this zone shows that many seconds after 1970-01-01T00:00:00 UTC, its seconds dropped. The caller's
     /// condition: at most 250,000,000,000 seconds, in the year 9892. Takes no memory.
+    #[tactic(auto, unfolding(crate::specs::Rules::minute_at, crate::specs::Offsets::shown_by))]
     pub fn civil_minute(&self, seconds: u64) -> CivilMinute
         requires { seconds ≤ 250_000_000_000 }
         ensures { result ≡ minute_at self.now seconds }
@@ -134,7 +135,7 @@ impl Zone {
         requires { now ≤ 250_000_000_000 }
         ensures { IfOk result (λ minutes. minutes.items ≡ map (minute_at self.now) (crossed previous now)) }
     {
-        let last_before = (previous / 60).max(now.saturating_sub(DAYS_400) / 60);
+        let last_before = minute_before(previous, now);
         let count = (now / 60).saturating_sub(last_before);
         let mut minutes = Vec::with_capacity(alloc, count as usize)?;
         for k in last_before..now / 60 {
@@ -151,6 +152,13 @@ impl Zone {
         minutes.push(self.civil_minute(second))?;
         Ok(())
     }
+}
+
+// The minute after which a step's minutes are crossed, counted from 1970: that of the reading before, or 400 days ago.
+fn minute_before(previous: u64, now: u64) -> u64
+    ensures { result ≡ last_before previous now }
+{
+    (previous / 60).max(now.saturating_sub(DAYS_400) / 60)
 }
 
 // The datetime with its seconds dropped.
