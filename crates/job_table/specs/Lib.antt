@@ -8,6 +8,7 @@ pub mod Asking
 pub mod Sound
 pub mod Alike
 pub mod News
+pub mod Numbers
 pub mod Telling
 pub mod Opening
 pub mod Loads

@@ -101,6 +101,7 @@ impl JobTable {
     ghost use Rattle.job_table.specs.Kept.{acts_in, is_none, KeepsState};
     ghost use Rattle.job_table.specs.Opening.{opening_refusal};
     ghost use Rattle.job_table.specs.Minutes.{has_calendars};
+    ghost use Rattle.job_table.specs.Numbers.{IsNumbered};
 
     /// A table with no job, opened at a reading in a zone, with the overrides that `enable` and `disable` left, oldest
     /// first: of a label given twice the last counts. Refusals: BadRequest, where an override's name is no label; then
@@ -126,11 +127,13 @@ impl JobTable {
     }
 
     /// Lends what the last event gave.
+    #[tactic(auto, using(crate::proofs::Numbering::numbered))]
     pub fn given(&self) -> Step<'_>
         ensures orders { acts_of result ≡ acts_in self.now }
         ensures visited { result.visited ≡ self.now.visited }
         ensures known { AreKnown result }
         ensures names { names_in result ≡ self.now.names }
+        ensures numbered { IsNumbered self.now }
     {
         Step {
             orders: &self.jobs.orders,
