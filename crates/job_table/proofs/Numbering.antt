@@ -1,5 +1,5 @@
 -- The numbers of the loaded jobs, before an event and after it.
-use Rattle.std.proofs.Common.{◌≡◌, ℕ, ◌==◌, Bool, true, false, cond, List, [], ◌∷◌, map, Some, refl, sym, ap, ◌∙◌, arith}
+use Rattle.std.proofs.Common.{◌≡◌, ℕ, zero, suc, ◌==◌, Bool, true, false, cond, List, [], ◌∷◌, ◌++◌, map, take, drop, Some, refl, sym, ap, ◌∙◌, arith}
 use Rattle.std.specs.List.{AllByRecursion}
 use Rattle.job_table.specs.Rows.{Name, IsOther, IsOnce, Row, definition_of_number}
 use Rattle.job_table.specs.Entries.{row, name, rows, AllStay}
@@ -43,3 +43,17 @@ named-rows names (e ∷ es) all = go e.has_left (named-rows names es all.1) wher
 -- every table's numbers stand for its labels
 pub numbered : (t : Jobs) → IsSound t → IsNumbered (seen t)
 numbered t sound = record { once = sound.once; named = named-rows (map name t.entries.items) t.entries.items (named-in t.entries.items sound.once) }
+
+all-placed : (P : Entry → Type 0) (e : Entry) (es : List Entry) (k : ℕ) → AllByRecursion P (take k es ++ e ∷ drop k es) → P e × AllByRecursion P es
+all-placed P e es zero all = (all.0, all.1)
+all-placed P e [] (suc k) all = (all.0, tt)
+all-placed P e (x ∷ xs) (suc k) all = let later = all-placed P e xs k all.1 in (later.0, (all.0, later.1))
+
+-- a job that is put among the others leaves each its number
+pub named-placed : (e : Entry) (es : List Entry) (k : ℕ) → IsOnce (map name (take k es ++ e ∷ drop k es)) →
+    (definition_of_number (map name (take k es ++ e ∷ drop k es)) e.number ≡ Some e.def)
+    × AllByRecursion (λ (r : Row). definition_of_number (map name (take k es ++ e ∷ drop k es)) r.number ≡ Some r.described) (rows es)
+named-placed e es k once =
+    let all = take k es ++ e ∷ drop k es in
+    let each = all-placed (IsNamedIn (map name all)) e es k (named-in all once) in
+    (each.0, named-rows (map name all) es each.1)

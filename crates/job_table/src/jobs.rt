@@ -12,6 +12,7 @@ ghost use Rattle.history_model.specs.Step.{told, told_one, stays, orders_of};
 ghost use Rattle.job_core.specs.Events.{item_of};
 ghost use Rattle.job_table.specs.Kept.{KeepsJobs, labelled};
 ghost use Rattle.job_table.specs.Numbers.{names_of};
+ghost use Rattle.job_table.specs.Room.{HasSameRoom};
 ghost use Rattle.job_table.specs.Entries.{rows, name, AllStay};
 ghost use Rattle.job_table.specs.Counts.{counts, IsCounted};
 ghost use Rattle.job_core.specs.Memory.{NeedsNoMemory};
@@ -51,6 +52,7 @@ impl Jobs {
         ensures names { map name self.new.entries.items ≡ names_of (rows self.old.entries.items) }
         ensures orders { self.new.orders.items ≡ [] }
         ensures alike { IsAlike self.old self.new }
+        ensures room { HasSameRoom (seen self.old) (seen self.new) }
     {
         release(&self.entries, &mut self.numbers);
         tidy(&mut self.entries);
@@ -74,6 +76,7 @@ impl Jobs {
         ensures stay { AllStay self.new.entries.items }
         ensures orders { self.new.orders ≡ self.old.orders }
         ensures alike { IsAlike self.old self.new }
+        ensures room { HasSameRoom (seen self.old) (seen self.new) }
     {
         let Some(place) = place_of(&self.entries, label) else {
             return Err(Refusal::NoSuchJob);
@@ -95,6 +98,7 @@ impl Jobs {
         ensures stay { AllStay self.new.entries.items }
         ensures orders { self.new.orders ≡ self.old.orders }
         ensures alike { IsAlike self.old self.new }
+        ensures room { HasSameRoom (seen self.old) (seen self.new) }
     {
         tell_all(&mut self.entries, news, self.reading);
     }
@@ -112,6 +116,7 @@ impl Jobs {
         ensures counted { IsCounted (counts (rows self.old.entries.items)) (rows self.new.entries.items) self.new.visited }
         ensures sound { IsSound self.new }
         ensures alike { IsAlike self.old self.new }
+        ensures room { HasSameRoom (seen self.old) (seen self.new) }
     {
         self.visited = ask_all(&mut self.entries, self.reading, &mut self.orders);
     }

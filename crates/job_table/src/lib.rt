@@ -1,10 +1,11 @@
 //! Many jobs: the table of the loaded ones, which keeps a machine that holds, for each job, only the list of its past.
 #![tactic(auto)]
 
-ghost use Rattle.std.specs.Prelude.{◌≡◌, Bool, true, false, Some, None, Err, IsOk, IfOk, IfErr, MatchResult};
+ghost use Rattle.std.specs.Prelude.{◌≡◌, ◌≤◌, Bool, true, false, Some, None, Err, IsOk, IfOk, IfErr, MatchResult};
 ghost use Rattle.std.specs.Borrow.{sem};
 ghost use Rattle.std.specs.String.{string_bytes};
 ghost use Rattle.history_model.specs.declared.Answer.TheVariants as answers;
+ghost use Rattle.history_model.specs.declared.TheConstants.{MAX_UP, MAX_WALL};
 ghost use Rattle.calendar_due.specs.Rules.{minute_at};
 ghost use Rattle.history_model.specs.Acceptance.{refusal_in};
 ghost use Rattle.history_model.specs.Items.{Asked, Answered, Came, Left, RunEnded, WaitRefused};
@@ -119,9 +120,11 @@ impl JobTable {
         Ok(JobTable { jobs })
     }
 
-    /// The last reading.
+    /// The last reading. It is within the limits of a reading.
     pub fn reading(&self) -> Reading
-        ensures { result ≡ self.now.reading }
+        ensures last { result ≡ self.now.reading }
+        ensures up { result.up ≤ MAX_UP }
+        ensures wall { result.wall ≤ MAX_WALL }
     {
         self.jobs.reading
     }
