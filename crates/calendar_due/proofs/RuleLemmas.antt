@@ -102,11 +102,13 @@ offset_of_info : (rule : TimeZone) (n : ℤ) (dst : Option Dst) → (match_some 
 offset_of_info rule n None = refl
 offset_of_info rule n (Some d) = refl
 
+-- and have the same offset
+pub same_seconds : (a b : TimeZone) (n : ℤ) → tz_view a ≡ tz_view b → (rule_offset a n).seconds ≡ (rule_offset b n).seconds
+same_seconds a b n view =
+    ap (λ o. o.seconds) (sym (offset_of_info a n (dst_at a n))) ∙ ap (λ v. v.0) (same_rule a b n view) ∙ ap (λ o. o.seconds) (offset_of_info b n (dst_at b n))
+
 -- a text is one rule only
 pub one_clock : (text : List ℕ) (one other : Offsets) → IsOfRule text one → IsOfRule text other → one ≡ other
 one_clock text one other a b =
     let view : tz_view a.rule ≡ tz_view b.rule = cc (a.read, b.read) in
-    let seconds : (n : ℤ) → (rule_offset a.rule n).seconds ≡ (rule_offset b.rule n).seconds = λ (n : ℤ).
-    ap (λ o. o.seconds) (sym (offset_of_info a.rule n (dst_at a.rule n))) ∙ ap (λ v. v.0) (same_rule a.rule b.rule n view)
-    ∙ ap (λ o. o.seconds) (offset_of_info b.rule n (dst_at b.rule n)) in
-    a.offsets ∙ fun_ext (λ second. seconds (nanos_at second)) ∙ sym b.offsets
+    a.offsets ∙ fun_ext (λ second. same_seconds a.rule b.rule (nanos_at second) view) ∙ sym b.offsets

@@ -5,7 +5,7 @@ ghost use Rattle.history_model.specs.declared.Entry.{Entry};
 ghost use Rattle.calendar_due.specs.Minute.{shown_minute, IsCivil};
 ghost use Rattle.calendar_due.specs.Offsets.{Offsets, shown_by};
 ghost use Rattle.history_model.specs.declared.CivilMinute.{CivilMinute};
-ghost use Rattle.calendar_due.specs.Zone.{IsOfRule};
+ghost use Rattle.calendar_due.specs.Zone.{IsOfRule, IsOfTable};
 ghost use Rattle.calendar_due.specs.Changes.{IsChange, IsSkipped, IsRepeated, AreShowings, start_of};
 
 /// A civil minute that a clock shows, up to the greatest second and offset, is one of the calendar. Its date and time
@@ -19,6 +19,11 @@ pub fn a_civil_minute_tells_its_second()
 /// A text is one rule only: whatever zone is made of it, its clock is the same.
 pub fn a_text_has_one_clock()
     ensures { (text : List ℕ) (one other : Offsets) → IsOfRule text one → IsOfRule text other → one ≡ other }
+{}
+
+/// A zone file is one table only: whatever zone is made of it, its clock is the same.
+pub fn a_file_has_one_clock()
+    ensures { (bytes : List ℕ) (one other : Offsets) → IsOfTable bytes one → IsOfTable bytes other → one ≡ other }
 {}
 
 /// A civil minute in a gap is shown at no second, so no step of the clock crosses it.

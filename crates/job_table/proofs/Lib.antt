@@ -19,3 +19,4 @@ pub mod Seeking
 pub mod Known
 pub mod Children
 pub mod Counting
+pub mod Numbering

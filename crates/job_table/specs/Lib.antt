@@ -8,6 +8,8 @@ pub mod Asking
 pub mod Sound
 pub mod Alike
 pub mod News
+pub mod Numbers
+pub mod Room
 pub mod Telling
 pub mod Opening
 pub mod Loads

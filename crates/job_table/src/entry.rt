@@ -87,19 +87,16 @@ impl Entry {
         ensures known { (names : List Name) → is_some (definition_of_number names self.old.number) ≡ true → list_all (is_known names) orders.old.items ≡ true → list_all (is_known names) orders.new.items ≡ true }
         ensures name { name self.new ≡ name self.old }
         ensures count { vec_len orders.new ≤ vec_len orders.old + 66 }
-        ensures capacity { vec_capacity orders.old ≤ vec_capacity orders.new }
+        ensures capacity { vec_capacity orders.new ≡ vec_capacity orders.old }
     {
         self.has_left = self.core.is_gone();
         if self.has_left {
             self.leave(orders);
         } else if let Some(act) = self.core.decide(now) {
-            push(
-                orders,
-                Order {
-                    job: self.number,
-                    act,
-                },
-            );
+            orders.push_reserved(Order {
+                job: self.number,
+                act,
+            });
         }
     }
 
@@ -110,26 +107,20 @@ impl Entry {
             orders.new.items ≡ orders.old.items ++ numbered self.now.number (map Act.Close (waiting past) ++ Act.Gone ∷ []) }
         ensures known { (names : List Name) → is_some (definition_of_number names self.now.number) ≡ true → list_all (is_known names) orders.old.items ≡ true → list_all (is_known names) orders.new.items ≡ true }
         ensures count { vec_len orders.new ≤ vec_len orders.old + 66 }
-        ensures capacity { vec_capacity orders.old ≤ vec_capacity orders.new }
+        ensures capacity { vec_capacity orders.new ≡ vec_capacity orders.old }
     {
         let mut place = 0;
         while let Some(conn) = self.core.connection(place) {
-            push(
-                orders,
-                Order {
-                    job: self.number,
-                    act: Act::Close { conn },
-                },
-            );
+            orders.push_reserved(Order {
+                job: self.number,
+                act: Act::Close { conn },
+            });
             place += 1;
         }
-        push(
-            orders,
-            Order {
-                job: self.number,
-                act: Act::Gone,
-            },
-        );
+        orders.push_reserved(Order {
+            job: self.number,
+            act: Act::Gone,
+        });
     }
 }
 
@@ -156,17 +147,4 @@ fn has_path(paths: &[Text], path: &str) -> bool
     ensures { result ≡ list_any (is_same_path path.now) paths.now }
 {
     paths.iter().any(|listed| path == listed.as_str())
-}
-
-/// Adds an order where there is room, so that no memory is taken.
-fn push(orders: &mut Vec<Order>, order: Order)
-    requires { vec_len orders.old < vec_capacity orders.old }
-    ensures items { orders.new.items ≡ orders.old.items ++ order ∷ [] }
-    ensures count { vec_len orders.new ≡ vec_len orders.old + 1 }
-    ensures capacity { vec_capacity orders.old ≤ vec_capacity orders.new }
-{
-    match orders.push(order) {
-        Ok(()) => {}
-        Err(_) => unreachable!(),
-    }
 }

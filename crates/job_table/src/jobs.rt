@@ -11,6 +11,8 @@ ghost use Rattle.history_model.specs.Acceptance.{refusal_at};
 ghost use Rattle.history_model.specs.Step.{told, told_one, stays, orders_of};
 ghost use Rattle.job_core.specs.Events.{item_of};
 ghost use Rattle.job_table.specs.Kept.{KeepsJobs, labelled};
+ghost use Rattle.job_table.specs.Numbers.{names_of};
+ghost use Rattle.job_table.specs.Room.{HasSameRoom};
 ghost use Rattle.job_table.specs.Entries.{rows, name, AllStay};
 ghost use Rattle.job_table.specs.Counts.{counts, IsCounted};
 ghost use Rattle.job_core.specs.Memory.{NeedsNoMemory};
@@ -47,8 +49,10 @@ impl Jobs {
         ensures sound { IsSound self.new }
         ensures stay { AllStay self.new.entries.items }
         ensures rows { rows self.new.entries.items ≡ rows self.old.entries.items }
+        ensures names { map name self.new.entries.items ≡ names_of (rows self.old.entries.items) }
         ensures orders { self.new.orders.items ≡ [] }
         ensures alike { IsAlike self.old self.new }
+        ensures room { HasSameRoom (seen self.old) (seen self.new) }
     {
         release(&self.entries, &mut self.numbers);
         tidy(&mut self.entries);
@@ -65,12 +69,14 @@ impl Jobs {
         ensures kept { (jobs : List Job) → KeepsJobs self.old.reading (rows self.old.entries.items) jobs →
             OnOk result (KeepsJobs self.old.reading (rows self.new.entries.items) (told_one label.now (item_of event.entry) jobs)) }
         ensures rows { OnErr result (rows self.new.entries.items ≡ rows self.old.entries.items) }
+        ensures names { map name self.new.entries.items ≡ map name self.old.entries.items }
         ensures counts { counts (rows self.new.entries.items) ≡ counts (rows self.old.entries.items) }
         ensures memory { NeedsNoMemory result }
         ensures sound { IsSound self.new }
         ensures stay { AllStay self.new.entries.items }
         ensures orders { self.new.orders ≡ self.old.orders }
         ensures alike { IsAlike self.old self.new }
+        ensures room { HasSameRoom (seen self.old) (seen self.new) }
     {
         let Some(place) = place_of(&self.entries, label) else {
             return Err(Refusal::NoSuchJob);
@@ -86,11 +92,13 @@ impl Jobs {
         ensures kept { (jobs : List Job) → (item : Job → Option Item) → AreFor news.entry item (rows self.old.entries.items) jobs →
             IsAccepted self.old.reading item → KeepsJobs self.old.reading (rows self.old.entries.items) jobs →
             KeepsJobs (present_with news.entry self.old.reading) (rows self.new.entries.items) (told item jobs) }
+        ensures names { map name self.new.entries.items ≡ map name self.old.entries.items }
         ensures counts { counts (rows self.new.entries.items) ≡ counts (rows self.old.entries.items) }
         ensures sound { IsSound self.new }
         ensures stay { AllStay self.new.entries.items }
         ensures orders { self.new.orders ≡ self.old.orders }
         ensures alike { IsAlike self.old self.new }
+        ensures room { HasSameRoom (seen self.old) (seen self.new) }
     {
         tell_all(&mut self.entries, news, self.reading);
     }
@@ -104,9 +112,11 @@ impl Jobs {
             KeepsJobs self.old.reading (rows self.new.entries.items) (filter_map stays jobs) }
         ensures orders { (jobs : List Job) → KeepsJobs self.old.reading (rows self.old.entries.items) jobs →
             labelled (map name self.new.entries.items) self.new.orders.items ≡ flat_map orders_of jobs }
+        ensures names { map name self.new.entries.items ≡ map name self.old.entries.items }
         ensures counted { IsCounted (counts (rows self.old.entries.items)) (rows self.new.entries.items) self.new.visited }
         ensures sound { IsSound self.new }
         ensures alike { IsAlike self.old self.new }
+        ensures room { HasSameRoom (seen self.old) (seen self.new) }
     {
         self.visited = ask_all(&mut self.entries, self.reading, &mut self.orders);
     }

@@ -1,10 +1,11 @@
 //! Many jobs: the table of the loaded ones, which keeps a machine that holds, for each job, only the list of its past.
 #![tactic(auto)]
 
-ghost use Rattle.std.specs.Prelude.{◌≡◌, Bool, true, false, Some, None, Err, IsOk, IfOk, IfErr, MatchResult};
+ghost use Rattle.std.specs.Prelude.{◌≡◌, ◌≤◌, Bool, true, false, Some, None, Err, IsOk, IfOk, IfErr, MatchResult};
 ghost use Rattle.std.specs.Borrow.{sem};
 ghost use Rattle.std.specs.String.{string_bytes};
 ghost use Rattle.history_model.specs.declared.Answer.TheVariants as answers;
+ghost use Rattle.history_model.specs.declared.TheConstants.{MAX_UP, MAX_WALL};
 ghost use Rattle.calendar_due.specs.Rules.{minute_at};
 ghost use Rattle.history_model.specs.Acceptance.{refusal_in};
 ghost use Rattle.history_model.specs.Items.{Asked, Answered, Came, Left, RunEnded, WaitRefused};
@@ -101,6 +102,7 @@ impl JobTable {
     ghost use Rattle.job_table.specs.Kept.{acts_in, is_none, KeepsState};
     ghost use Rattle.job_table.specs.Opening.{opening_refusal};
     ghost use Rattle.job_table.specs.Minutes.{has_calendars};
+    ghost use Rattle.job_table.specs.Numbers.{IsNumbered};
 
     /// A table with no job, opened at a reading in a zone, with the overrides that `enable` and `disable` left, oldest
     /// first: of a label given twice the last counts. Refusals: BadRequest, where an override's name is no label; then
@@ -118,19 +120,23 @@ impl JobTable {
         Ok(JobTable { jobs })
     }
 
-    /// The last reading.
+    /// The last reading. It is within the limits of a reading.
     pub fn reading(&self) -> Reading
-        ensures { result ≡ self.now.reading }
+        ensures last { result ≡ self.now.reading }
+        ensures up { result.up ≤ MAX_UP }
+        ensures wall { result.wall ≤ MAX_WALL }
     {
         self.jobs.reading
     }
 
     /// Lends what the last event gave.
+    #[tactic(auto, using(crate::proofs::Numbering::numbered))]
     pub fn given(&self) -> Step<'_>
         ensures orders { acts_of result ≡ acts_in self.now }
         ensures visited { result.visited ≡ self.now.visited }
         ensures known { AreKnown result }
         ensures names { names_in result ≡ self.now.names }
+        ensures numbered { IsNumbered self.now }
     {
         Step {
             orders: &self.jobs.orders,

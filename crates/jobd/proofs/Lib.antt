@@ -1,2 +1,3 @@
 pub mod Launching
 pub mod Changing
+pub mod OneOutput

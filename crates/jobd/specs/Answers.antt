@@ -1,5 +1,5 @@
 -- How the table stands for a machine, as the code's own functions hand it on.
-use Rattle.std.specs.Prelude.{◌≡◌, ℕ, ℤ, List, [], ◌∷◌, Option, Some, None}
+use Rattle.std.specs.Prelude.{◌≡◌, ◌≤◌, ℕ, length, ℤ, List, [], ◌∷◌, Option, Some, None}
 use Rattle.jiff_core.specs.Calendar.{IsWithin}
 use Rattle.jiff_tz.specs.PosixReader.{read_whole}
 use Rattle.history_model.specs.Machine.{State, Event}
@@ -32,7 +32,7 @@ IsFixedZone seconds (Some zone) = IsWithin 86_399 seconds × (offsets zone ≡ a
 
 abbrev pub IsFileZone : List ℕ → Option Zone → Type 0
 IsFileZone bytes None = IsBadFile bytes
-IsFileZone bytes (Some zone) = IsOfTable bytes (offsets zone)
+IsFileZone bytes (Some zone) = (length bytes ≤ 65_536) × IsOfTable bytes (offsets zone)
 
 -- the zone that the header tells, where it tells one
 abbrev pub IsZoneOf : ZoneText → Option Zone → Type 0

@@ -1,5 +1,5 @@
 -- What is written for the lines of an input.
-use Rattle.std.specs.Prelude.{◌≡◌, ◌⊎◌, ℕ, List, [], ◌∷◌, map, Option, Some, None}
+use Rattle.std.specs.Prelude.{◌≡◌, ◌≤◌, ◌⊎◌, ℕ, length, List, [], ◌∷◌, map, Option, Some, None}
 use Rattle.std.specs.List.{flat_map}
 use Rattle.jiff_core.specs.Calendar.{IsWithin}
 use Rattle.jiff_tz.specs.PosixReader.{read_whole}
@@ -18,7 +18,7 @@ use Rattle.jobd.specs.Events.{event_in}
 abbrev pub Describes : ZoneText → Offsets → Type 0
 Describes (Posix text) ahead = IsOfRule text ahead
 Describes (Offset seconds) ahead = IsWithin 86_399 seconds × (ahead ≡ always seconds)
-Describes (File bytes) ahead = IsOfTable bytes ahead
+Describes (File bytes) ahead = (length bytes ≤ 65_536) × IsOfTable bytes ahead
 
 -- the header's zone is none
 abbrev pub IsNoZone : ZoneText → Type 0

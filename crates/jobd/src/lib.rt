@@ -3,6 +3,7 @@
 
 mod events;
 mod launcher;
+pub mod laws;
 mod lines;
 mod loads;
 mod opening;

@@ -1,5 +1,5 @@
 -- A run so far: what was given, and what was written for it.
-use Rattle.std.proofs.Common.{◌≡◌, ◌≢◌, ◌<◌, ◌≤◌, ◌+◌, ℕ, true≢false, length, length-append, arith, List, [], ◌++◌, Bool, true, false, ◌&&◌, Option, Some, None, refl, sym, ap, ◌∙◌, subst, append_assoc, append-nil}
+use Rattle.std.proofs.Common.{◌≡◌, ◌≢◌, ◌⊎◌, inl, inr, ◌<◌, ◌≤◌, ◌+◌, ℕ, true≢false, length, length-append, arith, List, [], ◌++◌, Bool, true, false, ◌&&◌, Option, Some, None, option_map, unwrap_or, refl, sym, ap, ◌∙◌, subst, append_assoc, append-nil}
 use Rattle.std.proofs.lemmas.List.Folds.{list_all-append}
 use Rattle.std.specs.Io.KnownBytes.{Appends, Consumes, Keeps, IsAtEnd}
 use Rattle.std.specs.List.{list_all, take_while}
@@ -7,9 +7,9 @@ use Rattle.std.proofs.KnownBytes.{Appends-trans, Consumes-trans, Consumes-kept, 
 use Rattle.line_feed.specs.Lines.{Feed, lines_of, rest_of, fits, takes, fed, stopped, is_short}
 use Rattle.line_feed.proofs.Cuts.{lines_none, rest_none, lines_joined, rest_joined, while_append}
 use Rattle.replay_loop.specs.Machine.{Output, Future}
-use Rattle.replay_loop.specs.Handling.{Handles, Stops, IsShown, drained, come, LastStops, PieceStops}
+use Rattle.replay_loop.specs.Handling.{Handles, Stops, drained, come, LastStops, PieceStops}
 use Rattle.replay_loop.specs.Outcomes.{Answers, last_line, input_lines, counted, limit}
-use Rattle.replay_loop.specs.Ran.{Answered, Wrote, Failed, RanOut, CutOff}
+use Rattle.replay_loop.specs.Ran.{Answered, Wrote, Failed, RanOut, CutOff, OpensNone, HasNoMachine}
 use Rattle.replay_loop.specs.declared.fault.ReplayFault.{ReplayFault}
 use Rattle.replay_loop.specs.declared.fault.ReplayFault.TheVariants.{NoMemory, Header, Read, Write, TooLong, ReadCount}
 use Rattle.replay_loop.proofs.Handled.{nothing, then_more, stops_later}
@@ -147,31 +147,38 @@ last_stop output e count left rest held holds has f stage going stop =
 no_header : (output : Output) (held holds has : Option (List ℕ)) (stage : Option Future) (lines : List (List ℕ)) → Handles output None stage held holds lines → stage ≡ None → Appends holds has [] → Appends held has []
 no_header output held holds has stage lines h none kept = subst (Appends held has) (rw (h.silent none) refl) (Appends-trans held holds has h.text [] h.wrote kept)
 
-shown_at : (output : Output) (t : Bool) (reads count : ℕ) (left rest after held holds has : Option (List ℕ)) (f : Feed) (stage : Option Future) (piece : List ℕ) → Going output count left rest held holds f stage → Consumes rest after piece
-    → takes f piece ≡ t → (stage ≡ None) × Appends holds has [] × IsShown output (takes f piece) stage (come f piece) → Failed output reads left after held has Header
-shown_at output true reads count left rest after held holds has f stage piece going came is (none, kept, shown) =
+all_short : (xs : List (List ℕ)) → list_all (is_short limit) xs ≡ true → take_while (is_short limit) xs ≡ xs
+all_short xs short = ap (take_while (is_short limit)) (sym (append-nil xs)) ∙ while_append limit xs [] short ∙ append-nil xs
+
+-- where no line came before, the short lines of all are those that the piece ends
+come_first : (t : Bool) (x piece : List ℕ) (f : Feed) → f ≡ record { lines = []; rest = rest_of x; limit = limit; refusing = false } → fits limit x ≡ true → lines_of x ≡ [] → fits limit (rest_of x ++ piece) ≡ t
+    → take_while (is_short limit) (lines_of (x ++ piece)) ≡ come f piece
+come_first t x piece f is fine none e =
+    let here : take_while (is_short limit) (lines_of (x ++ piece)) ≡ take_while (is_short limit) (lines_of (rest_of x ++ piece)) = ap (take_while (is_short limit)) (lines_joined x piece ∙ ap (λ ls. ls ++ lines_of (rest_of x ++ piece)) none) in
+    go t e here
+  where
+    go : (t : Bool) → fits limit (rest_of x ++ piece) ≡ t → take_while (is_short limit) (lines_of (x ++ piece)) ≡ take_while (is_short limit) (lines_of (rest_of x ++ piece)) → take_while (is_short limit) (lines_of (x ++ piece)) ≡ come f piece
+    go true e here = rw (is, e) (here ∙ all_short (lines_of (rest_of x ++ piece)) (front_true (list_all (is_short limit) (lines_of (rest_of x ++ piece))) (is_short limit (rest_of (rest_of x ++ piece))) e))
+    go false e here = rw (is, e) here
+
+no_machine : (output : Output) (reads count : ℕ) (left rest after held holds has : Option (List ℕ)) (f : Feed) (stage : Option Future) (piece : List ℕ) → Going output count left rest held holds f stage → Consumes rest after piece
+    → PieceStops output f piece holds has Header stage → Failed output reads left after held has Header
+no_machine output reads count left rest after held holds has f stage piece going came (none, kept, why) =
     let x = going.given in
-    let n = counts output count left rest held holds f stage piece going in
-    let always : IsShown output true stage (come f piece) = subst (λ t. IsShown output t stage (come f piece)) is shown in (
+    let lines = come_first (fits limit (rest_of x ++ piece)) x piece f going.feed_is going.fits_is (going.handled.unopened none) refl in (
       x ++ piece,
       Consumes-trans left rest after x piece going.taken came,
-      subst (λ ls. output ls None) (sym n.split) (going.handled.goes_on (come f piece ++ n.others) None (always n.others)),
+      reason lines why,
       no_header output held holds has stage (lines_of x) going.handled none kept,
     )
-shown_at output false reads count left rest after held holds has f stage piece going came is (none, kept, shown) =
-    let x = going.given in
-    let n = counts output count left rest held holds f stage piece going in
-    let here : IsShown output false stage (come f piece) = subst (λ t. IsShown output t stage (come f piece)) is shown in
-    let alone : n.others ≡ [] = n.alone (sym (taken_fits f x piece going.feed_is) ∙ is) in (
-      x ++ piece,
-      Consumes-trans left rest after x piece going.taken came,
-      subst (λ ls. output ls None) (sym (n.split ∙ ap (λ o. lines_of x ++ (come f piece ++ o)) alone ∙ ap (λ ls. lines_of x ++ ls) (append-nil (come f piece)))) (going.handled.goes_on (come f piece) None here),
-      no_header output held holds has stage (lines_of x) going.handled none kept,
-    )
+  where
+    reason : take_while (is_short limit) (lines_of (going.given ++ piece)) ≡ come f piece → OpensNone output (come f piece) ⊎ ((takes f piece ≡ false) × (come f piece ≡ [])) → HasNoMachine output (going.given ++ piece) after
+    reason lines (inl refused) = inl (subst (OpensNone output) (sym lines) refused)
+    reason lines (inr (long, empty)) = inr (inl (unfit going.given piece going.fits_is (sym (taken_fits f going.given piece going.feed_is) ∙ long), lines ∙ empty))
 
 pub fails : (output : Output) → output [] None → (e : ReplayFault) (reads count : ℕ) (left rest after held holds has : Option (List ℕ)) (f : Feed) (stage : Option Future) (piece : List ℕ) → Going output count left rest held holds f stage → Consumes rest after piece
     → PieceStops output f piece holds has e stage → Failed output reads left after held has e
-fails output empty Header reads count left rest after held holds has f stage piece going came stop = shown_at output (takes f piece) reads count left rest after held holds has f stage piece going came refl stop
+fails output empty Header reads count left rest after held holds has f stage piece going came stop = no_machine output reads count left rest after held holds has f stage piece going came stop
 fails output empty TooLong reads count left rest after held holds has f stage piece going came (refused, new, some, second) =
     let x = going.given in
     let short : list_all (is_short limit) (lines_of x) ≡ true = front_true (list_all (is_short limit) (lines_of x)) (is_short limit (rest_of x)) going.fits_is in
@@ -181,24 +188,24 @@ fails output empty TooLong reads count left rest after held holds has f stage pi
       x ++ piece,
       Consumes-trans left rest after x piece going.taken came,
       rw (lines_joined x piece, rest_joined x piece, list_all-append) (true_and (list_all (is_short limit) (lines_of x)) (is_short limit (rest_of x)) (list_all (is_short limit) (lines_of (rest_of x ++ piece))) (is_short limit (rest_of (rest_of x ++ piece))) going.fits_is past),
-      written output empty new held has (take_while (is_short limit) (lines_of (x ++ piece))) (subst (Handles output None new held has) (sym here) (then_more output None stage new held holds has (lines_of x) (take_while (is_short limit) (lines_of (rest_of x ++ piece))) going.handled later)),
+      answered output new held has (take_while (is_short limit) (lines_of (x ++ piece))) some (subst (Handles output None new held has) (sym here) (then_more output None stage new held holds has (lines_of x) (take_while (is_short limit) (lines_of (rest_of x ++ piece))) going.handled later)),
     )
 fails output empty NoMemory reads count left rest after held holds has f stage piece going came stop = all_failed output empty reads count left rest after held holds has f stage piece going came stop
 fails output empty Write reads count left rest after held holds has f stage piece going came stop = all_write output reads count left rest after held holds has f stage piece going came stop
 fails output empty Read reads count left rest after held holds has f stage piece going came stop = absurd stop
 fails output empty ReadCount reads count left rest after held holds has f stage piece going came stop = absurd stop
 
-pub last_fails : (output : Output) → output [] None → (e : ReplayFault) (reads count : ℕ) (left rest after held holds has : Option (List ℕ)) (f : Feed) (stage : Option Future) → Going output count left rest held holds f stage → Consumes rest after [] → LastStops output f.rest holds has e stage → Failed output reads left after held has e
-last_fails output empty Header reads count left rest after held holds has f stage going came (none, kept, shown) =
+pub last_fails : (output : Output) → output [] None → (e : ReplayFault) (reads count : ℕ) (left rest after held holds has : Option (List ℕ)) (f : Feed) (stage : Option Future) → Going output count left rest held holds f stage → Consumes rest after [] → IsAtEnd after → LastStops output f.rest holds has e stage → Failed output reads left after held has e
+last_fails output empty Header reads count left rest after held holds has f stage going came at_end (none, kept, shown) =
     let x = going.given in
-    let all : counted x ≡ lines_of x ++ last_line (rest_of x) = rw going.fits_is refl in (
+    let last = going.handled.goes_on (last_line (rest_of x)) None (subst (λ h. Answers output stage (last_line h.rest) None) going.feed_is shown) in (
       x,
       ended output count left rest after held holds f stage going came,
-      subst (λ ls. output ls None) (sym all) (going.handled.goes_on (last_line (rest_of x)) None (subst (λ h. Answers output stage (last_line h.rest) None) going.feed_is shown)),
+      inr (inr (at_end, going.fits_is, last)),
       no_header output held holds has stage (lines_of x) going.handled none kept,
     )
-last_fails output empty TooLong reads count left rest after held holds has f stage going came stop = absurd stop
-last_fails output empty NoMemory reads count left rest after held holds has f stage going came stop = (going.given, ended output count left rest after held holds f stage going came, run_out output empty held has (counted going.given) (last_stop output NoMemory count left rest held holds has f stage going stop))
-last_fails output empty Write reads count left rest after held holds has f stage going came stop = (going.given, ended output count left rest after held holds f stage going came, cut_off output held has (counted going.given) (last_stop output Write count left rest held holds has f stage going stop))
-last_fails output empty Read reads count left rest after held holds has f stage going came stop = absurd stop
-last_fails output empty ReadCount reads count left rest after held holds has f stage going came stop = absurd stop
+last_fails output empty TooLong reads count left rest after held holds has f stage going came at_end stop = absurd stop
+last_fails output empty NoMemory reads count left rest after held holds has f stage going came at_end stop = (going.given, ended output count left rest after held holds f stage going came, run_out output empty held has (counted going.given) (last_stop output NoMemory count left rest held holds has f stage going stop))
+last_fails output empty Write reads count left rest after held holds has f stage going came at_end stop = (going.given, ended output count left rest after held holds f stage going came, cut_off output held has (counted going.given) (last_stop output Write count left rest held holds has f stage going stop))
+last_fails output empty Read reads count left rest after held holds has f stage going came at_end stop = absurd stop
+last_fails output empty ReadCount reads count left rest after held holds has f stage going came at_end stop = absurd stop

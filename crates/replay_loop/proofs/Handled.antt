@@ -1,5 +1,5 @@
 -- Handling lines one after the other.
-use Rattle.std.proofs.Common.{◌≡◌, ◌≢◌, ℕ, nat_eq, length, List, [], ◌∷◌, ◌++◌, Option, Some, None, option_map, true, false, refl, sym, ap, ◌∙◌, subst, append_assoc, append-nil}
+use Rattle.std.proofs.Common.{◌≡◌, ◌≢◌, ◌⊎◌, inl, inr, ℕ, nat_eq, length, List, [], ◌∷◌, ◌++◌, Option, Some, None, option_map, true, false, refl, sym, ap, ◌∙◌, subst, append_assoc, append-nil}
 use Rattle.std.specs.Io.KnownBytes.{Appends}
 use Rattle.std.proofs.KnownBytes.{Appends-nil, Appends-trans}
 use Rattle.replay_loop.specs.declared.fault.ReplayFault.{ReplayFault}
@@ -7,7 +7,7 @@ use Rattle.replay_loop.specs.declared.fault.ReplayFault.TheVariants.{NoMemory, H
 use Rattle.replay_loop.specs.Machine.{Output, Future, Opens, GoesOn}
 use Rattle.replay_loop.specs.Outcomes.{Answers, last_line}
 use Rattle.replay_loop.specs.Handling.{Stands, IsQuiet, Handles, Leads, Ends, Stops, PieceStops, LastStops}
-use Rattle.replay_loop.specs.Ran.{WritesFront}
+use Rattle.replay_loop.specs.Ran.{WritesFront, OpensNone}
 use Rattle.line_feed.specs.Lines.{Feed, takes, fed, stopped}
 
 no_more : (o : Option (List ℕ)) → o ≡ option_map (λ after. [] ++ after) o
@@ -16,7 +16,7 @@ no_more (Some x) = refl
 
 -- no line, and nothing written
 pub nothing : (output : Output) (old : Option Future) (held : Option (List ℕ)) → IsQuiet old → Handles output old old held held []
-nothing output old held quiet = record { text = []; wrote = Appends-nil held; goes_on = λ more after h. subst (Answers output old more) (no_more after) h; silent = λ _. refl; stays = λ e. e; quiet = quiet }
+nothing output old held quiet = record { text = []; wrote = Appends-nil held; goes_on = λ more after h. subst (Answers output old more) (no_more after) h; silent = λ _. refl; stays = λ e. e; unopened = λ _. refl; quiet = quiet }
 
 joined : (x y : List ℕ) (o : Option (List ℕ)) → option_map (λ after. x ++ after) (option_map (λ after. y ++ after) o) ≡ option_map (λ after. (x ++ y) ++ after) o
 joined x y None = refl
@@ -31,6 +31,7 @@ then_more output a b c h i j xs ys first second = record {
       (subst (Answers output a (xs ++ (ys ++ more))) (joined first.text second.text after) (first.goes_on (ys ++ more) (option_map (λ x. second.text ++ x) after) (second.goes_on more after h)));
   silent = λ none. rw (second.silent none, first.silent (second.stays none)) refl;
   stays = λ none. first.stays (second.stays none);
+  unopened = λ none. rw (second.unopened none, first.unopened (second.stays none)) refl;
   quiet = second.quiet;
 }
 
@@ -55,7 +56,12 @@ pub stops_later : (output : Output) (e : ReplayFault) (a b : Option Future) (h i
 stops_later output Header a b h i j xs ys zs all split first (none, kept, refused) = (
   first.stays none,
   subst (Appends h j) (rw (first.silent none) refl) (Appends-trans h i j first.text [] first.wrote kept),
-  λ more. subst (λ ls. Answers output a ls None) (sym (regroup xs ys zs more all split)) (first.goes_on (ys ++ (zs ++ more)) None (refused (zs ++ more))),
+  record {
+    line = refused.line;
+    others = refused.others ++ zs;
+    first = split ∙ ap (λ ls. ls ++ (ys ++ zs)) (first.unopened none) ∙ ap (λ ls. ls ++ zs) refused.first;
+    none = refused.none;
+  },
 )
 stops_later output NoMemory a b h i j xs ys zs all split first (done, rest, new, parts, second) = (
   xs ++ done,
@@ -75,7 +81,7 @@ stops_later output TooLong a b h i j xs ys zs all split first stop = absurd stop
 stops_later output ReadCount a b h i j xs ys zs all split first stop = absurd stop
 
 pub piece_stops : (output : Output) (e : ReplayFault) (f g : Feed) (piece : List ℕ) (old : Option Future) (held holds : Option (List ℕ)) → takes f piece ≡ true → g ≡ fed f piece → Stops output old held holds g.lines e → PieceStops output f piece held holds e old
-piece_stops output Header f g piece old held holds taken is (none, kept, refused) = (none, kept, rw taken (λ more. subst (λ (h : Feed). Answers output old (h.lines ++ more) None) is (refused more)))
+piece_stops output Header f g piece old held holds taken is (none, kept, refused) = (none, kept, inl (rw taken (subst (λ (h : Feed). OpensNone output h.lines) is refused)))
 piece_stops output NoMemory f g piece old held holds taken is stop = rw taken (subst (λ h. Stops output old held holds h.lines NoMemory) is stop)
 piece_stops output Write f g piece old held holds taken is stop = rw taken (subst (λ h. Stops output old held holds h.lines Write) is stop)
 piece_stops output Read f g piece old held holds taken is stop = absurd stop
@@ -83,15 +89,19 @@ piece_stops output TooLong f g piece old held holds taken is stop = absurd stop
 piece_stops output ReadCount f g piece old held holds taken is stop = absurd stop
 
 pub long_stops : (output : Output) (e : ReplayFault) (f g : Feed) (piece : List ℕ) (old : Option Future) (held holds : Option (List ℕ)) → takes f piece ≡ false → g ≡ stopped f piece → Stops output old held holds g.lines e → PieceStops output f piece held holds e old
-long_stops output Header f g piece old held holds taken is (none, kept, refused) = (none, kept, rw taken (subst (λ (h : Feed). Answers output old h.lines None) is (subst (λ ls. Answers output old ls None) (append-nil g.lines) (refused []))))
+long_stops output Header f g piece old held holds taken is (none, kept, refused) = (none, kept, inl (rw taken (subst (λ (h : Feed). OpensNone output h.lines) is refused)))
 long_stops output NoMemory f g piece old held holds taken is stop = rw taken (subst (λ h. Stops output old held holds h.lines NoMemory) is stop)
 long_stops output Write f g piece old held holds taken is stop = rw taken (subst (λ h. Stops output old held holds h.lines Write) is stop)
 long_stops output Read f g piece old held holds taken is stop = absurd stop
 long_stops output TooLong f g piece old held holds taken is stop = absurd stop
 long_stops output ReadCount f g piece old held holds taken is stop = absurd stop
 
+-- lines that open no machine have no answer
+none_answers : (output : Output) (old : Option Future) (lines : List (List ℕ)) → old ≡ None → OpensNone output lines → Answers output old lines None
+none_answers output old lines none refused = subst (λ o. Answers output o lines None) (sym none) (subst (λ ls. output ls None) (sym refused.first) (refused.none refused.others))
+
 pub last_stops : (output : Output) (e : ReplayFault) (line : List ℕ) (old : Option Future) (held holds : Option (List ℕ)) → Stops output old held holds (last_line line) e → LastStops output line held holds e old
-last_stops output Header line old held holds (none, kept, refused) = (none, kept, subst (λ ls. Answers output old ls None) (append-nil (last_line line)) (refused []))
+last_stops output Header line old held holds (none, kept, refused) = (none, kept, none_answers output old (last_line line) none refused)
 last_stops output NoMemory line old held holds stop = stop
 last_stops output Write line old held holds stop = stop
 last_stops output Read line old held holds stop = absurd stop
@@ -110,7 +120,7 @@ no_header_yet output first old new held holds lines none h = (h.stays none, subs
 pub long_header : (output : Output) → output [] None → (f g : Feed) (piece : List ℕ) (old new : Option Future) (held holds : Option (List ℕ)) → takes f piece ≡ false → g ≡ stopped f piece → new ≡ None → Handles output old new held holds g.lines → PieceStops output f piece held holds Header old
 long_header output empty f g piece old new held holds refused is none h =
     let (first, kept, shown) = no_header_yet output empty old new held holds g.lines none h in
-    (first, kept, rw refused (subst (λ (k : Feed). Answers output old k.lines None) is shown))
+    (first, kept, inr (refused, rw refused (subst (λ (k : Feed). k.lines ≡ []) is (h.unopened none))))
 
 -- ---- the same, from wherever the machine stands
 
@@ -140,7 +150,7 @@ pub opens : {M : Type 0} (output : Output) (will_write : M → Future → Type 0
     → Opens output will_write header (Some machine) → Leads output will_write old (Some machine) held held (header ∷ [])
 opens output will_write old machine held header none (future, will, is) =
     subst (λ stage. Leads output will_write stage (Some machine) held held (header ∷ [])) (sym none) (elim [
-      | None ↦ λ stands. (Some future, will, record { text = []; wrote = Appends-nil held; goes_on = λ more after h. subst (λ t. output (header ∷ more) (option_map (λ x. [] ++ x) t)) (sym h) (is more); silent = λ no. absurd (cc); stays = λ no. absurd (cc); quiet = will.1 })
+      | None ↦ λ stands. (Some future, will, record { text = []; wrote = Appends-nil held; goes_on = λ more after h. subst (λ t. output (header ∷ more) (option_map (λ x. [] ++ x) t)) (sym h) (is more); silent = λ no. absurd (cc); stays = λ no. absurd (cc); unopened = λ no. absurd (cc); quiet = will.1 })
       | (Some other) ↦ λ stands. absurd stands
     ])
 
@@ -151,7 +161,7 @@ answers output will_write stage old new held holds line text some goes wrote =
     subst (λ stage. Leads output will_write stage (Some new) held holds (line ∷ [])) (sym some) (elim [
       | None ↦ λ stands. absurd stands
       | (Some future) ↦ λ stands. let (next, will, is) = goes future stands.0 in
-          (Some next, will, record { text = text; wrote = wrote; goes_on = λ more after h. ap (option_map (λ x. text ++ x)) h ∙ ap Some (sym (is more)); silent = λ no. absurd (cc); stays = λ no. absurd (cc); quiet = will.1 })
+          (Some next, will, record { text = text; wrote = wrote; goes_on = λ more after h. ap (option_map (λ x. text ++ x)) h ∙ ap Some (sym (is more)); silent = λ no. absurd (cc); stays = λ no. absurd (cc); unopened = λ no. absurd (cc); quiet = will.1 })
     ])
 
 -- a line was answered, and the answer not written whole
@@ -168,7 +178,7 @@ pub refuses : {M : Type 0} (output : Output) (will_write : M → Future → Type
     → ((lines : List (List ℕ)) → output (header ∷ lines) None) → Ends will_write stage (λ past. Stops output past held held (header ∷ []) Header)
 refuses output will_write stage held header none missing =
     subst (λ stage. Ends will_write stage (λ past. Stops output past held held (header ∷ []) Header)) (sym none)
-    (elim [ None ↦ λ stands. (refl, Appends-nil held, λ more. missing more) | (Some future) ↦ λ stands. absurd stands ])
+    (elim [ None ↦ λ stands. (refl, Appends-nil held, record { line = header; others = []; first = refl; none = missing }) | (Some future) ↦ λ stands. absurd stands ])
 
 -- no machine stands before the header
 pub stands_none : {M : Type 0} (will_write : M → Future → Type 0) (stage : Option M) (next : Option Future) → stage ≡ None → Stands will_write stage next → next ≡ None

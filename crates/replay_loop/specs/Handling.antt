@@ -1,12 +1,12 @@
 -- What handling some lines does to the machine and to what a writer holds.
-use Rattle.std.specs.Prelude.{◌≡◌, ◌≢◌, ℕ, List, [], ◌∷◌, ◌++◌, Option, Some, None, option_map, Bool, true, false, if◌then◌else◌}
+use Rattle.std.specs.Prelude.{◌≡◌, ◌≢◌, ◌⊎◌, ℕ, List, [], ◌∷◌, ◌++◌, Option, Some, None, option_map, Bool, true, false, if◌then◌else◌}
 use Rattle.std.specs.Io.KnownBytes.{Appends}
 use Rattle.replay_loop.specs.declared.fault.ReplayFault.{ReplayFault}
 use Rattle.replay_loop.specs.declared.fault.ReplayFault.TheVariants.{NoMemory, Header, Read, Write, TooLong, ReadCount}
 use Rattle.line_feed.specs.Lines.{Feed, takes, fed, stopped}
 use Rattle.replay_loop.specs.Machine.{Output, Future, Will}
 use Rattle.replay_loop.specs.Outcomes.{Answers, last_line}
-use Rattle.replay_loop.specs.Ran.{WritesFront}
+use Rattle.replay_loop.specs.Ran.{WritesFront, OpensNone}
 
 -- the machine, where the header has come, will write this
 abbrev pub Stands : {M : Type 0} → (M → Future → Type 0) → Option M → Option Future → Type 0
@@ -27,6 +27,7 @@ pub record Handles (output : Output) (old new : Option Future) (held holds : Opt
   pub goes_on : (more : List (List ℕ)) (after : Option (List ℕ)) → Answers output new more after → Answers output old (lines ++ more) (option_map (λ x. text ++ x) after)
   pub silent : new ≡ None → text ≡ []
   pub stays : new ≡ None → old ≡ None
+  pub unopened : new ≡ None → lines ≡ []
   pub quiet : IsQuiet new
 
 -- the lines were handled, and the machine stands where they lead
@@ -42,7 +43,7 @@ LeadsPast output will_write old held holds lines =
 
 -- why no more lines were handled
 abbrev pub Stops : Output → Option Future → Option (List ℕ) → Option (List ℕ) → List (List ℕ) → ReplayFault → Type 0
-Stops output old held holds lines Header = (old ≡ None) × Appends held holds [] × ((more : List (List ℕ)) → Answers output old (lines ++ more) None)
+Stops output old held holds lines Header = (old ≡ None) × Appends held holds [] × OpensNone output lines
 Stops output old held holds lines NoMemory =
     (done : List (List ℕ)) × (rest : List (List ℕ)) × (new : Option Future) × (lines ≡ done ++ rest) × Handles output old new held holds done
 Stops output old held holds lines Write = (more : List (List ℕ)) → (all : List ℕ) × (Answers output old (lines ++ more) (Some all)) × WritesFront held holds all
@@ -68,14 +69,10 @@ HandlesNext output will_write false f g old new held holds = (f.lines ≡ []) ×
 abbrev pub come : Feed → List ℕ → List (List ℕ)
 come f piece = if takes f piece then (fed f piece).lines else (stopped f piece).lines
 
--- the lines have no header, whatever comes, or with nothing more
-abbrev pub IsShown : Output → Bool → Option Future → List (List ℕ) → Type 0
-IsShown output true old lines = (more : List (List ℕ)) → Answers output old (lines ++ more) None
-IsShown output false old lines = Answers output old lines None
-
 -- why a piece was not taken to its end
 abbrev pub PieceStops : Output → Feed → List ℕ → Option (List ℕ) → Option (List ℕ) → ReplayFault → Option Future → Type 0
-PieceStops output f piece held holds Header old = (old ≡ None) × Appends held holds [] × IsShown output (takes f piece) old (come f piece)
+PieceStops output f piece held holds Header old =
+    (old ≡ None) × Appends held holds [] × (OpensNone output (come f piece) ⊎ ((takes f piece ≡ false) × (come f piece ≡ [])))
 PieceStops output f piece held holds TooLong old =
     (takes f piece ≡ false) × (new : Option Future) × (new ≢ None) × Handles output old new held holds (stopped f piece).lines
 PieceStops output f piece held holds NoMemory old = Stops output old held holds (come f piece) NoMemory

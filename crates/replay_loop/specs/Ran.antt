@@ -1,5 +1,5 @@
 -- What a whole run read and wrote.
-use Rattle.std.specs.Prelude.{◌≡◌, ◌≤◌, length, ℕ, List, [], ◌++◌, Option, Some, None, unwrap_or, true, false}
+use Rattle.std.specs.Prelude.{◌≡◌, ◌≤◌, ◌⊎◌, length, ℕ, List, [], ◌∷◌, ◌++◌, Option, Some, None, unwrap_or, true, false}
 use Rattle.std.specs.Io.KnownBytes.{Appends, Consumes, IsAtEnd}
 use Rattle.std.specs.List.{take_while}
 use Rattle.line_feed.specs.Lines.{lines_of, is_short, fits}
@@ -41,13 +41,36 @@ RanOut output held holds lines = (done : List (List ℕ)) × (others : List (Lis
 abbrev pub CutOff : Output → Option (List ℕ) → Option (List ℕ) → List (List ℕ) → Type 0
 CutOff output held holds lines = (all : List ℕ) × output lines (Some all) × WritesFront held holds all
 
+-- the first line came whole, and opens no machine, whatever comes after it
+pub record OpensNone (output : Output) (lines : List (List ℕ)) : Type 0 where
+  pub line : List ℕ
+  pub others : List (List ℕ)
+  pub first : lines ≡ line ∷ others
+  pub none : (more : List (List ℕ)) → output (line ∷ more) None
+
+-- the first line is too long, so no line came before it
+abbrev pub IsLongAtOnce : List ℕ → Type 0
+IsLongAtOnce input = (fits limit input ≡ false) × (take_while (is_short limit) (lines_of input) ≡ [])
+
+-- the input came to its end, and all its lines open no machine
+abbrev pub EndsUnopened : Output → List ℕ → Option (List ℕ) → Type 0
+EndsUnopened output input rest = IsAtEnd rest × (fits limit input ≡ true) × output (input_lines input) None
+
+-- why no machine was opened; a first line that was cut by a read is no reason
+abbrev pub HasNoMachine : Output → List ℕ → Option (List ℕ) → Type 0
+HasNoMachine output input rest = OpensNone output (take_while (is_short limit) (lines_of input)) ⊎ (IsLongAtOnce input ⊎ EndsUnopened output input rest)
+
+-- a machine was opened, and all that it answers to these lines was written
+abbrev pub WroteAll : Output → Option (List ℕ) → Option (List ℕ) → List (List ℕ) → Type 0
+WroteAll output held holds lines = (text : List ℕ) × output lines (Some text) × Appends held holds text
+
 -- what was written where the run ended by a fault, after at most so many reads
 abbrev pub Failed : Output → ℕ → Option (List ℕ) → Option (List ℕ) → Option (List ℕ) → Option (List ℕ) → ReplayFault → Type 0
-Failed output reads left rest held holds Header = (input : List ℕ) × Consumes left rest input × output (counted input) None × Appends held holds []
+Failed output reads left rest held holds Header = (input : List ℕ) × Consumes left rest input × HasNoMachine output input rest × Appends held holds []
 Failed output reads left rest held holds Read = (input : List ℕ) × Consumes left rest input × Wrote output held holds (lines_of input)
 Failed output reads left rest held holds ReadCount = (input : List ℕ) × Consumes left rest input × (reads ≤ length input) × Wrote output held holds (lines_of input)
 Failed output reads left rest held holds TooLong =
     (input : List ℕ) × Consumes left rest input × (fits limit input ≡ false)
-    × Wrote output held holds (take_while (is_short limit) (lines_of input))
+    × WroteAll output held holds (take_while (is_short limit) (lines_of input))
 Failed output reads left rest held holds NoMemory = (input : List ℕ) × Consumes left rest input × RanOut output held holds (counted input)
 Failed output reads left rest held holds Write = (input : List ℕ) × Consumes left rest input × CutOff output held holds (counted input)

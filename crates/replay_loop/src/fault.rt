@@ -5,13 +5,14 @@
 pub enum ReplayFault {
     /// No memory was left. What stands written is the output of the lines before.
     NoMemory,
-    /// The first line is no header that can be read, or there is none, or it is too long. Nothing was written.
+    /// A whole first line is no header that can be read, or it is too long, or the input ended with no header. Nothing was
+    /// written.
     Header,
     /// The reader answered an error. What stands written is the output of the whole lines before.
     Read,
     /// The writer answered an error, or took no byte. What stands written is a front of the output.
     Write,
-    /// A line has more bytes than [`crate::LIMIT`]. What stands written is the output of the lines before it.
+    /// A line after the header has more bytes than [`crate::LIMIT`]. What stands written is the output of the lines before it.
     TooLong,
     /// The end of the input was not met within the reads that were allowed.
     ReadCount,

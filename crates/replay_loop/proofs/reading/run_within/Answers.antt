@@ -56,7 +56,9 @@ returns-in-Ok-finish-clause-ok g c =
 pub returns-in-Err-finish-clause-err : goal.returns-in-Err-finish-clause-err
 returns-in-Err-finish-clause-err g c =
     let (past, stands, going) = c.reads.invariant in
-    let came = rw c.in-Ok-eq0.field-0-test at c.in-Ok-eq0.ensures.bytes.0 in
+    let read = c.in-Ok-eq0.ensures.bytes in
+    let came = rw c.in-Ok-eq0.field-0-test at read.0 in
+    let room : 0 < length c.read.new.buf = omega arith in
     last_fails g.M.LineMachine.output g.met.M.LineMachine.no_header c.in-Err-finish.e c.args.reads c.reads.counter (g.R.Read.remaining c.args.reader.now) (g.R.Read.remaining c.reads.reader) (g.R.Read.remaining c.read.new.self) (g.W.Write.contents c.args.writer.now) (g.W.Write.contents c.reads.writer)
-    (g.W.Write.contents c.finish.new.writer) c.reads.feed past going came
+    (g.W.Write.contents c.finish.new.writer) c.reads.feed past going came (read.1 c.in-Ok-eq0.field-0-test room)
     (subst (λ rest. LastStops g.M.LineMachine.output rest (g.W.Write.contents c.reads.writer) (g.W.Write.contents c.finish.new.writer) c.in-Err-finish.e past) c.rest.ensures (c.in-Err-finish.ensures.err past stands))

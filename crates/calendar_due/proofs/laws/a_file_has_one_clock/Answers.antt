@@ -1,0 +1,5 @@
+use Rattle.calendar_due.proofs.TableLemmas.{one_file_clock}
+use Rattle.calendar_due.proofs.laws.a_file_has_one_clock.Goals as goal
+
+pub returns : goal.returns
+returns c = one_file_clock

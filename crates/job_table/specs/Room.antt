@@ -1,0 +1,27 @@
+-- How many settings the table holds, and for how much it has room.
+use Rattle.std.specs.Prelude.{◌≡◌, ℕ, ◌+◌, List, length, Option, Some, None}
+use Rattle.std.specs.List.{position}
+use Rattle.history_model.specs.declared.event.Setting.{Setting}
+use Rattle.history_model.specs.Labels.{Label}
+use Rattle.history_model.specs.Machine.{sets}
+use Rattle.job_table.specs.Rows.{Table}
+
+-- one more, unless the new one takes the place of one
+abbrev pub one_more : Option ℕ → ℕ → ℕ
+one_more None held = held + 1
+one_more (Some place) held = held
+
+-- how many settings are held once the label has its new one: one more, only where it had none
+abbrev pub held_with : Label → List Setting → ℕ
+held_with label settings = one_more (position (sets label) settings) (length settings)
+
+abbrev pub held_after : Option Setting → List Setting → ℕ
+held_after None settings = length settings
+held_after (Some setting) settings = held_with setting.label settings
+
+-- no memory was taken: there is room for as many jobs, orders, settings and numbers as before
+pub record HasSameRoom (old new : Table) : Type 0 where
+  pub jobs : new.reserved.jobs ≡ old.reserved.jobs
+  pub orders : new.reserved.orders ≡ old.reserved.orders
+  pub settings : new.reserved.settings ≡ old.reserved.settings
+  pub numbers : new.numbers.capacity ≡ old.numbers.capacity

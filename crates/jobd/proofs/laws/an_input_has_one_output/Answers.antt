@@ -1,0 +1,8 @@
+use Rattle.jobd.proofs.OneOutput.{one_output, output_or_none}
+use Rattle.jobd.proofs.laws.an_input_has_one_output.Goals as goal
+
+pub returns-clause-same : goal.returns-clause-same
+returns-clause-same c = one_output
+
+pub returns-clause-only : goal.returns-clause-only
+returns-clause-only c = output_or_none
