@@ -1,0 +1,5 @@
+use Rattle.history_model.proofs.TurnBound.{short}
+use Rattle.history_model.proofs.laws.a_turn_is_short.Goals as goal
+
+pub returns : goal.returns
+returns c = short
