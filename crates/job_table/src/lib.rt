@@ -29,7 +29,7 @@ mod texts;
 use calendar_due::Zone;
 pub use changing::NewSetting;
 use history_model::{Ask, Ended, JobNo, Obs, Order, Reading, Refusal, Setting};
-use job_core::JobEvent;
+pub use job_core::JobEvent;
 use job_defs::Def;
 use jobs::Jobs;
 pub use loading::Ready;
@@ -103,6 +103,8 @@ impl JobTable {
     ghost use Rattle.job_table.specs.Opening.{opening_refusal};
     ghost use Rattle.job_table.specs.Minutes.{has_calendars};
     ghost use Rattle.job_table.specs.Numbers.{IsNumbered};
+    ghost use Rattle.history_model.specs.Clock.{reading_in};
+    ghost use Rattle.job_core.specs.Events.{item_of};
 
     /// A table with no job, opened at a reading in a zone, with the overrides that `enable` and `disable` left, oldest
     /// first: of a label given twice the last counts. Refusals: BadRequest, where an override's name is no label; then
@@ -143,6 +145,20 @@ impl JobTable {
             visited: self.jobs.visited,
             jobs: &self.jobs,
         }
+    }
+
+    /// Tells the job with this label what happened to it: any event but a reading of the clocks, which is every job's. The
+    /// named calls below are this one, each for its event. Refusals: BadRequest (no label, or a process id of 0), NoSuchJob,
+    /// and those of the event.
+    pub fn tell(&mut self, label: &str, event: JobEvent<'_>) -> Result<Step<'_>, Refusal>
+        requires silent { reading_in (item_of event) ≡ None }
+        ensures answer { IsAnswer (OfJob label.now (item_of event.entry)) self.old result }
+        ensures memory { NeedsNoMemory result }
+        ensures known { IfOk result AreKnown }
+        ensures* kept { sem 𝓛 (GoesOn self.entry result (OfJob label.now (item_of event.entry))) }
+    {
+        self.jobs.tell(label, event)?;
+        Ok(self.given())
     }
 
     /// Starts the job, as `start` of launchctl(1): a demand that is pending until a later spawn went well. A job whose child
