@@ -1,0 +1,57 @@
+//! One order, carried out by one call.
+
+ghost use Rattle.order_edge.specs.Calls.{Carries, spawn_answer as spawned, is_done as is_done_by};
+ghost use Rattle.child_edge.specs.Calls.{start_answer, done_answer};
+ghost use Rattle.std.specs.Prelude.{◌≡◌};
+
+use crate::Pending;
+use child_edge::{ChildEdge, EdgeFault, SocketEdge};
+use history_model::{Act, Answer, Order};
+use job_defs::Def;
+
+/// The answer that the result of a start is.
+fn spawn_answer(run: u64, started: Result<u32, EdgeFault>) -> Answer
+    ensures { result ≡ spawned run (start_answer started) }
+{
+    match started {
+        Ok(pid) => Answer::Spawned { run, pid },
+        Err(_) => Answer::SpawnRefused { run },
+    }
+}
+
+/// Carries out the order by the one call that it asks for: `start`, `term` or `kill`; `close` for a connection, and
+/// `release` for a job that is gone, which have no answer. `def` is the definition of the order's job.
+#[tactic(auto, using(crate::proofs::Made::made_start, crate::proofs::Made::made_term, crate::proofs::Made::made_kill, crate::proofs::Made::made_close, crate::proofs::Made::made_release))]
+pub fn carry<E: ChildEdge + SocketEdge>(edge: &mut E, order: Order, def: &Def) -> Option<Pending>
+    ensures { Carries order result (E.told edge.old) (E.told edge.new) }
+{
+    let job = order.job;
+    match order.act {
+        Act::Spawn { run, conn } => {
+            let answer = spawn_answer(run, edge.start(job, run, def, conn));
+            Some(Pending { job, answer })
+        }
+        Act::Term { run } => {
+            let ok = edge.term(job, run).is_ok();
+            Some(Pending {
+                job,
+                answer: Answer::Termed { run, ok },
+            })
+        }
+        Act::Kill { run } => {
+            let ok = edge.kill(job, run).is_ok();
+            Some(Pending {
+                job,
+                answer: Answer::Killed { run, ok },
+            })
+        }
+        Act::Close { conn } => {
+            edge.close(job, conn);
+            None
+        }
+        Act::Gone => {
+            edge.release(job);
+            None
+        }
+    }
+}
