@@ -11,6 +11,7 @@ ghost use Rattle.history_model.specs.Refusals.{refusal_of};
 ghost use Rattle.history_model.specs.Keeps.{Keeps, reply, ordered};
 ghost use Rattle.history_model.specs.Due.{due};
 ghost use Rattle.history_model.specs.Moments as moments;
+ghost use Rattle.history_model.specs.Coming.{next_by};
 
 mod calendar;
 mod job;
@@ -163,7 +164,9 @@ impl JobCore {
     /// refused order; those of the calendar are left aside.
     pub fn next_moment(&self, now: Reading) -> Option<u64>
         requires { now.up ≤ MAX_UP }
-        ensures { (past : History) → Keeps self.now.facts past → now ≡ clock.now past → result ≡ moments.next_moment past }
+        ensures next { (past : History) → Keeps self.now.facts past → now ≡ clock.now past → result ≡ moments.next_moment past }
+        // By what is kept of the job, so that an index of moments need name no past.
+        ensures known { result ≡ next_by self.now.facts now.up }
     {
         self.job.next_moment(now.up)
     }

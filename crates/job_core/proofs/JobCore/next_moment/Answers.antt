@@ -5,9 +5,12 @@ use Rattle.history_model.proofs.Coming.{next-by}
 use Rattle.job_core.specs.State.{CoreState}
 use Rattle.job_core.proofs.JobCore.next_moment.Goals as goal
 
-pub returns : goal.returns
-returns c = λ past keeps present.
+pub returns-clause-next : goal.returns-clause-next
+returns-clause-next c = λ past keeps present.
     c.next_moment.ensures
     ∙ ap (λ (s : CoreState). next_by s.facts c.args.now.up) c.self.view_is
     ∙ (λ i. next_by (keeps.same i) (present i).up)
     ∙ sym (next-by past keeps.lawful)
+
+pub returns-clause-known : goal.returns-clause-known
+returns-clause-known c = c.next_moment.ensures ∙ ap (λ (s : CoreState). next_by s.facts c.args.now.up) c.self.view_is
