@@ -9,12 +9,13 @@ mod store;
 mod trial;
 
 use crate::job::{DEFINITION, Making, Part};
-use crate::opening::{Opening, State};
+use crate::opening::{Opening, OwnFile, Place, State};
 use crate::scarce::Hoard;
 use crate::store::{Call, Using};
 use crate::trial::{Trial, Verdict, stand};
 use anyhow::{Result, bail};
 use job_defs::read_def;
+use sqlite::{Alter, File, FileStore};
 use std::alloc::Global;
 use std::env;
 use std::process::Command;
@@ -55,12 +56,21 @@ fn parts(rt: &impl Print, alloc: Global, hoard: &mut Hoard) -> Result<()> {
     Ok(())
 }
 
-fn openings(rt: &HostRuntime, hoard: &mut Hoard) -> Result<()> {
+fn try_opening<R: Print, S: Alter + Drop, P: Place<S> + Drop>(
+    rt: &R,
+    alloc: Global,
+    hoard: &mut Hoard,
+    place: P,
+) -> Result<()> {
     let mut trial = Opening {
-        rt,
+        place,
         state: State::Nothing,
     };
-    tell(rt, rt.alloc(), hoard, "OverrideStore::open_on", &mut trial)
+    tell(rt, alloc, hoard, "OverrideStore::open_on", &mut trial)
+}
+
+fn openings(rt: &HostRuntime, hoard: &mut Hoard) -> Result<()> {
+    try_opening::<HostRuntime, FileStore<File>, OwnFile<'_>>(rt, rt.alloc(), hoard, OwnFile { rt })
 }
 
 fn open_stores(rt: &impl Print, alloc: Global, hoard: &mut Hoard) -> Result<()> {
