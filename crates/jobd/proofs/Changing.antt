@@ -1,22 +1,15 @@
 -- What the line of a setting tells, and where the table then stands.
-use Rattle.std.proofs.Common.{◌≡◌, ℕ, Bool, true, false, ◌||◌, List, [], Option, Some, None, Ok, refl, sym, ap, ◌∙◌, subst}
+use Rattle.std.proofs.Common.{◌≡◌, ℕ, Bool, true, false, ◌||◌, List, [], None, refl, sym, ap, ◌∙◌, subst}
 use Rattle.std.specs.Prelude.{Result, IfOk}
 use Rattle.std.proofs.lemmas.Result.{IfOk-weaker}
-use Rattle.std.specs.Prelude.{is_some}
 use Rattle.history_model.specs.declared.Act.{Act}
-use Rattle.history_model.specs.declared.Refusal.{Refusal}
 use Rattle.history_model.specs.Labels.{Label}
-use Rattle.history_model.specs.Machine.{State, Event, Load}
+use Rattle.history_model.specs.Machine.{State}
 use Rattle.history_model.specs.Acceptance.{refusal_in, refusal_stored}
-use Rattle.history_model.specs.Step.{step_by, outcome_by}
-use Rattle.history_model.specs.Texts.{refusal_text, load_text}
-use Rattle.job_defs.specs.Definitions.{given}
 use Rattle.job_table.specs.Rows.{Table}
 use Rattle.job_table.specs.Kept.{KeepsState, acts_in}
 use Rattle.job_table.specs.Outcomes.{IsSameFor}
-use Rattle.job_table.specs.Loads.{load_of, given_in, refusal_outside, IsAdmitted, IsLoaded, Loads}
 use Rattle.job_table.specs.Changes.{set_of, IsChanged, Changes}
-use Rattle.job_table.specs.declared.loading.Ready.{Ready}
 use Rattle.job_table.specs.declared.changing.NewSetting.{NewSetting}
 use Rattle.ctl_protocol.specs.Outcomes.{outcome_text}
 use Rattle.jobd.specs.Answers.{IsAnswered}

@@ -1,5 +1,5 @@
 -- The launcher as a machine that reads lines.
-use Rattle.std.proofs.Common.{◌≡◌, ℕ, List, [], ◌∷◌, ◌++◌, Some, None, refl, sym, ap, ◌∙◌}
+use Rattle.std.proofs.Common.{◌≡◌, ℕ, List, [], ◌∷◌, ◌++◌, Some, refl, sym, ap, ◌∙◌}
 use Rattle.history_model.specs.Machine.{State, opened}
 use Rattle.history_model.specs.Step.{step}
 use Rattle.calendar_due.specs.declared.zone.Zone.{Zone}

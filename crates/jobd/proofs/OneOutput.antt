@@ -1,5 +1,5 @@
 -- The lines of an input settle what is written for them.
-use Rattle.std.proofs.Common.{◌≡◌, ◌<◌, ◌≤◌, ◌⊎◌, inl, inr, ℕ, List, [], ◌∷◌, length, Some, None, refl, sym, ap, ◌∙◌, subst, arith}
+use Rattle.std.proofs.Common.{◌≡◌, ◌≤◌, inl, inr, ℕ, List, [], ◌∷◌, length, Some, None, sym, ap, ◌∙◌, subst, arith}
 use Rattle.history_model.specs.Machine.{State, opened}
 use Rattle.calendar_due.specs.Offsets.{Offsets, shown_by}
 use Rattle.calendar_due.proofs.RuleLemmas.{one_clock, agrees-not-bad}

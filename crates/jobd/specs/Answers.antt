@@ -1,5 +1,5 @@
 -- How the table stands for a machine, as the code's own functions hand it on.
-use Rattle.std.specs.Prelude.{◌≡◌, ◌≤◌, ℕ, length, ℤ, List, [], ◌∷◌, Option, Some, None}
+use Rattle.std.specs.Prelude.{◌≡◌, ◌≤◌, ℕ, length, ℤ, List, Option, Some, None}
 use Rattle.jiff_core.specs.Calendar.{IsWithin}
 use Rattle.jiff_tz.specs.PosixReader.{read_whole}
 use Rattle.history_model.specs.Machine.{State, Event}
