@@ -1,0 +1,7 @@
+pub mod CarryLemmas
+pub mod Labels
+pub mod Numbers
+pub mod OneEvent
+pub mod SoFar
+pub mod Whole
+pub mod Stored

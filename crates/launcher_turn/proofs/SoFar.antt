@@ -1,0 +1,142 @@
+-- A turn that has come some way.
+use Rattle.std.proofs.Common.{◌≡◌, ℕ, suc, ◌+◌, ◌*◌, ◌<◌, ◌≤◌, List, [], ◌∷◌, ◌++◌, map, take, drop, length, get_or, Option, refl, sym, ap, subst, ◌∙◌, append_assoc, arith, add-one, length-append, length-drop, drop-cons}
+use Rattle.std.proofs.lemmas.List.{append-nil, map-append, take_more, take_all, take-append-le, drop-append-le}
+use Rattle.history_model.specs.declared.Order.{Order}
+use Rattle.history_model.specs.Machine.{State, Event}
+use Rattle.history_model.specs.Step.{outcome, step, run, orders_in}
+use Rattle.job_table.specs.Rows.{Table, Name}
+use Rattle.job_table.specs.Kept.{KeepsState, labelled}
+use Rattle.child_edge.specs.Calls.{Tells}
+use Rattle.order_edge.specs.declared.pending.Pending.{Pending}
+use Rattle.order_edge.specs.Calls.{Entry, call_of, calls_in, answer_in, answers_in}
+use Rattle.std.proofs.lemmas.List.Elements.{filter_map-append}
+use Rattle.history_model.specs.Turns.{Given, wanting}
+use Rattle.history_model.specs.Waits.{weigh_given}
+use Rattle.history_model.proofs.Turning.{weigh-append}
+use Rattle.history_model.proofs.TurnBound.{length-heavy}
+use Rattle.launcher_turn.specs.Turns.{event_in, AreTheirs, IsWaiting, Handled, Settled}
+use Rattle.launcher_turn.proofs.CarryLemmas.{Tells-append, Tells-none}
+
+-- ---- one more event of the machine
+
+pub run-snoc : (es : List Event) (e : Event) (s : State) → run (es ++ e ∷ []) s ≡ step (run es s) e
+run-snoc [] e s = refl
+run-snoc (x ∷ es) e s = run-snoc es e (step s x)
+
+pub orders-snoc : (es : List Event) (e : Event) (s : State) → orders_in (es ++ e ∷ []) s ≡ orders_in es s ++ (outcome (run es s) e).orders
+orders-snoc [] e s = append-nil (outcome s e).orders
+orders-snoc (x ∷ es) e s = ap (λ os. (outcome s x).orders ++ os) (orders-snoc es e (step s x)) ∙ sym (append_assoc (outcome s x).orders _ _)
+
+pub same-length : (names : List Name) (waits : List Given) (pending : List Pending) → AreTheirs names waits pending → length pending ≡ length waits
+same-length names [] [] theirs = refl
+same-length names [] (p ∷ ps) theirs = absurd theirs
+same-length names (w ∷ ws) [] theirs = absurd theirs
+same-length names (w ∷ ws) (p ∷ ps) theirs = ap (λ n. suc n) (same-length names ws ps theirs.2)
+
+-- ---- the loop
+
+pub record IsSoFar (s : State) (names : List Name) (first answers : List Pending) (k : ℕ) (table : Table) (told told' : Option (List Entry)) : Type 0 where
+  pub made : List Entry
+  pub tells : Tells told made told'
+  pub all : answers ≡ first ++ answers_in made
+  pub orders : List Order
+  pub calls : calls_in made ≡ map call_of orders
+  pub given : labelled names orders ≡ orders_in (map (event_in names) (take k answers)) s
+  pub waits : List Given
+  pub waiting : IsWaiting table (run (map (event_in names) (take k answers)) s) names waits (drop k answers)
+  pub within : k ≤ length answers
+  pub fits : k + weigh_given waits ≤ 3 * 1024
+
+pub so-far-start : (s : State) (names : List Name) (waits : List Given) (first : List Pending) (table : Table) (told : Option (List Entry)) →
+    IsWaiting table s names waits first → weigh_given waits ≤ 3 * 1024 → IsSoFar s names first first 0 table told told
+so-far-start s names waits first table told waiting fits = record {
+  made = [];
+  tells = Tells-none told;
+  all = sym (append-nil first);
+  orders = [];
+  calls = refl;
+  given = refl;
+  waits = waits;
+  waiting = waiting;
+  within = omega arith;
+  fits = omega (arith, fits);
+}
+
+pub so-far-end : (s : State) (names : List Name) (first answers : List Pending) (k : ℕ) (table : Table) (told told' : Option (List Entry)) →
+    IsSoFar s names first answers k table told told' → length answers ≤ k → Settled s names first answers table told told'
+so-far-end s names first answers k table told told' far all =
+    let whole : take k answers ≡ answers = take_all k answers all in
+    record {
+      made = far.made;
+      tells = far.tells;
+      all = far.all;
+      orders = far.orders;
+      calls = far.calls;
+      given = far.given ∙ ap (λ ps. orders_in (map (event_in names) ps) s) whole;
+      kept = subst (λ ps. KeepsState table (run (map (event_in names) ps) s)) whole far.waiting.keeps;
+      numbers = far.waiting.numbers;
+    }
+
+-- one more answer
+pub so-far-next : (s : State) (names : List Name) (first answers answers' : List Pending) (k : ℕ) (d : Pending) (table table' : Table) (told told' told'' : Option (List Entry)) → k < length answers →
+    IsSoFar s names first answers k table told told' →
+    ((t : State) (ns : List Name) (given : Given) (waits : List Given) (rest : List Pending) → IsWaiting table t ns (given ∷ waits) (get_or answers k d ∷ rest) →
+    Handled t ns given waits (get_or answers k d) rest table' answers answers' told' told'') →
+    IsSoFar s names first answers' (k + 1) table' told told''
+so-far-next s names first answers answers' k d table table' told told' told'' in_range far handles = go far.waits far.fits (subst (IsWaiting table t names far.waits) here far.waiting) where
+  t : State
+  t = run (map (event_in names) (take k answers)) s
+
+  p : Pending
+  p = get_or answers k d
+
+  e : Event
+  e = event_in names p
+
+  here : drop k answers ≡ p ∷ drop (suc k) answers
+  here = drop-cons answers k d in_range
+
+  go : (waits : List Given) → k + weigh_given waits ≤ 3 * 1024 → IsWaiting table t names waits (p ∷ drop (suc k) answers) → IsSoFar s names first answers' (k + 1) table' told told''
+  go [] fits waiting = absurd waiting.theirs
+  go (given ∷ waits) fits waiting =
+      let did = handles t names given waits (drop (suc k) answers) waiting in
+      let made : List Entry = did.carried.entries in
+      let next = did.waiting made did.carried.calls in
+      let new : List Given = wanting (outcome t e).orders in
+      let many : length (drop (suc k) answers ++ answers_in made) ≡ length (waits ++ new) = same-length names (waits ++ new) (drop (suc k) answers ++ answers_in made) next.theirs in
+      let heavy : length (waits ++ new) ≤ weigh_given (waits ++ new) = length-heavy (waits ++ new) next.heavy in
+      let less : weigh_given (waits ++ new) + 1 ≤ weigh_given (given ∷ waits) = omega (arith, weigh-append waits new, did.lighter) in
+      let left : length answers ≡ k + 1 + length (drop (suc k) answers) = omega (arith, length-drop (suc k) answers, in_range) in
+      let enough : length answers + length (answers_in made) ≤ 3 * 1024 = omega (arith, many, heavy, less, fits, left, length-append (drop (suc k) answers) (answers_in made)) in
+      let grown : answers' ≡ answers ++ answers_in made = did.carried.kept enough in
+      let taken : take (k + 1) answers' ≡ take k answers ++ p ∷ [] =
+      ap (take (k + 1)) grown ∙ take-append-le (k + 1) answers (answers_in made) (omega (arith, in_range)) ∙ take_more answers k d in_range in
+      let events : map (event_in names) (take (k + 1) answers') ≡ map (event_in names) (take k answers) ++ e ∷ [] = ap (map (event_in names)) taken ∙ map-append (event_in names) (take k answers) (p ∷ []) in
+      let dropped : drop (k + 1) answers' ≡ drop (suc k) answers ++ answers_in made =
+      ap (drop (k + 1)) grown ∙ drop-append-le (k + 1) answers (answers_in made) (omega (arith, in_range)) ∙ ap (λ n. drop n answers ++ answers_in made) (add-one k) in
+      record {
+        made = far.made ++ made;
+        tells = Tells-append told told' told'' far.made made far.tells did.carried.tells;
+        all = grown ∙ ap (λ xs. xs ++ answers_in made) far.all ∙ append_assoc first (answers_in far.made) (answers_in made) ∙ ap (λ xs. first ++ xs) (sym (filter_map-append answer_in far.made made));
+        orders = far.orders ++ did.orders;
+        calls = map-append (λ x. x.0) far.made made ∙ (λ i. far.calls i ++ did.carried.calls i) ∙ sym (map-append call_of far.orders did.orders);
+        given = map-append _ far.orders did.orders ∙ (λ i. far.given i ++ did.ordered i) ∙ sym (orders-snoc (map (event_in names) (take k answers)) e s) ∙ ap (λ es. orders_in es s) (sym events);
+        waits = waits ++ new;
+        waiting = subst (λ es. IsWaiting table' (run es s) names (waits ++ new) (drop (k + 1) answers')) (sym events)
+            (subst (λ (u : State). IsWaiting table' u names (waits ++ new) (drop (k + 1) answers')) (sym (run-snoc (map (event_in names) (take k answers)) e s))
+            (subst (IsWaiting table' (step t e) names (waits ++ new)) (sym dropped) next));
+        within = omega (arith, in_range, ap length grown, length-append answers (answers_in made));
+        fits = omega (arith, less, fits);
+      }
+
+abbrev pub Handles : Table → Table → List Pending → List Pending → Option (List Entry) → Option (List Entry) → Pending → Type 0
+Handles table table' answers answers' told' told'' p =
+    (t : State) (ns : List Name) (given : Given) (waits : List Given) (rest : List Pending) → IsWaiting table t ns (given ∷ waits) (p ∷ rest) →
+    Handled t ns given waits p rest table' answers answers' told' told''
+
+pub so-far-turn : (s : State) (names : List Name) (first answers answers' : List Pending) (k : ℕ) (p : Pending) (table table' : Table) (told told' told'' : Option (List Entry)) → k < length answers →
+    p ≡ get_or answers k p → IsSoFar s names first answers k table told told' → Handles table table' answers answers' told' told'' p →
+    IsSoFar s names first answers' (k + 1) table' told told''
+so-far-turn s names first answers answers' k p table table' told told' told'' in_range is far handles =
+    so-far-next s names first answers answers' k p table table' told told' told'' in_range far
+    (subst (Handles table table' answers answers' told' told'') is handles)

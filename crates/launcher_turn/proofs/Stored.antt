@@ -1,0 +1,68 @@
+-- The settings of the machine, after a turn.
+use Rattle.std.proofs.Common.{◌≡◌, ℕ, Bool, true, false, not, ◌&&◌, List, [], ◌∷◌, map, Option, Some, None, refl, sym, ap, ◌∙◌}
+use Rattle.std.specs.Prelude.{Ok}
+use Rattle.history_model.specs.declared.Refusal.{Refusal}
+use Rattle.history_model.specs.declared.Refusal.TheVariants.{SocketRefused}
+use Rattle.history_model.specs.declared.event.Setting.{Setting}
+use Rattle.history_model.specs.Labels.{Label}
+use Rattle.history_model.specs.Machine.{State, Event, Load, Set}
+use Rattle.history_model.specs.Acceptance.{refusal_in, refusal_stored, refused_if}
+use Rattle.history_model.specs.Step.{set_if, step, step_by, run}
+use Rattle.job_defs.specs.Described.{Described}
+use Rattle.job_defs.specs.Definitions.{has_sockets, given}
+use Rattle.job_defs.specs.Table.{def_of}
+use Rattle.job_table.specs.Rows.{Name}
+use Rattle.job_table.specs.Loads.{load_of, given_in, refusal_outside}
+use Rattle.order_edge.specs.declared.pending.Pending.{Pending}
+use Rattle.order_edge.specs.Calls.{Entry, answers_in}
+use Rattle.launcher_turn.specs.Turns.{event_in, events_in}
+
+answer-settings : (names : List Name) (p : Pending) (s : State) → (step s (event_in names p)).settings ≡ s.settings
+answer-settings names p s = go (refusal_in s (event_in names p)) where
+  go : (o : Option Refusal) → (step_by o s (event_in names p)).settings ≡ s.settings
+  go None = refl
+  go (Some refusal) = refl
+
+answers-settings : (names : List Name) (ps : List Pending) (s : State) → (run (map (event_in names) ps) s).settings ≡ s.settings
+answers-settings names [] s = refl
+answers-settings names (p ∷ ps) s = answers-settings names ps (step s (event_in names p)) ∙ answer-settings names p s
+
+pub turn_settings : (s : State) (input : Event) (names : List Name) (entries : List Entry) → (run (input ∷ events_in names entries) s).settings ≡ (step s input).settings
+turn_settings s input names entries = answers-settings names (answers_in entries) (step s input)
+
+none-set : (w bind : Bool) (label : Label) (settings : List Setting) → settings ≡ set_if (w && (bind && false)) label false settings
+none-set true true label settings = refl
+none-set true false label settings = refl
+none-set false bind label settings = refl
+
+load-given : (s : State) (d : Described) (w force bind store : Bool) → refusal_in s (Load (Ok (given d)) w force bind store) ≡ refusal_outside d w bind store →
+    (has_sockets d ≡ false → bind ≡ true) → ((w && bind) ≡ false → store ≡ true) → (step s (Load (Ok (given d)) w force bind store)).settings ≡ set_if (w && (bind && store)) d.label false s.settings
+load-given s d w force bind store left unasked unstored =
+    ap (λ o. (step_by o s (Load (Ok (given d)) w force bind store)).settings) left ∙ go (has_sockets d) refl w bind store unasked unstored where
+      go : (h : Bool) → has_sockets d ≡ h → (w bind store : Bool) → (has_sockets d ≡ false → bind ≡ true) → ((w && bind) ≡ false → store ≡ true) →
+          (step_by (refused_if (h && not bind) SocketRefused (refusal_stored w store)) s (Load (Ok (given d)) w force bind store)).settings ≡ set_if (w && (bind && store)) d.label false s.settings
+      go true is w false store unasked unstored = quiet w where
+        quiet : (v : Bool) → s.settings ≡ set_if (v && false) d.label false s.settings
+        quiet true = refl
+        quiet false = refl
+      go true is true true true unasked unstored = refl
+      go true is true true false unasked unstored = refl
+      go true is false true store unasked unstored = refl
+      go false is true true true unasked unstored = refl
+      go false is true true false unasked unstored = refl
+      go false is false true store unasked unstored = refl
+      go false is w false store unasked unstored = let no : false ≡ true = unasked is in cc
+
+pub load_settings : (s : State) (bytes : List ℕ) (d : Described) (w force bind store : Bool) → def_of bytes ≡ Ok d → refusal_in s (load_of bytes w force bind store) ≡ refusal_outside d w bind store →
+    (has_sockets d ≡ false → bind ≡ true) → ((w && bind) ≡ false → store ≡ true) →
+    (step s (load_of bytes w force bind store)).settings ≡ set_if (w && (bind && store)) d.label false s.settings
+load_settings s bytes d w force bind store read left unasked unstored =
+    ap (λ r. (step s (Load (given_in r) w force bind store)).settings) read
+    ∙ load-given s d w force bind store (ap (λ r. refusal_in s (Load (given_in r) w force bind store)) (sym read) ∙ left) unasked unstored
+
+pub set_settings : (s : State) (label : Label) (disabled store : Bool) → refusal_in s (Set label disabled store) ≡ refusal_stored true store →
+    (step s (Set label disabled store)).settings ≡ set_if store label disabled s.settings
+set_settings s label disabled store left = ap (λ o. (step_by o s (Set label disabled store)).settings) left ∙ go store where
+  go : (b : Bool) → (step_by (refusal_stored true b) s (Set label disabled store)).settings ≡ set_if b label disabled s.settings
+  go true = refl
+  go false = refl

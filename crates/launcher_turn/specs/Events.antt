@@ -1,0 +1,35 @@
+-- What happens to the launcher, as the machine's events.
+use Rattle.std.specs.Prelude.{Bool, true, false}
+use Rattle.history_model.specs.declared.Ask.TheVariants as asks
+use Rattle.history_model.specs.Items.{Item, Asked, Answered, Came, Left, RunEnded, WaitRefused}
+use Rattle.history_model.specs.Machine.{Event, UnloadJob, ShutDown, Tick, Sight, OfJob}
+use Rattle.launcher_turn.specs.declared.happening.News.{News}
+use Rattle.launcher_turn.specs.declared.happening.News.TheVariants as news
+use Rattle.launcher_turn.specs.declared.happening.Happening.{Happening}
+use Rattle.launcher_turn.specs.declared.happening.Happening.TheVariants as happenings
+
+-- the item that one job's past grows by
+abbrev pub item_told : News → Item
+item_told news.Start = Asked asks.Start
+item_told news.Stop = Asked asks.Stop
+item_told (news.Kickstart k) = Asked (asks.Kickstart k)
+item_told (news.Came conn) = Came conn
+item_told (news.Left conn) = Left conn
+item_told (news.Ended run how) = RunEnded run how
+item_told (news.WaitRefused run) = WaitRefused run
+item_told (news.Answered answer) = Answered answer
+
+-- the event; an unload without -w asks no store
+abbrev pub event_of : Happening → Event
+event_of (happenings.Clock at) = Tick at
+event_of (happenings.Saw path obs) = Sight path.now obs
+event_of (happenings.ToJob label what) = OfJob label.now (item_told what)
+event_of (happenings.Unload label) = UnloadJob label.now false true
+event_of happenings.Shutdown = ShutDown
+
+abbrev pub is_clock : Happening → Bool
+is_clock (happenings.Clock at) = true
+is_clock (happenings.Saw path obs) = false
+is_clock (happenings.ToJob label what) = false
+is_clock (happenings.Unload label) = false
+is_clock happenings.Shutdown = false

@@ -1,0 +1,49 @@
+//! Carries out the orders of a step.
+
+ghost use Rattle.std.specs.Prelude.{◌≡◌};
+ghost use Rattle.job_table.specs.Ends.{AreKnown};
+ghost use Rattle.launcher_turn.specs.Turns.{Carried, orders_given, AreKnownIn, refusal_told};
+
+use crate::room::AnswerQueue;
+use child_edge::{ChildEdge, SocketEdge};
+use history_model::Refusal;
+use job_table::Step;
+use order_edge::carry;
+
+/// Carries out each order of the step, in order, each by its one call, and puts the answers behind those that wait. Takes no
+/// memory of its own.
+pub fn carry_all<E: ChildEdge + SocketEdge>(
+    edge: &mut E,
+    step: &Step<'_>,
+    answers: &mut AnswerQueue,
+)
+    requires { AreKnown step.now }
+    ensures { Carried step.now.orders.now answers.old answers.new (E.told edge.old) (E.told edge.new) }
+{
+    for order in step.orders {
+        match carry(edge, *order, step.def(order.job)) {
+            Some(answer) => answers.keep(answer),
+            None => {}
+        }
+    }
+}
+
+/// Carries out the orders of an event; one that was refused has none, and its refusal is the answer.
+#[tactic(auto, using(crate::proofs::CarryLemmas::none_carried))]
+pub(crate) fn carry_given<E: ChildEdge + SocketEdge>(
+    edge: &mut E,
+    given: Result<Step<'_>, Refusal>,
+    answers: &mut AnswerQueue,
+) -> Result<(), Refusal>
+    requires { AreKnownIn given }
+    ensures carried { Carried (orders_given given.entry) answers.old answers.new (E.told edge.old) (E.told edge.new) }
+    ensures answer { refusal_told result ≡ refusal_told given.entry }
+{
+    match given {
+        Ok(step) => {
+            carry_all(edge, &step, answers);
+            Ok(())
+        }
+        Err(refusal) => Err(refusal),
+    }
+}

@@ -1,0 +1,16 @@
+//! A turn of the launcher: the orders of an event are carried out on the outside, and each answer is the next event.
+#![tactic(auto)]
+
+mod carrying;
+mod happening;
+pub mod laws;
+mod room;
+mod settling;
+mod telling;
+mod turns;
+
+pub use carrying::carry_all;
+pub use happening::{Happening, News};
+pub use room::{AnswerQueue, LabelRoom, Room};
+pub use settling::settle;
+pub use turns::turn;

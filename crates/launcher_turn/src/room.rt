@@ -1,0 +1,123 @@
+//! The room that turns need, reserved once: for the answers that are still to be made events, and for one label.
+
+ghost use Rattle.std.specs.Prelude.{◌≡◌, ℕ, ◌<◌, ◌≤◌, ◌*◌, List, [], ◌∷◌, ◌++◌, length, slice_index_or};
+ghost use Rattle.std.specs.Vec.{vec_capacity};
+ghost use Rattle.std.specs.String.{string_bytes, string_capacity};
+ghost use Rattle.order_edge.specs.declared.pending.Pending.{Pending as Answered};
+
+use order_edge::Pending;
+use std::alloc::{AllocError, Global};
+use std::marker::Model;
+
+/// How many answers one turn has at most: of each of 1,024 jobs one spawn, one KILL and one TERM.
+const MOST_ANSWERS: usize = 3 * 1024;
+
+/// How many bytes a label has at most.
+const LONGEST_LABEL: usize = 255;
+
+/// The answers of a turn, oldest first, with room for as many as a turn has. To a contract, their list.
+#[derive(Drop)]
+pub struct AnswerQueue {
+    answers: Vec<Pending>,
+}
+
+impl Model for AnswerQueue {
+    ghost Value = { List Answered };
+
+    ghost view = { λ q. q.answers.items };
+
+    ghost invariant = { λ q. (3 * 1024 ≤ vec_capacity q.answers) × (length q.answers.items ≤ 3 * 1024) };
+}
+
+impl AnswerQueue {
+    /// A queue with no answer, and with all room that it ever needs. `AllocError` where memory for it was refused.
+    pub fn new(alloc: Global) -> Result<AnswerQueue, AllocError> {
+        let answers = Vec::with_capacity(alloc, MOST_ANSWERS)?;
+        Ok(AnswerQueue { answers })
+    }
+
+    /// Forgets the answers of the turn before. Takes no memory.
+    pub fn clear(&mut self)
+        ensures { self.new ≡ [] }
+    {
+        self.answers.clear();
+    }
+
+    /// How many answers the turn has had, at most 3,072.
+    pub fn len(&self) -> usize
+        ensures length { result ≡ length self.now }
+        ensures few { length self.now ≤ 3 * 1024 }
+    {
+        self.answers.len()
+    }
+
+    /// The answer at a place, counted from 0. The caller's condition: the place is below the queue's length.
+    pub(crate) fn at(&self, place: usize) -> Pending
+        requires { place < length self.now }
+        ensures { result ≡ slice_index_or self.now place result }
+    {
+        self.answers[place]
+    }
+
+    /// Puts an answer behind the others, where there is room for it. Takes no memory.
+    pub(crate) fn keep(&mut self, answer: Pending)
+        ensures { length self.old < 3 * 1024 → self.new ≡ self.old ++ answer ∷ [] }
+    {
+        if self.answers.len() < MOST_ANSWERS {
+            self.answers.push_reserved(answer);
+        }
+    }
+}
+
+/// Room for a label. To a contract, the text that stands in it.
+#[derive(Drop)]
+pub struct LabelRoom {
+    text: String,
+}
+
+impl Model for LabelRoom {
+    ghost Value = { List ℕ };
+
+    ghost view = { λ r. string_bytes r.text };
+
+    ghost invariant = { λ r. 255 ≤ string_capacity r.text };
+}
+
+impl LabelRoom {
+    /// Room with no text. `AllocError` where memory for it was refused.
+    pub fn new(alloc: Global) -> Result<LabelRoom, AllocError> {
+        let text = String::with_capacity(alloc, LONGEST_LABEL)?;
+        Ok(LabelRoom { text })
+    }
+
+    /// Copies a text of at most 255 bytes, as each label is. Takes no memory for it.
+    pub(crate) fn copy(&mut self, text: &str)
+        ensures { length text.now ≤ 255 → self.new ≡ text.now }
+    {
+        self.text.clear();
+        let _copied = self.text.push_str(text);
+    }
+
+    /// The text, lent.
+    pub(crate) fn as_str(&self) -> &str
+        ensures { result.now ≡ self.now }
+    {
+        self.text.as_str()
+    }
+}
+
+/// What turns need of memory, reserved once, so that no turn is cut short for want of it.
+#[derive(Drop)]
+pub struct Room {
+    pub answers: AnswerQueue,
+    pub label: LabelRoom,
+}
+
+impl Room {
+    /// All room that turns ever need. `AllocError` where memory for it was refused.
+    pub fn new(alloc: Global) -> Result<Room, AllocError> {
+        let answers = AnswerQueue::new(alloc)?;
+        let label = LabelRoom::new(alloc)?;
+        Ok(Room { answers, label })
+    }
+}

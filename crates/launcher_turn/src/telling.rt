@@ -1,0 +1,38 @@
+//! Tells the table what happens, and carries out what it orders.
+
+ghost use Rattle.std.specs.Prelude.{◌≡◌, Err, true};
+ghost use Rattle.history_model.specs.declared.Refusal.TheVariants.{NoMemory};
+ghost use Rattle.job_table.specs.Outcomes.{UnlessMemory};
+ghost use Rattle.launcher_turn.specs.Events.{event_of, is_clock};
+ghost use Rattle.launcher_turn.specs.Turns.{Happens, IsUntouched, refusal_told};
+
+use crate::carrying::carry_given;
+use crate::happening::{Happening, job_event};
+use crate::room::AnswerQueue;
+use child_edge::{ChildEdge, SocketEdge};
+use history_model::Refusal;
+use job_table::JobTable;
+use std::alloc::Global;
+
+/// Tells the table what happens, and carries out what it orders. NoMemory only to a reading of the clocks, before anything was
+/// carried out.
+pub(crate) fn tell<E: ChildEdge + SocketEdge>(
+    table: &mut JobTable,
+    edge: &mut E,
+    alloc: Global,
+    what: Happening<'_>,
+    answers: &mut AnswerQueue,
+) -> Result<(), Refusal>
+    ensures happens { UnlessMemory result (Happens (event_of what.entry) (refusal_told result) table.old table.new answers.old answers.new (E.told edge.old) (E.told edge.new)) }
+    ensures memory { result ≡ Err NoMemory → (is_clock what.entry ≡ true) × IsUntouched table.old table.new (E.told edge.old) (E.told edge.new) }
+{
+    match what {
+        Happening::Clock(at) => carry_given(edge, table.clock(alloc, at), answers),
+        Happening::Saw(path, obs) => carry_given(edge, table.saw(path, obs), answers),
+        Happening::ToJob(label, news) => {
+            carry_given(edge, table.tell(label, job_event(news)), answers)
+        }
+        Happening::Unload(label) => carry_given(edge, table.unload(label), answers),
+        Happening::Shutdown => carry_given(edge, table.shutdown(), answers),
+    }
+}
