@@ -324,6 +324,38 @@ orders-spaced wait (Answered answer ∷ t) lawful same = ((λ e. cc), orders-spa
 orders-spaced wait (RunEnded run how ∷ t) lawful same = ((λ e. cc), orders-spaced wait t lawful.1 same)
 orders-spaced wait (WaitRefused run ∷ t) lawful same = ((λ e. cc), orders-spaced wait t lawful.1 same)
 
+-- ---- the moments of spawns, and of a run's end, at the present reading and after it
+
+-- the newest spawn order and the newest refusal give the next moment of all of them
+pub next-spawn : (t : History) → IsLawful t → (up : ℕ) → (now t).up ≤ up →
+    least (filter (nat_lt up) (later_by (1000 * (definition_of t).throttle_interval) (moments is_spawn_order t) ++ later_by 1000 (moments is_spawn_refusal t)))
+    ≡ sooner (coming_after up (1000 * (definition_of t).throttle_interval) (first (moments is_spawn_order t))) (coming_after up 1000 (first (moments is_spawn_refusal t)))
+next-spawn t lawful up le =
+    let wait = 1000 * (definition_of t).throttle_interval in
+    let spawned = later_by wait (moments is_spawn_order t) in
+    let refused = later_by 1000 (moments is_spawn_refusal t) in
+    next-least up (spawned ++ refused)
+    ∙ next-++ up spawned refused
+    ∙ (λ i. sooner (newest-coming is_spawn_order wait up t lawful (orders-spaced wait t lawful refl) le i)
+    (newest-coming is_spawn_refusal 1000 up t lawful (kind-spaced is_spawn_refusal is_spawn spawn_kind t lawful) le i))
+
+-- the first TERM, the newest refused TERM and the newest refused KILL give that of all of a run's
+pub next-end : (t : History) → IsLawful t → (up : ℕ) → (now t).up ≤ up → (run : ℕ) →
+    least (filter (nat_lt up) (timeouts (definition_of t).exit_timeout (last (moments (is_term_order run) t)) ++ later_by 1000 (moments (is_term_answer false run) t) ++ later_by 1000 (moments (is_kill_answer false run) t)))
+    ≡ sooner (cond (nat_lt 0 (definition_of t).exit_timeout) (coming_after up (1000 * (definition_of t).exit_timeout) (last (moments (is_term_order run) t))) None)
+    (sooner (coming_after up 1000 (first (moments (is_term_answer false run) t))) (coming_after up 1000 (first (moments (is_kill_answer false run) t))))
+next-end t lawful up le run =
+    let outs = timeouts (definition_of t).exit_timeout (last (moments (is_term_order run) t)) in
+    let refused = later_by 1000 (moments (is_term_answer false run) t) in
+    let killed = later_by 1000 (moments (is_kill_answer false run) t) in
+    next-least up (outs ++ refused ++ killed)
+    ∙ next-++ up (outs ++ refused) killed
+    ∙ ap (λ m. sooner m (next_of up killed)) (next-++ up outs refused)
+    ∙ sooner-assoc (next_of up outs) (next_of up refused) (next_of up killed)
+    ∙ (λ i. sooner (next-timeout up (definition_of t).exit_timeout (last (moments (is_term_order run) t)) i)
+    (sooner (newest-coming (is_term_answer false run) 1000 up t lawful (kind-spaced (is_term_answer false run) (is_term run) (term_kind run) t lawful) le i)
+    (newest-coming (is_kill_answer false run) 1000 up t lawful (kind-spaced (is_kill_answer false run) (is_kill run) (kill_kind run) t lawful) le i)))
+
 -- ---- the next moment
 
 period-first : (seconds : Option ℕ) (load up : ℕ) (ms : List ℕ) → least (next_period seconds load up ++ ms) ≡ sooner (coming_period seconds load up) (least ms)

@@ -1,5 +1,6 @@
 -- No definition but a tie: the facts of a past with one more item, computed from the facts before it. proofs/Steps shows that
--- on every lawful past they are those of specs/Facts, which searches the past; no public contract cites this file.
+-- on every lawful past they are those of specs/Facts, which searches the past. Of public clauses only `step` of
+-- `conditions::Conditions::saw` cites it (`seen_after`), beside `past`, which speaks of the past.
 use Rattle.std.specs.Prelude.{◌≡◌, OnOk, Result, ℕ, ◌==◌, Bool, true, false, not, ◌&&◌, ◌||◌, cond, List, [], ◌∷◌, ◌++◌, Option, Some, None, if◌then◌else◌}
 use Rattle.std.specs.List.{filter}
 use Rattle.history_model.specs.declared.Reading.{Reading}

@@ -3,6 +3,7 @@
 
 ghost use Rattle.std.specs.Prelude.{◌≡◌, ◌≤◌, ℕ, ◌*◌, ◌||◌, ◌&&◌, not, nat_lt, Bool, true, false, Some, None, if◌then◌else◌};
 ghost use Rattle.history_model.specs.Items.{History};
+ghost use Rattle.history_model.specs.Clock as clock;
 ghost use Rattle.history_model.specs.Search.{or_else};
 ghost use Rattle.history_model.specs.Refusals.{IsLawful};
 ghost use Rattle.history_model.specs.Due.{is_over};
@@ -15,7 +16,7 @@ use history_model::MAX_UP;
 use std::marker::Model;
 
 /// What a run is told by.
-#[derive(Clone, Copy, PartialEq, Eq)]
+#[derive(Clone, Copy)]
 pub enum Signal {
     Term,
     Kill,
@@ -58,7 +59,7 @@ impl Ending {
     ghost use Rattle.pace.specs.Paces.{Ends, no_ends};
     ghost use Rattle.pace.specs.Told.{done_after};
     ghost use Rattle.pace.specs.Next.{IsEndMoment};
-    ghost use Rattle.pace.specs.OfPast.{ends_of, may_term_at, may_kill_at};
+    ghost use Rattle.pace.specs.OfPast.{ends_of, may_term_at, may_kill_at, end_moments, least_after};
 
     /// The end of a run for which nothing was ordered. The timeout is in seconds from TERM to KILL; 0 means no KILL.
     pub fn new(timeout: u32) -> Ending
@@ -191,8 +192,19 @@ impl Ending {
         }
     }
 
-    /// The next moment at which the time to end is over, or a refused TERM or KILL stops being too near.
+    /// The next moment at which the time to end is over, or a refused TERM or KILL stops being too near. After the
+    /// present reading no other refusal has such a moment.
     pub fn next_moment(&self, up: u64) -> Option<u64>
+        ensures value { result ≡ sooner (if nat_lt 0 self.now.timeout then coming_after up (1000 * self.now.timeout) self.now.term_ordered else None)
+            (sooner (coming_after up RETRY self.now.term_refused) (coming_after up RETRY self.now.kill_refused)) }
+        ensures next { IsNext (IsEndMoment self.now) up result }
+        ensures past { (past : History) → IsLawful past → self.now ≡ ends_of past → (clock.now past).up ≤ up → result ≡ least_after up (end_moments past) }
+    {
+        self.next_from(up)
+    }
+
+    /// That moment, by what is kept.
+    fn next_from(&self, up: u64) -> Option<u64>
         ensures value { result ≡ sooner (if nat_lt 0 self.now.timeout then coming_after up (1000 * self.now.timeout) self.now.term_ordered else None)
             (sooner (coming_after up RETRY self.now.term_refused) (coming_after up RETRY self.now.kill_refused)) }
         ensures next { IsNext (IsEndMoment self.now) up result }

@@ -2,6 +2,7 @@
 
 ghost use Rattle.std.specs.Prelude.{◌≡◌, ◌≤◌, ℕ, ◌*◌, ◌||◌, nat_lt, Some, None};
 ghost use Rattle.history_model.specs.Items.{History};
+ghost use Rattle.history_model.specs.Clock as clock;
 ghost use Rattle.history_model.specs.Refusals.{IsLawful};
 ghost use Rattle.history_model.specs.ByFacts.{is_newest_within};
 ghost use Rattle.history_model.specs.Coming.{sooner, coming_after};
@@ -34,7 +35,7 @@ impl Model for Throttle {
 
 impl Throttle {
     ghost use Rattle.pace.specs.Next.{IsSpawnMoment};
-    ghost use Rattle.pace.specs.OfPast.{spacing_of, is_throttled_at};
+    ghost use Rattle.pace.specs.OfPast.{spacing_of, is_throttled_at, spawn_moments, least_after};
 
     /// The throttle of a job of which no spawn was ordered.
     pub fn new(seconds: u32) -> Throttle
@@ -88,8 +89,18 @@ impl Throttle {
         of_order.max(of_refusal)
     }
 
-    /// The next moment at which the last order or the last refusal stops being too near.
+    /// The next moment at which the last order or the last refusal stops being too near. After the present reading no other
+    /// order and no other refusal has such a moment.
     pub fn next_moment(&self, up: u64) -> Option<u64>
+        ensures value { result ≡ sooner (coming_after up (1000 * self.now.seconds) self.now.order) (coming_after up RETRY self.now.refusal) }
+        ensures next { IsNext (IsSpawnMoment self.now) up result }
+        ensures past { (past : History) → IsLawful past → self.now ≡ spacing_of past → (clock.now past).up ≤ up → result ≡ least_after up (spawn_moments past) }
+    {
+        self.next_from(up)
+    }
+
+    /// That moment, by what is kept.
+    fn next_from(&self, up: u64) -> Option<u64>
         ensures value { result ≡ sooner (coming_after up (1000 * self.now.seconds) self.now.order) (coming_after up RETRY self.now.refusal) }
         ensures next { IsNext (IsSpawnMoment self.now) up result }
     {

@@ -14,20 +14,20 @@ pub const MAX_WAITING: usize = 64;
 #[derive(Clone, Copy, PartialEq, Eq)]
 pub struct Full;
 
-/// Connections in order of arrival: to a contract, the list of their numbers.
+/// Connections in order of arrival: to a contract, the list of their numbers. The room is that of `new`, and no call changes it.
 #[derive(Drop)]
 pub struct Waiting {
     conns: Vec<u64>,
 }
 
 impl Model for Waiting {
-    ghost use Rattle.std.specs.Prelude.{List, ℕ, ◌≤◌, length, vec_capacity};
+    ghost use Rattle.std.specs.Prelude.{List, ℕ, ◌≡◌, ◌≤◌, length, vec_capacity};
 
     ghost Value = { List ℕ };
 
     ghost view = { λ w. w.conns.items };
 
-    ghost invariant = { λ w. (64 ≤ vec_capacity w.conns) × (length w.conns.items ≤ 64) };
+    ghost invariant = { λ w. (vec_capacity w.conns ≡ 64) × (length w.conns.items ≤ 64) };
 }
 
 impl Waiting {
@@ -40,6 +40,7 @@ impl Waiting {
     }
 
     /// Adds a connection behind the others. Refused where 64 wait already, which it then leaves as they are.
+    #[tactic(auto, using(std::proofs::lemmas::List::Edits::insert_end))]
     pub fn came(&mut self, conn: u64) -> Result<(), Full>
         ensures room { IsOk result ↔ (length self.old < MAX_WAITING) }
         ensures ok { OnOk result (self.new ≡ self.old ++ conn ∷ []) }
@@ -48,8 +49,9 @@ impl Waiting {
         if self.conns.len() >= MAX_WAITING {
             return Err(Full);
         }
-        // The room is there since `new`.
-        match self.conns.push(conn) {
+        // The room is there since `new`, and stays as it is: of `push` std says only that it does not shrink.
+        let end = self.conns.len();
+        match self.conns.insert(end, conn) {
             Ok(()) => Ok(()),
             Err(_) => unreachable!(),
         }
