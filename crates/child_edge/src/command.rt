@@ -1,6 +1,6 @@
 //! What a child is started with, out of its job's definition.
 
-ghost use Rattle.std.specs.Prelude.{◌≡◌, ◌++◌, ℕ, List, None, Some, IfOk, OnOk};
+ghost use Rattle.std.specs.Prelude.{◌≡◌, ◌++◌, ℕ, List, None, Some, IfOk, OnOk, option_map};
 ghost use Rattle.std.specs.Process.{command_program, command_args, command_dir, command_arg0, command_var, SameEnv, SameDir, SameOtherVars, SameProgramAndArgs};
 ghost use Rattle.child_edge.specs.Launch.{said_after};
 
@@ -36,13 +36,38 @@ pub(crate) fn command_of(alloc: Global, def: &Def, streams: Streams) -> Result<C
     command.stdin(input);
     command.stdout(output);
     command.stderr(errors);
-    add_words(&mut command, def.arguments())?;
-    add_variables(&mut command, def.environment())?;
-    if let Some(directory) = def.working_directory() {
-        command.current_dir(directory)?;
+    match set_up(&mut command, def) {
+        Ok(()) => Ok(command),
+        Err(error) => Err(error),
     }
+}
+
+// What the definition says beside the program. The command is lent, so that no `?` has to drop it.
+fn set_up(command: &mut Command, def: &Def) -> Result<(), AllocError>
+    requires { command_dir command.old ≡ None }
+    ensures program { OnOk result (command_program command.new ≡ command_program command.old) }
+    ensures name { OnOk result (command_arg0 command.new ≡ Some def.now.program) }
+    ensures arguments { OnOk result (command_args command.new ≡ command_args command.old ++ def.now.arguments) }
+    ensures directory { OnOk result (command_dir command.new ≡ def.now.working_directory) }
+    ensures variables { OnOk result ((name : List ℕ) → command_var command.new name ≡ said_after name (command_var command.old name) def.now.environment) }
+{
+    add_words(command, def.arguments())?;
+    add_variables(command, def.environment())?;
+    set_folder(command, def.working_directory())?;
     command.arg0(def.program())?;
-    Ok(command)
+    Ok(())
+}
+
+fn set_folder(command: &mut Command, folder: Option<&str>) -> Result<(), AllocError>
+    requires { command_dir command.old ≡ None }
+    ensures call { OnOk result (SameProgramAndArgs command.old command.new) }
+    ensures env { OnOk result (SameEnv command.old command.new) }
+    ensures folder { OnOk result (command_dir command.new ≡ option_map (λ s. s.now) folder.entry) }
+{
+    if let Some(folder) = folder {
+        command.current_dir(folder)?;
+    }
+    Ok(())
 }
 
 fn add_words(command: &mut Command, words: &[Text]) -> Result<(), AllocError>

@@ -2,7 +2,7 @@
 //! run writes.
 
 use history_model::JobNo;
-use std::alloc::Global;
+use std::alloc::{AllocError, Global};
 use std::fs::{File, Files, OpenOptions};
 use std::io::Write;
 use std::os::unix::fs::OpenOptionsExt;
@@ -22,10 +22,9 @@ impl SpoolPaths {
         job: JobNo,
         conn: u64,
     ) -> io::Result<SpoolPaths> {
-        Ok(SpoolPaths {
-            request: format!(in alloc; "{folder}/{job}-{conn}.request")?,
-            reply: format!(in alloc; "{folder}/{job}-{conn}.reply")?,
-        })
+        let request = name_of(alloc, folder, job, conn, "request")?;
+        let reply = name_of(alloc, folder, job, conn, "reply")?;
+        Ok(SpoolPaths { request, reply })
     }
 
     /// Makes both files, the request with these bytes and the reply empty, and opens the reply to be read from its
@@ -52,6 +51,16 @@ impl SpoolPaths {
         let _ = fs::remove_file(rt, self.request.as_str());
         let _ = fs::remove_file(rt, self.reply.as_str());
     }
+}
+
+fn name_of(
+    alloc: Global,
+    folder: &str,
+    job: JobNo,
+    conn: u64,
+    end: &str,
+) -> Result<String, AllocError> {
+    format!(in alloc; "{folder}/{job}-{conn}.{end}")
 }
 
 // An empty file, which this user alone may read.

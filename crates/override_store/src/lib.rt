@@ -1,21 +1,23 @@
 //! The settings that an administrator made of labels, enabled or disabled, kept in a database so that they last.
 #![tactic(auto)]
 
-ghost use Rattle.std.specs.Prelude.{◌≡◌, ◌≢◌, ◌⊎◌, ◌↔◌, ◌≤◌, Err, IfErr, IfOk, IsTrue, List, OnErr, OnOk, Any, ◌∷◌, false, map, reverse};
+ghost use Rattle.std.specs.Prelude.{◌≡◌, ◌≢◌, ◌⊎◌, ◌↔◌, ◌≤◌, Err, IfErr, IfOk, IsErr, IsTrue, List, OnErr, OnOk, Any, ◌∷◌, false, map, reverse, ℕ};
 ghost use Rattle.std.specs.List.{IsDistinct};
 ghost use Rattle.sqlite.specs.Held.{state};
 ghost use Rattle.sqlite.specs.Order.{column};
 ghost use Rattle.sqlite.specs.State.{HasCleanDisk, Survives};
+ghost use Rattle.sqlite_disk.specs.Disk.{MoreFaults};
 ghost use Rattle.sqlite.specs.Tree.{Trees};
 ghost use Rattle.sqlite.specs.View.{IsClean, doubt};
 ghost use Rattle.history_model.specs.Labels.{is_label, is_same};
 ghost use Rattle.history_model.specs.declared.event.Setting.{Setting};
-ghost use Rattle.override_store.specs.Ours.{AreFit, Carries, HoldsAs, HoldsSetting, IsOurs, rows_in};
+ghost use Rattle.override_store.specs.Ours.{AreFit, Carries, HoldsAs, HoldsSetting, HoldsSettings, IsOurs, rows_in};
 ghost use Rattle.override_store.specs.Rows.{Sets, Stamps};
-ghost use Rattle.override_store.specs.Settings.{Change, HoldsEach, IsForeign, ListsChanges, ListsSettings, change_of};
+ghost use Rattle.override_store.specs.Settings.{Change, HoldsEach, IsForeign, ListsChanges, ListsSettings, change_of, setting_in};
 
 pub mod again;
 mod batch;
+pub mod laws;
 mod lists;
 mod open;
 mod statements;
@@ -77,6 +79,7 @@ impl<S: Alter + Drop> OverrideStore<S> {
         ensures opened { IfOk result (λ s. HasCleanDisk (state S.Store s) → AreFit (state S.Store conn).committed.trees → IsOurs (state S.Store s)) }
         ensures rows { IfOk result (λ s. HasCleanDisk (state S.Store s) → Carries (state S.Store conn).committed.trees (state S.Store s).now.trees) }
         ensures clean { IfOk result (λ s. doubt (state S.Store conn).is_clean ≤ doubt (state S.Store s).is_clean) }
+        ensures was_open { IfOk result (λ s. HasCleanDisk (state S.Store s) → IsTrue (state S.Store conn).is_open) }
         ensures crash { IfOk result (λ s. HasCleanDisk (state S.Store s) → AreFit (state S.Store conn).committed.trees → (db : Trees) → (state S.Store s).may_leave db → db ≡ (state S.Store s).now.trees) }
         ensures left { IfErr result (λ e. IsClean (S.Store.view e.1) → AreFit (state S.Store conn).committed.trees → (db : Trees) → S.Store.recovers e.1 db → (state S.Store conn).may_leave db ⊎ HoldsAs (state S.Store conn).committed.trees db) }
         ensures known { IfErr result (λ e. e.0 ≢ StoreFault.Foreign) }
@@ -96,6 +99,7 @@ impl<S: Alter + Drop> OverrideStore<S> {
         ensures opened { IfOk result (λ s. HasCleanDisk (state S.Store s) → AreFit (state S.Store conn).committed.trees → IsOurs (state S.Store s)) }
         ensures rows { IfOk result (λ s. HasCleanDisk (state S.Store s) → Carries (state S.Store conn).committed.trees (state S.Store s).now.trees) }
         ensures clean { IfOk result (λ s. doubt (state S.Store conn).is_clean ≤ doubt (state S.Store s).is_clean) }
+        ensures was_open { IfOk result (λ s. HasCleanDisk (state S.Store s) → IsTrue (state S.Store conn).is_open) }
         ensures crash { IfOk result (λ s. HasCleanDisk (state S.Store s) → AreFit (state S.Store conn).committed.trees → (db : Trees) → (state S.Store s).may_leave db → db ≡ (state S.Store s).now.trees) }
         ensures known { IfErr result (λ e. e ≢ StoreFault.Foreign) }
     {
@@ -119,6 +123,9 @@ impl<S: Alter> OverrideStore<S> {
         ensures newest { HasCleanDisk (state S.Store self.new) → IsOurs (state S.Store self.old) → OnOk result ((settings : List Setting) → HoldsEach (rows_in (state S.Store self.old).now.trees) settings → HoldsEach (rows_in (state S.Store self.new).now.trees) (record { label = label.now; disabled = disabled } ∷ settings)) }
         ensures err { HasCleanDisk (state S.Store self.new) → IsOurs (state S.Store self.old) → IsTrue (state S.Store self.new).is_open → OnErr result (IsOurs (state S.Store self.new) × ((state S.Store self.new).now ≡ (state S.Store self.old).now)) }
         ensures mode { HasCleanDisk (state S.Store self.new) → IsOurs (state S.Store self.old) → (state S.Store self.new).in_transaction ≡ false }
+        ensures shut { HasCleanDisk (state S.Store self.new) → IsOurs (state S.Store self.old) → (state S.Store self.new).is_open ≡ false → IsErr result × MoreFaults (state S.Store self.old).faults (state S.Store self.new).faults × ((db : Trees) → (state S.Store self.new).may_leave db → (state S.Store self.old).may_leave db ⊎ HoldsSetting (state S.Store self.old) db label.now disabled changed) }
+        ensures was_open { HasCleanDisk (state S.Store self.new) → IsTrue (state S.Store self.new).is_open → IsTrue (state S.Store self.old).is_open }
+        ensures holds { (settings : List Setting) → HoldsSettings (state S.Store self.old) settings → OnOk result (HoldsSettings (state S.Store self.new) (record { label = label.now; disabled = disabled } ∷ settings)) × OnErr result (HoldsSettings (state S.Store self.new) settings) }
         ensures crash { Survives (state S.Store self.old) (state S.Store self.new) (λ db. IsOurs (state S.Store self.old) → HoldsSetting (state S.Store self.old) db label.now disabled changed) }
         ensures lasts { HasCleanDisk (state S.Store self.new) → IsOurs (state S.Store self.old) → OnOk result ((db : Trees) → (state S.Store self.new).may_leave db → db ≡ (state S.Store self.new).now.trees) }
         ensures known { IfErr result (λ e. e ≢ StoreFault.Foreign) }
@@ -136,6 +143,9 @@ impl<S: Alter> OverrideStore<S> {
         ensures foreign { HasCleanDisk (state S.Store self.new) → IsOurs (state S.Store self.old) → result ≡ Err StoreFault.Foreign → Any (λ row. IsForeign (column row 1)) (rows_in (state S.Store self.old).now.trees) }
         ensures same { HasCleanDisk (state S.Store self.new) → IsOurs (state S.Store self.old) → IsTrue (state S.Store self.new).is_open → IsOurs (state S.Store self.new) × ((state S.Store self.new).now ≡ (state S.Store self.old).now) }
         ensures mode { HasCleanDisk (state S.Store self.new) → IsOurs (state S.Store self.old) → (state S.Store self.new).in_transaction ≡ false }
+        ensures was_open { HasCleanDisk (state S.Store self.new) → IsTrue (state S.Store self.new).is_open → IsTrue (state S.Store self.old).is_open }
+        ensures holds { (settings : List Setting) → HoldsSettings (state S.Store self.old) settings → HoldsSettings (state S.Store self.new) settings }
+        ensures told { HasCleanDisk (state S.Store self.new) → (settings : List Setting) → HoldsSettings (state S.Store self.old) settings → IfOk result (λ all. (label : List ℕ) → setting_in (reverse all.items) label ≡ setting_in settings label) }
         ensures crash { Survives (state S.Store self.old) (state S.Store self.new) (λ _. IsOurs (state S.Store self.old) → ⊥) }
     {
         let rows = statements::read(&mut self.conn)?;
@@ -152,6 +162,8 @@ impl<S: Alter> OverrideStore<S> {
         ensures foreign { HasCleanDisk (state S.Store self.new) → IsOurs (state S.Store self.old) → result ≡ Err StoreFault.Foreign → Any (λ row. IsForeign (column row 1)) (rows_in (state S.Store self.old).now.trees) }
         ensures same { HasCleanDisk (state S.Store self.new) → IsOurs (state S.Store self.old) → IsTrue (state S.Store self.new).is_open → IsOurs (state S.Store self.new) × ((state S.Store self.new).now ≡ (state S.Store self.old).now) }
         ensures mode { HasCleanDisk (state S.Store self.new) → IsOurs (state S.Store self.old) → (state S.Store self.new).in_transaction ≡ false }
+        ensures was_open { HasCleanDisk (state S.Store self.new) → IsTrue (state S.Store self.new).is_open → IsTrue (state S.Store self.old).is_open }
+        ensures holds { (settings : List Setting) → HoldsSettings (state S.Store self.old) settings → HoldsSettings (state S.Store self.new) settings }
         ensures crash { Survives (state S.Store self.old) (state S.Store self.new) (λ _. IsOurs (state S.Store self.old) → ⊥) }
     {
         let rows = statements::read(&mut self.conn)?;

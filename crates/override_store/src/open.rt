@@ -1,6 +1,6 @@
 //! The connection of a store, with both tables.
 
-ghost use Rattle.std.specs.Prelude.{◌≡◌, ◌≢◌, ◌≤◌, IfErr, IfOk, List, OnOk};
+ghost use Rattle.std.specs.Prelude.{◌≡◌, ◌≢◌, ◌≤◌, IfErr, IfOk, IsTrue, List, OnOk};
 ghost use Rattle.sqlite.specs.Held.{state};
 ghost use Rattle.sqlite.specs.Order.{Row};
 ghost use Rattle.sqlite.specs.State.{HasCleanDisk, Survives};
@@ -23,6 +23,7 @@ pub(crate) fn renewed<S: Alter + Drop>(
     ensures ready { IfOk result (λ c. HasCleanDisk (state S.Store c) → (firsts seconds : List Row) → HasTables (state S.Store conn).committed.trees firsts seconds → IsReady (state S.Store c) firsts seconds) }
     ensures same { IfOk result (λ c. HasCleanDisk (state S.Store c) → (state S.Store c).now.trees ≡ (state S.Store conn).committed.trees) }
     ensures clean { IfOk result (λ c. doubt (state S.Store conn).is_clean ≤ doubt (state S.Store c).is_clean) }
+    ensures was_open { IfOk result (λ c. HasCleanDisk (state S.Store c) → IsTrue (state S.Store conn).is_open) }
     ensures crash { IfOk result (λ c. HasCleanDisk (state S.Store c) → (db : Trees) → (state S.Store c).may_leave db → (state S.Store conn).may_leave db) }
     ensures left { IfErr result (λ e. (db : Trees) → S.Store.recovers e.1 db → (state S.Store conn).may_leave db) }
     ensures known { IfErr result (λ e. e.0 ≢ StoreFault.Foreign) }

@@ -1,6 +1,7 @@
 use Rattle.std.proofs.Common.{map}
 use Rattle.override_store.specs.Settings.{Change, IsChange, IsForeign, change_of}
 use Rattle.override_store.proofs.AnswerLemmas.{listed_as, if_ok, answer_long, any_shown}
+use Rattle.override_store.proofs.HoldsLemmas.{kept}
 use Rattle.override_store.proofs.OnceLemmas.{once}
 use Rattle.override_store.proofs.OverrideStore.changes.Goals as goal
 
@@ -20,3 +21,9 @@ returns-clause-foreign g c clean ours refused =
     let rows = c.in_ok-rows.rows.items in
     let found = rw c.as_slice.ensures.value at (c.changes.ensures.foreign (rw (c.as_slice.ensures.value) (answer_long _ rows it)) refused) in
     rw (← c.self.view_is) (any_shown IsForeign _ rows it found)
+
+pub returns-clause-holds : goal.returns-clause-holds
+returns-clause-holds g c settings holds = kept c.in_ok-rows.ensures.crash c.in_ok-rows.ensures.was_open c.in_ok-rows.ensures.same settings (rw c.self.view_is holds)
+
+pub returns-in_err-rows-clause-holds : goal.returns-in_err-rows-clause-holds
+returns-in_err-rows-clause-holds g c settings holds = kept c.in_err-rows.ensures.crash c.in_err-rows.ensures.was_open c.in_err-rows.ensures.same settings (rw c.self.view_is holds)

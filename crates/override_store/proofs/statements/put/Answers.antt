@@ -3,7 +3,7 @@ use Rattle.std.proofs.lemmas.Int.{to_z_pos}
 use Rattle.sqlite.specs.Held.{state}
 use Rattle.sqlite.specs.Effect.{Database}
 use Rattle.sqlite.proofs.StateLemmas.{survives_weaker}
-use Rattle.override_store.proofs.CallLemmas.{has_set, may_set, keeps, refused, leaves_none}
+use Rattle.override_store.proofs.CallLemmas.{has_set, may_set, keeps, refused, leaves_none, opens_none}
 use Rattle.override_store.proofs.statements.put.Goals as goal
 
 pub returns-in-Ok-clause-ok : goal.returns-in-Ok-clause-ok
@@ -41,3 +41,11 @@ returns-in-Ok-clause-lasts g c clean ours db left =
     let now = (has_set (state g.S.Store c.args.conn.now) (state g.S.Store c.execute.new.self) c.args.label.now c.args.disabled c.args.changed ours c.in-Ok.field-0
     (rw (c.params-to_sql.ensures, c.params-to_sql-2.ensures, c.params-to_sql-3.ensures, to_z_pos w64 c.args.changed (omega (arith, c.requires))) at (c.in-Ok.ensures.runs clean))).0 in
     g.met.S.Store.settled c.execute.new.self.store db now.is_open left ∙ ap (λ (d : Database). d.trees) now.settled
+
+pub returns-in-Ok-clause-was_open : goal.returns-in-Ok-clause-was_open
+returns-in-Ok-clause-was_open g c clean up =
+    opens_none _ _ (state g.S.Store c.args.conn.now) (state g.S.Store c.execute.new.self) _ (c.in-Ok.ensures.runs clean) up
+
+pub returns-in-Err-clause-was_open : goal.returns-in-Err-clause-was_open
+returns-in-Err-clause-was_open g c clean up =
+    opens_none _ _ (state g.S.Store c.args.conn.now) (state g.S.Store c.execute.new.self) _ (c.in-Err.ensures.runs clean) up

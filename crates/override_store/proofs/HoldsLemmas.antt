@@ -1,0 +1,47 @@
+-- What a store holds after a call.
+use Rattle.std.proofs.Common.{◌≡◌, ◌⊎◌, inl, inr, Bool, false, List, ◌∷◌, Result, IsTrue, IsErr, OnOk, OnErr, Ok, Err, refl, sym, subst, ◌∙◌, arith}
+use Rattle.sqlite.specs.Tree.{Trees}
+use Rattle.sqlite_disk.specs.Disk.{MoreFaults}
+use Rattle.sqlite.specs.Effect.{Database}
+use Rattle.sqlite.specs.State.{State, HasCleanDisk, Survives}
+use Rattle.history_model.specs.declared.event.Setting.{Setting}
+use Rattle.override_store.specs.Ours.{HoldsNow, HoldsSettings, IsOurs, rows_in}
+use Rattle.override_store.specs.Settings.{HoldsEach}
+
+module _ {old new : State} {Commits : Trees → Type 0} (survives : Survives old new Commits) (was_open : HasCleanDisk new → IsTrue new.is_open → IsTrue old.is_open) where
+  before : (settings : List Setting) → HoldsSettings old settings → HasCleanDisk new → IsTrue new.is_open → HoldsNow old settings
+  before settings holds clean up =
+      let early : HasCleanDisk old = omega (arith, clean, survives.clean) in
+      holds early (was_open clean up)
+
+  -- what changes nothing leaves what is held
+  pub kept : (HasCleanDisk new → IsOurs old → IsTrue new.is_open → IsOurs new × (new.now ≡ old.now)) → (settings : List Setting) → HoldsSettings old settings → HoldsSettings new settings
+  kept same settings holds clean up =
+      let it = before settings holds clean up in
+      let both = same clean it.0 up in
+      (both.0, subst (λ (d : Database). HoldsEach (rows_in d.trees) settings) (sym both.1) it.1)
+
+  -- the call that sets answers
+  pub answered : {U E : Type 0} (r : Result U E) (more : Setting) → (HasCleanDisk new → IsOurs old → OnOk r (IsOurs new)) → (HasCleanDisk new → IsOurs old → OnOk r ((settings : List Setting) → HoldsEach (rows_in old.now.trees) settings → HoldsEach (rows_in new.now.trees) (more ∷ settings)))
+      → (HasCleanDisk new → IsOurs old → IsTrue new.is_open → OnErr r (IsOurs new × (new.now ≡ old.now))) → (settings : List Setting) → HoldsSettings old settings → OnOk r (HoldsSettings new (more ∷ settings)) × OnErr r (HoldsSettings new settings)
+  answered (Ok u) more ours newest same settings holds =
+      (λ clean up. let it = before settings holds clean up in (ours clean it.0, newest clean it.0 settings it.1), tt)
+  answered (Err e) more ours newest same settings holds = (tt, kept same settings holds)
+
+not_open : (b : Bool) → b ≡ false → IsTrue b → ⊥
+not_open b e h = let turned = sym e ∙ h in cc
+
+-- a store that was shut by the call was refused, the disk failed, and a crash leaves what it left before or what the call commits
+pub shut_by : {old new : State} {May : Trees → Type 0} {U E : Type 0} (r : Result U E) (Commits : Trees → Type 0) → Survives old new May → HasCleanDisk new → IsOurs old → new.is_open ≡ false
+    → OnOk r (IsOurs new) → ((db : Trees) → May db → Commits db) → IsErr r × MoreFaults old.faults new.faults × ((db : Trees) → new.may_leave db → old.may_leave db ⊎ Commits db)
+shut_by {old} {new} r Commits survives clean ours shut ok means = (refused r ok, failed, left)
+  where
+    refused : {U E : Type 0} (r : Result U E) → OnOk r (IsOurs new) → IsErr r
+    refused (Ok u) it = absurd (not_open new.is_open shut it.is_open)
+    refused (Err e) it = refl
+
+    failed : MoreFaults old.faults new.faults
+    failed = elim (survives.closes clean ours.is_open) [ inl up ↦ absurd (not_open new.is_open shut up) | inr more ↦ more ]
+
+    left : (db : Trees) → new.may_leave db → old.may_leave db ⊎ Commits db
+    left db h = elim (survives.crash clean db h) [ inl before ↦ inl before | inr made ↦ inr (means db made) ]

@@ -1,0 +1,54 @@
+//! What holds of each store that is opened again, by the clauses of the calls alone: of `close_on` and `open_on`, of
+//! `close_files`, `open_files` and `open_on`, and of `all`. The functions do nothing: their contracts are the laws.
+
+ghost use Rattle.std.specs.Prelude.{◌≡◌, List, reverse, ℕ};
+ghost use Rattle.sqlite.specs.Closing.{IsCopied};
+ghost use Rattle.sqlite.specs.Files.{Finds, file_state};
+ghost use Rattle.sqlite.specs.Held.{state};
+ghost use Rattle.sqlite.specs.State.{HasCleanDisk};
+ghost use Rattle.sqlite_wal.specs.Reads.{AreClean};
+ghost use Rattle.history_model.specs.declared.event.Setting.{Setting};
+ghost use Rattle.override_store.specs.Ours.{HoldsNow, HoldsSettings, IsOpenedOn, rows_in};
+ghost use Rattle.override_store.specs.Settings.{HoldsEach, setting_in};
+
+use crate::OverrideStore;
+use sqlite::{Alter, Connection, FileStore};
+use sqlite_disk::{Disk, Files};
+
+/// What a store held, a store holds that `open_on` gives on the connection that `close_on` gave.
+pub fn a_store_opened_again_holds_the_same<S: Alter, R: Alter>(
+    store: &OverrideStore<S>,
+    again: &OverrideStore<R>,
+)
+    ensures { IsOpenedOn (state S.Store store.now) (state R.Store again.now) → (settings : List Setting) → HoldsSettings (state S.Store store.now) settings →
+        HasCleanDisk (state R.Store again.now) → HoldsNow (state R.Store again.now) settings }
+{
+    let _ = store;
+    let _ = again;
+}
+
+/// What a store held, a store holds that `open_on` gives on the connection that `open_files` made of the files that
+/// `close_files` gave.
+pub fn a_store_over_its_files_holds_the_same<D: Disk>(
+    store: &OverrideStore<FileStore<D>>,
+    files: &Files<D>,
+    conn: &Connection<FileStore<D>>,
+    again: &OverrideStore<FileStore<D>>,
+)
+    ensures { (AreClean D.Disk files.now.log files.now.db → IsCopied store.now files.now) → (HasCleanDisk (file_state conn.now) → Finds files.now conn.now) →
+        IsOpenedOn (file_state conn.now) (file_state again.now) → (settings : List Setting) → HoldsSettings (file_state store.now) settings →
+        HasCleanDisk (file_state again.now) → HoldsNow (file_state again.now) settings }
+{
+    let _ = store;
+    let _ = files;
+    let _ = conn;
+    let _ = again;
+}
+
+/// Of each label, a list that `all` gives tells the setting that the store holds.
+pub fn what_all_lists_is_what_is_held<S: Alter>(store: &OverrideStore<S>)
+    ensures { (settings listed : List Setting) → HoldsNow (state S.Store store.now) settings → HoldsEach (rows_in (state S.Store store.now).now.trees) (reverse listed) →
+        (label : List ℕ) → setting_in (reverse listed) label ≡ setting_in settings label }
+{
+    let _ = store;
+}
