@@ -20,19 +20,19 @@ const HOURLY: &str =
     r#"{"Label":"h","ProgramArguments":["/bin/x"],"StartCalendarInterval":{"Minute":14}}"#;
 
 /// A table with no job, whose clock shows UTC.
-fn empty_table(alloc: Global) -> Result<JobTable, Refusal> {
+pub fn empty_table(alloc: Global) -> Result<JobTable, Refusal> {
     let Ok(zone) = Zone::fixed(0) else {
         return Err(Refusal::BadRequest);
     };
     JobTable::new(alloc, at(0, 1_700_000_000), zone, Vec::new(alloc))
 }
 
-fn at(up: u64, wall: u64) -> Reading {
+pub fn at(up: u64, wall: u64) -> Reading {
     Reading { up, wall }
 }
 
 /// Loads a definition, and gives the job's number.
-fn load(alloc: Global, table: &mut JobTable, definition: &str) -> Result<JobNo, Refusal> {
+pub fn load(alloc: Global, table: &mut JobTable, definition: &str) -> Result<JobNo, Refusal> {
     let ready = table.prepare_load(alloc, definition.as_bytes(), false, false)?;
     let job = ready.job();
     table.commit_load(ready);
