@@ -24,9 +24,18 @@ fn replay_input<R: Input + Print + AllocGlobal>(rt: &R) -> u8 {
     }
 }
 
-/// Whether the one word behind the program's name is `replay`.
+/// Whether the one word behind the program's name is `replay`; words that are not all UTF-8 are no command. It fails for
+/// want of memory alone.
 fn is_replay<R: Env + AllocGlobal>(rt: &R) -> io::Result<bool> {
-    let mut words = env::args(rt)?;
+    let mut words = match env::args(rt) {
+        Ok(words) => words,
+        Err(fault) => {
+            return match fault.kind() {
+                io::ErrorKind::OutOfMemory => Err(fault),
+                _ => Ok(false),
+            };
+        }
+    };
     let _program = words.next();
     match (words.next(), words.next()) {
         (Some(word), None) => Ok(word.as_str() == "replay"),
