@@ -78,7 +78,7 @@ happens e old new (Err refusal) before after told told' answer known ends carrie
   };
   loaded = λ none. cc;
   given = λ ns numbered. (
-    record { once = numbered.once; named = subst (AreNamed ns) (sym ends.1) numbered.named },
+    record { once = numbered.once; named = subst (AreNamed ns) (sym ends.1.0) numbered.named },
     sym (ap (λ o. o.orders) (answer s keeps)),
     refl,
   );

@@ -63,7 +63,7 @@ impl AnswerQueue {
     pub(crate) fn keep(&mut self, answer: Pending)
         ensures { length self.old < 3 * 1024 → self.new ≡ self.old ++ answer ∷ [] }
     {
-        if self.answers.len() < MOST_ANSWERS {
+        if self.len() < MOST_ANSWERS {
             self.answers.push_reserved(answer);
         }
     }
