@@ -1,0 +1,176 @@
+//! A journal and its lines.
+
+ghost use Rattle.std.specs.Prelude.{◌≡◌, ◌↔◌, IfOk, IsTrue, List, OnErr, ℕ, None, true, false, [], is_some};
+ghost use Rattle.ctl_protocol.specs.Journal.{event_text};
+ghost use Rattle.ctl_protocol.specs.HeaderLines.{header_text};
+ghost use Rattle.event_journal.specs.Journals.{Grows, fresh, told, held, is_writing};
+
+use crate::writing::write_text;
+use ctl_protocol::{Header, event_line, header_line};
+use history_model::Event;
+use std::alloc::{AllocError, Global};
+use std::io::Write;
+use std::marker::Model;
+
+/// How a journal stands.
+#[derive(Clone, Copy)]
+pub enum Phase {
+    /// Each line so far was written.
+    Open,
+    /// A write was refused, or a line found no memory, and nobody was told of it yet. Nothing more is written.
+    Closed,
+    /// As `Closed`, and it was told.
+    Told,
+}
+
+/// The journal of a launcher, over its writer. To a contract it is whether there is a writer, the bytes that this holds
+/// where they are known, and how it stands.
+#[derive(Drop)]
+pub struct Journal<W: Write> {
+    writer: Option<W>,
+    phase: Phase,
+}
+
+impl<W: Write> Model for Journal<W> {
+    ghost use Rattle.event_journal.specs.Journals.{Kept, held};
+    ghost use Rattle.std.specs.Prelude.{is_some};
+
+    ghost Value = { Kept };
+
+    ghost view = { λ j. record { given = is_some j.writer; bytes = held W.contents j.writer; phase = j.phase } };
+}
+
+impl<W: Write> Journal<W> {
+    /// No journal: nothing is written, and it is never closed.
+    pub fn none() -> Journal<W>
+        ensures { result ≡ fresh None false }
+    {
+        Journal {
+            writer: None,
+            phase: Phase::Open,
+        }
+    }
+
+    /// A journal that begins with the header's line.
+    pub fn begin(alloc: Global, writer: W, header: &Header) -> Journal<W>
+        ensures { Grows (fresh (W.contents writer) true) result (header_text header.now) }
+    {
+        let mut journal = Journal {
+            writer: Some(writer),
+            phase: Phase::Open,
+        };
+        match header_line(alloc, header) {
+            Ok(line) => journal.append(line.as_slice()),
+            Err(_) => journal.close(),
+        }
+        journal
+    }
+
+    /// Whether lines are still written.
+    pub fn is_writing(&self) -> bool
+        ensures is { result ≡ is_writing self.now }
+        // Where no line is written, none is missed.
+        ensures shut { result ≡ false → (text : List ℕ) → Grows self.now self.now text }
+    {
+        match self.phase {
+            Phase::Open => self.writer.is_some(),
+            Phase::Closed => false,
+            Phase::Told => false,
+        }
+    }
+
+    /// Adds a text, unless it is closed.
+    fn append(&mut self, text: &[u8])
+        ensures { Grows self.old self.new text.now }
+    {
+        if !self.is_writing() {
+            return;
+        }
+        let written = match &mut self.writer {
+            Some(writer) => write_text(writer, text),
+            None => true,
+        };
+        if !written {
+            self.phase = Phase::Closed;
+        }
+    }
+
+    /// Closes the journal, for want of memory for its next line. A journal that is closed, and no journal, stay as they are.
+    pub fn close(&mut self)
+        ensures { (text : List ℕ) → Grows self.old self.new text }
+    {
+        if self.is_writing() {
+            self.phase = Phase::Closed;
+        }
+    }
+
+    /// Writes the event's line.
+    pub fn note(&mut self, alloc: Global, event: &Event)
+        ensures { Grows self.old self.new (event_text event.now) }
+    {
+        if !self.is_writing() {
+            return;
+        }
+        match event_line(alloc, event) {
+            Ok(line) => self.append(line.as_slice()),
+            Err(_) => self.close(),
+        }
+    }
+
+    /// Writes the line of an event that was just made; want of memory for the event closes the journal.
+    pub fn note_made(&mut self, alloc: Global, made: Result<Event, AllocError>)
+        ensures ok { IfOk made (λ event. Grows self.old self.new (event_text event)) }
+        ensures err { OnErr made ((text : List ℕ) → Grows self.old self.new text) }
+    {
+        match made {
+            Ok(event) => self.note(alloc, &event),
+            Err(_) => self.close(),
+        }
+    }
+
+    /// Hands on what the writer still keeps back; this ends each turn. A writer that refuses closes the journal.
+    pub fn flush(&mut self)
+        ensures { Grows self.old self.new [] }
+    {
+        if !self.is_writing() {
+            return;
+        }
+        let flushed = match &mut self.writer {
+            Some(writer) => writer.flush().is_ok(),
+            None => true,
+        };
+        if !flushed {
+            self.phase = Phase::Closed;
+        }
+    }
+
+    /// Whether it was closed since this was asked last: true once at most.
+    pub fn tell_closing(&mut self) -> bool
+        ensures told { IsTrue result ↔ (self.old.phase ≡ Phase.Closed) }
+        ensures after { self.new ≡ told self.old }
+    {
+        match self.phase {
+            Phase::Open => false,
+            Phase::Closed => {
+                self.phase = Phase::Told;
+                true
+            }
+            Phase::Told => false,
+        }
+    }
+}
+
+impl<W: Write + Drop> Journal<W> {
+    /// The writer, if lines are still written to it.
+    pub fn into_open(self) -> Option<W>
+        ensures given { is_some result ≡ is_writing self }
+        ensures bytes { is_writing self ≡ true → held W.contents result ≡ self.bytes }
+    {
+        let Journal { writer, phase } = self;
+        match phase {
+            Phase::Open => writer,
+            Phase::Closed => None,
+            Phase::Told => None,
+        }
+    }
+}

@@ -1,0 +1,8 @@
+//! The journal of a launcher: the line of its header and then the line of each event, to any writer. A write that is
+//! refused, or a line that finds no memory, closes it: it then keeps a front of its lines, and takes no more.
+#![tactic(auto)]
+
+mod journal;
+mod writing;
+
+pub use journal::{Journal, Phase};

@@ -1,0 +1,95 @@
+-- What was asked, case by case.
+use Rattle.std.proofs.Common.{◌≡◌, ℕ, Bool, true, false, not, ◌&&◌, List, [], ◌∷◌, ◌++◌, Option, refl, sym, ap, subst, ◌∙◌, append_assoc}
+use Rattle.std.specs.Prelude.{if◌then◌else◌}
+use Rattle.std.proofs.lemmas.List.{append-nil}
+use Rattle.child_edge.specs.Calls.{Tells, fault_answer}
+use Rattle.child_edge.specs.declared.plain.EdgeCall.{EdgeCall}
+use Rattle.child_edge.specs.declared.plain.EdgeCall.TheVariants.{Bind, Release}
+use Rattle.child_edge.specs.declared.plain.EdgeFault.{EdgeFault}
+use Rattle.child_edge.specs.declared.plain.EdgeFault.TheVariants as faults
+use Rattle.child_edge.specs.declared.plain.Scripted.{Scripted}
+use Rattle.child_edge.specs.declared.plain.Scripted.TheVariants.{Done}
+use Rattle.job_defs.specs.Described.{Described}
+use Rattle.job_defs.specs.Definitions.{has_sockets}
+use Rattle.load_asking.specs.declared.asking.Asked.{Asked}
+use Rattle.load_asking.specs.Asking.{Asks, is_done, load_entries}
+use Rattle.load_asking.specs.Stores.{StoreCall, AreTold, store_calls}
+
+abbrev pub Entries : Type 0
+Entries = Option (List (EdgeCall × Scripted))
+
+Tells-none : (a : Entries) → Tells a [] a
+Tells-none a = λ after is. (after, is, sym (append-nil after))
+
+Tells-append : (a b c : Entries) (p q : List (EdgeCall × Scripted)) → Tells a p b → Tells b q c → Tells a (p ++ q) c
+Tells-append a b c p q first second = λ after is.
+    let s = second after is in
+    let f = first s.0 s.1 in
+    (f.0, f.1, s.2 ∙ ap (λ xs. xs ++ q) f.2 ∙ append_assoc f.0 p q)
+
+-- nothing was asked of the store
+pub told_none : (a : Option (List StoreCall)) → AreTold a [] a
+told_none a = λ after is. (after, is, sym (append-nil after))
+
+and-true : (b : Bool) → (b && true) ≡ b
+and-true true = refl
+and-true false = refl
+
+and-false : (b : Bool) → (b && false) ≡ false
+and-false true = refl
+and-false false = refl
+
+module _ (job : ℕ) (d : Described) (w : Bool) (changed : ℕ) (a b c : Entries) (s t : Option (List StoreCall)) where
+  -- once the sockets are bound, or if there are none, the store is asked as w says
+  store_asked : (store : Bool) → AreTold s (store_calls w d.label changed store) t → AreTold s (store_calls (w && true) d.label changed store) t
+  store_asked store told = subst (λ v. AreTold s (store_calls v d.label changed store) t) (sym (and-true w)) told
+
+  -- a job without sockets
+  pub without : (store : Bool) → has_sockets d ≡ false → (w ≡ false → store ≡ true) → AreTold s (store_calls w d.label changed store) t →
+      Asks job d w changed (record { bind = true; store = store }) a a s t
+  without store none unasked told = record {
+    bound = Done;
+    tells = subst (λ v. Tells a (load_entries v job (record { bind = true; store = store }) Done) a) (sym none) (Tells-none a);
+    stores = store_asked store told;
+    bind = sym (ap (λ v. if v then true else true) none);
+    store = λ e. unasked (sym (and-true w) ∙ e);
+  }
+
+  -- a bind that went well, and a store that did not refuse
+  pub stored : (store : Bool) → has_sockets d ≡ true → store ≡ true → (w ≡ false → store ≡ true) → AreTold s (store_calls w d.label changed store) t →
+      Tells a ((Bind job, Done) ∷ []) b → Asks job d w changed (record { bind = true; store = store }) a b s t
+  stored store some is unasked told tells = record {
+    bound = Done;
+    tells = subst (λ v. Tells a (load_entries v job (record { bind = true; store = store }) Done) b) (sym some)
+        (subst (λ v. Tells a ((Bind job, Done) ∷ (if not v then (Release job, Done) ∷ [] else [])) b) (sym is) tells);
+    stores = store_asked store told;
+    bind = sym (ap (λ v. if v then true else true) some);
+    store = λ e. unasked (sym (and-true w) ∙ e);
+  }
+
+  -- a bind that went well, and a store that refused
+  pub released : (store : Bool) → has_sockets d ≡ true → store ≡ false → (w ≡ false → store ≡ true) → AreTold s (store_calls w d.label changed store) t →
+      Tells a ((Bind job, Done) ∷ []) b → Tells b ((Release job, Done) ∷ []) c → Asks job d w changed (record { bind = true; store = store }) a c s t
+  released store some is unasked told first second = record {
+    bound = Done;
+    tells = subst (λ v. Tells a (load_entries v job (record { bind = true; store = store }) Done) c) (sym some)
+        (subst (λ v. Tells a ((Bind job, Done) ∷ (if not v then (Release job, Done) ∷ [] else [])) c) (sym is) (Tells-append a b c ((Bind job, Done) ∷ []) ((Release job, Done) ∷ []) first second));
+    stores = store_asked store told;
+    bind = sym (ap (λ v. if v then true else true) some);
+    store = λ e. unasked (sym (and-true w) ∙ e);
+  }
+
+-- a bind that was refused
+fault-not-done : (fault : EdgeFault) → is_done (fault_answer fault) ≡ false
+fault-not-done faults.NoMemory = refl
+fault-not-done faults.Refused = refl
+
+pub unbound : (job : ℕ) (d : Described) (w : Bool) (changed : ℕ) (fault : EdgeFault) (a b : Entries) (s : Option (List StoreCall)) → has_sockets d ≡ true →
+    Tells a ((Bind job, fault_answer fault) ∷ []) b → Asks job d w changed (record { bind = false; store = true }) a b s s
+unbound job d w changed fault a b s some tells = record {
+  bound = fault_answer fault;
+  tells = subst (λ v. Tells a (load_entries v job (record { bind = false; store = true }) (fault_answer fault)) b) (sym some) tells;
+  stores = subst (λ v. AreTold s (store_calls v d.label changed true) s) (sym (and-false w)) (told_none s);
+  bind = sym (ap (λ v. if v then is_done (fault_answer fault) else true) some ∙ fault-not-done fault);
+  store = λ e. refl;
+}

@@ -1,0 +1,9 @@
+-- Nothing was asked where nothing was wanted.
+use Rattle.std.proofs.Common.{sym, subst}
+use Rattle.load_asking.specs.Stores.{AreTold, store_calls}
+use Rattle.load_asking.proofs.AskLemmas.{told_none}
+use Rattle.load_asking.proofs.asking.ask_store.Goals as goal
+
+pub returns-else-w-clause-told : goal.returns-else-w-clause-told
+returns-else-w-clause-told g c =
+    subst (λ b. AreTold (g.T.SettingStore.told c.args.store.now) (store_calls b c.args.label.now c.args.changed _) (g.T.SettingStore.told c.args.store.now)) (sym c.if-w.false) (told_none _)

@@ -1,0 +1,38 @@
+-- What a load asks of the outside.
+use Rattle.std.specs.Prelude.{◌≡◌, ℕ, Bool, true, false, not, ◌&&◌, List, [], ◌∷◌, Option, if◌then◌else◌}
+use Rattle.child_edge.specs.Calls.{Tells}
+use Rattle.child_edge.specs.declared.plain.EdgeCall.{EdgeCall}
+use Rattle.child_edge.specs.declared.plain.EdgeCall.TheVariants.{Bind, Release}
+use Rattle.child_edge.specs.declared.plain.Scripted.{Scripted}
+use Rattle.child_edge.specs.declared.plain.Scripted.TheVariants.{Done, Started, Running, Over, Seen, At, Refused, NoMemory}
+use Rattle.job_defs.specs.Described.{Described}
+use Rattle.job_defs.specs.Definitions.{has_sockets}
+use Rattle.load_asking.specs.declared.asking.Asked.{Asked}
+use Rattle.load_asking.specs.Stores.{StoreCall, AreTold, store_calls}
+
+-- the edge did what it was asked
+abbrev pub is_done : Scripted → Bool
+is_done Done = true
+is_done (Started pid) = false
+is_done Running = false
+is_done (Over how) = false
+is_done (Seen obs) = false
+is_done (At reading) = false
+is_done Refused = false
+is_done NoMemory = false
+
+-- The calls of a load, with this answer to the bind: none for a job without sockets. Sockets that were bound are given up if
+-- the store then refused.
+abbrev pub load_entries : Bool → ℕ → Asked → Scripted → List (EdgeCall × Scripted)
+load_entries false job asked bound = []
+load_entries true job asked bound = (Bind job, bound) ∷ (if asked.bind && not asked.store then (Release job, Done) ∷ [] else [])
+
+-- Each was asked once, in this order: the sockets, and if they are bound, with w, the setting. The answers are those that were
+-- given; what was not asked counts as true.
+pub record Asks (job : ℕ) (d : Described) (w : Bool) (changed : ℕ) (asked : Asked) (told told' : Option (List (EdgeCall × Scripted)))
+    (stored stored' : Option (List StoreCall)) : Type 0 where
+  pub bound : Scripted
+  pub tells : Tells told (load_entries (has_sockets d) job asked bound) told'
+  pub stores : AreTold stored (store_calls (w && asked.bind) d.label changed asked.store) stored'
+  pub bind : asked.bind ≡ (if has_sockets d then is_done bound else true)
+  pub store : (w && asked.bind) ≡ false → asked.store ≡ true

@@ -1,0 +1,19 @@
+-- What is asked of the store of settings.
+use Rattle.std.specs.Prelude.{◌≡◌, ℕ, Bool, true, false, List, [], ◌∷◌, ◌++◌, Option, Some}
+
+-- a setting that the store was asked to keep, the second in which it was said, and whether it was stored
+pub record StoreCall : Type 0 where
+  pub label : List ℕ
+  pub disabled : Bool
+  pub changed : ℕ
+  pub stored : Bool
+
+-- if the calls are known afterwards, they were known before, and these are new
+abbrev pub AreTold : Option (List StoreCall) → List StoreCall → Option (List StoreCall) → Type 0
+AreTold old calls new =
+    (after : List StoreCall) → new ≡ Some after → (before : List StoreCall) × (old ≡ Some before) × (after ≡ before ++ calls)
+
+-- that a label is enabled is asked once, if it is wanted
+abbrev pub store_calls : Bool → List ℕ → ℕ → Bool → List StoreCall
+store_calls false label changed stored = []
+store_calls true label changed stored = record { label = label; disabled = false; changed = changed; stored = stored } ∷ []

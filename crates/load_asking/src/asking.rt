@@ -1,0 +1,75 @@
+//! The two questions, in order.
+
+ghost use Rattle.std.specs.Prelude.{◌≡◌, ◌≤◌, ◌&&◌, List, true, false};
+ghost use Rattle.history_model.specs.declared.event.Setting.{Setting as Held};
+ghost use Rattle.history_model.specs.Labels.{is_label};
+ghost use Rattle.history_model.specs.Step.{set_if};
+ghost use Rattle.load_asking.specs.Asking.{Asks};
+ghost use Rattle.load_asking.specs.Stores.{AreTold, store_calls};
+
+use crate::SettingStore;
+use child_edge::SocketEdge;
+use history_model::JobNo;
+use job_defs::Def;
+
+/// What the outside answered. What it was not asked counts as true.
+#[derive(Clone, Copy)]
+pub struct Asked {
+    /// The job's sockets are bound.
+    pub bind: bool,
+    /// The setting of its label is stored.
+    pub store: bool,
+}
+
+/// Stores that the label is enabled, if that is wanted. Tells whether it was stored; what is not wanted counts as stored.
+fn ask_store<T: SettingStore>(store: &mut T, label: &str, w: bool, changed: u64) -> bool
+    requires label { is_label label.now ≡ true }
+    requires second { changed ≤ 250000000000 }
+    ensures told { AreTold (T.told store.old) (store_calls w label.now changed result) (T.told store.new) }
+    ensures unasked { w ≡ false → result ≡ true }
+    ensures stored { (settings : List Held) → T.holds store.old settings → T.holds store.new (set_if (w && result) label.now false settings) }
+{
+    if w {
+        store.set(label, false, changed)
+    } else {
+        true
+    }
+}
+
+/// Binds the job's sockets, if it has any; then, with `w`, stores that its label is enabled since `changed`, a second of Unix
+/// time. Sockets that can't be bound end it there. If the store refuses, the sockets are given up again.
+pub fn ask_outside<E: SocketEdge, T: SettingStore>(
+    edge: &mut E,
+    store: &mut T,
+    job: JobNo,
+    def: &Def,
+    w: bool,
+    changed: u64,
+) -> Asked
+    requires label { is_label def.now.label ≡ true }
+    requires second { changed ≤ 250000000000 }
+    ensures asked { Asks job def.now w changed result (E.told edge.old) (E.told edge.new) (T.told store.old) (T.told store.new) }
+    ensures stored { (settings : List Held) → T.holds store.old settings → T.holds store.new (set_if (w && (result.bind && result.store)) def.now.label false settings) }
+{
+    if !def.has_sockets() {
+        let store = ask_store(store, def.label(), w, changed);
+        return Asked { bind: true, store };
+    }
+    match edge.bind(job, def) {
+        Ok(()) => {}
+        Err(_) => {
+            return Asked {
+                bind: false,
+                store: true,
+            };
+        }
+    }
+    let stored = ask_store(store, def.label(), w, changed);
+    if !stored {
+        edge.release(job);
+    }
+    Asked {
+        bind: true,
+        store: stored,
+    }
+}

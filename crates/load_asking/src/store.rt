@@ -1,0 +1,24 @@
+//! Where the settings of labels last.
+
+ghost use Rattle.std.specs.Prelude.{◌≡◌, ◌≤◌, List, [], ◌∷◌, Option, true};
+ghost use Rattle.history_model.specs.declared.event.Setting.{Setting as Held};
+ghost use Rattle.history_model.specs.Labels.{is_label};
+ghost use Rattle.history_model.specs.Step.{set_if};
+ghost use Rattle.load_asking.specs.Stores.{StoreCall, AreTold};
+
+/// Keeps the settings of labels, or refuses one.
+pub trait SettingStore {
+    /// The store holds these settings, newest first, as long as it is what the implementation says of an honest one.
+    ghost holds: { Self → List Held → Type 0 };
+
+    /// The settings that it was asked to keep, with its answers, oldest first. A store that does not tell them has none.
+    ghost told: { Self → Option (List StoreCall) };
+
+    /// Stores that the label is disabled, or enabled, and the second of Unix time in which that was said. Tells whether it
+    /// was stored; a refused setting leaves the store as it was.
+    fn set(&mut self, label: &str, disabled: bool, changed: u64) -> bool
+        requires label { is_label label.now ≡ true }
+        requires second { changed ≤ 250000000000 }
+        ensures told { AreTold (Self.told self.old) (record { label = label.now; disabled = disabled; changed = changed; stored = result } ∷ []) (Self.told self.new) }
+        ensures stored { (settings : List Held) → Self.holds self.old settings → Self.holds self.new (set_if result label.now disabled settings) };
+}
