@@ -8,6 +8,7 @@
 # RT_JOBS says how many crates are tried side by side (as many as there are processors). One line a wrong body:
 #
 #   refused CRATE/NAME by src/FILE:LINE ..       a goal of the code's own contracts is open
+#   refused CRATE/NAME by its goal: ..           the same, and the tactic that answers this goal finds no proof
 #   refused CRATE/NAME elsewhere: ..             a proof or a definition is refused first: look whether a clause says it
 #   NOT REFUSED CRATE/NAME ..                    the contract is too weak, or the edit can't be read
 #
@@ -58,6 +59,7 @@ try_crate() {
     done
     (cd "$room" && rt must-fail "$1" 2>&1) | sed -nE \
       -e 's,^(rt: )?must-fail ([^:]*)\.edit: refused\, as it must be: (note: )?(\./)?(src/.{0\,140}).*,refused \2 by \5,p;t' \
+      -e 's,^(rt: )?must-fail ([^:]*)\.edit: refused\, as it must be: (\./)?(proofs/[^ ]*Answers\.antt:[0-9:]+ error: `[^`]*`: `(search|grind|omega)`: .{0\,80}).*,refused \2 by its goal: \4,p;t' \
       -e 's,^(rt: )?must-fail ([^:]*)\.edit: refused\, as it must be ?:?(.*),refused \2 elsewhere:\3,p;t' \
       -e 's,^(rt: )?must-fail ([^:]*)\.edit: (.*),NOT REFUSED \2: \3,p;t' \
       -e '/error/p'
