@@ -11,7 +11,7 @@ use Rattle.history_model.specs.declared.Refusal.TheVariants.{ClockRefused}
 use Rattle.history_model.specs.Items.{Definition, History, Loaded, Read, Answered}
 use Rattle.history_model.specs.Clock.{no_definition}
 use Rattle.history_model.specs.Machine.{Event, Tick, OfJob, past_of}
-use Rattle.history_model.specs.Moments.{next_moment, touches}
+use Rattle.history_model.specs.Moments.{timeouts, next_moment, touches}
 use Rattle.history_model.specs.Step.{run, outcomes}
 use Rattle.history_model.specs.Rows as rows
 use Rattle.history_model.specs.Scenes.{utc_that_day, read_at, start, read, load, ask, spawned, spawn_refused, termed, killed, ended, a, at_load, none, gives, refuses}
@@ -111,3 +111,7 @@ untouched_by_another_minute = refl
 pub touched_by_any_minute : touched (with_entry (record { minute = None; hour = Some 3; day = None; weekday = None; month = None })) (39999 ∷ 40000 ∷ [])
     ≡ false ∷ true ∷ []
 touched_by_any_minute = refl
+
+-- a timeout of 0 makes no moment
+pub no_timeout : timeouts 0 (Some 5) ∷ timeouts 1 (Some 5) ∷ timeouts 1 None ∷ [] ≡ [] ∷ (1005 ∷ []) ∷ [] ∷ []
+no_timeout = refl
