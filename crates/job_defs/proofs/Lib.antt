@@ -3,3 +3,4 @@ pub mod Each
 pub mod Hosts
 pub mod IsText
 pub mod Gathered
+pub mod Labels

@@ -12,6 +12,7 @@ mod json;
 mod kinds;
 mod label;
 mod launch;
+pub mod laws;
 mod names;
 mod parts;
 mod read;
