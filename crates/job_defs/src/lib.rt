@@ -7,6 +7,7 @@ mod def;
 mod demand;
 mod ignored;
 mod launch;
+pub mod laws;
 mod parts;
 mod read;
 mod surroundings;
