@@ -8,11 +8,11 @@ use Rattle.history_model.specs.declared.KeyName.TheVariants as keys
 use Rattle.history_model.specs.Labels.{is_label}
 use Rattle.history_model.specs.Machine.{Fault}
 use Rattle.job_defs.specs.Described.{Described}
-use Rattle.job_defs.specs.Faults.{bad, or_fault, ◌>>=◌}
-use Rattle.job_defs.specs.Kinds.{bool_row, optional_text, required, text_at}
+use Rattle.json_kinds.specs.Faults.{bad, or_fault, ◌>>=◌}
+use Rattle.json_kinds.specs.Kinds.{bool_row, optional_text, required, text_at}
 use Rattle.job_defs.specs.Commands.{command_row, label_row}
-use Rattle.job_defs.specs.Json.{json_at}
-use Rattle.job_defs.specs.Table.{Launch, launch_at, demand_at, pace_at, surroundings_at, sockets_and_inetd, refusals_at, def_at, def_of}
+use Rattle.socket_defs.specs.Sockets.{sockets_and_inetd}
+use Rattle.job_defs.specs.Table.{json_at, Launch, launch_at, demand_at, pace_at, surroundings_at, refusals_at, def_at, def_of}
 
 -- what a step goes on with
 goes_on : {A B E : Type 0} (r : Result A E) (f : A → Result B E) (b : B) → (r >>= f) ≡ Ok b → (a : A) × (r ≡ Ok a) × (f a ≡ Ok b)
