@@ -62,7 +62,7 @@ try_crate() {
       -e 's,^(rt: )?must-fail ([^:]*)\.edit: refused\, as it must be: (\./)?(proofs/[^ ]*Answers\.antt:[0-9:]+ error: `[^`]*`: `(search|grind|omega)`: .{0\,80}).*,refused \2 by its goal: \4,p;t' \
       -e 's,^(rt: )?must-fail ([^:]*)\.edit: refused\, as it must be ?:?(.*),refused \2 elsewhere:\3,p;t' \
       -e 's,^(rt: )?must-fail ([^:]*)\.edit: (.*),NOT REFUSED \2: \3,p;t' \
-      -e '/error/p'
+      -e '/error:/p'
   fi
   rm -rf "$room"
 }
