@@ -8,6 +8,8 @@ mod client_steps;
 #[cfg(test)]
 mod files;
 #[cfg(test)]
+mod memory;
+#[cfg(test)]
 mod refusing;
 #[cfg(test)]
 mod socket_tests;

@@ -172,17 +172,58 @@ fn edge(alloc: Global, kind: ErrorKind, pid: Option<u32>) -> Result<OsEdge<Refus
     Ok(OsEdge::new(Refusing { alloc, kind, pid }, alloc, folder)?)
 }
 
+fn starts(edge: &mut OsEdge<Refusing>, run: u64, def: &Def) -> Result<u32, EdgeFault> {
+    edge.start(0, run, def, None)
+}
+
+fn polls(edge: &mut OsEdge<Refusing>) -> Option<EdgeFault> {
+    edge.poll(0, 1).err()
+}
+
+fn terms(edge: &mut OsEdge<Refusing>) -> Option<EdgeFault> {
+    edge.term(0, 1).err()
+}
+
+fn kills(edge: &mut OsEdge<Refusing>) -> Option<EdgeFault> {
+    edge.kill(0, 1).err()
+}
+
+fn binds(edge: &mut OsEdge<Refusing>, def: &Def) -> Option<EdgeFault> {
+    edge.bind(0, def).err()
+}
+
+fn looks(edge: &mut OsEdge<Refusing>) -> Option<EdgeFault> {
+    edge.look("/in").err()
+}
+
+fn reads(edge: &mut OsEdge<Refusing>) -> Option<EdgeFault> {
+    edge.read().err()
+}
+
+fn closes(edge: &mut OsEdge<Refusing>) {
+    edge.close(0, 1);
+}
+
+fn releases(edge: &mut OsEdge<Refusing>) {
+    edge.release(0);
+}
+
+fn has_failed(edge: &OsEdge<Refusing>, count: u64) -> bool {
+    edge.failures() == count
+}
+
 /// Whether each call is answered by the fault, and counted.
 fn refuses_all(edge: &mut OsEdge<Refusing>, plain: &Def, filed: &Def, fault: EdgeFault) -> bool {
-    let is_refused = edge.start(0, 1, plain, None) == Err(fault)
-        && edge.start(0, 1, filed, None) == Err(fault)
-        && edge.bind(0, plain) == Err(fault)
-        && edge.look("/in") == Err(fault)
-        && edge.read() == Err(fault)
-        && edge.failures() == 5;
-    edge.close(0, 1);
-    edge.release(0);
-    is_refused && edge.failures() == 5
+    let no_child = starts(edge, 1, plain) == Err(fault);
+    let no_stream = starts(edge, 1, filed) == Err(fault);
+    let no_socket = binds(edge, plain) == Some(fault);
+    let no_look = looks(edge) == Some(fault);
+    let no_reading = reads(edge) == Some(fault);
+    let is_counted = has_failed(edge, 5);
+    closes(edge);
+    releases(edge);
+    let is_kept = has_failed(edge, 5);
+    no_child && no_stream && no_socket && no_look && no_reading && is_counted && is_kept
 }
 
 fn refused(rt: &HostRuntime, kind: ErrorKind, fault: EdgeFault) -> Result<bool, Fail> {
@@ -190,6 +231,25 @@ fn refused(rt: &HostRuntime, kind: ErrorKind, fault: EdgeFault) -> Result<bool, 
     let filed = job(rt.alloc(), ",\"StandardInPath\":\"/in\"")?;
     let mut edge = edge(rt.alloc(), kind, None)?;
     Ok(refuses_all(&mut edge, &plain, &filed, fault))
+}
+
+/// Whether the child of run 1, that can't be waited for, is kept, and another is started beside it.
+fn keeps_the_child(edge: &mut OsEdge<Refusing>, plain: &Def) -> bool {
+    let is_started = starts(edge, 1, plain) == Ok(7);
+    let is_polled = polls(edge) == Some(EdgeFault::Refused);
+    let is_termed = terms(edge) == Some(EdgeFault::Refused);
+    let is_killed = kills(edge) == Some(EdgeFault::Refused);
+    let is_there = starts(edge, 1, plain) == Err(EdgeFault::Refused);
+    let is_second = starts(edge, 2, plain) == Ok(7);
+    let is_counted = has_failed(edge, 4);
+    is_started && is_polled && is_termed && is_killed && is_there && is_second && is_counted
+}
+
+fn has_no_child(edge: &mut OsEdge<Refusing>, plain: &Def) -> bool {
+    let no_start = starts(edge, 1, plain) == Err(EdgeFault::Refused);
+    let no_poll = polls(edge) == Some(EdgeFault::Refused);
+    let is_counted = has_failed(edge, 2);
+    no_start && no_poll && is_counted
 }
 
 #[test]
@@ -203,13 +263,8 @@ fn each_refusal_is_counted(rt: HostRuntime) -> Result<(), Fail> {
 fn a_child_that_cannot_be_waited_for_is_kept(rt: HostRuntime) -> Result<(), Fail> {
     let plain = job(rt.alloc(), "")?;
     let mut edge = edge(rt.alloc(), ErrorKind::PermissionDenied, Some(7))?;
-    assert_eq!(rt; edge.start(0, 1, &plain, None), Ok(7));
-    assert_eq!(rt; edge.poll(0, 1), Err(EdgeFault::Refused));
-    assert_eq!(rt; edge.term(0, 1), Err(EdgeFault::Refused));
-    assert_eq!(rt; edge.kill(0, 1), Err(EdgeFault::Refused));
-    assert_eq!(rt; edge.start(0, 1, &plain, None), Err(EdgeFault::Refused));
-    assert_eq!(rt; edge.start(0, 2, &plain, None), Ok(7));
-    assert_eq!(rt; edge.failures(), 4);
+    let is_kept = keeps_the_child(&mut edge, &plain);
+    assert!(rt; is_kept);
     Ok(())
 }
 
@@ -217,8 +272,7 @@ fn a_child_that_cannot_be_waited_for_is_kept(rt: HostRuntime) -> Result<(), Fail
 fn a_process_id_of_0_is_no_child(rt: HostRuntime) -> Result<(), Fail> {
     let plain = job(rt.alloc(), "")?;
     let mut edge = edge(rt.alloc(), ErrorKind::PermissionDenied, Some(0))?;
-    assert_eq!(rt; edge.start(0, 1, &plain, None), Err(EdgeFault::Refused));
-    assert_eq!(rt; edge.poll(0, 1), Err(EdgeFault::Refused));
-    assert_eq!(rt; edge.failures(), 2);
+    let is_none = has_no_child(&mut edge, &plain);
+    assert!(rt; is_none);
     Ok(())
 }

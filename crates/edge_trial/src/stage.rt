@@ -6,6 +6,7 @@ use crate::steps::Step;
 use child_edge::{ChildEdge, ClockEdge, OsEdge, PathEdge, SocketEdge};
 use history_model::{Ended, Obs, Reading};
 use job_defs::{Def, read_def};
+use std::alloc::{AllocError, Global};
 use std::net::{Ipv4Addr, SocketAddr, TcpListener, TcpStream};
 use std::os::unix::fs::{FileTypeExt, PermissionsExt};
 use std::os::unix::net::{UnixListener, UnixStream};
@@ -40,11 +41,24 @@ pub fn first_fault(rt: &HostRuntime, name: &str, steps: &[Step]) -> Result<Optio
     Ok(fault)
 }
 
-fn new_folder(rt: &HostRuntime, name: &str) -> Result<String, Fail> {
+// The folder in which tests make theirs.
+fn folder_above(rt: &HostRuntime) -> Result<String, Fail> {
     let above = env::temp_dir(rt)?;
-    let above = above.as_path().to_str().ok_or("a folder's name")?;
-    let id = process::id(rt.process());
-    let folder = format!(in rt.alloc(); "{above}/edge-{id}-{name}")?;
+    let text = above.as_path().to_str().ok_or("a folder's name")?;
+    Ok(String::from_str(rt.alloc(), text)?)
+}
+
+fn own_id(rt: &HostRuntime) -> u32 {
+    process::id(rt.process())
+}
+
+fn folder_name(alloc: Global, above: &str, id: u32, name: &str) -> Result<String, AllocError> {
+    format!(in alloc; "{above}/edge-{id}-{name}")
+}
+
+fn new_folder(rt: &HostRuntime, name: &str) -> Result<String, Fail> {
+    let above = folder_above(rt)?;
+    let folder = folder_name(rt.alloc(), above.as_str(), own_id(rt), name)?;
     fs::create_dir(rt, folder.as_str())?;
     Ok(folder)
 }
@@ -76,6 +90,18 @@ fn new_stage(rt: &HostRuntime, name: &str) -> Result<Stage, Fail> {
     })
 }
 
+fn joined(alloc: Global, front: &str, middle: &str, back: &str) -> Result<String, AllocError> {
+    format!(in alloc; "{front}{middle}{back}")
+}
+
+// The path with letters behind it, up to 107 bytes.
+fn filled(path: String) -> Result<String, AllocError> {
+    let mut path = path;
+    let short = path.len();
+    fill(&mut path, 107usize.saturating_sub(short))?;
+    Ok(path)
+}
+
 fn def_of(rt: &HostRuntime, text: &str) -> Result<Def, Fail> {
     match read_def(rt.alloc(), text.as_bytes()) {
         Ok(def) => Ok(def),
@@ -90,9 +116,7 @@ impl Stage {
     }
 
     fn set_keys(&mut self, rt: &HostRuntime, keys: &str) -> Result<bool, Fail> {
-        let mut text = String::from_str(rt.alloc(), "{\"Label\":\"a\",")?;
-        text.push_str(keys)?;
-        text.push('}')?;
+        let text = joined(rt.alloc(), "{\"Label\":\"a\",", keys, "}")?;
         let text = self.text(rt, text.as_str())?;
         self.def = def_of(rt, text.as_str())?;
         Ok(true)
@@ -100,22 +124,17 @@ impl Stage {
 
     fn set_script(&mut self, rt: &HostRuntime, script: &str, keys: &str) -> Result<bool, Fail> {
         let start = "\"ProgramArguments\":[\"/bin/sh\",\"-c\",\"";
-        let mut text = String::from_str(rt.alloc(), start)?;
-        text.push_str(script)?;
-        text.push_str("\"]")?;
-        text.push_str(keys)?;
+        let words = joined(rt.alloc(), start, script, "\"]")?;
+        let text = joined(rt.alloc(), words.as_str(), keys, "")?;
         self.set_keys(rt, text.as_str())
     }
 
     fn set_long_socket(&mut self, rt: &HostRuntime, folder: &str) -> Result<bool, Fail> {
         let start =
             "\"Program\":\"/bin/cat\",\"inetdCompatibility\":{\"Wait\":false},\"Sockets\":{\"s\":{\"SockPathName\":\"";
-        let mut path = self.text(rt, folder)?;
-        let short = path.len();
-        fill(&mut path, 107usize.saturating_sub(short))?;
-        let mut text = String::from_str(rt.alloc(), start)?;
-        text.push_str(path.as_str())?;
-        text.push_str("\"}}")?;
+        let path = self.text(rt, folder)?;
+        let path = filled(path)?;
+        let text = joined(rt.alloc(), start, path.as_str(), "\"}}")?;
         self.set_keys(rt, text.as_str())
     }
 
