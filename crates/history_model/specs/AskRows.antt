@@ -171,3 +171,21 @@ last_run = refl
 
 pub no_run_is_left : due_by (record (facts_of (load unthrottled ∷ [])) { run_count = 2 ^ 63 }) 0 ≡ None
 no_run_is_left = refl
+
+-- ---- each run anew
+
+-- what was ordered and answered for one run says nothing of the next: TERM, its refusals and its timeout, and KILL
+pub each_run_anew : play (
+    load (record no_definition { keep_alive = true; throttle_interval = 0; exit_timeout = 1 }) ∷ spawned 1 ∷ Asked Stop ∷ Answered (Termed 1 false) ∷ ended 1 (Signal 15)
+    ∷ spawned 2 ∷ read 500 ∷ Asked Stop ∷ Answered (Termed 2 true) ∷ read 1000 ∷ read 1500 ∷ Answered (Killed 2 true) ∷ ended 2 (Signal 9)
+    ∷ spawned 3 ∷ Asked Stop ∷ Answered (Termed 3 true) ∷ read 2500 ∷ []
+    )
+    ≡ gives (Spawn 1 None) ∷ none ∷ gives (Term 1) ∷ none ∷ gives (Spawn 2 None)
+    ∷ none ∷ none ∷ gives (Term 2) ∷ none ∷ none ∷ gives (Kill 2) ∷ none ∷ gives (Spawn 3 None)
+    ∷ none ∷ gives (Term 3) ∷ none ∷ gives (Kill 3) ∷ []
+each_run_anew = refl
+
+-- a refused spawn clears no demand, whatever runs succeeded before
+pub refused_after_a_success : play (load unthrottled ∷ spawned 1 ∷ ended 1 (Code 0) ∷ Asked Start ∷ Answered (SpawnRefused 2) ∷ read 1000 ∷ [])
+    ≡ gives (Spawn 1 None) ∷ none ∷ none ∷ gives (Spawn 2 None) ∷ none ∷ gives (Spawn 3 None) ∷ []
+refused_after_a_success = refl

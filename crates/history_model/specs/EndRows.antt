@@ -89,3 +89,10 @@ pub either : after (record if_crashed { successful_exit = Some true }) (Signal 1
     ∷ after (record if_crashed { successful_exit = Some true }) (Code 1) ∷ []
     ≡ again ∷ again ∷ over ∷ []
 either = refl
+
+-- ---- before any end
+
+-- no condition on ends holds, whichever way it is put
+pub before_any_end : play (load (record no_definition { crashed = Some false }) ∷ read 10000 ∷ []) ∷ play (load (record no_definition { crashed = Some true }) ∷ read 10000 ∷ []) ∷ []
+    ≡ (none ∷ none ∷ []) ∷ (none ∷ none ∷ []) ∷ []
+before_any_end = refl

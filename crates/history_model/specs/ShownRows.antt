@@ -3,7 +3,7 @@
 use Rattle.std.specs.Prelude.{◌≡◌, ℕ, List, [], ◌∷◌, true, false, refl, codes}
 use Rattle.std.specs.Fmt.{digits}
 use Rattle.history_model.specs.declared.Ended.TheVariants.{Code, Signal}
-use Rattle.history_model.specs.declared.Act.TheVariants.{Spawn, Term, Gone}
+use Rattle.history_model.specs.declared.Act.TheVariants.{Spawn, Term, Kill, Gone}
 use Rattle.history_model.specs.declared.Ask.TheVariants.{Start, Stop, Kickstart}
 use Rattle.std.specs.Prelude.{None}
 use Rattle.history_model.specs.Clock.{no_definition}
@@ -104,3 +104,15 @@ pub two_shown : outcomes (load b no_definition ∷ load a at_load ∷ ListJobs �
     ∷ says (codes "b = {\n\tstate = idle\n\tpid = -\n\truns = 0\n\tlast exit = never\n\tdemand = no\n\tconnections = 0\n\tdisabled = false\n}\n") ∷ []
 unfolding digits
 two_shown = refl
+
+-- a job whose run was stopped, or struck, is idle once that run has ended
+pub idle_again : outcomes (
+    load a at_load ∷ spawned a 1 7 ∷ ask a Stop ∷ ended a 1 (Signal 15) ∷ PrintJob a ∷ read 10000 ∷ ask a Start ∷ spawned a 2 8 ∷ ask a (Kickstart true)
+    ∷ ended a 2 (Signal 9) ∷ PrintJob a ∷ []
+    ) start
+    ≡ gives ((a, Spawn 1 None) ∷ []) ∷ none ∷ gives ((a, Term 1) ∷ []) ∷ none
+    ∷ says (codes "a = {\n\tstate = idle\n\tpid = -\n\truns = 1\n\tlast exit = signal 15\n\tdemand = no\n\tconnections = 0\n\tdisabled = false\n}\n")
+    ∷ none ∷ gives ((a, Spawn 2 None) ∷ []) ∷ none ∷ gives ((a, Kill 2) ∷ []) ∷ none
+    ∷ says (codes "a = {\n\tstate = idle\n\tpid = -\n\truns = 2\n\tlast exit = signal 9\n\tdemand = yes\n\tconnections = 0\n\tdisabled = false\n}\n") ∷ []
+unfolding digits
+idle_again = refl

@@ -7,7 +7,7 @@ use Rattle.history_model.specs.declared.Act.TheVariants.{Spawn}
 use Rattle.history_model.specs.Items.{Definition}
 use Rattle.history_model.specs.Clock.{no_definition}
 use Rattle.history_model.specs.Machine.{Sight}
-use Rattle.history_model.specs.Step.{run}
+use Rattle.history_model.specs.Step.{outcomes, run}
 use Rattle.history_model.specs.Rows.{play, none, gives, load, read, spawned, ended, saw}
 use Rattle.history_model.specs.Scenes as scene
 
@@ -101,3 +101,12 @@ here = record { present = true; nonempty_dir = false; stamp = 3 }
 -- a job that does not list the path is not told
 pub unlisted : run (scene.load scene.a watcher ∷ Sight (2 ∷ []) here ∷ []) scene.start ≡ run (scene.load scene.a watcher ∷ []) scene.start
 unlisted = refl
+
+-- one that lists it is: as a watched path, a queue directory, or a path of PathState
+pub listed : outcomes (
+    scene.load scene.a watcher ∷ scene.load scene.b queuer ∷ scene.load scene.s keeper ∷ Sight p here ∷ Sight p (record here { nonempty_dir = true })
+    ∷ Sight p (record here { stamp = 4 }) ∷ []
+    ) scene.start
+    ≡ scene.none ∷ scene.none ∷ scene.none ∷ scene.gives ((scene.s, Spawn 1 None) ∷ []) ∷ scene.gives ((scene.b, Spawn 1 None) ∷ [])
+    ∷ scene.gives ((scene.a, Spawn 1 None) ∷ []) ∷ []
+listed = refl
