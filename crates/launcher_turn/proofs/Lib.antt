@@ -1,5 +1,6 @@
 pub mod CarryLemmas
 pub mod Labels
+pub mod Noting
 pub mod Numbers
 pub mod OneEvent
 pub mod SoFar

@@ -30,6 +30,9 @@ use Rattle.history_model.proofs.InOrder.{told_one-labels, same_self, order-run}
 use Rattle.launcher_turn.proofs.Labels.{all-stays}
 use Rattle.launcher_turn.specs.Turns.{Carried, orders_given, refusal_told, IsUntouched, event_in, AreTheirs, IsOrderly, IsWaiting, HappensTo, Happens, Handled}
 use Rattle.job_core.specs.Memory.{NeedsNoMemory}
+use Rattle.ctl_protocol.specs.Journal.{event_text}
+use Rattle.event_journal.specs.Journals.{Kept, Grows}
+use Rattle.launcher_turn.specs.Lines.{told_answer}
 use Rattle.launcher_turn.proofs.CarryLemmas.{none-called}
 use Rattle.launcher_turn.proofs.Numbers.{AreNamed, rows-named, label-is, named-next, orders-known, once-number, loaded, theirs-append, made-theirs}
 
@@ -166,11 +169,11 @@ orderly-next s label x is = record {
   labels None = all-stays (λ (l : Label). length l ≤ 255) (told_one label x s.jobs) (subst (AllByRecursion (λ (l : Label). length l ≤ 255)) (sym (told_one-labels label x s.jobs)) is.short)
 
 -- the answer goes to its job, and then those that it ordered wait behind the others
-pub handled : (reply : Option Refusal) (old new : Table) (before after : List Pending) (told told' : Option (List Entry)) (pending : Pending) (found said : Label) →
-    found ≡ label_of old.names pending.job → IsNumbered old → (length found ≤ 255 → said ≡ found) → Happens (OfJob said (Answered pending.answer)) reply old new before after told told' →
+pub handled : (reply : Option Refusal) (old new : Table) (before after : List Pending) (told told' : Option (List Entry)) (written written' : Kept) (pending : Pending) (found said : Label) →
+    found ≡ label_of old.names pending.job → IsNumbered old → (length found ≤ 255 → said ≡ found) → Happens (OfJob said (Answered pending.answer)) reply old new before after told told' → Grows written written' (event_text (told_answer said pending.answer)) →
     (s : State) (names : List Name) (given : Given) (waits : List Given) (rest : List Pending) → IsWaiting old s names (given ∷ waits) (pending ∷ rest) →
-    Handled s names given waits pending rest new before after told told'
-handled reply old new before after told told' pending found said looked numbered copied happened s names given waits rest is =
+    Handled s names given waits pending rest new before after told told' written written'
+handled reply old new before after told told' written written' pending found said looked numbered copied happened noted s names given waits rest is =
     let (d, known, label) = is.theirs.0 in
     let job = loaded s.reading names old.names given.0 _ old.rows s.jobs is.keeps.jobs is.numbers.named numbered.named is.orderly.short is.fresh.0.1 in
     let number : pending.job ≡ job.row.number = once-number names is.numbers.once pending.job job.row.number d job.row.described known job.here (label ∙ sym job.named) in
@@ -196,5 +199,6 @@ handled reply old new before after told told' pending found said looked numbered
         theirs = theirs-append names waits (wanting (outcome s e).orders) rest (answers_in made) is.theirs.2
             (subst (λ (os : List Given). AreTheirs names (wanting os) (answers_in made)) ordered.1 (made-theirs names did.begins.orders made ordered.2 calls));
       };
+      noted = subst (λ (l : Label). Grows written written' (event_text (told_answer l pending.answer))) same noted;
       lighter = next.1;
     }

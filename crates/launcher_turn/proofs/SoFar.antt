@@ -10,11 +10,15 @@ use Rattle.child_edge.specs.Calls.{Tells}
 use Rattle.order_edge.specs.declared.pending.Pending.{Pending}
 use Rattle.order_edge.specs.Calls.{Entry, call_of, calls_in, answer_in, answers_in}
 use Rattle.std.proofs.lemmas.List.Elements.{filter_map-append}
+use Rattle.std.proofs.lemmas.Grind.{flat_map-append}
 use Rattle.history_model.specs.Turns.{Given, wanting}
 use Rattle.history_model.specs.Waits.{weigh_given}
 use Rattle.history_model.proofs.Turning.{weigh-append}
 use Rattle.history_model.proofs.TurnBound.{length-heavy}
 use Rattle.launcher_turn.specs.Turns.{event_in, AreTheirs, IsWaiting, Handled, Settled}
+use Rattle.event_journal.specs.Journals.{Kept, Grows}
+use Rattle.event_journal.proofs.Growing.{grows_nothing, grows_append}
+use Rattle.launcher_turn.specs.Lines.{answer_text, answer_texts}
 use Rattle.launcher_turn.proofs.CarryLemmas.{Tells-append, Tells-none}
 
 -- ---- one more event of the machine
@@ -35,36 +39,38 @@ same-length names (w ∷ ws) (p ∷ ps) theirs = ap (λ n. suc n) (same-length n
 
 -- ---- the loop
 
-pub record IsSoFar (s : State) (names : List Name) (first answers : List Pending) (k : ℕ) (table : Table) (told told' : Option (List Entry)) : Type 0 where
+pub record IsSoFar (s : State) (names : List Name) (first answers : List Pending) (k : ℕ) (table : Table) (told told' : Option (List Entry)) (written written' : Kept) : Type 0 where
   pub made : List Entry
   pub tells : Tells told made told'
   pub all : answers ≡ first ++ answers_in made
   pub orders : List Order
   pub calls : calls_in made ≡ map call_of orders
   pub given : labelled names orders ≡ orders_in (map (event_in names) (take k answers)) s
+  pub noted : Grows written written' (answer_texts names (take k answers))
   pub waits : List Given
   pub waiting : IsWaiting table (run (map (event_in names) (take k answers)) s) names waits (drop k answers)
   pub within : k ≤ length answers
   pub fits : k + weigh_given waits ≤ 3 * 1024
 
-pub so-far-start : (s : State) (names : List Name) (waits : List Given) (first : List Pending) (table : Table) (told : Option (List Entry)) →
-    IsWaiting table s names waits first → weigh_given waits ≤ 3 * 1024 → IsSoFar s names first first 0 table told told
-so-far-start s names waits first table told waiting fits = record {
+pub so-far-start : (s : State) (names : List Name) (waits : List Given) (first : List Pending) (table : Table) (told : Option (List Entry)) (written : Kept) →
+    IsWaiting table s names waits first → weigh_given waits ≤ 3 * 1024 → IsSoFar s names first first 0 table told told written written
+so-far-start s names waits first table told written waiting fits = record {
   made = [];
   tells = Tells-none told;
   all = sym (append-nil first);
   orders = [];
   calls = refl;
   given = refl;
+  noted = grows_nothing written;
   waits = waits;
   waiting = waiting;
   within = omega arith;
   fits = omega (arith, fits);
 }
 
-pub so-far-end : (s : State) (names : List Name) (first answers : List Pending) (k : ℕ) (table : Table) (told told' : Option (List Entry)) →
-    IsSoFar s names first answers k table told told' → length answers ≤ k → Settled s names first answers table told told'
-so-far-end s names first answers k table told told' far all =
+pub so-far-end : (s : State) (names : List Name) (first answers : List Pending) (k : ℕ) (table : Table) (told told' : Option (List Entry)) (written written' : Kept) →
+    IsSoFar s names first answers k table told told' written written' → length answers ≤ k → Settled s names first answers table told told' written written'
+so-far-end s names first answers k table told told' written written' far all =
     let whole : take k answers ≡ answers = take_all k answers all in
     record {
       made = far.made;
@@ -74,16 +80,17 @@ so-far-end s names first answers k table told told' far all =
       calls = far.calls;
       given = far.given ∙ ap (λ ps. orders_in (map (event_in names) ps) s) whole;
       kept = subst (λ ps. KeepsState table (run (map (event_in names) ps) s)) whole far.waiting.keeps;
+      noted = subst (λ ps. Grows written written' (answer_texts names ps)) whole far.noted;
       numbers = far.waiting.numbers;
     }
 
 -- one more answer
-pub so-far-next : (s : State) (names : List Name) (first answers answers' : List Pending) (k : ℕ) (d : Pending) (table table' : Table) (told told' told'' : Option (List Entry)) → k < length answers →
-    IsSoFar s names first answers k table told told' →
+pub so-far-next : (s : State) (names : List Name) (first answers answers' : List Pending) (k : ℕ) (d : Pending) (table table' : Table) (told told' told'' : Option (List Entry)) (written written' written'' : Kept) → k < length answers →
+    IsSoFar s names first answers k table told told' written written' →
     ((t : State) (ns : List Name) (given : Given) (waits : List Given) (rest : List Pending) → IsWaiting table t ns (given ∷ waits) (get_or answers k d ∷ rest) →
-    Handled t ns given waits (get_or answers k d) rest table' answers answers' told' told'') →
-    IsSoFar s names first answers' (k + 1) table' told told''
-so-far-next s names first answers answers' k d table table' told told' told'' in_range far handles = go far.waits far.fits (subst (IsWaiting table t names far.waits) here far.waiting) where
+    Handled t ns given waits (get_or answers k d) rest table' answers answers' told' told'' written' written'') →
+    IsSoFar s names first answers' (k + 1) table' told told'' written written''
+so-far-next s names first answers answers' k d table table' told told' told'' written written' written'' in_range far handles = go far.waits far.fits (subst (IsWaiting table t names far.waits) here far.waiting) where
   t : State
   t = run (map (event_in names) (take k answers)) s
 
@@ -96,7 +103,7 @@ so-far-next s names first answers answers' k d table table' told told' told'' in
   here : drop k answers ≡ p ∷ drop (suc k) answers
   here = drop-cons answers k d in_range
 
-  go : (waits : List Given) → k + weigh_given waits ≤ 3 * 1024 → IsWaiting table t names waits (p ∷ drop (suc k) answers) → IsSoFar s names first answers' (k + 1) table' told told''
+  go : (waits : List Given) → k + weigh_given waits ≤ 3 * 1024 → IsWaiting table t names waits (p ∷ drop (suc k) answers) → IsSoFar s names first answers' (k + 1) table' told told'' written written''
   go [] fits waiting = absurd waiting.theirs
   go (given ∷ waits) fits waiting =
       let did = handles t names given waits (drop (suc k) answers) waiting in
@@ -112,6 +119,8 @@ so-far-next s names first answers answers' k d table table' told told' told'' in
       let taken : take (k + 1) answers' ≡ take k answers ++ p ∷ [] =
       ap (take (k + 1)) grown ∙ take-append-le (k + 1) answers (answers_in made) (omega (arith, in_range)) ∙ take_more answers k d in_range in
       let events : map (event_in names) (take (k + 1) answers') ≡ map (event_in names) (take k answers) ++ e ∷ [] = ap (map (event_in names)) taken ∙ map-append (event_in names) (take k answers) (p ∷ []) in
+      let texts : answer_texts names (take (k + 1) answers') ≡ answer_texts names (take k answers) ++ answer_text names p =
+      ap (answer_texts names) taken ∙ flat_map-append (answer_text names) (take k answers) (p ∷ []) ∙ ap (λ xs. answer_texts names (take k answers) ++ xs) (append-nil (answer_text names p)) in
       let dropped : drop (k + 1) answers' ≡ drop (suc k) answers ++ answers_in made =
       ap (drop (k + 1)) grown ∙ drop-append-le (k + 1) answers (answers_in made) (omega (arith, in_range)) ∙ ap (λ n. drop n answers ++ answers_in made) (add-one k) in
       record {
@@ -121,6 +130,7 @@ so-far-next s names first answers answers' k d table table' told told' told'' in
         orders = far.orders ++ did.orders;
         calls = map-append (λ x. x.0) far.made made ∙ (λ i. far.calls i ++ did.carried.calls i) ∙ sym (map-append call_of far.orders did.orders);
         given = map-append _ far.orders did.orders ∙ (λ i. far.given i ++ did.ordered i) ∙ sym (orders-snoc (map (event_in names) (take k answers)) e s) ∙ ap (λ es. orders_in es s) (sym events);
+        noted = subst (Grows written written'') (sym texts) (grows_append written written' written'' (answer_texts names (take k answers)) (answer_text names p) far.noted did.noted);
         waits = waits ++ new;
         waiting = subst (λ es. IsWaiting table' (run es s) names (waits ++ new) (drop (k + 1) answers')) (sym events)
             (subst (λ (u : State). IsWaiting table' u names (waits ++ new) (drop (k + 1) answers')) (sym (run-snoc (map (event_in names) (take k answers)) e s))
@@ -129,14 +139,14 @@ so-far-next s names first answers answers' k d table table' told told' told'' in
         fits = omega (arith, less, fits);
       }
 
-abbrev pub Handles : Table → Table → List Pending → List Pending → Option (List Entry) → Option (List Entry) → Pending → Type 0
-Handles table table' answers answers' told' told'' p =
+abbrev pub Handles : Table → Table → List Pending → List Pending → Option (List Entry) → Option (List Entry) → Kept → Kept → Pending → Type 0
+Handles table table' answers answers' told' told'' written' written'' p =
     (t : State) (ns : List Name) (given : Given) (waits : List Given) (rest : List Pending) → IsWaiting table t ns (given ∷ waits) (p ∷ rest) →
-    Handled t ns given waits p rest table' answers answers' told' told''
+    Handled t ns given waits p rest table' answers answers' told' told'' written' written''
 
-pub so-far-turn : (s : State) (names : List Name) (first answers answers' : List Pending) (k : ℕ) (p : Pending) (table table' : Table) (told told' told'' : Option (List Entry)) → k < length answers →
-    p ≡ get_or answers k p → IsSoFar s names first answers k table told told' → Handles table table' answers answers' told' told'' p →
-    IsSoFar s names first answers' (k + 1) table' told told''
-so-far-turn s names first answers answers' k p table table' told told' told'' in_range is far handles =
-    so-far-next s names first answers answers' k p table table' told told' told'' in_range far
-    (subst (Handles table table' answers answers' told' told'') is handles)
+pub so-far-turn : (s : State) (names : List Name) (first answers answers' : List Pending) (k : ℕ) (p : Pending) (table table' : Table) (told told' told'' : Option (List Entry)) (written written' written'' : Kept) → k < length answers →
+    p ≡ get_or answers k p → IsSoFar s names first answers k table told told' written written' → Handles table table' answers answers' told' told'' written' written'' p →
+    IsSoFar s names first answers' (k + 1) table' told told'' written written''
+so-far-turn s names first answers answers' k p table table' told told' told'' written written' written'' in_range is far handles =
+    so-far-next s names first answers answers' k p table table' told told' told'' written written' written'' in_range far
+    (subst (Handles table table' answers answers' told' told'' written' written'') is handles)

@@ -1,5 +1,5 @@
 -- A whole turn: its first event, and then the answers.
-use Rattle.std.proofs.Common.{◌≡◌, ◌*◌, ◌≤◌, List, [], ◌∷◌, ◌++◌, map, length, Option, Some, None, refl, sym, ap, subst, ◌∙◌, arith}
+use Rattle.std.proofs.Common.{◌≡◌, ℕ, ◌*◌, ◌≤◌, List, [], ◌∷◌, ◌++◌, map, length, Option, Some, None, refl, sym, ap, subst, ◌∙◌, arith}
 use Rattle.std.specs.Prelude.{Result, Ok, Err}
 use Rattle.std.specs.List.{AllByRecursion}
 use Rattle.std.proofs.lemmas.List.{append-nil, map-append}
@@ -29,6 +29,10 @@ use Rattle.launcher_turn.proofs.Labels.{all-stays, all-with}
 use Rattle.history_model.proofs.TurnBound.{turning-start, within-step, length-heavy}
 use Rattle.launcher_turn.specs.Turns.{event_in, events_in, AreTheirs, IsWaiting, Begins, Happens, Settled, IsShort, IsLed, TurnsOf, Turns, refusal_told}
 use Rattle.launcher_turn.specs.Events.{event_of}
+use Rattle.ctl_protocol.specs.Journal.{event_text}
+use Rattle.event_journal.specs.Journals.{Kept, Grows}
+use Rattle.event_journal.proofs.Growing.{grows_append}
+use Rattle.launcher_turn.specs.Lines.{told_by, answer_texts}
 use Rattle.launcher_turn.specs.declared.happening.Happening.{Happening}
 use Rattle.launcher_turn.specs.declared.happening.Happening.TheVariants as happenings
 use Rattle.launcher_turn.proofs.CarryLemmas.{Tells-append, none-called}
@@ -109,14 +113,14 @@ begun s e old new after told told' is led keeps did =
       kept,
     )
 
-abbrev pub Settles : Table → List Pending → List Pending → Table → Option (List Entry) → Option (List Entry) → Type 0
-Settles mid first after new b c =
-    (s : State) (names : List Name) (waits : List Given) → IsWaiting mid s names waits first → weigh_given waits ≤ 3 * 1024 → Settled s names first after new b c
+abbrev pub Settles : Table → List Pending → List Pending → Table → Option (List Entry) → Option (List Entry) → Kept → Kept → Type 0
+Settles mid first after new b c written written' =
+    (s : State) (names : List Name) (waits : List Given) → IsWaiting mid s names waits first → weigh_given waits ≤ 3 * 1024 → Settled s names first after new b c written written'
 
 -- and so the whole turn
-unfoldable pub turned-at : (s : State) (e : Event) (old mid new : Table) (first after : List Pending) (a b c : Option (List Entry)) → IsShort e → IsLed s → KeepsState old s →
-    Begins s e None mid [] first a b → Settles mid first after new b c → TurnsOf s e None new a c
-turned-at s e old mid new first after a b c is led keeps did settles =
+unfoldable pub turned-at : (s : State) (e : Event) (line : List ℕ) (old mid new : Table) (first after : List Pending) (a b c : Option (List Entry)) (k m n : Kept) → IsShort e → IsLed s → KeepsState old s →
+    Begins s e None mid [] first a b → Grows k m line → Settles mid first after new b c m n → TurnsOf s e line None new a c k n
+turned-at s e line old mid new first after a b c k m n is led keeps did noted settles =
     let start = begun s e old mid first a b is led keeps did in
     let done = settles (step s e) mid.names (wanting (outcome s e).orders) start.0 start.1 in
     let entries : List Entry = did.carried.entries ++ done.made in
@@ -136,12 +140,13 @@ turned-at s e old mid new first after a b c is led keeps did settles =
       led = subst (λ es. IsLed (run es (step s e))) (sym events) (led-answers mid.names after (step s e) (led-step old s e keeps led is));
       replies = did.replies;
       numbers = λ none. done.numbers;
+      noted = subst (λ ps. Grows k n (line ++ answer_texts mid.names ps)) (sym all) (grows_append k m n line (answer_texts mid.names after) noted done.noted);
     }
 
 -- a refused event is the whole turn
-pub refused-turn : (e : Event) (refusal : Refusal) (old new : Table) (first : List Pending) (a b : Option (List Entry)) → IsShort e →
-    Happens e (Some refusal) old new [] first a b → Turns e (Some refusal) old new a b
-refused-turn e refusal old new first a b is happened = λ s led keeps.
+pub refused-turn : (e : Event) (line : List ℕ) (refusal : Refusal) (old new : Table) (first : List Pending) (a b : Option (List Entry)) (k n : Kept) → IsShort e → Grows k n line →
+    Happens e (Some refusal) old new [] first a b → Turns e line (Some refusal) old new a b k n
+refused-turn e line refusal old new first a b k n is noted happened = λ s led keeps.
     let did = (happened s keeps).begins in
     let none : (outcome s e).orders ≡ [] = refused-orders s e refusal did.replies in (
       record {
@@ -157,6 +162,7 @@ refused-turn e refusal old new first a b is happened = λ s led keeps.
         led = led-step old s e keeps led is;
         replies = did.replies;
         numbers = λ none. cc;
+        noted = subst (Grows k n) (sym (append-nil line)) noted;
       },
       λ none. cc,
     )
@@ -172,13 +178,13 @@ short-event (happenings.Unload label) = tt
 short-event happenings.Shutdown = tt
 
 -- the answer of the turn is that of its event
-pub turned-from : (what : Happening) (result : Result (Unit {0}) Refusal) (old mid new : Table) (before first after : List Pending) (a b c : Option (List Entry)) → result ≡ Ok tt → before ≡ [] →
-    UnlessMemory result (Happens (event_of what) (refusal_told result) old mid before first a b) → Settles mid first after new b c → Turns (event_of what) None old new a c
+pub turned-from : (what : Happening) (result : Result (Unit {0}) Refusal) (old mid new : Table) (before first after : List Pending) (a b c : Option (List Entry)) (k m n : Kept) → result ≡ Ok tt → before ≡ [] →
+    UnlessMemory result (Happens (event_of what) (refusal_told result) old mid before first a b) → Grows k m (event_text (told_by what)) → Settles mid first after new b c m n → Turns (event_of what) (event_text (told_by what)) None old new a c k n
 unfolding turned-at
-turned-from what (Err refusal) old mid new before first after a b c ok empty happened settles = cc
-turned-from what (Ok done) old mid new before first after a b c ok empty happened settles = λ s led keeps.
+turned-from what (Err refusal) old mid new before first after a b c k m n ok empty happened noted settles = cc
+turned-from what (Ok done) old mid new before first after a b c k m n ok empty happened noted settles = λ s led keeps.
     let did = happened s keeps in (
-      turned-at s (event_of what) old mid new first after a b c (short-event what) led keeps (subst (λ ps. Begins s (event_of what) None mid ps first a b) empty did.begins) settles,
+      turned-at s (event_of what) (event_text (told_by what)) old mid new first after a b c k m n (short-event what) led keeps (subst (λ ps. Begins s (event_of what) None mid ps first a b) empty did.begins) noted settles,
       did.loaded,
     )
 
@@ -187,10 +193,10 @@ unless-memory : {P Q : Type 0} (refusal : Refusal) → (P → Q) → UnlessMemor
 unless-memory NoMemory follows holds = tt
 unless-memory _ follows holds = follows holds
 
-pub refused-from : (what : Happening) (result : Result (Unit {0}) Refusal) (refusal : Refusal) (old new : Table) (before first : List Pending) (a b : Option (List Entry)) →
-    result ≡ Err refusal → before ≡ [] → UnlessMemory result (Happens (event_of what) (refusal_told result) old new before first a b) →
-    UnlessMemory {A = Unit {0}} (Err refusal) (Turns (event_of what) (Some refusal) old new a b)
-refused-from what result refusal old new before first a b is empty happened =
+pub refused-from : (what : Happening) (result : Result (Unit {0}) Refusal) (refusal : Refusal) (old new : Table) (before first : List Pending) (a b : Option (List Entry)) (k n : Kept) →
+    result ≡ Err refusal → before ≡ [] → Grows k n (event_text (told_by what)) → UnlessMemory result (Happens (event_of what) (refusal_told result) old new before first a b) →
+    UnlessMemory {A = Unit {0}} (Err refusal) (Turns (event_of what) (event_text (told_by what)) (Some refusal) old new a b k n)
+refused-from what result refusal old new before first a b k n is empty noted happened =
     unless-memory refusal
-    (λ did. refused-turn (event_of what) refusal old new first a b (short-event what) (subst (λ ps. Happens (event_of what) (Some refusal) old new ps first a b) empty did))
+    (λ did. refused-turn (event_of what) (event_text (told_by what)) refusal old new first a b k n (short-event what) noted (subst (λ ps. Happens (event_of what) (Some refusal) old new ps first a b) empty did))
     (subst (λ r. UnlessMemory r (Happens (event_of what) (refusal_told r) old new before first a b)) is happened)

@@ -1,5 +1,5 @@
 -- A turn: one event, whose orders are carried out on the outside, and then each answer as the next event, first in first out.
-use Rattle.std.specs.Prelude.{◌≡◌, ◌+◌, ◌*◌, ◌≤◌, ◌<◌, true, List, [], ◌∷◌, ◌++◌, map, length, Option, Some, None, Result, Ok, Err}
+use Rattle.std.specs.Prelude.{◌≡◌, ℕ, ◌+◌, ◌*◌, ◌≤◌, ◌<◌, true, List, [], ◌∷◌, ◌++◌, map, length, Option, Some, None, Result, Ok, Err}
 use Rattle.std.specs.List.{list_all, AllByRecursion}
 use Rattle.history_model.specs.declared.Order.{Order}
 use Rattle.history_model.specs.declared.Refusal.{Refusal}
@@ -17,6 +17,8 @@ use Rattle.job_table.specs.Ends.{AreKnown}
 use Rattle.job_table.specs.declared.Step.{Step}
 use Rattle.child_edge.specs.Calls.{Tells}
 use Rattle.order_edge.specs.declared.pending.Pending.{Pending}
+use Rattle.event_journal.specs.Journals.{Kept, Grows}
+use Rattle.launcher_turn.specs.Lines.{answer_text, answer_texts}
 use Rattle.order_edge.specs.Calls.{Entry, call_of, calls_in, answers_in}
 use Rattle.history_model.specs.Turns.{Given, wanting}
 use Rattle.history_model.specs.Waits.{AreFresh, weight, weigh_given}
@@ -109,16 +111,17 @@ Happens e reply old new before after told told' = (s : State) → KeepsState old
 
 -- one answer was made an event, and what it ordered waits behind the others
 pub record Handled (s : State) (names : List Name) (given : Given) (waits : List Given) (pending : Pending) (rest : List Pending) (new : Table)
-    (before after : List Pending) (told told' : Option (List Entry)) : Type 0 where
+    (before after : List Pending) (told told' : Option (List Entry)) (written written' : Kept) : Type 0 where
   pub orders : List Order
   pub carried : Carried orders before after told told'
   pub ordered : labelled names orders ≡ (outcome s (event_in names pending)).orders
   pub waiting : (made : List Entry) → calls_in made ≡ map call_of orders →
       IsWaiting new (step s (event_in names pending)) names (waits ++ wanting (outcome s (event_in names pending)).orders) (rest ++ answers_in made)
+  pub noted : Grows written written' (answer_text names pending)
   pub lighter : weigh_given (wanting (outcome s (event_in names pending)).orders) < weight given.1
 
 -- each answer was made an event, and none is left; `made` are the calls of these events
-pub record Settled (s : State) (names : List Name) (before after : List Pending) (new : Table) (told told' : Option (List Entry)) : Type 0 where
+pub record Settled (s : State) (names : List Name) (before after : List Pending) (new : Table) (told told' : Option (List Entry)) (written written' : Kept) : Type 0 where
   pub made : List Entry
   pub tells : Tells told made told'
   pub all : after ≡ before ++ answers_in made
@@ -127,6 +130,7 @@ pub record Settled (s : State) (names : List Name) (before after : List Pending)
   pub given : labelled names orders ≡ orders_in (map (event_in names) after) s
   pub kept : KeepsState new (run (map (event_in names) after) s)
   pub numbers : AreNumbered names new
+  pub noted : Grows written written' (answer_texts names after)
 
 -- ---- a turn
 
@@ -145,9 +149,10 @@ refusal_told (Ok a) = None
 refusal_told (Err refusal) = Some refusal
 
 -- For each machine that the table stood for: the edge was called as a turn of it says, and where it tells, it tells just these calls;
--- the table then stands for the machine after it, and the answer is the machine's to the input. The numbers in the calls are those of
+-- the table then stands for the machine after it, and the answer is the machine's to the input. The journal
+-- grew by the lines of these events. The numbers in the calls are those of
 -- the jobs that are loaded.
-pub record TurnsOf (s : State) (input : Event) (reply : Option Refusal) (new : Table) (told told' : Option (List Entry)) : Type 0 where
+pub record TurnsOf (s : State) (input : Event) (line : List ℕ) (reply : Option Refusal) (new : Table) (told told' : Option (List Entry)) (written written' : Kept) : Type 0 where
   pub names : List Name
   pub entries : List Entry
   pub tells : Tells told entries told'
@@ -155,11 +160,12 @@ pub record TurnsOf (s : State) (input : Event) (reply : Option Refusal) (new : T
   pub led : IsLed (run (input ∷ events_in names entries) s)
   pub replies : (outcome s input).refusal ≡ reply
   pub numbers : reply ≡ None → AreNumbered names new
+  pub noted : Grows written written' (line ++ answer_texts names (answers_in entries))
 
 -- and they are those under which the jobs were loaded before it
-abbrev pub Turns : Event → Option Refusal → Table → Table → Option (List Entry) → Option (List Entry) → Type 0
-Turns input reply old new told told' = (s : State) → IsLed s → KeepsState old s →
-    (turn : TurnsOf s input reply new told told') × (reply ≡ None → AreNumbered turn.names old)
+abbrev pub Turns : Event → List ℕ → Option Refusal → Table → Table → Option (List Entry) → Option (List Entry) → Kept → Kept → Type 0
+Turns input line reply old new told told' written written' = (s : State) → IsLed s → KeepsState old s →
+    (turn : TurnsOf s input line reply new told told' written written') × (reply ≡ None → AreNumbered turn.names old)
 
 -- nothing happened: the table stands for what it stood for, and no call was made
 pub record IsUntouched (old new : Table) (told told' : Option (List Entry)) : Type 0 where

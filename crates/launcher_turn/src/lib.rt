@@ -4,6 +4,8 @@
 mod carrying;
 mod happening;
 pub mod laws;
+mod lines;
+mod questions;
 mod room;
 mod settling;
 mod telling;
@@ -11,6 +13,7 @@ mod turns;
 
 pub use carrying::carry_all;
 pub use happening::{Happening, News};
+pub use questions::{list, print};
 pub use room::{AnswerQueue, LabelRoom, Room};
 pub use settling::settle;
 pub use turns::turn;

@@ -9,44 +9,50 @@ ghost use Rattle.order_edge.specs.declared.pending.Pending.{Pending as Answered}
 ghost use Rattle.launcher_turn.specs.Turns.{IsWaiting, Handled, Settled};
 
 use crate::happening::{Happening, News};
+use crate::lines::event_made;
 use crate::room::Room;
 use crate::telling::tell;
 use child_edge::{ChildEdge, SocketEdge};
+use event_journal::Journal;
 use job_table::JobTable;
 use order_edge::Pending;
 use std::alloc::Global;
+use std::io::Write;
 
-/// Tells the table one answer, which takes no memory, and carries out what it orders.
-fn handle<E: ChildEdge + SocketEdge>(
+/// Tells the table one answer, which takes no memory, carries out what it orders, and writes its line.
+fn handle<E: ChildEdge + SocketEdge, W: Write>(
     table: &mut JobTable,
     edge: &mut E,
+    journal: &mut Journal<W>,
     alloc: Global,
     pending: Pending,
     room: &mut Room,
 )
     ensures { (s : State) (names : List Name) (given : Given) (waits : List Given) (rest : List Answered) → IsWaiting table.old s names (given ∷ waits) (pending ∷ rest)
-        → Handled s names given waits pending rest table.new room.old.answers room.new.answers (E.told edge.old) (E.told edge.new) }
+        → Handled s names given waits pending rest table.new room.old.answers room.new.answers (E.told edge.old) (E.told edge.new) journal.old journal.new }
 {
     room.label.copy(table.given().label(pending.job));
     let told = Happening::ToJob(room.label.as_str(), News::Answered(pending.answer));
     let _accepted = tell(table, edge, alloc, told, &mut room.answers);
+    journal.note_made(alloc, event_made(alloc, told));
 }
 
-/// Tells the table each answer of the queue, carries out what it orders, and puts those answers behind the others, until
-/// none is left. Takes no memory.
-pub fn settle<E: ChildEdge + SocketEdge>(
+/// Tells the table each answer of the queue, carries out what it orders, puts those answers behind the others, and writes the
+/// line of each, until none is left. Only the lines take memory; want of it closes the journal and changes nothing else.
+pub fn settle<E: ChildEdge + SocketEdge, W: Write>(
     table: &mut JobTable,
     edge: &mut E,
+    journal: &mut Journal<W>,
     alloc: Global,
     room: &mut Room,
 )
     ensures { (s : State) (names : List Name) (waits : List Given) → IsWaiting table.old s names waits room.old.answers → weigh_given waits ≤ 3 * 1024
-        → Settled s names room.old.answers room.new.answers table.new (E.told edge.old) (E.told edge.new) }
+        → Settled s names room.old.answers room.new.answers table.new (E.told edge.old) (E.told edge.new) journal.old journal.new }
 {
     let mut next = 0;
     while next < room.answers.len() {
         let pending = room.answers.at(next);
         next += 1;
-        handle(table, edge, alloc, pending, room);
+        handle(table, edge, journal, alloc, pending, room);
     }
 }

@@ -10,7 +10,7 @@ use Rattle.launcher_turn.proofs.settling.settle.Given as goal
 abbrev pub invariant-loop-next : goal.invariant-loop-next
 invariant-loop-next g l =
     (s : State) (names : List Name) (waits : List Given) → IsWaiting l.fn.table s names waits l.fn.room.answers → weigh_given waits ≤ 3 * 1024 →
-    IsSoFar s names l.fn.room.answers l.room.answers l.next l.table (g.E.Edge.told l.fn.edge) (g.E.Edge.told l.edge)
+    IsSoFar s names l.fn.room.answers l.room.answers l.next l.table (g.E.Edge.told l.fn.edge) (g.E.Edge.told l.edge) l.fn.journal l.journal
 
 abbrev pub decreases-loop-next : goal.decreases-loop-next
 decreases-loop-next g l = 3 * 1024 - l.next

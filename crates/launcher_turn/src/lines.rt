@@ -1,0 +1,62 @@
+//! The journal's event of what happens.
+
+ghost use Rattle.std.specs.Prelude.{◌≡◌, IfOk};
+ghost use Rattle.launcher_turn.specs.Lines.{told_by, told_of, told_answer};
+
+use crate::happening::{Happening, News};
+use history_model::{Answer, Event, Text};
+use std::alloc::{AllocError, Global};
+
+/// The event of the journal that tells the answer to an order.
+fn answer_line(job: Text, answer: Answer) -> Event
+    ensures { result ≡ told_answer job answer }
+{
+    match answer {
+        Answer::Spawned { run, pid } => Event::Spawned { job, run, pid },
+        Answer::SpawnRefused { run } => Event::SpawnRefused { job, run },
+        Answer::Termed { run, ok } => Event::Termed { job, run, ok },
+        Answer::Killed { run, ok } => Event::Killed { job, run, ok },
+    }
+}
+
+/// The event of the journal that tells what happens to a job.
+fn job_line(job: Text, news: News) -> Event
+    ensures { result ≡ told_of job news }
+{
+    match news {
+        News::Start => Event::Start { job },
+        News::Stop => Event::Stop { job },
+        News::Kickstart(k) => Event::Kickstart { job, k },
+        News::Came(conn) => Event::Came { job, conn },
+        News::Left(conn) => Event::Left { job, conn },
+        News::Ended(run, how) => Event::Ended { job, run, how },
+        News::WaitRefused(run) => Event::WaitRefused { job, run },
+        News::Answered(answer) => answer_line(job, answer),
+    }
+}
+
+/// The event of the journal that tells what happens. `AllocError` where memory for a copy of its label or path was refused.
+pub(crate) fn event_made(alloc: Global, what: Happening<'_>) -> Result<Event, AllocError>
+    ensures { IfOk result (λ event. event ≡ told_by what.entry) }
+{
+    match what {
+        Happening::Clock(at) => Ok(Event::Clock(at)),
+        Happening::Saw(path, obs) => {
+            let path = Text::copy_of(alloc, path)?;
+            Ok(Event::Saw { path, obs })
+        }
+        Happening::ToJob(label, news) => {
+            let job = Text::copy_of(alloc, label)?;
+            Ok(job_line(job, news))
+        }
+        Happening::Unload(label) => {
+            let job = Text::copy_of(alloc, label)?;
+            Ok(Event::Unload {
+                job,
+                w: false,
+                store: true,
+            })
+        }
+        Happening::Shutdown => Ok(Event::Shutdown),
+    }
+}
