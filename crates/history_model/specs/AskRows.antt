@@ -45,6 +45,11 @@ pub kickstart_of_a_stopped_job : play (load unthrottled ∷ spawned 1 ∷ Asked 
     ≡ gives (Spawn 1 None) ∷ none ∷ gives (Term 1) ∷ none ∷ none ∷ gives (Spawn 2 None) ∷ []
 kickstart_of_a_stopped_job = refl
 
+-- of one that runs it is nothing
+pub kickstart_of_a_running_job : play (load unthrottled ∷ spawned 1 ∷ Asked (Kickstart false) ∷ ended 1 (Code 0) ∷ [])
+    ≡ gives (Spawn 1 None) ∷ none ∷ none ∷ none ∷ []
+kickstart_of_a_running_job = refl
+
 -- kickstart -k of a job that does not run is a start, and strikes nothing
 pub struck_while_idle : play (load (record no_definition { throttle_interval = 0 }) ∷ Asked (Kickstart true) ∷ spawned 1 ∷ ended 1 (Code 0) ∷ [])
     ≡ none ∷ gives (Spawn 1 None) ∷ none ∷ none ∷ []
