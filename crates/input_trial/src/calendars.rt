@@ -1,17 +1,15 @@
 //! What no contract says: that the definitions show what the C library shows, and that each call succeeds.
 use calendar_due::{Calendar, Zone, ZoneFault};
 use history_model::CivilMinute;
+use std::alloc::Global;
 use std::test::Fail;
 
 mod cases;
 mod steps;
 
-// The zone of a rule that is one.
-fn rule(text: &str) -> Result<Zone, Fail> {
-    Zone::posix(text).map_err(|_| "a rule was refused".into())
-}
+type Parts = (i16, u8, u8, u8, u8, u8);
 
-fn parts(shown: CivilMinute) -> (i16, u8, u8, u8, u8, u8) {
+fn parts(shown: CivilMinute) -> Parts {
     (
         shown.year,
         shown.month,
@@ -22,96 +20,132 @@ fn parts(shown: CivilMinute) -> (i16, u8, u8, u8, u8, u8) {
     )
 }
 
-#[test]
-fn shows_what_the_c_library_shows(rt: HostRuntime) -> Result<(), Fail> {
-    for (text, seconds, want) in &cases::SHOWN {
-        let zone = rule(text)?;
-        assert!(rt; *seconds <= 250_000_000_000);
-        assert_eq!(rt;
-            parts(zone.civil_minute(*seconds)),
-            *want,
-            "{text} at {seconds}"
-        );
+// What the zone shows at a second that a clock may tell.
+fn shown_in(zone: &Zone, seconds: u64) -> Option<Parts> {
+    if seconds > 250_000_000_000 {
+        return None;
     }
-    Ok(())
+    Some(parts(zone.civil_minute(seconds)))
 }
 
-#[test]
-fn reads_zone_files(rt: HostRuntime) -> Result<(), Fail> {
-    let Ok(zone) = Zone::tzif(rt.alloc(), &cases::PYONGYANG) else {
-        return Err("a zone file was refused".into());
-    };
-    for (seconds, want) in &cases::SHOWN_IN_PYONGYANG {
-        assert!(rt; *seconds <= 250_000_000_000);
-        assert_eq!(rt; parts(zone.civil_minute(*seconds)), *want, "at {seconds}");
+fn shown(text: &str, seconds: u64) -> Option<Parts> {
+    let zone = Zone::posix(text).ok()?;
+    shown_in(&zone, seconds)
+}
+
+// The position of the first row that is shown otherwise.
+fn first_fault(rows: &[cases::Shown]) -> Option<usize> {
+    for (position, (text, seconds, want)) in rows.iter().enumerate() {
+        if shown(text, *seconds) != Some(*want) {
+            return Some(position);
+        }
     }
-    let Ok(utc) = Zone::tzif(rt.alloc(), &cases::UTC_FILE) else {
-        return Err("the zone file of UTC was refused".into());
-    };
-    assert_eq!(rt;
-        parts(utc.civil_minute(1_700_000_040)),
-        (2023, 11, 14, 22, 14, 2)
-    );
-    Ok(())
+    None
 }
 
 #[test]
-fn crosses_the_minutes_of_a_fixed_zone(rt: HostRuntime) -> Result<(), Fail> {
-    let Ok(zone) = Zone::fixed(3600) else {
-        return Err("an offset was refused".into());
-    };
-    let crossed = zone.crossed(rt.alloc(), 1_700_000_000, 1_700_000_040)?;
-    let want = CivilMinute {
-        year: 2023,
-        month: 11,
-        day: 14,
-        hour: 23,
-        minute: 14,
-        weekday: 2,
-    };
-    assert_eq!(rt; crossed.as_slice(), [want].as_slice());
-    assert_eq!(rt; zone.civil_minute(1_700_000_040), want);
-    Ok(())
+fn shows_what_the_c_library_shows(rt: HostRuntime) {
+    assert_eq!(rt; first_fault(&cases::SHOWN), None);
 }
 
-#[test]
-fn fires_where_an_entry_matches_a_crossed_minute(rt: HostRuntime) -> Result<(), Fail> {
-    for (text, entry, previous, now, want) in &steps::STEPS {
-        assert!(rt; *now <= 250_000_000_000);
-        let crossed = rule(text)?.crossed(rt.alloc(), *previous, *now)?;
-        let fires = Calendar::fires(&[*entry], crossed.as_slice());
-        assert_eq!(rt; fires, *want, "{text} to {now}");
+fn file_shows(alloc: Global, file: &[u8], rows: &[(u64, Parts)]) -> bool {
+    let Ok(zone) = Zone::tzif(alloc, file) else {
+        return false;
+    };
+    let mut is_shown = true;
+    for (seconds, want) in rows {
+        is_shown = is_shown && shown_in(&zone, *seconds) == Some(*want);
     }
-    Ok(())
+    is_shown
 }
 
 #[test]
-fn refuses_what_is_no_zone(rt: HostRuntime) -> Result<(), Fail> {
+fn reads_zone_files(rt: HostRuntime) {
+    let alloc = rt.alloc();
+    assert!(rt; file_shows(alloc, &cases::PYONGYANG, &cases::SHOWN_IN_PYONGYANG));
+    let in_utc = [(1_700_000_040, (2023, 11, 14, 22, 14, 2))];
+    assert!(rt; file_shows(alloc, &cases::UTC_FILE, &in_utc));
+}
+
+const AN_HOUR_EAST: CivilMinute = CivilMinute {
+    year: 2023,
+    month: 11,
+    day: 14,
+    hour: 23,
+    minute: 14,
+    weekday: 2,
+};
+
+fn crosses_one(alloc: Global) -> Option<bool> {
+    let zone = Zone::fixed(3600).ok()?;
+    let crossed = zone.crossed(alloc, 1_700_000_000, 1_700_000_040).ok()?;
+    let is_crossed = crossed.as_slice() == [AN_HOUR_EAST].as_slice();
+    let is_shown = zone.civil_minute(1_700_000_040) == AN_HOUR_EAST;
+    Some(is_crossed && is_shown)
+}
+
+#[test]
+fn crosses_the_minutes_of_a_fixed_zone(rt: HostRuntime) {
+    assert_eq!(rt; crosses_one(rt.alloc()), Some(true));
+}
+
+// Whether the entry fires in a step of a clock under the rule.
+fn fires(alloc: Global, step: &steps::Step) -> Option<bool> {
+    let (text, entry, previous, now, _) = *step;
+    if now > 250_000_000_000 {
+        return None;
+    }
+    let zone = Zone::posix(text).ok()?;
+    let crossed = zone.crossed(alloc, previous, now).ok()?;
+    Some(Calendar::fires(&[entry], crossed.as_slice()))
+}
+
+// The position of the first step that goes another way than it says.
+fn first_other(alloc: Global, steps: &[steps::Step]) -> Option<usize> {
+    for (position, step) in steps.iter().enumerate() {
+        if fires(alloc, step) != Some(step.4) {
+            return Some(position);
+        }
+    }
+    None
+}
+
+#[test]
+fn fires_where_an_entry_matches_a_crossed_minute(rt: HostRuntime) {
+    assert_eq!(rt; first_other(rt.alloc(), &steps::STEPS), None);
+}
+
+fn is_no_zone(made: Result<Zone, ZoneFault>) -> bool {
+    match made {
+        Err(ZoneFault::BadZone) => true,
+        _ => false,
+    }
+}
+
+#[test]
+fn refuses_what_is_no_rule(rt: HostRuntime) {
     for text in &cases::NO_RULES {
-        assert!(rt;
-            matches!(Zone::posix(text), Err(ZoneFault::BadZone)),
-            "{text}"
-        );
+        assert!(rt; is_no_zone(Zone::posix(text)), "{text}");
     }
+}
+
+#[test]
+fn refuses_what_is_no_offset(rt: HostRuntime) {
     for seconds in [-86_400, 86_400, i32::MIN, i32::MAX] {
-        assert!(rt;
-            matches!(Zone::fixed(seconds), Err(ZoneFault::BadZone)),
-            "{seconds}"
-        );
+        assert!(rt; is_no_zone(Zone::fixed(seconds)), "{seconds}");
     }
-    assert!(rt; Zone::fixed(-86_399).is_ok() && Zone::fixed(86_399).is_ok());
-    let long = vec![in rt.alloc(); 0u8; 65_537]?;
-    for bytes in [
-        b"".as_slice(),
-        b"TZi",
-        &cases::PYONGYANG[..236],
-        long.as_slice(),
-    ] {
-        assert!(rt;
-            matches!(Zone::tzif(rt.alloc(), bytes), Err(ZoneFault::BadZone)),
-            "{}",
-            bytes.len()
-        );
+    let is_west = Zone::fixed(-86_399).is_ok();
+    let is_east = Zone::fixed(86_399).is_ok();
+    assert!(rt; is_west && is_east);
+}
+
+#[test]
+fn refuses_what_is_no_zone_file(rt: HostRuntime) -> Result<(), Fail> {
+    let alloc = rt.alloc();
+    let long = vec![in alloc; 0u8; 65_537]?;
+    assert!(rt; is_no_zone(Zone::tzif(alloc, long.as_slice())));
+    for bytes in [b"".as_slice(), b"TZi", &cases::PYONGYANG[..236]] {
+        assert!(rt; is_no_zone(Zone::tzif(alloc, bytes)), "{}", bytes.len());
     }
     Ok(())
 }

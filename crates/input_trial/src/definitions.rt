@@ -18,6 +18,7 @@ Missing Label : {}
 WrongKind Label : {"Label":1}
 BadLabel Label : {"Label":""}
 BadLabel Label : {"Label":"~256*a~"}
+all : {"Label":"~255*a~","Program":"/bin/x"}
 BadLabel Label : {"Label":"a/b","ProgramArguments":[""]}
 BadLabel Label : {"Label":"a\n"}
 BadLabel Label : {"Label":"a\u007f"}
@@ -204,6 +205,27 @@ fn each_row(rt: HostRuntime) -> Result<(), Fail> {
             assert_eq!(rt; answer.as_str(), wanted, "{line}");
         }
     }
+    Ok(())
+}
+
+/// Whether a label of 255 bytes is the definition's label.
+fn keeps_long_label(alloc: Global) -> Result<bool, AllocError> {
+    let label = expanded(alloc, "", "~255*a~", "")?;
+    let text = expanded(
+        alloc,
+        "{\"Label\":\"",
+        "~255*a~",
+        "\",\"Program\":\"/bin/x\"}",
+    )?;
+    match read_def(alloc, text.as_bytes()) {
+        Ok(def) => Ok(def.label() == label.as_str()),
+        Err(_) => Ok(false),
+    }
+}
+
+#[test]
+fn a_long_label_is_kept(rt: HostRuntime) -> Result<(), Fail> {
+    assert!(rt; keeps_long_label(rt.alloc())?);
     Ok(())
 }
 

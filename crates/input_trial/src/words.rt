@@ -145,19 +145,26 @@ fn reads_the_daemons_words(rt: HostRuntime) -> Result<(), Fail> {
     Ok(())
 }
 
+/// Whether the line of the control program, or of the daemon's, is explained so.
+fn is_explained(alloc: Global, help: &(&str, bool, &str)) -> Result<bool, AllocError> {
+    let (line, is_help, part) = *help;
+    let words = words_of(alloc, line)?;
+    let given = if line.starts_with("jobctl") {
+        explain(alloc, words.as_slice())?
+    } else {
+        explain_daemon(alloc, words.as_slice())?
+    };
+    let is_told = given.text.contains(part);
+    Ok(given.is_help == is_help && is_told)
+}
+
 #[test]
 fn helps(rt: HostRuntime) -> Result<(), Fail> {
-    for (line, is_help, part) in &cases::HELP {
-        let words = words_of(rt.alloc(), line)?;
-        let given = explain(rt.alloc(), words.as_slice())?;
-        assert_eq!(rt; given.is_help, *is_help, "{line}");
-        assert!(rt; given.text.contains(*part), "{line}");
+    for help in &cases::HELP {
+        assert!(rt; is_explained(rt.alloc(), help)?, "{}", help.0);
     }
-    for (line, is_help, part) in &cases::DAEMON_HELP {
-        let words = words_of(rt.alloc(), line)?;
-        let given = explain_daemon(rt.alloc(), words.as_slice())?;
-        assert_eq!(rt; given.is_help, *is_help, "{line}");
-        assert!(rt; given.text.contains(*part), "{line}");
+    for help in &cases::DAEMON_HELP {
+        assert!(rt; is_explained(rt.alloc(), help)?, "{}", help.0);
     }
     Ok(())
 }

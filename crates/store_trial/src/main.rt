@@ -2,42 +2,57 @@
 //! `store_trial PATH [enabled|disabled LABEL SECOND]`. The script `tests/store_shell.sh` runs it beside the shell of SQLite.
 #![tactic(auto)]
 
-#[cfg(test)]
-mod tests;
-
-use anyhow::{Result, anyhow, bail};
 use history_model::Setting;
 use job_defs::is_label;
 use override_store::{OverrideStore, StoreFault};
-use sqlite::{Connection, FileStore};
-use sqlite_std_file::File;
-use std::env;
+use sqlite::{Alter, Connection};
+use std::process::ExitCode;
+use std::{env, io};
 
-fn told(fault: StoreFault) -> anyhow::Error {
+/// Why a run ends, in words.
+type Told = &'static str;
+
+/// What is asked for: a label, whether it is disabled, and the second.
+type Wish<'a> = (&'a str, bool, u64);
+
+fn told(fault: StoreFault) -> Told {
     match fault {
-        StoreFault::NoMemory => anyhow!("no memory"),
-        StoreFault::Refused => anyhow!("the store refused"),
-        StoreFault::Foreign => anyhow!("a stored name is no label"),
+        StoreFault::NoMemory => "no memory",
+        StoreFault::Refused => "the store refused",
+        StoreFault::Foreign => "a stored name is no label",
     }
 }
 
-fn set(
-    store: &mut OverrideStore<FileStore<File>>,
-    word: &str,
-    label: &str,
-    second: &str,
-) -> Result<()> {
-    let disabled = match word {
-        "disabled" => true,
-        "enabled" => false,
-        _ => bail!("neither enabled nor disabled"),
-    };
-    let second: u64 = match second.parse() {
-        Ok(second) => second,
-        Err(_) => bail!("no second"),
-    };
+/// The setting that the words behind the path ask for; none where there is no such word.
+fn wish_of(words: &[String]) -> Result<Option<Wish<'_>>, Told> {
+    match (words.get(2), words.get(3), words.get(4)) {
+        (Some(word), Some(label), Some(second)) => {
+            Ok(Some((label.as_str(), is_off(word)?, second_of(second)?)))
+        }
+        (None, _, _) => Ok(None),
+        _ => Err("a setting has three words"),
+    }
+}
+
+fn is_off(word: &str) -> Result<bool, Told> {
+    match word {
+        "disabled" => Ok(true),
+        "enabled" => Ok(false),
+        _ => Err("neither enabled nor disabled"),
+    }
+}
+
+fn second_of(text: &str) -> Result<u64, Told> {
+    match text.parse() {
+        Ok(second) => Ok(second),
+        Err(_) => Err("no second"),
+    }
+}
+
+fn set<S: Alter>(store: &mut OverrideStore<S>, wish: Wish<'_>) -> Result<(), Told> {
+    let (label, disabled, second) = wish;
     if !is_label(label) || second > 250_000_000_000 {
-        bail!("no label, or a second past the limit");
+        return Err("no label, or a second past the limit");
     }
     store.set(label, disabled, second).map_err(told)
 }
@@ -50,46 +65,71 @@ fn word_of(setting: &Setting) -> &'static str {
     }
 }
 
-fn list(rt: &HostRuntime, store: &mut OverrideStore<FileStore<File>>) -> Result<()> {
-    let all = store.all(rt.alloc()).map_err(told)?;
-    let changes = store.changes(rt.alloc()).map_err(told)?;
-    for (setting, change) in all.iter().zip(changes.iter()) {
-        println!(rt;
-            "{}\t{}\t{}",
-            setting.label.as_str(),
-            word_of(setting),
-            change.1
-        )?;
+fn list(rt: &HostRuntime, all: &[Setting], changes: &[(String, u64)]) -> io::Result<()> {
+    for (setting, change) in all.iter().zip(changes) {
+        let (label, word) = (setting.label.as_str(), word_of(setting));
+        println!(rt; "{label}\t{word}\t{}", change.1)?;
     }
     Ok(())
 }
 
-fn run(rt: &HostRuntime, words: &[String]) -> Result<()> {
-    let path = match words.get(1) {
-        Some(path) => path,
-        None => bail!("no path"),
-    };
-    let conn = match Connection::open(rt, path) {
-        Ok(conn) => conn,
-        Err(_) => bail!("the file was not opened"),
-    };
-    let mut store = OverrideStore::open_on(rt.alloc(), conn).map_err(told)?;
-    match (words.get(2), words.get(3), words.get(4)) {
-        (Some(word), Some(label), Some(second)) => set(&mut store, word, label, second)?,
-        (None, _, _) => {}
-        _ => bail!("a setting has three words"),
-    }
-    list(rt, &mut store)?;
-    match store.close_on().close() {
+fn list_all<S: Alter>(rt: &HostRuntime, store: &mut OverrideStore<S>) -> Result<(), Told> {
+    let all = store.all(rt.alloc()).map_err(told)?;
+    let changes = store.changes(rt.alloc()).map_err(told)?;
+    match list(rt, &all, &changes) {
         Ok(()) => Ok(()),
-        Err(_) => bail!("the file was not closed"),
+        Err(_) => Err("the output was refused"),
     }
 }
 
-fn main(rt: HostRuntime) -> Result<()> {
+/// Opens a store on the connection, sets where that is asked for, lists, and gives the connection back. What lets a store
+/// go is proved for its whole type, so this is generic over what the store stands on.
+fn use_store<S: Alter + Drop>(
+    rt: &HostRuntime,
+    conn: Connection<S>,
+    wish: Option<Wish<'_>>,
+) -> Result<Connection<S>, Told> {
+    let mut store = OverrideStore::open_on(rt.alloc(), conn).map_err(told)?;
+    if let Some(wish) = wish {
+        set(&mut store, wish)?;
+    }
+    list_all(rt, &mut store)?;
+    Ok(store.close_on())
+}
+
+fn run(rt: &HostRuntime, words: &[String]) -> Result<(), Told> {
+    let Some(path) = words.get(1) else {
+        return Err("no path");
+    };
+    let wish = wish_of(words)?;
+    let Ok(conn) = Connection::open(rt, path) else {
+        return Err("the file was not opened");
+    };
+    let conn = use_store(rt, conn, wish)?;
+    match conn.close() {
+        Ok(()) => Ok(()),
+        Err(_) => Err("the file was not closed"),
+    }
+}
+
+fn words_of(rt: &HostRuntime) -> io::Result<Vec<String>> {
     let mut words = Vec::new(rt.alloc());
-    for word in env::args(&rt)? {
+    for word in env::args(rt)? {
         words.push(word)?;
     }
-    run(&rt, words.as_slice())
+    Ok(words)
+}
+
+fn main(rt: HostRuntime) -> ExitCode {
+    let ending = match words_of(&rt) {
+        Ok(words) => run(&rt, words.as_slice()),
+        Err(_) => Err("no memory"),
+    };
+    match ending {
+        Ok(()) => ExitCode::SUCCESS,
+        Err(told) => {
+            let _told = eprintln!(rt; "store_trial: {told}");
+            ExitCode::FAILURE
+        }
+    }
 }

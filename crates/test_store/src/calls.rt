@@ -1,0 +1,88 @@
+//! One call each, and whether it went well.
+
+use history_model::Setting;
+use job_defs::is_label;
+use override_store::{OverrideStore, StoreFault};
+use sqlite::{Alter, Connection, FileStore, Files, Options};
+use sqlite_disk::Disk;
+use std::alloc::Global;
+
+/// A label's setting and its second.
+pub type Row<'a> = (&'a str, bool, u64);
+
+/// The database of the first version, with two settings.
+pub const FIRST_VERSION: &str =
+    "CREATE TABLE overrides (label TEXT NOT NULL PRIMARY KEY, disabled INTEGER NOT NULL CHECK (disabled IN (0, 1))) STRICT; INSERT INTO overrides VALUES ('a', 1), ('b', 0)";
+
+pub const SECOND: u64 = 1_700_000_000;
+
+/// The connection over these files, unless they can't be used.
+pub fn connected<D: Disk + Drop>(
+    alloc: Global,
+    files: Files<D>,
+    number: u64,
+) -> Option<Connection<FileStore<D>>> {
+    if !files.may_be_used() {
+        return None;
+    }
+    Connection::open_files(alloc, files, Options::new(number)).ok()
+}
+
+pub fn runs<S: Alter>(conn: &mut Connection<S>, sql: &str) -> bool {
+    conn.execute_batch(sql).is_ok()
+}
+
+pub fn opened<S: Alter + Drop>(alloc: Global, conn: Connection<S>) -> Option<OverrideStore<S>> {
+    OverrideStore::open_on(alloc, conn).ok()
+}
+
+pub fn closed<D: Disk + Drop>(store: OverrideStore<FileStore<D>>) -> Option<Files<D>> {
+    store.close_on().close_files().ok()
+}
+
+pub fn sets<S: Alter>(store: &mut OverrideStore<S>, row: Row<'_>) -> bool {
+    let (label, disabled, second) = row;
+    is_label(label) && second <= 250_000_000_000 && store.set(label, disabled, second).is_ok()
+}
+
+pub fn all_of<S: Alter>(
+    alloc: Global,
+    store: &mut OverrideStore<S>,
+) -> Result<Vec<Setting>, StoreFault> {
+    store.all(alloc)
+}
+
+pub fn changes_of<S: Alter>(
+    alloc: Global,
+    store: &mut OverrideStore<S>,
+) -> Result<Vec<(String, u64)>, StoreFault> {
+    store.changes(alloc)
+}
+
+fn shows(setting: &Setting, want: &Row<'_>) -> bool {
+    setting.label.as_str() == want.0 && setting.disabled == want.1
+}
+
+/// Whether the settings are these, in this order.
+pub fn show_all(all: &[Setting], want: &[Row<'_>]) -> bool {
+    all.len() == want.len() && all.iter().zip(want).all(|(one, row)| shows(one, row))
+}
+
+fn tells(change: &(String, u64), want: &Row<'_>) -> bool {
+    change.0.as_str() == want.0 && change.1 == want.2
+}
+
+/// Whether the seconds are these, in this order.
+pub fn tell_all(changes: &[(String, u64)], want: &[Row<'_>]) -> bool {
+    changes.len() == want.len() && changes.iter().zip(want).all(|(one, row)| tells(one, row))
+}
+
+/// Whether the store has these settings, each with its second.
+pub fn has<S: Alter>(alloc: Global, store: &mut OverrideStore<S>, want: &[Row<'_>]) -> bool {
+    let all = all_of(alloc, store);
+    let changes = changes_of(alloc, store);
+    match (all, changes) {
+        (Ok(all), Ok(changes)) => show_all(&all, want) && tell_all(&changes, want),
+        _ => false,
+    }
+}

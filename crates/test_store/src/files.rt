@@ -1,0 +1,138 @@
+//! Stores over files that are closed and opened again, on disks in memory: each acknowledged setting is there.
+
+use crate::calls::{FIRST_VERSION, Row, SECOND, closed, connected, has, opened, runs, sets};
+use override_store::OverrideStore;
+use override_store::again::on_files;
+use sqlite::{Connection, FileStore, Files, Options};
+use sqlite_disk::{Disk, Memory};
+use std::alloc::Global;
+
+/// What is set between an opening of the files and their closing, and what a store over the files lists after that.
+struct Round {
+    sets: &'static [Row<'static>],
+    want: &'static [Row<'static>],
+}
+
+/// Files that hold nothing yet.
+static NEW: &[Round] = &[
+    Round {
+        sets: &[],
+        want: &[],
+    },
+    Round {
+        sets: &[("b", true, SECOND), ("a", true, SECOND)],
+        want: &[("a", true, SECOND), ("b", true, SECOND)],
+    },
+    Round {
+        sets: &[("a", false, SECOND + 60), ("z", true, SECOND + 61)],
+        want: &[
+            ("a", false, SECOND + 60),
+            ("b", true, SECOND),
+            ("z", true, SECOND + 61),
+        ],
+    },
+    Round {
+        sets: &[],
+        want: &[
+            ("a", false, SECOND + 60),
+            ("b", true, SECOND),
+            ("z", true, SECOND + 61),
+        ],
+    },
+];
+
+/// Files of the first version.
+static OLD: &[Round] = &[
+    Round {
+        sets: &[],
+        want: &[("a", true, 0), ("b", false, 0)],
+    },
+    Round {
+        sets: &[("b", true, SECOND)],
+        want: &[("a", true, 0), ("b", true, SECOND)],
+    },
+];
+
+fn set_all<D: Disk + Drop>(store: &mut OverrideStore<FileStore<D>>, rows: &[Row<'_>]) -> bool {
+    let mut is_set = true;
+    for row in rows {
+        is_set = sets(store, *row) && is_set;
+    }
+    is_set
+}
+
+/// A store over the files, where that can be opened.
+fn store_over<D: Disk + Drop>(
+    alloc: Global,
+    files: Files<D>,
+) -> Option<OverrideStore<FileStore<D>>> {
+    opened(alloc, connected(alloc, files, 5)?)
+}
+
+/// The store opened again over the files of one that was closed.
+fn reopened<D: Disk + Drop>(
+    alloc: Global,
+    store: OverrideStore<FileStore<D>>,
+) -> Option<OverrideStore<FileStore<D>>> {
+    on_files(alloc, store, Options::new(6))
+}
+
+/// The files after one round, if it passes.
+fn played<D: Disk + Drop>(alloc: Global, files: Files<D>, round: &Round) -> Option<Files<D>> {
+    let mut store = store_over(alloc, files)?;
+    let is_set = set_all(&mut store, round.sets);
+    let mut store = reopened(alloc, store)?;
+    let is_there = has(alloc, &mut store, round.want);
+    let files = closed(store)?;
+    if is_set && is_there {
+        Some(files)
+    } else {
+        None
+    }
+}
+
+fn passes<D: Disk + Drop>(alloc: Global, files: Files<D>, rounds: &[Round]) -> bool {
+    let mut files = files;
+    for one in rounds {
+        match played(alloc, files, one) {
+            Some(next) => files = next,
+            None => return false,
+        }
+    }
+    true
+}
+
+fn new_files(alloc: Global) -> Files<Memory> {
+    let log = Memory::new(alloc);
+    let db = Memory::new(alloc);
+    Files { log, db }
+}
+
+/// The connection's files once the text was run.
+fn ran<D: Disk + Drop>(conn: Connection<FileStore<D>>, sql: &str) -> Option<Files<D>> {
+    let mut conn = conn;
+    let is_run = runs(&mut conn, sql);
+    let files = conn.close_files().ok()?;
+    if is_run { Some(files) } else { None }
+}
+
+/// Files of the first version, with two settings.
+pub fn old_files(alloc: Global) -> Option<Files<Memory>> {
+    ran(connected(alloc, new_files(alloc), 3)?, FIRST_VERSION)
+}
+
+#[test]
+fn settings_last_over_closed_files(rt: HostRuntime) {
+    let alloc = rt.alloc();
+    assert!(rt; passes(alloc, new_files(alloc), NEW));
+}
+
+#[test]
+fn the_first_versions_files_are_moved_once(rt: HostRuntime) {
+    let alloc = rt.alloc();
+    let is_moved = match old_files(alloc) {
+        Some(files) => passes(alloc, files, OLD),
+        None => false,
+    };
+    assert!(rt; is_moved);
+}

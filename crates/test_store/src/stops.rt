@@ -1,0 +1,148 @@
+//! Disks in memory that stop after so many calls, from the opening of a first version's file to the second of two
+//! settings: what was acknowledged is found again.
+
+use crate::calls::{Row, SECOND, all_of, connected, opened, sets, show_all};
+use crate::files::old_files;
+use history_model::Setting;
+use override_store::OverrideStore;
+use sqlite::{Alter, Connection, Files, Options};
+use sqlite_disk::{Disk, Fuse, Memory};
+use std::alloc::Global;
+
+/// More calls than any run makes.
+const MANY: u64 = 1_000_000;
+
+const ON: Row<'static> = ("c", true, SECOND);
+
+const OFF: Row<'static> = ("c", false, SECOND);
+
+/// What was acknowledged.
+#[derive(Clone, Copy)]
+struct Said {
+    opened: bool,
+    first: bool,
+    second: bool,
+}
+
+const NOTHING: Said = Said {
+    opened: false,
+    first: false,
+    second: false,
+};
+
+fn copy(alloc: Global, disk: &Memory) -> Option<Memory> {
+    let mut out = Memory::new(alloc);
+    let is_written = out.write_at(0, disk.bytes()).is_ok();
+    if is_written { Some(out) } else { None }
+}
+
+/// What the disks hold, without their fuses.
+fn left(alloc: Global, files: &Files<Fuse<Memory>>) -> Option<Files<Memory>> {
+    let log = copy(alloc, files.log.inner())?;
+    let db = copy(alloc, files.db.inner())?;
+    Some(Files { log, db })
+}
+
+fn fused(alloc: Global, from: &Files<Memory>, log: u64, db: u64) -> Option<Files<Fuse<Memory>>> {
+    let log = Fuse::new(copy(alloc, &from.log)?, log);
+    let db = Fuse::new(copy(alloc, &from.db)?, db);
+    Some(Files { log, db })
+}
+
+fn set_twice<S: Alter>(store: &mut OverrideStore<S>) -> Said {
+    let first = sets(store, ON);
+    let second = sets(store, OFF);
+    Said {
+        opened: true,
+        first,
+        second,
+    }
+}
+
+/// A store is opened and two settings are made.
+fn run_over<S: Alter + Drop>(alloc: Global, conn: Connection<S>) -> (Said, S) {
+    match OverrideStore::open_or_give(alloc, conn) {
+        Ok(store) => {
+            let mut store = store;
+            let said = set_twice(&mut store);
+            (said, store.close_on().into_store())
+        }
+        Err((_, store)) => (NOTHING, store),
+    }
+}
+
+/// The same from the opening of the files.
+fn run_from<D: Disk + Drop>(alloc: Global, files: Files<D>) -> Option<(Said, Files<D>)> {
+    if !files.may_be_used() {
+        return None;
+    }
+    match Connection::open_files(alloc, files, Options::new(7)) {
+        Ok(conn) => {
+            let (said, store) = run_over(alloc, conn);
+            Some((said, store.close()))
+        }
+        Err((_, unopened)) => Some((NOTHING, unopened.into_files())),
+    }
+}
+
+fn found<D: Disk + Drop>(alloc: Global, files: Files<D>) -> Option<Vec<Setting>> {
+    let conn = connected(alloc, files, 9)?;
+    let mut store = opened(alloc, conn)?;
+    all_of(alloc, &mut store).ok()
+}
+
+/// Whether what is found may follow what was acknowledged.
+fn may_follow(said: Said, all: &[Setting]) -> bool {
+    let old = show_all(all, &[("a", true, 0), ("b", false, 0)]);
+    let on = show_all(all, &[("a", true, 0), ("b", false, 0), ON]);
+    let off = show_all(all, &[("a", true, 0), ("b", false, 0), OFF]);
+    if said.second {
+        off
+    } else if said.first {
+        on || off
+    } else if said.opened {
+        old || on || off
+    } else {
+        old
+    }
+}
+
+/// Whether the second setting was acknowledged; none where what is found does not follow.
+fn stops(alloc: Global, from: &Files<Memory>, log: u64, db: u64) -> Option<bool> {
+    let files = fused(alloc, from, log, db)?;
+    let (said, files) = run_from(alloc, files)?;
+    let files = left(alloc, &files)?;
+    let all = found(alloc, files)?;
+    let follows = may_follow(said, &all);
+    if follows { Some(said.second) } else { None }
+}
+
+/// Whether each stop of the log, or of the database, is followed, up to a run that is whole.
+fn each_stop_is_followed(alloc: Global, from: &Files<Memory>, is_log: bool) -> bool {
+    for calls in 0..200u64 {
+        let (log, db) = if is_log { (calls, MANY) } else { (MANY, calls) };
+        match stops(alloc, from, log, db) {
+            Some(true) => return true,
+            Some(false) => {}
+            None => return false,
+        }
+    }
+    false
+}
+
+fn all_stops_are_followed(alloc: Global, is_log: bool) -> bool {
+    match old_files(alloc) {
+        Some(from) => each_stop_is_followed(alloc, &from, is_log),
+        None => false,
+    }
+}
+
+#[test]
+fn the_log_stops(rt: HostRuntime) {
+    assert!(rt; all_stops_are_followed(rt.alloc(), true));
+}
+
+#[test]
+fn the_database_stops(rt: HostRuntime) {
+    assert!(rt; all_stops_are_followed(rt.alloc(), false));
+}
