@@ -1,5 +1,5 @@
 -- A line that was written, or for which the journal was closed.
-use Rattle.std.proofs.Common.{◌≡◌, ℕ, List, ap, subst, sym}
+use Rattle.std.proofs.Common.{◌≡◌, ℕ, List, subst}
 use Rattle.std.specs.Prelude.{Result, Ok, Err, IfOk, OnErr}
 use Rattle.history_model.specs.declared.event.Event.{Event}
 use Rattle.ctl_protocol.specs.Journal.{event_text}

@@ -1,5 +1,5 @@
 -- The lines of a turn in the journal.
-use Rattle.std.specs.Prelude.{ℕ, true, false, List, ◌++◌}
+use Rattle.std.specs.Prelude.{ℕ, true, false, List}
 use Rattle.std.specs.List.{flat_map}
 use Rattle.history_model.specs.declared.Answer.{Answer}
 use Rattle.history_model.specs.declared.Answer.TheVariants as answers
