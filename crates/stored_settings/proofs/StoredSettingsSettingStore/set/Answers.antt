@@ -1,0 +1,13 @@
+use Rattle.stored_settings.proofs.StoredSettingsSettingStore.set.Goals as goal
+
+pub returns-in-Ok : goal.returns-in-Ok
+returns-in-Ok g c = record {
+  told = λ after is. cc;
+  stored = λ settings holds. (c.in-Ok.ensures.holds settings holds).0;
+}
+
+pub returns-in-Err : goal.returns-in-Err
+returns-in-Err g c = record {
+  told = λ after is. cc;
+  stored = λ settings holds. (c.in-Err.ensures.holds settings holds).1;
+}

@@ -1,0 +1,62 @@
+//! The store of overrides as the place where a launcher's settings last: it holds each setting that was made, and so does the
+//! store that is opened again.
+#![tactic(auto)]
+
+ghost use Rattle.std.specs.Prelude.{IfOk, List, None, reverse};
+ghost use Rattle.history_model.specs.declared.event.Setting.{Setting as Held};
+ghost use Rattle.sqlite.specs.Held.{state};
+ghost use Rattle.sqlite.specs.State.{HasCleanDisk};
+ghost use Rattle.override_store.specs.Ours.{AreFit, HoldsNow, HoldsSettings};
+
+use history_model::Setting;
+use load_asking::SettingStore;
+use override_store::again::on_connection;
+use override_store::{OverrideStore, StoreFault};
+use sqlite::{Alter, Connection};
+use std::alloc::Global;
+
+/// A store of overrides that a launcher's turns write to. It holds what it was asked to keep as long as its disk is honest and
+/// its connection open. It does not tell what it was asked.
+#[derive(Drop)]
+pub struct StoredSettings<S: Alter> {
+    pub store: OverrideStore<S>,
+}
+
+impl<S: Alter> SettingStore for StoredSettings<S> {
+    ghost holds = { λ s settings. HoldsSettings (state S.Store s.store) settings };
+
+    ghost told = { λ s. None };
+
+    fn set(&mut self, label: &str, disabled: bool, changed: u64) -> bool {
+        match self.store.set(label, disabled, changed) {
+            Ok(()) => true,
+            Err(_) => false,
+        }
+    }
+}
+
+/// The store on a connection, and the settings that it holds, by rising bytes of their labels. `NoMemory` and `Refused` as
+/// `OverrideStore::open_on`, and `Foreign` where a stored name is no label; what was handed in is then dropped.
+pub fn opened<S: Alter + Drop>(
+    alloc: Global,
+    conn: Connection<S>,
+) -> Result<(StoredSettings<S>, Vec<Setting>), StoreFault>
+    ensures holds { IfOk result (λ r. AreFit (state S.Store conn).committed.trees → HoldsSettings (state S.Store r.0.store) (reverse r.1.items)) }
+{
+    let mut store = OverrideStore::open_on(alloc, conn)?;
+    let all = store.all(alloc)?;
+    Ok((StoredSettings { store }, all))
+}
+
+/// The store closed and opened again on its connection: it holds the settings that it held. Refused as
+/// `OverrideStore::open_on`; the store is then dropped.
+pub fn again<S: Alter + Drop>(
+    alloc: Global,
+    settings: StoredSettings<S>,
+) -> Result<StoredSettings<S>, StoreFault>
+    ensures holds { IfOk result (λ r. (list : List Held) → HoldsSettings (state S.Store settings.store) list → HasCleanDisk (state S.Store r.store) → HoldsNow (state S.Store r.store) list) }
+{
+    let StoredSettings { store } = settings;
+    let store = on_connection(alloc, store)?;
+    Ok(StoredSettings { store })
+}
