@@ -1,0 +1,3 @@
+pub mod TurnRest
+pub mod Loads
+pub mod Sets

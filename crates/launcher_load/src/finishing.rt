@@ -1,0 +1,33 @@
+//! The rest of a turn whose first event the table has taken in.
+
+ghost use Rattle.std.specs.Prelude.{◌≡◌, ℕ, List, []};
+ghost use Rattle.history_model.specs.Machine.{State, Event};
+ghost use Rattle.job_table.specs.Rows.{Table};
+ghost use Rattle.job_table.specs.Kept.{KeepsState};
+ghost use Rattle.event_journal.specs.Journals.{Kept, Grows};
+ghost use Rattle.launcher_turn.specs.Turns.{IsLed, IsShort};
+ghost use Rattle.launcher_load.specs.LoadTurns.{Finishes, HasTaken};
+
+use child_edge::{ChildEdge, SocketEdge};
+use event_journal::Journal;
+use job_table::JobTable;
+use launcher_turn::{Room, carry_all, settle};
+use std::alloc::Global;
+use std::io::Write;
+
+/// Carries out what the event that the table has just taken in ordered, and makes each answer the next event, until none is
+/// left. The journal, which has the line of the event, gets the line of each answer.
+pub(crate) fn finish<E: ChildEdge + SocketEdge, W: Write>(
+    table: &mut JobTable,
+    edge: &mut E,
+    journal: &mut Journal<W>,
+    alloc: Global,
+    room: &mut Room,
+)
+    requires { room.old.answers ≡ [] }
+    ensures { (before : Table) (s : State) (e : Event) (line : List ℕ) (written : Kept) → Grows written journal.old line → IsShort e → IsLed s → KeepsState before s → HasTaken s e table.old
+        → Finishes s e line table.old.names table.new (E.told edge.old) (E.told edge.new) written journal.new }
+{
+    carry_all(edge, &table.given(), &mut room.answers);
+    settle(table, edge, journal, alloc, room);
+}

@@ -1,0 +1,190 @@
+//! The load of a job: it is made ready, the outside is asked, its line is written, and where the outside answered well the
+//! job is loaded.
+
+ghost use Rattle.std.specs.Prelude.{◌≡◌, ◌&&◌, ℕ, Bool, List, [], IfOk, None, true, false, is_some};
+ghost use Rattle.std.specs.String.{string_bytes};
+ghost use Rattle.history_model.specs.declared.event.Setting.{Setting as Held};
+ghost use Rattle.history_model.specs.Acceptance.{refusal_in};
+ghost use Rattle.history_model.specs.Labels.{is_label};
+ghost use Rattle.history_model.specs.Machine.{State, Load};
+ghost use Rattle.history_model.specs.Step.{outcome, set_if};
+ghost use Rattle.job_defs.specs.Definitions.{given};
+ghost use Rattle.job_table.specs.Kept.{KeepsState};
+ghost use Rattle.job_table.specs.Loads.{load_of, refusal_outside, IsReady};
+ghost use Rattle.event_journal.specs.Journals.{Kept, Grows};
+ghost use Rattle.launcher_turn.specs.Turns.{IsLed, refusal_told};
+ghost use Rattle.launcher_load.specs.Lines.{load_line};
+ghost use Rattle.launcher_load.specs.LoadTurns.{LoadTurnOf, IsUntouched, Makes, EndsLoad, is_memory, settings_after};
+
+use crate::finishing::finish;
+use crate::noting::{note_load, note_load_refused};
+use child_edge::{ChildEdge, SocketEdge};
+use event_journal::Journal;
+use history_model::Refusal;
+use job_defs::Def;
+use job_table::{JobTable, Ready};
+use job_texts::loaded;
+use launcher_turn::Room;
+use load_asking::{Asked, SettingStore, ask_outside};
+use std::alloc::Global;
+use std::io::Write;
+
+/// What a load came to.
+#[derive(Drop)]
+pub struct Loaded {
+    /// What the outside answered. What it was not asked counts as true.
+    pub asked: Asked,
+    /// The text of a load that was made, or why it was refused.
+    pub reply: Result<String, Refusal>,
+}
+
+/// What the outside answered, and what it refused.
+#[derive(Clone, Copy)]
+struct Answered {
+    asked: Asked,
+    refusal: Option<Refusal>,
+}
+
+/// What the outside refuses of a load: the sockets of a job that has any, then the store, where a setting is written.
+fn refused_outside(def: &Def, w: bool, asked: Asked) -> Option<Refusal>
+    ensures { result ≡ refusal_outside def.now w asked.bind asked.store }
+{
+    if def.has_sockets() && !asked.bind {
+        return Some(Refusal::SocketRefused);
+    }
+    if w && !asked.store {
+        return Some(Refusal::StoreRefused);
+    }
+    None
+}
+
+/// Lets a load go that was made ready.
+fn discard(_ready: Ready) {}
+
+/// Loads the job that was made ready, carries out what is ordered, and makes each answer the next event.
+fn make<E: ChildEdge + SocketEdge, W: Write>(
+    table: &mut JobTable,
+    edge: &mut E,
+    journal: &mut Journal<W>,
+    alloc: Global,
+    room: &mut Room,
+    ready: Ready,
+)
+    requires ready { IsReady table.old ready }
+    requires label { is_label ready.entry.def.label ≡ true }
+    requires empty { room.old.answers ≡ [] }
+    ensures { (s : State) (force bind store : Bool) (line : List ℕ) (written : Kept) → Grows written journal.old line → IsLed s → KeepsState table.old s
+        → refusal_in s (Load (Ok (given ready.entry.def)) (is_some ready.setting) force bind store) ≡ None
+        → Makes s (Load (Ok (given ready.entry.def)) (is_some ready.setting) force bind store) line ready.entry.number ready.entry.def table.new (E.told edge.old) (E.told edge.new) written journal.new }
+{
+    table.commit_load(ready);
+    finish(table, edge, journal, alloc, room);
+}
+
+/// Asks the outside about the load that was made ready, writes its line, and makes it where the outside answered well.
+fn ask_and_make<E: ChildEdge + SocketEdge, T: SettingStore, W: Write>(
+    table: &mut JobTable,
+    edge: &mut E,
+    store: &mut T,
+    journal: &mut Journal<W>,
+    alloc: Global,
+    room: &mut Room,
+    ready: Ready,
+    def: &str,
+    w: bool,
+    force: bool,
+) -> Answered
+    requires ready { IsReady table.old ready }
+    requires label { is_label ready.entry.def.label ≡ true }
+    requires empty { room.old.answers ≡ [] }
+    ensures ends { EndsLoad ready w table.old.reading.wall result.asked result.refusal (load_line def.now w force result.asked) table.old table.new (E.told edge.old) (E.told edge.new) (T.told store.old) (T.told store.new) journal.old journal.new }
+    ensures stored { (settings : List Held) → T.holds store.old settings → T.holds store.new (set_if (w && (result.asked.bind && result.asked.store)) ready.entry.def.label false settings) }
+{
+    let changed = table.reading().wall;
+    let asked = ask_outside(edge, store, ready.job(), ready.def(), w, changed);
+    note_load(journal, alloc, def, w, force, asked);
+    let refusal = refused_outside(ready.def(), w, asked);
+    match refusal {
+        Some(_) => discard(ready),
+        None => make(table, edge, journal, alloc, room, ready),
+    }
+    Answered { asked, refusal }
+}
+
+/// A load that was refused before the outside was asked.
+fn unasked(refusal: Refusal) -> Loaded
+    ensures { result ≡ record { asked = record { bind = true; store = true }; reply = Err refusal } }
+{
+    Loaded {
+        asked: Asked {
+            bind: true,
+            store: true,
+        },
+        reply: Err(refusal),
+    }
+}
+
+/// A load that the outside was asked about, with the text that it has if it was made.
+fn reply_to(answered: Answered, text: String) -> Loaded
+    ensures asked { result.asked ≡ answered.asked }
+    ensures reply { refusal_told result.reply ≡ answered.refusal }
+    ensures text { IfOk result.reply (λ given. string_bytes given ≡ string_bytes text) }
+{
+    let reply = match answered.refusal {
+        Some(refusal) => Err(refusal),
+        None => Ok(text),
+    };
+    Loaded {
+        asked: answered.asked,
+        reply,
+    }
+}
+
+/// A turn that begins with a load, as `load` of launchctl(1): with `w` its label is also enabled, with `force` a disabled
+/// one is loaded too. All memory is taken before the outside is asked, but for that of the journal's lines: want of it closes
+/// the journal and changes nothing else. The journal gets the line of the load with what the outside answered, also where it
+/// is refused, and then the line of each answer.
+///
+/// Refusals, in this order: ShuttingDown, BadDefinition, Removing or AlreadyLoaded, TooManyJobs (1,024), Disabled; NoMemory;
+/// SocketRefused, where the sockets were not bound, StoreRefused, where the setting was not stored: what was bound is then
+/// given up. A refused load leaves the table standing for what it stood for. One that found no memory has no line.
+pub fn load<E: ChildEdge + SocketEdge, T: SettingStore, W: Write>(
+    table: &mut JobTable,
+    edge: &mut E,
+    store: &mut T,
+    journal: &mut Journal<W>,
+    alloc: Global,
+    room: &mut Room,
+    def: &str,
+    w: bool,
+    force: bool,
+) -> Loaded
+    ensures memory { is_memory (refusal_told result.reply) ≡ true → IsUntouched table.old table.new (E.told edge.old) (E.told edge.new) (T.told store.old) (T.told store.new) }
+    ensures silent { is_memory (refusal_told result.reply) ≡ true → journal.new ≡ journal.old }
+    ensures turn { is_memory (refusal_told result.reply) ≡ false → (s : State) → IsLed s → KeepsState table.old s
+        → LoadTurnOf s def.now w force result.asked (refusal_told result.reply) table.new (E.told edge.old) (E.told edge.new) (T.told store.old) (T.told store.new) journal.old journal.new }
+    ensures stored { (s : State) → KeepsState table.old s → T.holds store.old s.settings
+        → T.holds store.new (settings_after (refusal_told result.reply) s (load_of def.now w force result.asked.bind result.asked.store)) }
+    ensures text { IfOk result.reply (λ text. (s : State) → KeepsState table.old s
+        → (outcome s (load_of def.now w force result.asked.bind result.asked.store)).text ≡ string_bytes text) }
+{
+    room.answers.clear();
+    match table.prepare_load(alloc, def.as_bytes(), w, force) {
+        Ok(ready) => match loaded(alloc, ready.def().not_acted_on()) {
+            Ok(text) => {
+                let ended = ask_and_make(
+                    table, edge, store, journal, alloc, room, ready, def, w, force,
+                );
+                reply_to(ended, text)
+            }
+            Err(_) => {
+                discard(ready);
+                unasked(Refusal::NoMemory)
+            }
+        },
+        Err(refusal) => {
+            note_load_refused(journal, alloc, def, w, force, refusal);
+            unasked(refusal)
+        }
+    }
+}

@@ -1,0 +1,136 @@
+//! The line of a load, and of a setting, with what the outside answered.
+
+ghost use Rattle.std.specs.Prelude.{◌≡◌, IfOk, Some, true, false};
+ghost use Rattle.event_journal.specs.Journals.{Grows};
+ghost use Rattle.launcher_load.specs.Lines.{told_load, told_set, load_line, set_line};
+ghost use Rattle.launcher_load.specs.LoadTurns.{is_memory};
+
+use event_journal::Journal;
+use history_model::{Event, Refusal, Text};
+use load_asking::Asked;
+use std::alloc::{AllocError, Global};
+use std::io::Write;
+
+/// The journal's event of a load. `AllocError` where memory for a copy of the definition was refused.
+fn load_event(
+    alloc: Global,
+    def: &str,
+    w: bool,
+    force: bool,
+    asked: Asked,
+) -> Result<Event, AllocError>
+    ensures { IfOk result (λ event. event ≡ told_load def.now w force asked) }
+{
+    let def = Text::copy_of(alloc, def)?;
+    Ok(Event::Load {
+        def,
+        w,
+        force,
+        bind: asked.bind,
+        store: asked.store,
+    })
+}
+
+/// The journal's event of a setting. `AllocError` where memory for a copy of the label was refused.
+fn set_event(
+    alloc: Global,
+    label: &str,
+    disabled: bool,
+    unload: bool,
+    store: bool,
+) -> Result<Event, AllocError>
+    ensures { IfOk result (λ event. event ≡ told_set label.now disabled unload store) }
+{
+    let job = Text::copy_of(alloc, label)?;
+    if unload {
+        return Ok(Event::Unload {
+            job,
+            w: true,
+            store,
+        });
+    }
+    if disabled {
+        return Ok(Event::Disable { job, store });
+    }
+    Ok(Event::Enable { job, store })
+}
+
+/// Writes the line of a load with these answers. Want of memory for it closes the journal.
+pub(crate) fn note_load<W: Write>(
+    journal: &mut Journal<W>,
+    alloc: Global,
+    def: &str,
+    w: bool,
+    force: bool,
+    asked: Asked,
+)
+    ensures { Grows journal.old journal.new (load_line def.now w force asked) }
+{
+    journal.note_made(alloc, load_event(alloc, def, w, force, asked));
+}
+
+/// Writes the line of a setting with this answer. Want of memory for it closes the journal.
+pub(crate) fn note_set<W: Write>(
+    journal: &mut Journal<W>,
+    alloc: Global,
+    label: &str,
+    disabled: bool,
+    unload: bool,
+    store: bool,
+)
+    ensures { Grows journal.old journal.new (set_line label.now disabled unload store) }
+{
+    journal.note_made(alloc, set_event(alloc, label, disabled, unload, store));
+}
+
+/// Whether a refusal tells of want of memory.
+fn is_want(refusal: Refusal) -> bool
+    ensures { result ≡ is_memory (Some refusal) }
+{
+    match refusal {
+        Refusal::NoMemory => true,
+        _ => false,
+    }
+}
+
+/// Writes the line of a load that was refused before the outside was asked. One that found no memory is no event and gets no
+/// line.
+pub(crate) fn note_load_refused<W: Write>(
+    journal: &mut Journal<W>,
+    alloc: Global,
+    def: &str,
+    w: bool,
+    force: bool,
+    refusal: Refusal,
+)
+    ensures noted { is_memory (Some refusal) ≡ false → Grows journal.old journal.new (load_line def.now w force (record { bind = true; store = true })) }
+    ensures silent { is_memory (Some refusal) ≡ true → journal.new ≡ journal.old }
+{
+    if is_want(refusal) {
+        return;
+    }
+    let asked = Asked {
+        bind: true,
+        store: true,
+    };
+    note_load(journal, alloc, def, w, force, asked);
+}
+
+/// Writes the line of a setting that was refused before the store was asked. One that found no memory is no event and gets no
+/// line.
+pub(crate) fn note_set_refused<W: Write>(
+    journal: &mut Journal<W>,
+    alloc: Global,
+    label: &str,
+    disabled: bool,
+    unload: bool,
+    refusal: Refusal,
+)
+    ensures noted { is_memory (Some refusal) ≡ false → Grows journal.old journal.new (set_line label.now disabled unload true) }
+    ensures silent { is_memory (Some refusal) ≡ true → journal.new ≡ journal.old }
+{
+    if is_want(refusal) {
+        return;
+    }
+    note_set(journal, alloc, label, disabled, unload, true);
+}
