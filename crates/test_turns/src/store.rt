@@ -1,0 +1,26 @@
+//! A store that answers as it was told to, and counts how often it was asked.
+
+ghost use Rattle.std.specs.Prelude.{List, None};
+ghost use Rattle.history_model.specs.declared.event.Setting.{Setting as Held};
+
+use load_asking::SettingStore;
+
+/// A store of settings that answers each of them alike.
+#[derive(Drop)]
+pub struct ScriptedStore {
+    /// What it answers.
+    pub answer: bool,
+    /// How often it was asked.
+    pub asked: u64,
+}
+
+impl SettingStore for ScriptedStore {
+    ghost holds = { λ s settings. Unit {0} };
+
+    ghost told = { λ s. None };
+
+    fn set(&mut self, _label: &str, _disabled: bool, _changed: u64) -> bool {
+        self.asked = self.asked.saturating_add(1);
+        self.answer
+    }
+}
