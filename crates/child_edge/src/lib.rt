@@ -3,6 +3,7 @@
 #![tactic(auto)]
 
 mod children;
+mod clearing;
 mod client;
 mod clock;
 mod command;
@@ -19,6 +20,7 @@ mod sockets;
 mod spool;
 mod streams;
 
+pub use clearing::clear_spool;
 pub use client::Client;
 pub use edge::{ChildEdge, ClockEdge, Edge, PathEdge, SocketEdge};
 pub use memory::MemoryEdge;

@@ -75,6 +75,11 @@ impl<R: Processes> OsEdge<R> {
         self.sockets.accept(job)
     }
 
+    /// The least number, this one or above it, of a job that has sockets. Takes no memory.
+    pub fn listener_from(&self, job: JobNo) -> Option<JobNo> {
+        self.sockets.listener_from(job)
+    }
+
     /// Has clients that come to a job's socket wake the poll of this registry, under the token; asked again, it does so for
     /// the sockets that were bound since. An `Err` where the poll refuses: it may be asked again.
     pub fn register(&mut self, registry: &Registry, token: Token) -> io::Result<()>

@@ -83,6 +83,12 @@ impl Sockets {
         None
     }
 
+    /// The least number, this one or above it, of a job that has sockets.
+    pub(crate) fn listener_from(&self, job: JobNo) -> Option<JobNo> {
+        let (number, _) = self.jobs.range(job..).next()?;
+        Some(*number)
+    }
+
     /// Has clients that come to a socket bound since the last call wake the poll, under the token.
     pub(crate) fn register(&mut self, registry: &Registry, token: Token) -> io::Result<()> {
         for bound in self.jobs.values_mut() {

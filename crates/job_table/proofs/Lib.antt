@@ -20,3 +20,4 @@ pub mod Known
 pub mod Children
 pub mod Counting
 pub mod Numbering
+pub mod Waking

@@ -17,4 +17,5 @@ pub mod Changes
 pub mod Shown
 pub mod Listed
 pub mod Nearest
+pub mod Moments
 pub mod Ends

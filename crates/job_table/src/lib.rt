@@ -18,6 +18,7 @@ mod entry;
 mod events;
 mod jobs;
 mod loading;
+mod moments;
 mod opening;
 mod order;
 mod prepared;

@@ -1,17 +1,16 @@
 -- The launcher as a machine that reads lines.
 use Rattle.std.proofs.Common.{◌≡◌, ℕ, List, [], ◌∷◌, ◌++◌, Some, refl, sym, ap, ◌∙◌}
-use Rattle.history_model.specs.Machine.{State, opened}
+use Rattle.history_model.specs.Machine.{State}
 use Rattle.history_model.specs.Step.{step}
-use Rattle.calendar_due.specs.declared.zone.Zone.{Zone}
-use Rattle.calendar_due.specs.Rules.{offsets, minute_at}
 use Rattle.job_table.specs.Rows.{Table}
 use Rattle.job_table.specs.Kept.{KeepsState}
 use Rattle.ctl_protocol.specs.declared.header.Header.{Header}
 use Rattle.ctl_protocol.specs.Headers.{header_at}
 use Rattle.replay_loop.specs.Machine.{Future}
 use Rattle.jobd.specs.Answers.{IsAnswered, IsOpened, WillWrite}
-use Rattle.jobd.specs.Events.{event_in}
-use Rattle.jobd.specs.Output.{Describes, Opens, IsOutput, output_from}
+use Rattle.table_opening.specs.Events.{event_in}
+use Rattle.table_opening.specs.Openings.{StandsOpened}
+use Rattle.table_opening.specs.Output.{Opens, IsOutput, output_from}
 
 -- the table that a header opens will write the output of each input with this header
 pub opened_writes : (header : List ℕ) (table : Table) → IsOpened header (Some table)
@@ -26,12 +25,10 @@ answered_goes_on old new line text answered future (s, keeps, is) =
     let after = step s (event_in line) in
     (output_from after, ((after, kept, λ lines. refl), refl), λ lines. is (line ∷ lines) ∙ ap (λ t. t ++ output_from after lines) (sym said))
 
--- the machine of a header that was read from a line, with the zone that it tells
-pub opened_from : (header : Header) (zone : Zone) (table : Table) (line : List ℕ) → header_at line ≡ Some header → Describes header.zone (offsets zone)
-    → KeepsState table (opened (record { reading = header.reading; zone = minute_at zone; overrides = header.overrides })) → (s : State) × Opens line s × KeepsState table s
-unfolding minute_at
-opened_from header zone table line read describes keeps = (
-  opened (record { reading = header.reading; zone = minute_at zone; overrides = header.overrides }),
-  record { header = header; read = read; ahead = offsets zone; describes = describes; state = refl },
-  keeps,
+-- the machine of a header that was read from a line
+pub opened_from : (header : Header) (table : Table) (line : List ℕ) → header_at line ≡ Some header → StandsOpened header table → (s : State) × Opens line s × KeepsState table s
+opened_from header table line read stands = (
+  stands.machine,
+  record { header = header; read = read; ahead = stands.opens.ahead; describes = stands.opens.describes; state = stands.opens.state },
+  stands.kept,
 )

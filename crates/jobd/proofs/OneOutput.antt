@@ -1,14 +1,15 @@
 -- The lines of an input settle what is written for them.
-use Rattle.std.proofs.Common.{◌≡◌, ◌≤◌, inl, inr, ℕ, List, [], ◌∷◌, length, Some, None, sym, ap, ◌∙◌, subst, arith}
+use Rattle.std.proofs.Common.{◌≡◌, inl, inr, ℕ, List, [], ◌∷◌, Some, None, sym, ap, ◌∙◌, subst}
 use Rattle.history_model.specs.Machine.{State, opened}
 use Rattle.calendar_due.specs.Offsets.{Offsets, shown_by}
-use Rattle.calendar_due.proofs.RuleLemmas.{one_clock, agrees-not-bad}
+use Rattle.calendar_due.proofs.RuleLemmas.{one_clock}
 use Rattle.calendar_due.proofs.TableLemmas.{one_file_clock}
-use Rattle.calendar_due.specs.Zone.{IsBadFile, IsOfTable}
 use Rattle.ctl_protocol.specs.declared.header.Header.{Header}
 use Rattle.ctl_protocol.specs.declared.header.ZoneText.{ZoneText}
 use Rattle.ctl_protocol.specs.declared.header.ZoneText.TheVariants.{Posix, Offset, File}
-use Rattle.jobd.specs.Output.{Describes, IsNoZone, Opens, IsNoHeader, IsOutput, output_from}
+use Rattle.table_opening.specs.Openings.{Describes, IsNoZone}
+use Rattle.table_opening.proofs.HeaderTables.{zone_or_none}
+use Rattle.table_opening.specs.Output.{Opens, IsNoHeader, IsOutput, output_from}
 
 one_zone : (zone : ZoneText) (one other : Offsets) → Describes zone one → Describes zone other → one ≡ other
 one_zone (Posix text) one other a b = one_clock text one other a b
@@ -20,16 +21,6 @@ one_machine line one other a b =
     let header : a.header ≡ b.header = cc (a.read, b.read) in
     let ahead : a.ahead ≡ b.ahead = one_zone a.header.zone a.ahead b.ahead a.describes (subst (λ (h : Header). Describes h.zone b.ahead) (sym header) b.describes) in
     a.state ∙ (λ i. opened (record { reading = (header i).reading; zone = shown_by (ahead i); overrides = (header i).overrides })) ∙ sym b.state
-
-file_or_none : (bytes : List ℕ) (ahead : Offsets) → length bytes ≤ 65_536 → IsOfTable bytes ahead → IsBadFile bytes → ⊥
-file_or_none bytes ahead short is (inl long) = omega (arith, short, long)
-file_or_none bytes ahead short is (inr (inl unreadable)) = cc (is.read, unreadable.is_fault)
-file_or_none bytes ahead short is (inr (inr bad)) = agrees-not-bad is.table _ is.read is.agrees bad
-
-zone_or_none : (zone : ZoneText) (ahead : Offsets) → Describes zone ahead → IsNoZone zone → ⊥
-zone_or_none (Posix text) ahead is none = cc (is.read, none)
-zone_or_none (Offset seconds) ahead is none = none is.0
-zone_or_none (File bytes) ahead is none = file_or_none bytes ahead is.0 is.1 none
 
 opens_or_none : (line : List ℕ) (s : State) → Opens line s → IsNoHeader line → ⊥
 opens_or_none line s opens (inl none) = cc (opens.read, none)

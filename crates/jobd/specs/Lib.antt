@@ -1,4 +1,2 @@
-pub mod Events
-pub mod Output
 pub mod Answers
 pub mod Status

@@ -2,8 +2,8 @@
 ghost use Rattle.std.specs.Prelude.{IfOk};
 ghost use Rattle.std.proofs.Common.{refl};
 ghost use Rattle.jobd.specs.Answers.{IsAnswered, WillWrite};
-ghost use Rattle.jobd.specs.Events.{event_of, event_in};
-ghost use Rattle.jobd.specs.Output.{IsOutput};
+ghost use Rattle.table_opening.specs.Events.{event_of, event_in};
+ghost use Rattle.table_opening.specs.Output.{IsOutput};
 
 use crate::loads::LoadWords;
 use crate::{events, loads, opening, whole};

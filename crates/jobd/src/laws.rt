@@ -1,6 +1,6 @@
 //! What holds of the output of every input. The function does nothing: its contract is the law.
 ghost use Rattle.std.specs.Prelude.{◌≡◌, ℕ, List, Some, None};
-ghost use Rattle.jobd.specs.Output.{IsOutput};
+ghost use Rattle.table_opening.specs.Output.{IsOutput};
 
 /// The lines of an input have one output: whatever text is written for them is the same, and where one is written none is
 /// the output of lines that open no machine.

@@ -1,7 +1,7 @@
 //! Replaying a journal.
 ghost use Rattle.std.specs.Prelude.{OnOk, IfErr, ◌^◌};
 ghost use Rattle.replay_loop.specs.Ran.{Answered, Failed};
-ghost use Rattle.jobd.specs.Output.{IsOutput};
+ghost use Rattle.table_opening.specs.Output.{IsOutput};
 
 use crate::launcher::Launcher;
 use replay_loop::{ReplayFault, run_within};

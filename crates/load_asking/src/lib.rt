@@ -6,4 +6,4 @@ mod asking;
 mod store;
 
 pub use asking::{Asked, ask_outside};
-pub use store::SettingStore;
+pub use store::{SettingStore, StoreFault};

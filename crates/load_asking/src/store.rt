@@ -1,10 +1,22 @@
 //! Where the settings of labels last.
 
-ghost use Rattle.std.specs.Prelude.{◌≡◌, ◌≤◌, List, [], ◌∷◌, Option, true};
+ghost use Rattle.std.specs.Prelude.{◌≡◌, ◌≤◌, List, [], ◌∷◌, Option, IfOk, reverse, true};
 ghost use Rattle.history_model.specs.declared.event.Setting.{Setting as Held};
 ghost use Rattle.history_model.specs.Labels.{is_label};
 ghost use Rattle.history_model.specs.Step.{set_if};
 ghost use Rattle.load_asking.specs.Stores.{StoreCall, AreTold};
+
+use history_model::Setting;
+use std::alloc::Global;
+
+/// Why a store does not give its settings.
+#[derive(Clone, Copy, PartialEq, Eq)]
+pub enum StoreFault {
+    /// Memory was refused.
+    NoMemory,
+    /// They can't be read, or are no settings of labels.
+    Refused,
+}
 
 /// Keeps the settings of labels, or refuses one.
 pub trait SettingStore {
@@ -21,4 +33,10 @@ pub trait SettingStore {
         requires second { changed ≤ 250000000000 }
         ensures told { AreTold (Self.told self.old) (record { label = label.now; disabled = disabled; changed = changed; stored = result } ∷ []) (Self.told self.new) }
         ensures stored { (settings : List Held) → Self.holds self.old settings → Self.holds self.new (set_if result label.now disabled settings) };
+
+    /// The settings that it holds, the last of a label deciding. Refused as `StoreFault` says. Nothing is changed by it.
+    fn all(&mut self, alloc: Global) -> Result<Vec<Setting>, StoreFault>
+        ensures told { AreTold (Self.told self.old) [] (Self.told self.new) }
+        ensures same { (settings : List Held) → Self.holds self.old settings → Self.holds self.new settings }
+        ensures gives { IfOk result (λ all. (settings : List Held) → Self.holds self.old settings → Self.holds self.new (reverse all.items)) };
 }

@@ -9,7 +9,7 @@ ghost use Rattle.sqlite.specs.State.{HasCleanDisk};
 ghost use Rattle.override_store.specs.Ours.{AreFit, HoldsNow, HoldsSettings};
 
 use history_model::Setting;
-use load_asking::SettingStore;
+use load_asking::{self, SettingStore};
 use override_store::again::on_connection;
 use override_store::{OverrideStore, StoreFault};
 use sqlite::{Alter, Connection};
@@ -22,6 +22,14 @@ pub struct StoredSettings<S: Alter> {
     pub store: OverrideStore<S>,
 }
 
+/// The fault that the store's is. A name that is no label counts as refused.
+fn fault_of(fault: StoreFault) -> load_asking::StoreFault {
+    match fault {
+        StoreFault::NoMemory => load_asking::StoreFault::NoMemory,
+        StoreFault::Refused | StoreFault::Foreign => load_asking::StoreFault::Refused,
+    }
+}
+
 impl<S: Alter> SettingStore for StoredSettings<S> {
     ghost holds = { λ s settings. HoldsSettings (state S.Store s.store) settings };
 
@@ -31,6 +39,13 @@ impl<S: Alter> SettingStore for StoredSettings<S> {
         match self.store.set(label, disabled, changed) {
             Ok(()) => true,
             Err(_) => false,
+        }
+    }
+
+    fn all(&mut self, alloc: Global) -> Result<Vec<Setting>, load_asking::StoreFault> {
+        match self.store.all(alloc) {
+            Ok(all) => Ok(all),
+            Err(fault) => Err(fault_of(fault)),
         }
     }
 }

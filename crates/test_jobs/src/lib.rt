@@ -7,6 +7,8 @@ mod exchange;
 #[cfg(test)]
 mod jobs;
 #[cfg(test)]
+mod moments;
+#[cfg(test)]
 mod play;
 #[cfg(test)]
 mod rows;

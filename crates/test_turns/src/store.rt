@@ -3,7 +3,9 @@
 ghost use Rattle.std.specs.Prelude.{List, None};
 ghost use Rattle.history_model.specs.declared.event.Setting.{Setting as Held};
 
-use load_asking::SettingStore;
+use history_model::Setting;
+use load_asking::{SettingStore, StoreFault};
+use std::alloc::Global;
 
 /// A store of settings that answers each of them alike.
 #[derive(Drop)]
@@ -22,5 +24,9 @@ impl SettingStore for ScriptedStore {
     fn set(&mut self, _label: &str, _disabled: bool, _changed: u64) -> bool {
         self.asked = self.asked.saturating_add(1);
         self.answer
+    }
+
+    fn all(&mut self, alloc: Global) -> Result<Vec<Setting>, StoreFault> {
+        Ok(Vec::new(alloc))
     }
 }

@@ -1,0 +1,17 @@
+//! What the control program `jobctl` does once its words are read: files become requests, requests go to the launcher on its
+//! control socket, and replies become texts and an exit status.
+#![tactic(auto)]
+
+mod connection;
+mod fault;
+mod files;
+mod program;
+mod reply;
+mod request;
+mod session;
+
+pub use connection::{REPLY, hear};
+pub use fault::Fault;
+pub use program::{NO_MEMORY, USAGE, jobctl};
+pub use reply::Answered;
+pub use request::{LINE, request_of};

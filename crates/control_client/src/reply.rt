@@ -1,0 +1,37 @@
+//! What the line of a reply says.
+
+use history_model::Text;
+use json_kinds::json_value;
+use serde_json::Value;
+use std::alloc::{AllocError, Global};
+
+/// A reply: the code, 0 where there is no refusal, and the text.
+#[derive(Drop)]
+pub struct Answered {
+    pub code: u8,
+    pub text: Text,
+}
+
+/// The reply that a line is, its newline left out: an object with a `code` from 0 to 255 and a `text`. None where it is no
+/// such object. `AllocError` where memory ran out.
+pub(crate) fn read_reply(alloc: Global, line: &[u8]) -> Result<Option<Answered>, AllocError> {
+    match json_value(alloc, line)? {
+        Some(value) => reply_in(alloc, &value),
+        None => Ok(None),
+    }
+}
+
+fn reply_in(alloc: Global, value: &Value) -> Result<Option<Answered>, AllocError> {
+    match (code_in(value), value.get("text").and_then(Value::as_str)) {
+        (Some(code), Some(text)) => {
+            let text = Text::copy_of(alloc, text)?;
+            Ok(Some(Answered { code, text }))
+        }
+        _ => Ok(None),
+    }
+}
+
+fn code_in(value: &Value) -> Option<u8> {
+    let number = value.get("code").and_then(Value::as_u64)?;
+    u8::try_from(number).ok()
+}

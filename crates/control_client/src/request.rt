@@ -1,0 +1,92 @@
+//! What is asked of the launcher.
+
+use crate::fault::Fault;
+use ctl_protocol::request_line;
+use history_model::{Event, Text};
+use job_defs::{DefFault, read_def};
+use std::alloc::Global;
+use std::fs::{File, Files};
+use std::io;
+use std::io::Read;
+
+/// A request's line has at most as many bytes before its newline, and so has a file that is handed in.
+pub const LINE: usize = 262_144;
+
+/// The event that loads the file's definition. A fault of the file: it can't be read, is too long for a line, or is not
+/// UTF-8.
+pub(crate) fn load_event<R: Files>(
+    rt: &R,
+    alloc: Global,
+    path: &str,
+    write: bool,
+    force: bool,
+) -> Result<Event, Fault> {
+    let bytes = read_file(rt, alloc, path)?;
+    let def = text_of(bytes)?;
+    Ok(Event::Load {
+        def,
+        w: write,
+        force,
+        bind: true,
+        store: true,
+    })
+}
+
+/// The event that unloads the job of the file's definition. A fault of the file: as for a load, or it is no definition, so
+/// that its label is not known.
+pub(crate) fn unload_event<R: Files>(
+    rt: &R,
+    alloc: Global,
+    path: &str,
+    write: bool,
+) -> Result<Event, Fault> {
+    let bytes = read_file(rt, alloc, path)?;
+    let text = text_of(bytes)?;
+    let job = label_of(alloc, &text)?;
+    Ok(Event::Unload {
+        job,
+        w: write,
+        store: true,
+    })
+}
+
+fn label_of(alloc: Global, text: &Text) -> Result<Text, Fault> {
+    match read_def(alloc, text.as_str().as_bytes()) {
+        Ok(def) => Ok(Text::copy_of(alloc, def.label())?),
+        Err(DefFault::NoMemory) => Err(Fault::NoMemory),
+        Err(fault) => Err(Fault::Definition(fault)),
+    }
+}
+
+fn read_file<R: Files>(rt: &R, alloc: Global, path: &str) -> Result<Vec<u8>, Fault> {
+    let mut bytes = Vec::new(alloc);
+    match read_front(rt, path, &mut bytes) {
+        Ok(()) if bytes.len() <= LINE => Ok(bytes),
+        Ok(()) => Err(Fault::TooLong),
+        Err(error) => Err(Fault::of_file(error)),
+    }
+}
+
+// Adds the file's bytes, as far as they can fit a line, and one more.
+fn read_front<R: Files>(rt: &R, path: &str, bytes: &mut Vec<u8>) -> io::Result<()> {
+    let file = File::open(rt, path)?;
+    let _count = file.take(LINE as u64 + 1).read_to_end(bytes)?;
+    Ok(())
+}
+
+fn text_of(bytes: Vec<u8>) -> Result<Text, Fault> {
+    match String::from_utf8(bytes) {
+        Ok(text) => Ok(Text::new(text)),
+        Err(_) => Err(Fault::NotText),
+    }
+}
+
+/// The line that asks for the event, with its newline. TooLong: it has more than [`LINE`] bytes before it.
+pub fn request_of(alloc: Global, event: &Event) -> Result<Vec<u8>, Fault> {
+    let line = request_line(alloc, event)?;
+    if line.len() <= LINE + 1 {
+        Ok(line)
+    } else {
+        Err(Fault::TooLong)
+    }
+}

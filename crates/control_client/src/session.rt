@@ -1,0 +1,108 @@
+//! The requests of one run, in their order, and the exit status that they come to.
+
+use crate::connection::Connection;
+use crate::fault::Fault;
+use crate::reply::Answered;
+use crate::request::request_of;
+use history_model::{Event, Text};
+use std::alloc::Global;
+use std::net::Net;
+
+/// One connection for all requests, made for the first.
+#[derive(Drop)]
+pub(crate) struct Session {
+    socket: Text,
+    connection: Option<Connection>,
+    // The first that is not 0.
+    status: u8,
+}
+
+impl Session {
+    pub(crate) fn new(socket: Text) -> Session {
+        Session {
+            socket,
+            connection: None,
+            status: 0,
+        }
+    }
+
+    pub(crate) fn status(&self) -> u8 {
+        self.status
+    }
+
+    pub(crate) fn note(&mut self, status: u8) {
+        if self.status == 0 {
+            self.status = status;
+        }
+    }
+
+    /// Asks for the event and prints the reply's text, behind the name if the reply is a refusal and there is a name.
+    pub(crate) fn ask<R: Net + Print + Eprint>(
+        &mut self,
+        rt: &R,
+        alloc: Global,
+        event: &Event,
+        name: Option<&str>,
+    ) -> Result<(), Fault> {
+        let line = request_of(alloc, event)?;
+        let reply = self.exchange(rt, alloc, line.as_slice())?;
+        self.note(reply.code);
+        print(rt, &reply, name)
+    }
+
+    /// Asks for the event, prints the reply's text, and tells what kept the request from its reply.
+    pub(crate) fn ask_once<R: Net + Print + Eprint>(
+        &mut self,
+        rt: &R,
+        alloc: Global,
+        event: &Event,
+    ) {
+        match self.ask(rt, alloc, event, None) {
+            Ok(()) => {}
+            Err(fault) => self.fail(rt, "request", &fault),
+        }
+    }
+
+    fn exchange<R: Net>(&mut self, rt: &R, alloc: Global, line: &[u8]) -> Result<Answered, Fault> {
+        if self.connection.is_none() {
+            let connection = Connection::open(rt, alloc, self.socket.as_str())?;
+            self.connection = Some(connection);
+        }
+        match &mut self.connection {
+            Some(connection) => connection.ask(alloc, line),
+            None => Err(Fault::NoReply),
+        }
+    }
+
+    /// Tells what kept the request for the file from its reply.
+    pub(crate) fn fail<R: Eprint>(&mut self, rt: &R, file: &str, fault: &Fault) {
+        match fault.status() {
+            69 => {
+                let socket = self.socket.as_str();
+                let _told = eprintln!(rt; "jobctl: {socket}: {fault}");
+            }
+            74 => {
+                let _told = eprintln!(rt; "jobctl: standard output: {fault}");
+            }
+            _ => {
+                let _told = eprintln!(rt; "jobctl: {file}: {fault}");
+            }
+        }
+        self.note(fault.status());
+    }
+}
+
+fn print<R: Print + Eprint>(rt: &R, reply: &Answered, name: Option<&str>) -> Result<(), Fault> {
+    let text = reply.text.as_str();
+    if reply.code == 0 {
+        return match print!(rt; "{text}") {
+            Ok(()) => Ok(()),
+            Err(error) => Err(Fault::Output(error)),
+        };
+    }
+    if let Some(name) = name {
+        let _told = eprintln!(rt; "jobctl: {name}:");
+    }
+    let _told = eprint!(rt; "{text}");
+    Ok(())
+}

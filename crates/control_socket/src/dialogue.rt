@@ -1,0 +1,167 @@
+//! What passes between a client and the launcher: the requests that came and are not yet answered, and the replies that are
+//! not yet sent.
+
+use ctl_protocol::{LineFault, LineFeed, reply_line};
+use history_model::{Refusal, Reply, Text};
+use std::alloc::{AllocError, Global};
+
+/// Who answers the line of a request.
+pub trait Answers {
+    /// The reply to the line, which stands without its newline.
+    fn answer(&mut self, alloc: Global, line: &[u8]) -> Reply;
+}
+
+/// A request's line has at most as many bytes before its newline.
+pub const LINE: usize = 262_144;
+
+/// Where more bytes of replies than these wait to be sent, no further request is read or answered.
+pub const UNSENT: usize = 65_536;
+
+/// What is still taken from a client.
+#[derive(Clone, Copy, PartialEq, Eq)]
+enum Intake {
+    /// Further bytes.
+    Open,
+    /// Only the lines that came whole: the client sends no more.
+    Ended,
+    /// Only the lines before the one that is too long, which is then refused.
+    TooLong,
+    /// Nothing: what the client sends on is dropped.
+    Refused,
+    /// Nothing, and nothing comes.
+    Over,
+}
+
+#[derive(Drop)]
+pub(crate) struct Dialogue {
+    requests: LineFeed,
+    replies: Vec<u8>,
+    intake: Intake,
+    // A whole line may be left among the requests.
+    has_lines: bool,
+}
+
+impl Dialogue {
+    pub(crate) fn new(alloc: Global) -> Dialogue {
+        Dialogue {
+            requests: LineFeed::new(alloc, LINE),
+            replies: Vec::new(alloc),
+            intake: Intake::Open,
+            has_lines: false,
+        }
+    }
+
+    /// Whether the next piece may come: each whole line is answered, and not too much waits to be sent.
+    pub(crate) fn wants_more(&self) -> bool {
+        let is_read = matches!(self.intake, Intake::Open | Intake::Refused);
+        is_read && !self.has_lines && self.replies.len() <= UNSENT
+    }
+
+    /// Takes the next piece of what the client sends. What comes behind a line that is too long is dropped.
+    pub(crate) fn take(&mut self, piece: &[u8]) -> Result<(), AllocError> {
+        if self.intake != Intake::Open {
+            return Ok(());
+        }
+        self.has_lines = true;
+        match self.requests.feed(piece) {
+            Ok(()) => Ok(()),
+            Err(LineFault::TooLong) => {
+                self.intake = Intake::TooLong;
+                Ok(())
+            }
+            Err(LineFault::NoMemory) => Err(AllocError),
+        }
+    }
+
+    /// The client sends no more: a last line without a newline is dropped.
+    pub(crate) fn end(&mut self) {
+        match self.intake {
+            Intake::Open => {
+                self.intake = Intake::Ended;
+                self.has_lines = true;
+            }
+            Intake::Refused => self.intake = Intake::Over,
+            Intake::Ended | Intake::TooLong | Intake::Over => {}
+        }
+    }
+
+    /// Answers whole lines in their order, until none is left, or too much waits to be sent.
+    pub(crate) fn answer<A: Answers>(
+        &mut self,
+        alloc: Global,
+        answers: &mut A,
+    ) -> Result<(), AllocError> {
+        for _ in 0..LINE {
+            if !self.has_lines || self.replies.len() > UNSENT {
+                return Ok(());
+            }
+            self.answer_next(alloc, answers)?;
+        }
+        Ok(())
+    }
+
+    fn answer_next<A: Answers>(
+        &mut self,
+        alloc: Global,
+        answers: &mut A,
+    ) -> Result<(), AllocError> {
+        let Ok(next) = self.requests.next_line() else {
+            return Err(AllocError);
+        };
+        match next {
+            Some(line) => {
+                let reply = answers.answer(alloc, line.as_slice());
+                self.add(alloc, &reply)
+            }
+            None => {
+                self.has_lines = false;
+                self.close_intake(alloc)
+            }
+        }
+    }
+
+    // Each whole line is answered.
+    fn close_intake(&mut self, alloc: Global) -> Result<(), AllocError> {
+        match self.intake {
+            Intake::Open | Intake::Refused | Intake::Over => Ok(()),
+            Intake::Ended => {
+                self.intake = Intake::Over;
+                Ok(())
+            }
+            Intake::TooLong => {
+                self.intake = Intake::Refused;
+                let reply = Reply {
+                    refusal: Some(Refusal::BadRequest),
+                    text: Text::new(String::new(alloc)),
+                };
+                self.add(alloc, &reply)
+            }
+        }
+    }
+
+    fn add(&mut self, alloc: Global, reply: &Reply) -> Result<(), AllocError> {
+        let line = reply_line(alloc, reply)?;
+        self.replies.extend_from_slice(line.as_slice())
+    }
+
+    /// What is still to be sent.
+    pub(crate) fn to_send(&self) -> &[u8] {
+        self.replies.as_slice()
+    }
+
+    /// So many bytes of it were sent.
+    pub(crate) fn sent(&mut self, count: usize) {
+        let count = count.min(self.replies.len());
+        let _ = self.replies.drain(..count);
+    }
+
+    /// Whether requests wait only for replies to be sent.
+    pub(crate) fn may_answer(&self) -> bool {
+        self.has_lines && self.replies.len() <= UNSENT
+    }
+
+    /// Nothing is left to be answered or sent.
+    pub(crate) fn is_over(&self) -> bool {
+        matches!(self.intake, Intake::Refused | Intake::Over) && self.replies.is_empty()
+    }
+}

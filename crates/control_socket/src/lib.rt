@@ -1,0 +1,11 @@
+//! The control socket of the launcher: a Unix socket for its own user, on which clients ask by lines and are answered by
+//! lines, in order. What a line says, and what is answered, is the business of whoever answers ([`Answers`]).
+#![tactic(auto)]
+
+mod client;
+mod control;
+mod dialogue;
+mod socket_file;
+
+pub use control::{CLIENTS, ControlSocket};
+pub use dialogue::{Answers, LINE, UNSENT};

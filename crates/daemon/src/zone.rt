@@ -1,0 +1,79 @@
+//! The zone that the words name, as the header of a journal tells it.
+
+use crate::telling::{NO_MEMORY, ZONE, refuse, tell};
+use calendar_due::{Zone, ZoneFault};
+use ctl_protocol::{ZoneFile, ZoneText};
+use history_model::Text;
+use launchctl_words::ZoneWords;
+use std::alloc::Global;
+use std::fs::{File, Files};
+use std::io;
+use std::io::Read;
+
+/// A zone file has at most so many bytes.
+const MOST_BYTES: u64 = 65_536;
+
+/// The zone of calendar entries. Status 7 for a rule or a file that tells no zone, and for a file that can't be read.
+pub(crate) fn zone_of<R: Files<File = File> + Eprint>(
+    rt: &R,
+    alloc: Global,
+    zone: ZoneWords,
+) -> Result<ZoneText, u8> {
+    match zone {
+        ZoneWords::Default => universal(alloc),
+        ZoneWords::Rule(rule) => by_rule(rt, rule),
+        ZoneWords::File(path) => by_file(rt, alloc, path.as_str()),
+    }
+}
+
+fn universal(alloc: Global) -> Result<ZoneText, u8> {
+    match Text::copy_of(alloc, "UTC0") {
+        Ok(rule) => Ok(ZoneText::Posix(rule)),
+        Err(_) => Err(NO_MEMORY),
+    }
+}
+
+fn by_rule(rt: &impl Eprint, rule: Text) -> Result<ZoneText, u8> {
+    match Zone::posix(rule.as_str()) {
+        Ok(_) => Ok(ZoneText::Posix(rule)),
+        Err(_) => {
+            tell(rt, "zone", rule.as_str(), &"no rule of a zone");
+            Err(ZONE)
+        }
+    }
+}
+
+/// The bytes of a file, but of a long one only the first 65,537.
+fn bytes_of<R: Files<File = File>>(rt: &R, alloc: Global, path: &str) -> io::Result<Vec<u8>> {
+    let mut bytes = Vec::new(alloc);
+    let file = File::open(rt, path)?;
+    file.take(MOST_BYTES + 1).read_to_end(&mut bytes)?;
+    Ok(bytes)
+}
+
+fn by_file<R: Files<File = File> + Eprint>(
+    rt: &R,
+    alloc: Global,
+    path: &str,
+) -> Result<ZoneText, u8> {
+    match bytes_of(rt, alloc, path) {
+        Ok(bytes) => by_bytes(rt, alloc, path, bytes),
+        Err(error) => Err(refuse(rt, ZONE, "zone file", path, &error)),
+    }
+}
+
+fn by_bytes(rt: &impl Eprint, alloc: Global, path: &str, bytes: Vec<u8>) -> Result<ZoneText, u8> {
+    match Zone::tzif(alloc, bytes.as_slice()) {
+        Ok(_) => Ok(ZoneText::File(ZoneFile::new(bytes))),
+        Err(ZoneFault::NoMemory) => Err(NO_MEMORY),
+        Err(ZoneFault::BadZone) => {
+            tell(
+                rt,
+                "zone file",
+                path,
+                &"no zone file of at most 65536 bytes",
+            );
+            Err(ZONE)
+        }
+    }
+}

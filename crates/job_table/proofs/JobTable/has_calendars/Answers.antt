@@ -1,0 +1,23 @@
+-- The rows are those of the jobs that have not left, and their calendars those of the machine's jobs.
+use Rattle.std.proofs.Common.{not, ◌&&◌, ap, sym, subst, ◌∙◌}
+use Rattle.std.specs.List.{list_any}
+use Rattle.job_table.specs.Kept.{KeepsJobs}
+use Rattle.job_table.specs.Minutes.{is_some_entry, has_calendars}
+use Rattle.job_table.proofs.Waking.{calendars-rows, calendars-jobs}
+use Rattle.job_table.proofs.JobTable.has_calendars.Goals as goal
+
+pub returns-clause-jobs : goal.returns-clause-jobs
+returns-clause-jobs c = λ s keeps.
+    let es = c.self.inside.jobs.entries.items in
+    c.is_some_with_calendar.ensures
+    ∙ ap (list_any (λ e. not e.has_left && is_some_entry e.def.calendar)) c.deref.ensures.value
+    ∙ calendars-rows es
+    ∙ ap (λ t. has_calendars t.rows) c.self.view_is
+    ∙ calendars-jobs s.reading c.args.self.now.rows s.jobs keeps.jobs
+
+pub returns-clause-rows : goal.returns-clause-rows
+returns-clause-rows c =
+    c.is_some_with_calendar.ensures
+    ∙ ap (list_any (λ e. not e.has_left && is_some_entry e.def.calendar)) c.deref.ensures.value
+    ∙ calendars-rows c.self.inside.jobs.entries.items
+    ∙ ap (λ t. has_calendars t.rows) c.self.view_is

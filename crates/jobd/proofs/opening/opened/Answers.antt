@@ -1,0 +1,5 @@
+use Rattle.jobd.proofs.Launching.{opened_from}
+use Rattle.jobd.proofs.opening.opened.Goals as goal
+
+pub returns-in-Ok : goal.returns-in-Ok
+returns-in-Ok c = λ line read. opened_from c.args.header c.in-Ok.table line read (rw c.in-Ok.is at c.table_of.ensures)

@@ -1,0 +1,4 @@
+pub mod Heard
+pub mod Happened
+pub mod Asked
+pub mod First

@@ -1,0 +1,24 @@
+-- A load, with its reply.
+use Rattle.std.proofs.Common.{Some, true, refl}
+use Rattle.std.specs.String.{string_bytes}
+use Rattle.history_model.specs.declared.event.Event.TheVariants as events
+use Rattle.history_model.specs.Step.{outcome}
+use Rattle.job_table.specs.Kept.{KeepsState}
+use Rattle.job_table.specs.Loads.{load_of}
+use Rattle.launcher_turn.specs.Turns.{refusal_told}
+use Rattle.launcher.specs.Hosts.{standing}
+use Rattle.launcher.proofs.Heard.{as_replied}
+use Rattle.launcher.proofs.Asked.{loaded, load_words}
+use Rattle.launcher.proofs.host.Host.load.Goals as goal
+
+pub returns : goal.returns
+returns g c =
+    let old = standing c.args.self.now.table (g.E.Edge.told c.args.self.now.edge) (g.T.SettingStore.told c.args.self.now.store) c.args.self.now.journal in
+    let did = c.load-loaded.result in
+    let new = standing c.load-loaded.new.table (g.E.Edge.told c.load-loaded.new.edge) (g.T.SettingStore.told c.load-loaded.new.store) c.load-loaded.new.journal in
+    let before = g.T.SettingStore.holds c.args.self.now.store in
+    let after = g.T.SettingStore.holds c.load-loaded.new.store in
+    as_replied (Some (events.Load c.args.def.now c.args.w c.args.force true true)) c.told.result.refusal (refusal_told did.reply) c.told.result.text c.told.result.text old new before after c.told.ensures.refusal refl
+    (loaded c.args.def.now c.args.w c.args.force did.asked (refusal_told did.reply) c.told.result.text old new before after c.load-loaded.ensures.memory c.load-loaded.ensures.silent c.load-loaded.ensures.turn
+    c.load-loaded.ensures.stored
+    (load_words string_bytes did.reply c.told.result.text (λ s. KeepsState old.table s) (λ s. (outcome s (load_of c.args.def.now c.args.w c.args.force did.asked.bind did.asked.store)).text) c.load-loaded.ensures.text c.told.ensures.text))

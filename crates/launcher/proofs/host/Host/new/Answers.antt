@@ -1,0 +1,29 @@
+-- The parts, put together.
+use Rattle.std.proofs.Common.{subst}
+use Rattle.std.specs.Prelude.{is_some}
+use Rattle.ctl_protocol.specs.declared.header.Header.{Header}
+use Rattle.ctl_protocol.specs.HeaderLines.{header_text}
+use Rattle.event_journal.specs.Journals.{Grows, fresh, held}
+use Rattle.table_opening.specs.Openings.{StandsOpened}
+use Rattle.launcher.specs.Faults.{IsFaultOf, IsBadHeader}
+use Rattle.launcher.proofs.First.{made_new, stores_fault, same_fault}
+use Rattle.launcher.proofs.host.Host.new.Goals as goal
+
+pub returns-in-Ok-make_inside-clause-new : goal.returns-in-Ok-make_inside-clause-new
+returns-in-Ok-make_inside-clause-new g c =
+    let made = c.in-Ok-make_inside.field-0 in
+    let first = fresh (held g.W.Write.contents c.args.journal) (is_some c.args.journal) in
+    made_new c.args.header c.in-Ok.settings.items made.table (g.E.Edge.told c.args.edge) (g.T.SettingStore.told c.args.store) (g.T.SettingStore.told c.all.new.self) first made.journal
+    (g.T.SettingStore.holds c.args.store) (g.T.SettingStore.holds c.all.new.self)
+    (subst (λ (h : Header). StandsOpened h made.table) c.with_settings.ensures c.in-Ok-make_inside.ensures.opened) c.in-Ok.ensures.told
+    (subst (λ (h : Header). Grows first made.journal (header_text h)) c.with_settings.ensures c.in-Ok-make_inside.ensures.noted) c.in-Ok.ensures.gives
+
+pub returns-in-Ok-make_inside-clause-faults : goal.returns-in-Ok-make_inside-clause-faults
+returns-in-Ok-make_inside-clause-faults g c = subst (λ (h : Header). IsBadHeader h → ⊥) c.with_settings.ensures c.in-Ok-make_inside.ensures.faults
+
+pub returns-in-Err-clause-faults : goal.returns-in-Err-clause-faults
+returns-in-Err-clause-faults g c = stores_fault c.args.header c.store_fault.result c.store_fault.ensures
+
+pub returns-in-Err-make_inside-clause-faults : goal.returns-in-Err-make_inside-clause-faults
+returns-in-Err-make_inside-clause-faults g c =
+    same_fault c.args.header c.in-Ok.settings.items c.in-Err-make_inside.fault (subst (λ (h : Header). IsFaultOf h c.in-Err-make_inside.fault) c.with_settings.ensures c.in-Err-make_inside.ensures.faults)

@@ -1,0 +1,131 @@
+//! What a control client's line asks.
+
+ghost use Rattle.std.specs.Prelude.{Some, true, option_and_then};
+ghost use Rattle.history_model.specs.declared.event.Event.TheVariants as events;
+ghost use Rattle.ctl_protocol.specs.Rows.{request_at};
+ghost use Rattle.job_table.specs.Numbers.{IsNumbered};
+ghost use Rattle.launcher_load.specs.Lines.{told_set};
+ghost use Rattle.launcher.specs.Hosts.{Hears, standing};
+ghost use Rattle.launcher.specs.Inputs.{asked_in};
+
+use crate::host::Host;
+use crate::replies::{done, refused, told};
+use child_edge::{ChildEdge, SocketEdge};
+use ctl_protocol::ReadFault;
+use history_model::{Event, Refusal, Reply};
+use job_table::JobTable;
+use launcher_load::{load, set};
+use launcher_turn::{Happening, News, list, print};
+use load_asking::SettingStore;
+use std::alloc::Global;
+use std::io::Write;
+
+/// The numbers of the table's jobs stand for their definitions. Nothing is done.
+fn tell_numbers(table: &JobTable)
+    ensures { IsNumbered table.now }
+{
+    let _given = table.given();
+}
+
+impl<T: SettingStore, E: ChildEdge + SocketEdge, W: Write> Host<T, E, W> {
+    /// A client's line, the newline left out.
+    #[tactic(auto, using(crate::proofs::Heard::unheard, crate::proofs::Heard::unread))]
+    pub(crate) fn line(&mut self, alloc: Global, line: &[u8]) -> Reply
+        ensures { Hears (option_and_then asked_in (request_at line.now)) result.refusal result.text (standing self.old.table (E.told self.old.edge) (T.told self.old.store) self.old.journal) (standing self.new.table (E.told self.new.edge) (T.told self.new.store) self.new.journal) (T.holds self.old.store) (T.holds self.new.store) }
+    {
+        match self.reader.request(alloc, line) {
+            Ok(asked) => self.ask(alloc, asked),
+            Err(ReadFault::NoMemory) => refused(alloc, Refusal::NoMemory),
+            Err(ReadFault::BadRequest) => refused(alloc, Refusal::BadRequest),
+        }
+    }
+
+    /// What a client asks. The outside's answers are asked of the outside, whatever stands in the event.
+    #[tactic(auto, using(crate::proofs::Heard::unheard))]
+    fn ask(&mut self, alloc: Global, asked: Event) -> Reply
+        ensures { Hears (asked_in asked) result.refusal result.text (standing self.old.table (E.told self.old.edge) (T.told self.old.store) self.old.journal) (standing self.new.table (E.told self.new.edge) (T.told self.new.store) self.new.journal) (T.holds self.old.store) (T.holds self.new.store) }
+    {
+        match asked {
+            Event::Load { def, w, force, .. } => self.load(alloc, def.as_str(), w, force),
+            Event::Unload { job, w, .. } => self.unload(alloc, job.as_str(), w),
+            Event::Start { job } => {
+                self.happen(alloc, Happening::ToJob(job.as_str(), News::Start))
+            }
+            Event::Stop { job } => self.happen(alloc, Happening::ToJob(job.as_str(), News::Stop)),
+            Event::Kickstart { job, k } => {
+                self.happen(alloc, Happening::ToJob(job.as_str(), News::Kickstart(k)))
+            }
+            Event::Enable { job, .. } => self.set(alloc, job.as_str(), false, false),
+            Event::Disable { job, .. } => self.set(alloc, job.as_str(), true, false),
+            Event::List => self.list(alloc),
+            Event::Print { job } => self.print(alloc, job.as_str()),
+            Event::Shutdown => self.happen(alloc, Happening::Shutdown),
+            _ => refused(alloc, Refusal::BadRequest),
+        }
+    }
+
+    /// A load.
+    fn load(&mut self, alloc: Global, def: &str, w: bool, force: bool) -> Reply
+        ensures { Hears (Some (events.Load def.now w force true true)) result.refusal result.text (standing self.old.table (E.told self.old.edge) (T.told self.old.store) self.old.journal) (standing self.new.table (E.told self.new.edge) (T.told self.new.store) self.new.journal) (T.holds self.old.store) (T.holds self.new.store) }
+    {
+        let loaded = load(
+            &mut self.table,
+            &mut self.edge,
+            &mut self.store,
+            &mut self.journal,
+            alloc,
+            &mut self.room,
+            def,
+            w,
+            force,
+        );
+        told(alloc, loaded.reply)
+    }
+
+    /// A setting; with `unload` also an unload.
+    fn set(&mut self, alloc: Global, job: &str, disabled: bool, unload: bool) -> Reply
+        ensures { Hears (Some (told_set job.now disabled unload true)) result.refusal result.text (standing self.old.table (E.told self.old.edge) (T.told self.old.store) self.old.journal) (standing self.new.table (E.told self.new.edge) (T.told self.new.store) self.new.journal) (T.holds self.old.store) (T.holds self.new.store) }
+    {
+        let changed = set(
+            &mut self.table,
+            &mut self.edge,
+            &mut self.store,
+            &mut self.journal,
+            alloc,
+            &mut self.room,
+            job,
+            disabled,
+            unload,
+        );
+        done(alloc, changed.reply)
+    }
+
+    /// An unload; with `w` the label is disabled too.
+    fn unload(&mut self, alloc: Global, job: &str, w: bool) -> Reply
+        ensures { Hears (Some (events.Unload job.now w true)) result.refusal result.text (standing self.old.table (E.told self.old.edge) (T.told self.old.store) self.old.journal) (standing self.new.table (E.told self.new.edge) (T.told self.new.store) self.new.journal) (T.holds self.old.store) (T.holds self.new.store) }
+    {
+        if w {
+            self.set(alloc, job, true, true)
+        } else {
+            self.happen(alloc, Happening::Unload(job))
+        }
+    }
+
+    /// The list of the loaded jobs.
+    fn list(&mut self, alloc: Global) -> Reply
+        ensures { Hears (Some events.List) result.refusal result.text (standing self.old.table (E.told self.old.edge) (T.told self.old.store) self.old.journal) (standing self.new.table (E.told self.new.edge) (T.told self.new.store) self.new.journal) (T.holds self.old.store) (T.holds self.new.store) }
+    {
+        tell_numbers(&self.table);
+        let text = list(&self.table, &mut self.journal, alloc);
+        told(alloc, text)
+    }
+
+    /// What is known of one job.
+    fn print(&mut self, alloc: Global, job: &str) -> Reply
+        ensures { Hears (Some (events.Print job.now)) result.refusal result.text (standing self.old.table (E.told self.old.edge) (T.told self.old.store) self.old.journal) (standing self.new.table (E.told self.new.edge) (T.told self.new.store) self.new.journal) (T.holds self.old.store) (T.holds self.new.store) }
+    {
+        tell_numbers(&self.table);
+        let text = print(&self.table, &mut self.journal, alloc, job);
+        told(alloc, text)
+    }
+}

@@ -1,0 +1,75 @@
+//! A turn of the launcher, by what comes to it.
+
+ghost use Rattle.std.specs.Prelude.{◌≡◌, Some, true};
+ghost use Rattle.launcher_load.specs.LoadTurns.{is_memory};
+ghost use Rattle.launcher_turn.specs.Events.{is_clock};
+ghost use Rattle.launcher_turn.specs.Lines.{told_by};
+ghost use Rattle.launcher.specs.Hosts.{Hears, standing};
+ghost use Rattle.launcher.specs.Inputs.{event_given, wants_memory};
+
+use crate::host::Host;
+use crate::input::Input;
+use crate::replies::done;
+use child_edge::{ChildEdge, SocketEdge};
+use history_model::Reply;
+use launcher_turn::{Happening, News, turn};
+use load_asking::SettingStore;
+use std::alloc::Global;
+use std::io::Write;
+
+impl<T: SettingStore, E: ChildEdge + SocketEdge, W: Write> Host<T, E, W> {
+    /// One turn: the input is made an event, what it orders is carried out, and each answer of the outside is made the next
+    /// event, first in first out, until none is left. The journal gets the line of each event, and is flushed at the end. The
+    /// reply is that of the input.
+    ///
+    /// A line that is no request is answered by BadRequest, and is no event. NoMemory comes only to a line or a reading of the
+    /// clocks, before anything was carried out; it is no event either.
+    pub fn turn(&mut self, alloc: Global, input: Input<'_>) -> Reply
+        ensures hears { Hears (event_given input.entry) result.refusal result.text (standing self.old.table (E.told self.old.edge) (T.told self.old.store) self.old.journal) (standing self.new.table (E.told self.new.edge) (T.told self.new.store) self.new.journal) (T.holds self.old.store) (T.holds self.new.store) }
+        ensures memory { is_memory result.refusal ≡ true → wants_memory input.entry ≡ true }
+    {
+        let reply = self.hear(alloc, input);
+        self.journal.flush();
+        reply
+    }
+
+    /// The turn, without the flush.
+    fn hear(&mut self, alloc: Global, input: Input<'_>) -> Reply
+        ensures hears { Hears (event_given input.entry) result.refusal result.text (standing self.old.table (E.told self.old.edge) (T.told self.old.store) self.old.journal) (standing self.new.table (E.told self.new.edge) (T.told self.new.store) self.new.journal) (T.holds self.old.store) (T.holds self.new.store) }
+        ensures memory { is_memory result.refusal ≡ true → wants_memory input.entry ≡ true }
+    {
+        match input {
+            Input::Line(line) => self.line(alloc, line),
+            Input::Clock(at) => self.happen(alloc, Happening::Clock(at)),
+            Input::Saw(path, obs) => self.happen(alloc, Happening::Saw(path, obs)),
+            Input::Came(job, conn) => {
+                self.happen(alloc, Happening::ToJob(job, News::Came(conn)))
+            }
+            Input::Left(job, conn) => {
+                self.happen(alloc, Happening::ToJob(job, News::Left(conn)))
+            }
+            Input::Ended(job, run, how) => {
+                self.happen(alloc, Happening::ToJob(job, News::Ended(run, how)))
+            }
+            Input::WaitRefused(job, run) => {
+                self.happen(alloc, Happening::ToJob(job, News::WaitRefused(run)))
+            }
+        }
+    }
+
+    /// What happens, where the outside is first asked nothing.
+    pub(crate) fn happen(&mut self, alloc: Global, what: Happening<'_>) -> Reply
+        ensures hears { Hears (Some (told_by what.entry)) result.refusal result.text (standing self.old.table (E.told self.old.edge) (T.told self.old.store) self.old.journal) (standing self.new.table (E.told self.new.edge) (T.told self.new.store) self.new.journal) (T.holds self.old.store) (T.holds self.new.store) }
+        ensures memory { is_memory result.refusal ≡ true → is_clock what.entry ≡ true }
+    {
+        let answer = turn(
+            &mut self.table,
+            &mut self.edge,
+            &mut self.journal,
+            alloc,
+            &mut self.room,
+            what,
+        );
+        done(alloc, answer)
+    }
+}

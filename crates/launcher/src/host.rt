@@ -1,0 +1,119 @@
+//! The launcher: how it is made, and what it lends.
+
+ghost use Rattle.std.specs.Prelude.{◌≡◌, ◌↔◌, IfOk, IsTrue, is_some};
+ghost use Rattle.event_journal.specs.Journals.{fresh, held, told, is_writing};
+ghost use Rattle.launcher.specs.Hosts.{IsNew, standing};
+ghost use Rattle.launcher.specs.Faults.{FaultOf};
+
+use crate::making::{Inside, make_inside, store_fault, with_settings};
+use child_edge::{ChildEdge, SocketEdge};
+use ctl_protocol::{Header, LineReader};
+use event_journal::{Journal, Phase};
+use job_table::JobTable;
+use launcher_turn::Room;
+use load_asking::SettingStore;
+use std::alloc::Global;
+use std::io::Write;
+
+/// Why a launcher could not be made.
+#[derive(Clone, Copy)]
+pub enum HostFault {
+    /// Memory was refused.
+    NoMemory,
+    /// The store did not give its settings, or one of them is of a name that is no label.
+    Store,
+    /// The header's zone is none, or its reading is past a limit.
+    Header,
+}
+
+/// A launcher: the table of its jobs, the store of settings, the outside, and the journal.
+#[derive(Drop)]
+pub struct Host<T: SettingStore, E: ChildEdge + SocketEdge, W: Write> {
+    pub(crate) table: JobTable,
+    pub(crate) store: T,
+    pub(crate) edge: E,
+    pub(crate) journal: Journal<W>,
+    pub(crate) room: Room,
+    pub(crate) reader: LineReader,
+}
+
+impl<T: SettingStore + Drop, E: ChildEdge + SocketEdge + Drop, W: Write + Drop> Host<T, E, W> {
+    /// A launcher with no job: of the header's reading and zone, with the store's settings in place of the header's. The journal,
+    /// if there is one, begins with the line of that header; a refused write of it closes the journal and is no fault. All
+    /// room that turns need is reserved. Refused as `HostFault` says; what was handed in is then dropped.
+    pub fn new(
+        alloc: Global,
+        header: Header,
+        store: T,
+        edge: E,
+        journal: Option<W>,
+    ) -> Result<Host<T, E, W>, HostFault>
+        ensures new { IfOk result (λ host. IsNew header (E.told edge) (T.told store) (fresh (held W.contents journal) (is_some journal)) (standing host.table (E.told host.edge) (T.told host.store) host.journal) (T.holds store) (T.holds host.store)) }
+        ensures faults { FaultOf header result }
+    {
+        let mut store = store;
+        let settings = match store.all(alloc) {
+            Ok(settings) => settings,
+            Err(fault) => return Err(store_fault(fault)),
+        };
+        match make_inside(alloc, with_settings(header, settings), journal) {
+            Ok(
+                Inside {
+                    table,
+                    journal,
+                    room,
+                    reader,
+                },
+            ) => Ok(Host {
+                table,
+                store,
+                edge,
+                journal,
+                room,
+                reader,
+            }),
+            Err(fault) => Err(fault),
+        }
+    }
+
+    /// The table, the store, the outside, and the journal's writer, if lines are still written to it.
+    pub fn into_parts(self) -> (JobTable, T, E, Option<W>)
+        ensures table { result.0 ≡ self.table }
+        ensures store { result.1 ≡ self.store }
+        ensures edge { result.2 ≡ self.edge }
+        ensures journal { is_some result.3 ≡ is_writing self.journal }
+    {
+        let Host {
+            table,
+            store,
+            edge,
+            journal,
+            ..
+        } = self;
+        (table, store, edge, journal.into_open())
+    }
+}
+
+impl<T: SettingStore, E: ChildEdge + SocketEdge, W: Write> Host<T, E, W> {
+    /// The table of its jobs.
+    pub fn table(&self) -> &JobTable
+        ensures { result.now ≡ self.now.table }
+    {
+        &self.table
+    }
+
+    /// The outside, for what is asked of it between turns.
+    pub fn edge(&mut self) -> &mut E
+        ensures now { result.now ≡ self.old.edge }
+    {
+        &mut self.edge
+    }
+
+    /// Whether the journal was closed since this was asked last: true once at most.
+    pub fn tell_journal_closing(&mut self) -> bool
+        ensures told { IsTrue result ↔ (self.old.journal.phase ≡ Phase.Closed) }
+        ensures after { self.new ≡ record self.old { journal = told self.old.journal } }
+    {
+        self.journal.tell_closing()
+    }
+}

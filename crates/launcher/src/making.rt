@@ -1,0 +1,95 @@
+//! What a launcher is made of, as its header tells it.
+
+ghost use Rattle.std.specs.Prelude.{◌≡◌, IfOk, is_some};
+ghost use Rattle.ctl_protocol.specs.HeaderLines.{header_text};
+ghost use Rattle.event_journal.specs.Journals.{Grows, fresh, held};
+ghost use Rattle.table_opening.specs.Openings.{StandsOpened};
+ghost use Rattle.launcher.specs.Hosts.{with_settings as with_overrides};
+ghost use Rattle.launcher.specs.Faults.{IsStores, FaultOf};
+
+use crate::host::HostFault;
+use ctl_protocol::{Header, LineReader, Settings};
+use event_journal::Journal;
+use history_model::Setting;
+use job_table::JobTable;
+use launcher_turn::Room;
+use load_asking::StoreFault;
+use std::alloc::{AllocError, Global};
+use std::io::Write;
+use table_opening::{OpeningFault, table_of};
+
+/// What a launcher has beside its store and the outside.
+#[derive(Drop)]
+pub(crate) struct Inside<W: Write> {
+    pub(crate) table: JobTable,
+    pub(crate) journal: Journal<W>,
+    pub(crate) room: Room,
+    pub(crate) reader: LineReader,
+}
+
+/// The fault that the store's is.
+pub(crate) fn store_fault(fault: StoreFault) -> HostFault
+    ensures { IsStores result }
+{
+    match fault {
+        StoreFault::NoMemory => HostFault::NoMemory,
+        StoreFault::Refused => HostFault::Store,
+    }
+}
+
+/// The header with these settings in place of its own.
+pub(crate) fn with_settings(header: Header, settings: Vec<Setting>) -> Header
+    ensures { result ≡ with_overrides header settings.items }
+{
+    let Header { reading, zone, .. } = header;
+    Header {
+        reading,
+        zone,
+        overrides: Settings::new(settings),
+    }
+}
+
+/// The journal with the header's line, if there is one.
+fn begun<W: Write>(alloc: Global, journal: Option<W>, header: &Header) -> Journal<W>
+    ensures { Grows (fresh (held W.contents journal) (is_some journal)) result (header_text header.now) }
+{
+    match journal {
+        Some(writer) => Journal::begin(alloc, writer, header),
+        None => Journal::none(),
+    }
+}
+
+/// The room of turns, and the reader of lines.
+fn reserved(alloc: Global) -> Result<(Room, LineReader), AllocError> {
+    let room = Room::new(alloc)?;
+    let reader = LineReader::new(alloc)?;
+    Ok((room, reader))
+}
+
+/// The launcher inside, as the header tells it. Its journal begins with the header's line. Refused as `HostFault` says.
+pub(crate) fn make_inside<W: Write + Drop>(
+    alloc: Global,
+    header: Header,
+    journal: Option<W>,
+) -> Result<Inside<W>, HostFault>
+    ensures opened { IfOk result (λ made. StandsOpened header made.table) }
+    ensures noted { IfOk result (λ made. Grows (fresh (held W.contents journal) (is_some journal)) made.journal (header_text header)) }
+    ensures faults { FaultOf header result }
+{
+    let Ok((room, reader)) = reserved(alloc) else {
+        return Err(HostFault::NoMemory);
+    };
+    let journal = begun(alloc, journal, &header);
+    match table_of(alloc, header) {
+        Ok(table) => Ok(Inside {
+            table,
+            journal,
+            room,
+            reader,
+        }),
+        Err(OpeningFault::NoMemory) => Err(HostFault::NoMemory),
+        Err(OpeningFault::BadZone) => Err(HostFault::Header),
+        Err(OpeningFault::BadLabel) => Err(HostFault::Store),
+        Err(OpeningFault::BadReading) => Err(HostFault::Header),
+    }
+}

@@ -1,0 +1,92 @@
+//! Plays the scenes.
+
+use crate::asking::{ask, comes_to_tell, list, run};
+use crate::calling::call;
+use crate::files::comes_to_hold;
+use crate::journal::replay;
+use crate::scenes::{FAULTS, FULL, REQUESTS, SETTINGS};
+use crate::serving::{end, serve};
+use crate::stage::Stage;
+use crate::step::Step;
+use std::{fs, io};
+
+fn make(rt: &HostRuntime, stage: &Stage, name: &str, text: &str) -> io::Result<()> {
+    let path = stage.path(rt.alloc(), name)?;
+    let text = stage.text(rt.alloc(), text)?;
+    fs::write(rt, path.as_str(), text.as_str())
+}
+
+fn make_folder(rt: &HostRuntime, stage: &Stage, name: &str) -> io::Result<()> {
+    let path = stage.path(rt.alloc(), name)?;
+    fs::create_dir(rt, path.as_str())
+}
+
+fn tell_wait(rt: &HostRuntime, name: &str, came: bool) -> io::Result<()> {
+    if came {
+        println!(rt; "{name}: as wanted")
+    } else {
+        println!(rt; "{name}: not in time")
+    }
+}
+
+fn wait_for_text(rt: &HostRuntime, stage: &Stage, name: &str, text: &str) -> io::Result<()> {
+    let path = stage.path(rt.alloc(), name)?;
+    let text = stage.text(rt.alloc(), text)?;
+    tell_wait(rt, name, comes_to_hold(rt, path.as_str(), text.as_str()))
+}
+
+fn wait_for_answer(rt: &HostRuntime, stage: &Stage, words: &str, part: &str) -> io::Result<()> {
+    let came = comes_to_tell(rt, stage, words, part)?;
+    tell_wait(rt, words, came)
+}
+
+fn play(rt: &HostRuntime, stage: &mut Stage, step: Step) -> io::Result<()> {
+    match step {
+        Step::Serve(words) => serve(rt, stage, words),
+        Step::End => end(rt, stage),
+        Step::Ask(words) => ask(rt, stage, words),
+        Step::Run(words) => run(rt, stage, words),
+        Step::List(words) => list(rt, stage, words),
+        Step::Make(name, text) => make(rt, stage, name, text),
+        Step::MakeFolder(name) => make_folder(rt, stage, name),
+        Step::Holds(name, text) => wait_for_text(rt, stage, name, text),
+        Step::Call(name, text) => call(rt, stage, name, text),
+        Step::Tells(words, part) => wait_for_answer(rt, stage, words, part),
+        Step::Replay(name, part) => replay(rt, stage, name, part),
+    }
+}
+
+fn play_steps(rt: &HostRuntime, stage: &mut Stage, steps: &[Step]) -> io::Result<()> {
+    make_folder(rt, stage, "spool")?;
+    for step in steps {
+        play(rt, stage, *step)?;
+    }
+    Ok(())
+}
+
+fn play_scene(rt: &HostRuntime, name: &str, steps: &[Step]) -> io::Result<()> {
+    println!(rt; "-- {name}")?;
+    let mut stage = Stage::new(rt, name)?;
+    let played = play_steps(rt, &mut stage, steps);
+    let cleared = stage.clear(rt);
+    played?;
+    cleared
+}
+
+fn play_scenes(rt: &HostRuntime) -> io::Result<()> {
+    play_scene(rt, "requests", REQUESTS)?;
+    play_scene(rt, "settings", SETTINGS)?;
+    play_scene(rt, "faults", FAULTS)?;
+    play_scene(rt, "full", FULL)
+}
+
+/// Plays each scene. The status is 0, or 1 where a step could not be made.
+pub fn play_all(rt: &HostRuntime) -> u8 {
+    match play_scenes(rt) {
+        Ok(()) => 0,
+        Err(error) => {
+            let _told = eprintln!(rt; "live_check: {error}");
+            1
+        }
+    }
+}

@@ -1,0 +1,190 @@
+//! What a round finds, handed to the launcher one by one.
+
+use crate::quiet::is_wanted;
+use child_edge::{ChildEdge, ClockEdge, SocketEdge};
+use control_socket::Answers;
+use ctl_protocol::{LineReader, ReadFault};
+use history_model::{Event, Reading, Refusal, Reply, Text};
+use launcher::{Host, Input};
+use load_asking::SettingStore;
+use std::alloc::{AllocError, Global};
+use std::io::Write;
+
+/// A launcher at the reading of the present round. That reading is handed to it before any other input of the round, and
+/// else only if it may change something.
+#[derive(Drop)]
+pub(crate) struct Inputs<T: SettingStore, E: ChildEdge + SocketEdge, W: Write> {
+    pub(crate) host: Host<T, E, W>,
+    at: Reading,
+    // The launcher did not take the reading.
+    is_refused: bool,
+    // Something happened in this round.
+    is_active: bool,
+    // A load was accepted since the paths were looked at.
+    has_loaded: bool,
+    // A shutdown was accepted.
+    is_ending: bool,
+    reader: LineReader,
+}
+
+/// What an accepted line makes known to the loop.
+#[derive(Clone, Copy)]
+enum Asked {
+    Load,
+    Shutdown,
+    Other,
+}
+
+impl<T: SettingStore, E: ChildEdge + SocketEdge, W: Write> Inputs<T, E, W> {
+    /// The launcher at its own last reading.
+    pub(crate) fn new(alloc: Global, host: Host<T, E, W>) -> Result<Inputs<T, E, W>, AllocError>
+    where
+        T: Drop,
+        E: Drop,
+        W: Drop,
+    {
+        let reader = LineReader::new(alloc)?;
+        let at = host.table().reading();
+        Ok(Inputs {
+            host,
+            at,
+            is_refused: false,
+            is_active: false,
+            has_loaded: false,
+            is_ending: false,
+            reader,
+        })
+    }
+
+    /// The reading of the present round.
+    pub(crate) fn at(&self) -> Reading {
+        self.at
+    }
+
+    /// The `up` of now, or of the round where the clock can't be read.
+    pub(crate) fn up_now(&mut self) -> u64
+    where
+        E: ClockEdge,
+    {
+        match self.host.edge().read() {
+            Ok(now) => now.up,
+            Err(_) => self.at.up,
+        }
+    }
+
+    /// Whether something happened in this round.
+    pub(crate) fn is_active(&self) -> bool {
+        self.is_active
+    }
+
+    /// Something happened that is no input, as bytes that came.
+    pub(crate) fn stir(&mut self) {
+        self.is_active = true;
+    }
+
+    /// Whether a shutdown was accepted, and no job is left.
+    pub(crate) fn has_ended(&self) -> bool {
+        self.is_ending && self.host.table().is_empty()
+    }
+
+    /// Whether a load was accepted since this was asked last.
+    pub(crate) fn take_loaded(&mut self) -> bool {
+        let has_loaded = self.has_loaded;
+        self.has_loaded = false;
+        has_loaded
+    }
+
+    /// The next moment of `up` at which time alone may make an order due. None also while readings are refused, so that a
+    /// moment that was reached does not keep the loop from waiting.
+    pub(crate) fn next_moment(&self) -> Option<u64> {
+        if self.is_refused {
+            None
+        } else {
+            self.host.table().next_up()
+        }
+    }
+
+    /// Begins a round at a new reading, which is handed in if it may change something. If the clock can't be read, the round
+    /// is at the reading of the one before.
+    pub(crate) fn begin(&mut self, alloc: Global)
+    where
+        E: ClockEdge,
+    {
+        self.is_active = false;
+        if let Ok(at) = self.host.edge().read() {
+            self.at = at;
+        }
+        if self.may_change() {
+            self.tell_time(alloc);
+        }
+    }
+
+    // Whether the reading of the round may change something.
+    fn may_change(&self) -> bool {
+        let table = self.host.table();
+        is_wanted(
+            table.reading(),
+            self.at,
+            table.next_up(),
+            table.has_calendars(),
+        )
+    }
+
+    // Hands in the reading of the round, unless it is the launcher's own already.
+    fn tell_time(&mut self, alloc: Global) {
+        if self.host.table().reading() != self.at {
+            let reply = self.host.turn(alloc, Input::Clock(self.at));
+            self.is_refused = reply.refusal.is_some();
+            if !self.is_refused {
+                self.is_active = true;
+            }
+        }
+    }
+
+    /// Hands in what happened, after the reading of the round. A refused wait is told each round, so it is no reason to wait
+    /// less.
+    pub(crate) fn give(&mut self, alloc: Global, input: Input<'_>) -> Reply {
+        let was_active = self.is_active;
+        self.tell_time(alloc);
+        self.is_active = match input {
+            Input::WaitRefused(_, _) => was_active,
+            _ => true,
+        };
+        self.host.turn(alloc, input)
+    }
+
+    // What the line asks, as far as the loop has to know.
+    fn asked(&mut self, alloc: Global, line: &[u8]) -> Result<Asked, ReadFault> {
+        match self.reader.request(alloc, line) {
+            Ok(Event::Load { .. }) => Ok(Asked::Load),
+            Ok(Event::Shutdown) => Ok(Asked::Shutdown),
+            Ok(_) | Err(ReadFault::BadRequest) => Ok(Asked::Other),
+            Err(ReadFault::NoMemory) => Err(ReadFault::NoMemory),
+        }
+    }
+}
+
+impl<T: SettingStore, E: ChildEdge + SocketEdge, W: Write> Answers for Inputs<T, E, W> {
+    fn answer(&mut self, alloc: Global, line: &[u8]) -> Reply {
+        let Ok(asked) = self.asked(alloc, line) else {
+            return no_memory(alloc);
+        };
+        let reply = self.give(alloc, Input::Line(line));
+        if reply.refusal.is_none() {
+            match asked {
+                Asked::Load => self.has_loaded = true,
+                Asked::Shutdown => self.is_ending = true,
+                Asked::Other => {}
+            }
+        }
+        reply
+    }
+}
+
+// As the launcher answers a line that it has no memory to read.
+fn no_memory(alloc: Global) -> Reply {
+    Reply {
+        refusal: Some(Refusal::NoMemory),
+        text: Text::new(String::new(alloc)),
+    }
+}

@@ -1,0 +1,22 @@
+//! The live loop: rounds of waiting, reading the clock, polling children, looking at paths, and serving the clients of the
+//! control socket and of jobs' sockets. A round decides nothing. What it finds it hands to the launcher as an input, one by
+//! one, each after the reading of its round.
+#![tactic(auto)]
+
+mod caller;
+mod children;
+mod fault;
+mod inputs;
+mod job_sockets;
+mod live;
+mod paths;
+mod quiet;
+mod rounds;
+mod system;
+mod waiting;
+
+pub use fault::ServeFault;
+pub use live::Live;
+pub use quiet::is_wanted;
+pub use rounds::{round, serve};
+pub use system::System;

@@ -1,0 +1,114 @@
+//! The launcher with what its loop waits on.
+
+use crate::fault::ServeFault;
+use crate::inputs::Inputs;
+use crate::job_sockets::JobSockets;
+use crate::paths::Sights;
+use crate::system::System;
+use crate::waiting::SHORTEST;
+use child_edge::OsEdge;
+use control_socket::ControlSocket;
+use launcher::Host;
+use load_asking::SettingStore;
+use mio::{Events, Poll, Token};
+use std::alloc::{AllocError, Global};
+use std::io::Write;
+
+/// Under this token the control socket and its clients wake the poll.
+const CONTROL: Token = Token(0);
+
+/// As many events are told at a time. More of them only wake the next round.
+const EVENTS: usize = 128;
+
+/// As many bytes a label has at most.
+const LONGEST_LABEL: usize = 255;
+
+/// A launcher over the real system, with its control socket, the poll that both wait on, and what its rounds remember of one
+/// another.
+#[derive(Drop)]
+pub struct Live<R: System, T: SettingStore, W: Write> {
+    pub(crate) inputs: Inputs<T, OsEdge<R>, W>,
+    pub(crate) control: ControlSocket,
+    pub(crate) poll: Poll,
+    pub(crate) events: Events,
+    pub(crate) sights: Sights,
+    pub(crate) sockets: JobSockets,
+    pub(crate) label: String,
+    // The longest wait of the next round, in milliseconds.
+    pub(crate) pause: u64,
+    // A client may go on at once.
+    pub(crate) is_busy: bool,
+    // The reading's `up` at which no job was left after a shutdown.
+    pub(crate) ended_at: Option<u64>,
+}
+
+/// The rooms of the rounds.
+#[derive(Drop)]
+struct Rooms {
+    events: Events,
+    sights: Sights,
+    sockets: JobSockets,
+    label: String,
+}
+
+fn make_rooms(alloc: Global) -> Result<Rooms, AllocError> {
+    let events = Events::with_capacity(alloc, EVENTS)?;
+    let sights = Sights::new(alloc)?;
+    let sockets = JobSockets::new(alloc)?;
+    let label = String::with_capacity(alloc, LONGEST_LABEL)?;
+    Ok(Rooms {
+        events,
+        sights,
+        sockets,
+        label,
+    })
+}
+
+// A poll that the control socket wakes.
+fn polled<R: System>(rt: &R, control: &mut ControlSocket) -> Result<Poll, ServeFault> {
+    let Ok(poll) = Poll::new(rt) else {
+        return Err(ServeFault::Poll);
+    };
+    match control.register(poll.registry(), CONTROL) {
+        Ok(()) => Ok(poll),
+        Err(_) => Err(ServeFault::Poll),
+    }
+}
+
+impl<R: System, T: SettingStore + Drop, W: Write + Drop> Live<R, T, W> {
+    /// A launcher that waits for its first round. NoMemory, or Poll, if the system refuses the poll or the control socket's
+    /// registration. After an `Err` what was handed in is dropped; the control socket's file is left.
+    pub fn new(
+        rt: &R,
+        alloc: Global,
+        host: Host<T, OsEdge<R>, W>,
+        control: ControlSocket,
+    ) -> Result<Live<R, T, W>, ServeFault> {
+        let mut control = control;
+        let poll = polled(rt, &mut control)?;
+        let Ok(rooms) = make_rooms(alloc) else {
+            return Err(ServeFault::NoMemory);
+        };
+        let Ok(inputs) = Inputs::new(alloc, host) else {
+            return Err(ServeFault::NoMemory);
+        };
+        let Rooms {
+            events,
+            sights,
+            sockets,
+            label,
+        } = rooms;
+        Ok(Live {
+            inputs,
+            control,
+            poll,
+            events,
+            sights,
+            sockets,
+            label,
+            pause: SHORTEST,
+            is_busy: false,
+            ended_at: None,
+        })
+    }
+}

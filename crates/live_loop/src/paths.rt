@@ -1,0 +1,106 @@
+//! The listed paths, each looked at once a second.
+
+use crate::inputs::Inputs;
+use child_edge::{ChildEdge, PathEdge, SocketEdge};
+use history_model::Obs;
+use job_table::JobTable;
+use launcher::Input;
+use load_asking::SettingStore;
+use std::alloc::{AllocError, Global};
+use std::collections::BTreeMap;
+use std::io::Write;
+
+/// As many milliseconds of `up` lie between two looks.
+const BETWEEN: u64 = 1_000;
+
+/// As many bytes a path has at most.
+const LONGEST_PATH: usize = 1_024;
+
+/// As many paths all jobs list at most: 64 each.
+const MOST_PATHS: u32 = 65_536;
+
+/// What was last seen at each path and handed in. A sight that is equal to the last one is not handed in again, unless a job
+/// was loaded since.
+#[derive(Drop)]
+pub(crate) struct Sights {
+    alloc: Global,
+    seen: BTreeMap<String, Obs>,
+    path: String,
+    next: u64,
+}
+
+impl Sights {
+    pub(crate) fn new(alloc: Global) -> Result<Sights, AllocError> {
+        let path = String::with_capacity(alloc, LONGEST_PATH)?;
+        Ok(Sights {
+            alloc,
+            seen: BTreeMap::new(alloc),
+            path,
+            next: 0,
+        })
+    }
+
+    /// The moment of `up` of the next look, if a path is listed.
+    pub(crate) fn next_look(&self, table: &JobTable) -> Option<u64> {
+        match table.path_after("") {
+            None => None,
+            Some(_) => Some(self.next),
+        }
+    }
+
+    /// Looks at each listed path, if it is time: in byte order, and hands in what is new. A refused look is no event. It says
+    /// whether it was time.
+    pub(crate) fn look<T: SettingStore, E: ChildEdge + SocketEdge + PathEdge, W: Write>(
+        &mut self,
+        alloc: Global,
+        inputs: &mut Inputs<T, E, W>,
+    ) -> bool {
+        let up = inputs.at().up;
+        if up < self.next {
+            return false;
+        }
+        self.next = up.saturating_add(BETWEEN);
+        if inputs.take_loaded() {
+            self.seen.clear();
+        }
+        self.path.clear();
+        for _ in 0..MOST_PATHS {
+            if !self.goes_on(inputs.host.table()) {
+                break;
+            }
+            self.look_here(alloc, inputs);
+        }
+        true
+    }
+
+    // Goes on to the next listed path, if there is one.
+    fn goes_on(&mut self, table: &JobTable) -> bool {
+        let Some(next) = table.path_after(self.path.as_str()) else {
+            return false;
+        };
+        self.path.clear();
+        self.path.push_str(next).is_ok()
+    }
+
+    fn look_here<T: SettingStore, E: ChildEdge + SocketEdge + PathEdge, W: Write>(
+        &mut self,
+        alloc: Global,
+        inputs: &mut Inputs<T, E, W>,
+    ) {
+        let path = self.path.as_str();
+        let Ok(obs) = inputs.host.edge().look(path) else {
+            return;
+        };
+        if self.seen.get(path).copied() != Some(obs) {
+            inputs.give(alloc, Input::Saw(path, obs));
+            self.remember(obs);
+        }
+    }
+
+    // Without memory for it the sight is forgotten, and handed in again at the next look.
+    fn remember(&mut self, obs: Obs) {
+        if let Ok(path) = String::from_str(self.alloc, self.path.as_str()) {
+            let _ = self.seen.insert(path, obs);
+        }
+    }
+}

@@ -1,0 +1,22 @@
+//! The replay of a journal over the program's own streams: standard input is the journal, and standard output gets one outcome
+//! line for each event.
+#![tactic(auto)]
+
+use jobd::{ReplayFault, replay, status_of};
+use std::io;
+use std::io::{BufWriter, Write};
+
+/// The exit status for want of memory.
+const NO_MEMORY: u8 = 1;
+
+/// Replays standard input; the exit status tells how it ended.
+pub fn replay_input<R: Input + Print + AllocGlobal>(rt: &R) -> u8 {
+    let Ok(mut writer) = BufWriter::new(rt.alloc(), io::writer(rt)) else {
+        return NO_MEMORY;
+    };
+    let ending = replay(rt.alloc(), &mut rt.reader(), &mut writer);
+    match (writer.flush(), ending) {
+        (Err(_), Ok(())) => status_of(Err(ReplayFault::Write)),
+        (_, ending) => status_of(ending),
+    }
+}

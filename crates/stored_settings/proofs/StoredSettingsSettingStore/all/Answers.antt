@@ -1,0 +1,16 @@
+use Rattle.std.proofs.Common.{reverse}
+use Rattle.stored_settings.proofs.StoredSettingsSettingStore.all.Goals as goal
+
+pub returns-in-Ok : goal.returns-in-Ok
+returns-in-Ok g c = record {
+  told = λ after is. cc;
+  same = c.in-Ok.ensures.holds;
+  gives = λ settings holds clean up. c.in-Ok.ensures.holds (reverse c.in-Ok.all.items) (λ early up_before. ((holds early up_before).0, c.in-Ok.ensures.each clean (holds early up_before).0)) clean up;
+}
+
+pub returns-in-Err : goal.returns-in-Err
+returns-in-Err g c = record {
+  told = λ after is. cc;
+  same = c.in-Err.ensures.holds;
+  gives = tt;
+}

@@ -1,0 +1,71 @@
+-- The zone that a header tells, and the machine that it opens.
+use Rattle.std.specs.Prelude.{◌≡◌, ◌≤◌, ℕ, Bool, true, false, length, ℤ, List, Option, Some, None, Result, Ok, Err}
+use Rattle.std.specs.List.{list_all}
+use Rattle.jiff_core.specs.Calendar.{IsWithin}
+use Rattle.jiff_tz.specs.PosixReader.{read_whole}
+use Rattle.history_model.specs.declared.Refusal.{Refusal}
+use Rattle.history_model.specs.Labels.{is_label}
+use Rattle.history_model.specs.Machine.{State, opened}
+use Rattle.history_model.specs.Refusals.{is_clock_refused}
+use Rattle.calendar_due.specs.declared.zone.Zone.{Zone}
+use Rattle.calendar_due.specs.Offsets.{Offsets, always, shown_by}
+use Rattle.calendar_due.specs.Rules.{offsets}
+use Rattle.calendar_due.specs.Zone.{IsOfRule, IsOfTable, IsBadFile}
+use Rattle.job_table.specs.Rows.{Table}
+use Rattle.job_table.specs.Kept.{KeepsState}
+use Rattle.job_table.specs.Opening.{opening_refusal}
+use Rattle.ctl_protocol.specs.declared.header.Header.{Header}
+use Rattle.ctl_protocol.specs.declared.header.ZoneText.{ZoneText}
+use Rattle.ctl_protocol.specs.declared.header.ZoneText.TheVariants.{Posix, Offset, File}
+use Rattle.table_opening.specs.declared.opening.OpeningFault.{OpeningFault}
+use Rattle.table_opening.specs.declared.opening.OpeningFault.TheVariants.{NoMemory, BadZone, BadLabel, BadReading}
+
+-- the header's zone describes a clock that is so far ahead of UTC, at each second
+abbrev pub Describes : ZoneText → Offsets → Type 0
+Describes (Posix text) ahead = IsOfRule text ahead
+Describes (Offset seconds) ahead = IsWithin 86_399 seconds × (ahead ≡ always seconds)
+Describes (File bytes) ahead = (length bytes ≤ 65_536) × IsOfTable bytes ahead
+
+-- the header's zone is none
+abbrev pub IsNoZone : ZoneText → Type 0
+IsNoZone (Posix text) = read_whole text ≡ None
+IsNoZone (Offset seconds) = ¬ IsWithin 86_399 seconds
+IsNoZone (File bytes) = IsBadFile bytes
+
+abbrev pub IsPosixZone : List ℕ → Option Zone → Type 0
+IsPosixZone text None = read_whole text ≡ None
+IsPosixZone text (Some zone) = IsOfRule text (offsets zone)
+
+abbrev pub IsFixedZone : ℤ → Option Zone → Type 0
+IsFixedZone seconds None = ¬ IsWithin 86_399 seconds
+IsFixedZone seconds (Some zone) = IsWithin 86_399 seconds × (offsets zone ≡ always seconds)
+
+abbrev pub IsFileZone : List ℕ → Option Zone → Type 0
+IsFileZone bytes None = IsBadFile bytes
+IsFileZone bytes (Some zone) = (length bytes ≤ 65_536) × IsOfTable bytes (offsets zone)
+
+-- the zone that the header tells, where it tells one
+abbrev pub IsZoneOf : ZoneText → Option Zone → Type 0
+IsZoneOf text None = IsNoZone text
+IsZoneOf text (Some zone) = Describes text (offsets zone)
+
+-- the machine that a header opens: with its reading, in its zone, with its settings
+pub record OpensBy (header : Header) (s : State) : Type 0 where
+  pub ahead : Offsets
+  pub describes : Describes header.zone ahead
+  pub state : s ≡ opened (record { reading = header.reading; zone = shown_by ahead; overrides = header.overrides })
+
+-- a machine that the header opens, for which the table stands
+pub record StandsOpened (header : Header) (table : Table) : Type 0 where
+  pub machine : State
+  pub opens : OpensBy header machine
+  pub kept : KeepsState table machine
+  pub admitted : opening_refusal header.reading header.overrides ≡ None
+
+-- the table of a header, or what is at fault
+abbrev pub OpensAs : Header → Result Table OpeningFault → Type 0
+OpensAs header (Ok table) = StandsOpened header table
+OpensAs header (Err NoMemory) = Unit {0}
+OpensAs header (Err BadZone) = IsNoZone header.zone
+OpensAs header (Err BadLabel) = list_all (λ setting. is_label setting.label) header.overrides ≡ false
+OpensAs header (Err BadReading) = is_clock_refused header.reading header.reading ≡ true

@@ -1,0 +1,235 @@
+//! Rows: the words, the replies that are there, and what is expected. `@` stands for the test's folder.
+
+/// A run of the control program.
+#[derive(Clone, Copy)]
+pub struct Row {
+    /// The words behind the program's own name.
+    pub words: &'static [&'static str],
+    /// What the launcher says, and then ends the connection.
+    pub replies: &'static str,
+    pub status: u8,
+    pub asked: &'static str,
+    pub printed: &'static str,
+    /// The lines on the standard error, each told by its front.
+    pub told: &'static [&'static str],
+}
+
+/// Words, and the request that they make.
+pub static REQUESTS: &[(&[&str], &str)] = &[
+    (&["start", "a"], "{\"job\":\"a\",\"req\":\"start\"}\n"),
+    (&["stop", "a b"], "{\"job\":\"a b\",\"req\":\"stop\"}\n"),
+    (
+        &["enable", "gui/501/a"],
+        "{\"job\":\"a\",\"req\":\"enable\"}\n",
+    ),
+    (
+        &["disable", "system/a"],
+        "{\"job\":\"a\",\"req\":\"disable\"}\n",
+    ),
+    (
+        &["kickstart", "a"],
+        "{\"job\":\"a\",\"k\":false,\"req\":\"kickstart\"}\n",
+    ),
+    (
+        &["kickstart", "-k", "a"],
+        "{\"job\":\"a\",\"k\":true,\"req\":\"kickstart\"}\n",
+    ),
+    (&["list"], "{\"req\":\"list\"}\n"),
+    (
+        &["print", "user/1/a"],
+        "{\"job\":\"a\",\"req\":\"print\"}\n",
+    ),
+    (&["--socket", "s", "shutdown"], "{\"req\":\"shutdown\"}\n"),
+    (
+        &["load", "@/one.json"],
+        "{\"F\":false,\"def\":\"{\\\"Label\\\":\\\"one\\\",\\\"Program\\\":\\\"/bin/true\\\"}\",\"req\":\"load\",\"w\":false}\n",
+    ),
+    (
+        &["load", "-F", "@/none.json"],
+        "{\"F\":true,\"def\":\"[]\",\"req\":\"load\",\"w\":false}\n",
+    ),
+    (
+        &["load", "-w", "@/none.json"],
+        "{\"F\":false,\"def\":\"[]\",\"req\":\"load\",\"w\":true}\n",
+    ),
+    (
+        &["unload", "@/one.json"],
+        "{\"job\":\"one\",\"req\":\"unload\",\"w\":false}\n",
+    ),
+    (
+        &["unload", "-w", "@/two.plist"],
+        "{\"job\":\"two\",\"req\":\"unload\",\"w\":true}\n",
+    ),
+];
+
+/// What a reply of code 0 prints, and a refusal tells.
+pub static A_TEXT: Row = Row {
+    words: &["list"],
+    replies: "{\"code\":0,\"text\":\"PID\\tStatus\\tLabel\\n\"}\n",
+    status: 0,
+    asked: "{\"req\":\"list\"}\n",
+    printed: "PID\tStatus\tLabel\n",
+    told: &[],
+};
+
+pub static A_REFUSAL: Row = Row {
+    words: &["start", "a"],
+    replies: "{\"code\":3,\"text\":\"no such job\\n\"}\n",
+    status: 3,
+    asked: "{\"job\":\"a\",\"req\":\"start\"}\n",
+    printed: "",
+    told: &["no such job"],
+};
+
+/// One request for each of its files, in byte order of names; the first code that is not 0.
+pub static A_FOLDER: Row = Row {
+    words: &["load", "@/jobs"],
+    replies: "{\"code\":0,\"text\":\"\"}\n{\"code\":4,\"text\":\"already loaded\\n\"}\n{\"code\":0,\"text\":\"not acted on: X\\n\"}\n{\"code\":5,\"text\":\"disabled\\n\"}\n{\"code\":0,\"text\":\"\"}\n",
+    status: 4,
+    asked: "{\"F\":false,\"def\":\"B\",\"req\":\"load\",\"w\":false}\n{\"F\":false,\"def\":\"a\",\"req\":\"load\",\"w\":false}\n{\"F\":false,\"def\":\"ab\",\"req\":\"load\",\"w\":false}\n{\"F\":false,\"def\":\"b\",\"req\":\"load\",\"w\":false}\n{\"F\":false,\"def\":\"z\",\"req\":\"load\",\"w\":false}\n",
+    printed: "not acted on: X\n",
+    told: &[
+        "jobctl: @/jobs/a.json:",
+        "already loaded",
+        "jobctl: @/jobs/b.plist:",
+        "disabled",
+    ],
+};
+
+pub static AN_EMPTY_FOLDER: Row = Row {
+    words: &["load", "@/empty"],
+    replies: "",
+    status: 0,
+    asked: "",
+    printed: "",
+    told: &[],
+};
+
+/// A folder whose own name ends so is a folder.
+pub static A_FOLDER_NAMED_AS_A_FILE: Row = Row {
+    words: &["load", "@/jobs/folder.json"],
+    replies: "{\"code\":10,\"text\":\"too many jobs\\n\"}\n",
+    status: 10,
+    asked: "{\"F\":false,\"def\":\"d\",\"req\":\"load\",\"w\":false}\n",
+    printed: "",
+    told: &["too many jobs"],
+};
+
+/// A file's fault leaves out that file alone, and has its place among the codes.
+pub static A_MISSING_FILE_FIRST: Row = Row {
+    words: &["load", "@/missing", "@/none.json"],
+    replies: "{\"code\":8,\"text\":\"bad definition: NotObject -\\n\"}\n",
+    status: 65,
+    asked: "{\"F\":false,\"def\":\"[]\",\"req\":\"load\",\"w\":false}\n",
+    printed: "",
+    told: &[
+        "jobctl: @/missing: ",
+        "jobctl: @/none.json:",
+        "bad definition: NotObject -",
+    ],
+};
+
+pub static A_MISSING_FILE_LAST: Row = Row {
+    words: &["load", "@/none.json", "@/missing"],
+    replies: "{\"code\":8,\"text\":\"bad definition: NotObject -\\n\"}\n",
+    status: 8,
+    asked: "{\"F\":false,\"def\":\"[]\",\"req\":\"load\",\"w\":false}\n",
+    printed: "",
+    told: &[
+        "jobctl: @/none.json:",
+        "bad definition: NotObject -",
+        "jobctl: @/missing: ",
+    ],
+};
+
+/// Files that make no request: no UTF-8, too long for a line, and for `unload` no definition.
+pub static FAULTY_FILES: Row = Row {
+    words: &["load", "@/latin.json", "@/long.json", "@/longer.json"],
+    replies: "",
+    status: 65,
+    asked: "",
+    printed: "",
+    told: &[
+        "jobctl: @/latin.json: ",
+        "jobctl: @/long.json: ",
+        "jobctl: @/longer.json: ",
+    ],
+};
+
+pub static NO_DEFINITIONS: Row = Row {
+    words: &[
+        "unload",
+        "@/bad.json",
+        "@/none.json",
+        "@/latin.json",
+        "@/one.json",
+    ],
+    replies: "{\"code\":0,\"text\":\"\"}\n",
+    status: 65,
+    asked: "{\"job\":\"one\",\"req\":\"unload\",\"w\":false}\n",
+    printed: "",
+    told: &[
+        "jobctl: @/bad.json: bad definition: WrongKind Program",
+        "jobctl: @/none.json: bad definition: NotObject -",
+        "jobctl: @/latin.json: ",
+    ],
+};
+
+/// The connection ends before the reply, within it, or after the first of two.
+pub static NO_REPLY: Row = Row {
+    words: &["list"],
+    replies: "",
+    status: 69,
+    asked: "{\"req\":\"list\"}\n",
+    printed: "",
+    told: &["jobctl: jobd.sock: "],
+};
+
+pub static HALF_A_REPLY: Row = Row {
+    words: &["--socket", "s", "list"],
+    replies: "{\"code\":0,\"text\":\"a\"}",
+    status: 69,
+    asked: "{\"req\":\"list\"}\n",
+    printed: "",
+    told: &["jobctl: s: "],
+};
+
+pub static ONE_REPLY_OF_THREE: Row = Row {
+    words: &["unload", "@/one.json", "@/two.plist", "@/one.json"],
+    replies: "{\"code\":0,\"text\":\"\"}\n",
+    status: 69,
+    asked: "{\"job\":\"one\",\"req\":\"unload\",\"w\":false}\n{\"job\":\"two\",\"req\":\"unload\",\"w\":false}\n",
+    printed: "",
+    told: &["jobctl: jobd.sock: "],
+};
+
+/// What is no reply: another kind of value, a code past 255, no text, no JSON.
+pub static NO_REPLIES: &[&str] = &[
+    "[]\n",
+    "{\"code\":256,\"text\":\"\"}\n",
+    "{\"code\":\"0\",\"text\":\"\"}\n",
+    "{\"code\":0}\n",
+    "{\"text\":\"\"}\n",
+    "{\"code\":0,\"text\":0}\n",
+    "hello\n",
+    "\n",
+];
+
+/// Nobody listens at the socket: that is told once, but a file's own fault before it too.
+pub static NOBODY: Row = Row {
+    words: &["unload", "@/missing", "@/one.json", "@/two.plist"],
+    replies: "",
+    status: 65,
+    asked: "",
+    printed: "",
+    told: &["jobctl: @/missing: ", "jobctl: jobd.sock: "],
+};
+
+pub static NOBODY_FOR_A_LABEL: Row = Row {
+    words: &["--socket", "@/s", "start", "a"],
+    replies: "",
+    status: 69,
+    asked: "",
+    printed: "",
+    told: &["jobctl: @/s: "],
+};

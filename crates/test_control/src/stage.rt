@@ -1,0 +1,237 @@
+//! Plays the steps of a test on a socket in the folder for temporary files.
+
+use crate::echo::Echo;
+use crate::steps::Step;
+use control_socket::ControlSocket;
+use mio::{Events, Poll, Token};
+use std::alloc::{AllocError, Global};
+use std::io::{ErrorKind, Read, Write};
+use std::net::Shutdown;
+use std::os::unix::net::UnixStream;
+use std::test::Fail;
+use std::time::Duration;
+use std::{env, io, process};
+
+/// The socket with its poll, who answers, and the clients.
+#[derive(Drop)]
+struct Stage {
+    poll: Poll,
+    events: Events,
+    socket: ControlSocket,
+    echo: Echo,
+    clients: Vec<Option<UnixStream>>,
+}
+
+/// The path of the test of this name, at which nothing is yet.
+pub fn path_of(rt: &HostRuntime, name: &str) -> Result<String, Fail> {
+    let above = env::temp_dir(rt)?;
+    let above = above.as_path().to_str().ok_or("a folder's name")?;
+    let id = process::id(rt.process());
+    Ok(path_in(rt.alloc(), above, id, name)?)
+}
+
+fn path_in(alloc: Global, above: &str, id: u32, name: &str) -> Result<String, AllocError> {
+    format!(in alloc; "{above}/control-{id}-{name}")
+}
+
+/// Plays the steps, and answers the number of the first that goes wrong.
+pub fn first_fault(rt: &HostRuntime, name: &str, steps: &[Step]) -> Result<Option<usize>, Fail> {
+    let path = path_of(rt, name)?;
+    let mut stage = new_stage(rt, path.as_str())?;
+    let fault = play_all(rt, path.as_str(), &mut stage, steps);
+    stage.socket.remove(rt);
+    Ok(fault?)
+}
+
+fn new_stage(rt: &HostRuntime, path: &str) -> Result<Stage, Fail> {
+    let poll = Poll::new(rt)?;
+    let events = Events::with_capacity(rt.alloc(), 8)?;
+    let mut socket = ControlSocket::open(rt, rt.alloc(), path)?;
+    socket.register(poll.registry(), Token(3))?;
+    Ok(Stage {
+        poll,
+        events,
+        socket,
+        echo: Echo::new(rt.alloc()),
+        clients: Vec::new(rt.alloc()),
+    })
+}
+
+fn play_all(
+    rt: &HostRuntime,
+    path: &str,
+    stage: &mut Stage,
+    steps: &[Step],
+) -> io::Result<Option<usize>> {
+    for (number, step) in steps.iter().enumerate() {
+        if !play(rt, path, stage, *step)? {
+            return Ok(Some(number));
+        }
+    }
+    Ok(None)
+}
+
+fn play(rt: &HostRuntime, path: &str, stage: &mut Stage, step: Step) -> io::Result<bool> {
+    let alloc = rt.alloc();
+    match step {
+        Step::Connect(count) => stage.connect(rt, path, count),
+        Step::Sends(number, text) => stage.sends(number, text, 1),
+        Step::SendsTimes(number, text, count) => stage.sends(number, text, count),
+        Step::SendsBlocks(number, count) => stage.sends_blocks(number, count),
+        Step::SendsLetters(number, count) => stage.sends_letters(alloc, number, count),
+        Step::HalfCloses(number) => Ok(stage.client(number)?.shutdown(Shutdown::Write).is_ok()),
+        Step::Hears(number, text) => stage.hears(alloc, number, text, false),
+        Step::HearsLast(number, text) => stage.hears(alloc, number, text, true),
+        Step::Gets(number, count) => stage.gets(alloc, number, count),
+        Step::Woken(is_woken) => stage.is_woken(is_woken),
+        _ => Ok(stage.play_plain(alloc, step)),
+    }
+}
+
+impl Stage {
+    fn play_plain(&mut self, alloc: Global, step: Step) -> bool {
+        match step {
+            Step::Leaves(number) => self.leaves(number),
+            Step::Round => self.rounds(alloc, 1),
+            Step::Rounds(count) => self.rounds(alloc, count),
+            Step::Busy(is_busy) => self.round(alloc) == is_busy,
+            Step::Asked(lines) => self.was_asked(lines),
+            Step::AskedAtMost(count) => 0 < self.echo.count && self.echo.count <= count,
+            Step::Quiet(is_quiet) => self.socket.is_quiet() == is_quiet,
+            _ => false,
+        }
+    }
+
+    // A round of a loop: whether a client may go on at once.
+    fn round(&mut self, alloc: Global) -> bool {
+        let is_busy = self.socket.serve(alloc, &mut self.echo);
+        self.socket.accept(self.poll.registry());
+        is_busy
+    }
+
+    fn rounds(&mut self, alloc: Global, count: usize) -> bool {
+        for _ in 0..count {
+            let _ = self.round(alloc);
+        }
+        true
+    }
+
+    fn connect(&mut self, rt: &HostRuntime, path: &str, count: usize) -> io::Result<bool> {
+        for _ in 0..count {
+            let client = UnixStream::connect(rt, path)?;
+            client.set_nonblocking(true)?;
+            self.clients.push(Some(client))?;
+        }
+        Ok(true)
+    }
+
+    fn client(&mut self, number: usize) -> io::Result<&mut UnixStream> {
+        match self.clients.get_mut(number) {
+            Some(Some(client)) => Ok(client),
+            _ => Err(io::Error::from(ErrorKind::NotFound)),
+        }
+    }
+
+    fn leaves(&mut self, number: usize) -> bool {
+        match self.clients.get_mut(number) {
+            Some(client) => {
+                *client = None;
+                true
+            }
+            None => false,
+        }
+    }
+
+    fn sends(&mut self, number: usize, text: &str, count: usize) -> io::Result<bool> {
+        for _ in 0..count {
+            if sent(self.client(number)?, text.as_bytes())? < text.len() {
+                return Ok(false);
+            }
+        }
+        Ok(true)
+    }
+
+    fn sends_blocks(&mut self, number: usize, count: usize) -> io::Result<bool> {
+        for _ in 0..count {
+            if sent(self.client(number)?, &[b'n'; 4096])? < 4096 {
+                return Ok(false);
+            }
+        }
+        Ok(true)
+    }
+
+    fn sends_letters(&mut self, alloc: Global, number: usize, count: usize) -> io::Result<bool> {
+        let letters = [b'n'; 4096];
+        let mut left = count;
+        for _ in 0..10_000u32 {
+            if left == 0 {
+                return Ok(true);
+            }
+            let piece = letters.get(..left).unwrap_or(&letters);
+            left = left.saturating_sub(sent(self.client(number)?, piece)?);
+            let _ = self.round(alloc);
+        }
+        Ok(false)
+    }
+
+    // Takes the lines that were asked so far.
+    fn was_asked(&mut self, lines: &str) -> bool {
+        let is_same = self.echo.asked.as_slice() == lines.as_bytes();
+        self.echo.asked.clear();
+        is_same
+    }
+
+    fn hears(
+        &mut self,
+        alloc: Global,
+        number: usize,
+        text: &str,
+        is_last: bool,
+    ) -> io::Result<bool> {
+        let mut heard = Vec::new(alloc);
+        let is_end = read_all(self.client(number)?, &mut heard)?;
+        Ok(heard.as_slice() == text.as_bytes() && is_end == is_last)
+    }
+
+    fn gets(&mut self, alloc: Global, number: usize, count: usize) -> io::Result<bool> {
+        let mut heard = Vec::new(alloc);
+        for _ in 0..10_000u32 {
+            if heard.len() >= count {
+                break;
+            }
+            let _ = read_all(self.client(number)?, &mut heard)?;
+            let _ = self.round(alloc);
+        }
+        let _ = read_all(self.client(number)?, &mut heard)?;
+        Ok(heard.len() == count)
+    }
+
+    fn is_woken(&mut self, is_woken: bool) -> io::Result<bool> {
+        let wait = if is_woken { 5_000 } else { 20 };
+        self.poll
+            .poll(&mut self.events, Some(Duration::from_millis(wait)))?;
+        Ok(self.events.iter().any(|event| event.token() == Token(3)) == is_woken)
+    }
+}
+
+fn sent(client: &mut UnixStream, piece: &[u8]) -> io::Result<usize> {
+    match client.write(piece) {
+        Ok(count) => Ok(count),
+        Err(error) if error.kind() == ErrorKind::WouldBlock => Ok(0),
+        Err(error) => Err(error),
+    }
+}
+
+// Adds what is there to be read. True: the end came behind it.
+fn read_all(client: &mut UnixStream, heard: &mut Vec<u8>) -> io::Result<bool> {
+    let mut piece = [0u8; 4096];
+    for _ in 0..1_000u32 {
+        match client.read(&mut piece) {
+            Ok(0) => return Ok(true),
+            Ok(count) => heard.extend_from_slice(&piece[..count])?,
+            Err(error) if error.kind() == ErrorKind::WouldBlock => return Ok(false),
+            Err(error) => return Err(error),
+        }
+    }
+    Ok(false)
+}

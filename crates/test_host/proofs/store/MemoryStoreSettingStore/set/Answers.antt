@@ -1,0 +1,5 @@
+use Rattle.test_host.proofs.store.MemoryStoreSettingStore.set.Goals as goal
+
+-- it tells nothing
+pub returns : goal.returns
+returns c = record { told = λ after is. cc; stored = λ settings holds. tt }
