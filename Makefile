@@ -1,8 +1,8 @@
-# make run    builds jobd without a proof and runs the first example: a look, in about a minute
+# make run    builds the replay of a journal without a proof and runs the first example: a look, in about a minute
 # make test   the gate: every proof from nothing, the wrong bodies, the tests, the programs
 # make times  the gate, and then what each crate cost it, in processor seconds
-# make build  proves, and leaves the program as build/jobd
-# make bench  times build/jobd and the calendar; BASELINE=PROGRAM takes turns with another program
+# make build  proves, and leaves the programs as build/jobd and build/jobctl
+# make bench  times build/jobd, the calendar and the live launcher; BASELINE=PROGRAM takes turns with another program
 .PHONY: run test times build bench need_rt
 
 # One job a check, as many checks side by side as there are processors: two jobs of one check cost a quarter more.
@@ -10,8 +10,8 @@ RT_JOBS ?= $(shell nproc)
 
 run: need_rt
 	@mkdir -p build
-	@cd crates/jobd_program && { rt try -- replay < ../../examples/first.jsonl 2> ../../build/run.log || { cat ../../build/run.log >&2; exit 1; }; }
-	@echo "make run: nothing was proved for this look; make build proves the program and leaves it as build/jobd" >&2
+	@cd crates/replay_look && { rt try < ../../examples/first.jsonl 2> ../../build/run.log || { cat ../../build/run.log >&2; exit 1; }; }
+	@echo "make run: nothing was proved for this look; make build proves the programs and leaves them as build/jobd and build/jobctl" >&2
 
 test: need_rt
 	@RT_JOBS=$(RT_JOBS) rt ci
@@ -23,10 +23,17 @@ build: need_rt
 	@mkdir -p build
 	@cd crates/jobd_program && { rt run -- replay < ../../examples/first.jsonl > ../../build/build.log 2>&1 || { cat ../../build/build.log >&2; exit 1; }; }
 	@cp crates/jobd_program/out/jobd_program build/jobd
+	@cd crates/jobctl_program && { rt run -- --help > ../../build/build.log 2>&1 || { cat ../../build/build.log >&2; exit 1; }; }
+	@cp crates/jobctl_program/out/jobctl_program build/jobctl
 
 bench: build
 	@python3 bench/replay.py
 	@bench/calendar.sh
+	@python3 bench/live.py
 
 need_rt:
 	@command -v rt > /dev/null 2>&1 || { echo "rt is not on the PATH: install the Rattle kit (README, What you need)" >&2; exit 127; }
+
+# make install, make uninstall: the programs of build/, manual pages, completions, documents and licences, below PREFIX
+# (/usr/local), each path behind DESTDIR
+include install.mk
