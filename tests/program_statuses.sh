@@ -15,7 +15,6 @@ cd "$folder"
 header='{"up":0,"wall":1700000000,"zone":"UTC0"}'
 list='{"ev":"list"}'
 listed='{"code":0,"orders":[],"text":"PID\tStatus\tLabel\n"}'
-usage='usage: jobd replay'
 runs=0
 
 # wants NAME STATUS OUT ERR: what the run before left in the files status, out and err.
@@ -43,22 +42,73 @@ run_full() {
     echo $status >status
 }
 
+# with_line PATTERN FILE: what the file holds, if one of its lines is so.
+with_line() {
+    if grep -q "$1" "$2"; then
+        cat "$2"
+    else
+        echo "a line like $1"
+    fi
+}
+
+# wants_usage NAME: the run before ended with 64, wrote nothing, and said how the program is used.
+wants_usage() {
+    wants "$1" 64 '' "$(with_line '^Usage: jobd' err)"
+}
+
 # words that are no command
 printf '%s\n' "$header" "$list" >in
 run
-wants 'no word' 64 '' "$usage"
+wants_usage 'no word'
 run replay more
-wants 'a second word' 64 '' "$usage"
+wants_usage 'a second word'
 run replay replay
-wants 'the word twice' 64 '' "$usage"
+wants_usage 'the word twice'
 run serve
-wants 'another word' 64 '' "$usage"
+wants_usage 'serve without its places'
+run serve --socket s --store o --spool p --zone UTC0 --zone-file /usr/share/zoneinfo/UTC
+wants_usage 'both zone options'
+run overrides
+wants_usage 'overrides without its store'
+run other
+wants_usage 'another word'
 run ''
-wants 'an empty word' 64 '' "$usage"
+wants_usage 'an empty word'
 run $'\377'
-wants 'a word that is not UTF-8' 64 '' "$usage"
+wants 'a word that is not UTF-8' 64 '' 'jobd: a word is not UTF-8'
 run replay $'\377'
-wants 'a second word that is not UTF-8' 64 '' "$usage"
+wants 'a second word that is not UTF-8' 64 '' 'jobd: a word is not UTF-8'
+run --help
+wants 'a call for help' 0 "$(with_line '^Usage: jobd' out)" ''
+run_full --help
+wants 'help that is not taken' 3 '' ''
+
+# places that the launcher can't use, in the order in which they are looked for
+mkdir spool store
+head -c 65537 /dev/zero >long
+run serve --socket no/s --store store --spool spool --journal no/j --zone Mars
+wants 'a zone that is none' 7 '' 'jobd: zone Mars: no rule of a zone'
+run serve --socket s --store o --spool spool --zone-file no
+wants 'a zone file that is not there' 7 '' 'jobd: zone file no: No such file or directory (os error 2)'
+run serve --socket s --store o --spool spool --zone-file long
+wants 'a zone file that is too long' 7 '' 'jobd: zone file long: no zone file of at most 65536 bytes'
+run serve --socket no/s --store store --spool spool --journal no/j
+wants 'a control socket in no folder' 6 '' 'jobd: control socket no/s: No such file or directory (os error 2)'
+run serve --socket long --store store --spool spool --journal no/j
+wants 'a control socket in the place of a file' 6 '' 'jobd: control socket long: Address already in use (os error 98)'
+run serve --socket s --store store --spool spool --journal no/j
+wants 'a journal in no folder' 8 '' 'jobd: journal no/j: No such file or directory (os error 2)'
+run serve --socket s --store store --spool spool
+wants 'a store that is a folder' 5 '' 'jobd: store store: unable to open database file'
+if [ -e s ]; then
+    echo 'program_statuses: the control socket of a launcher that did not start is left' >&2
+    exit 1
+fi
+run overrides --store no
+wants 'overrides of no store' 5 '' 'jobd: store no: No such file or directory (os error 2)'
+head -c 5000 long >other
+run overrides --store other
+wants 'overrides of another file' 5 '' "$(with_line '^jobd: store other: ' err)"
 
 # journals
 run replay

@@ -3,8 +3,8 @@
 #
 #   tests/wrong_bodies.sh [--gate] [CRATE..]
 #
-# A wrong body is an edit of wrong_bodies/CRATE/, or one part of a joined edit of crates/CRATE/must-fail/ (the gate tries
-# the parts of a joined edit together). With --gate the other edits of must-fail/ are tried too. Without CRATE each crate is.
+# A wrong body is an edit of wrong_bodies/CRATE/, or one part of a joined edit there or in crates/CRATE/must-fail/ (the gate
+# tries the parts of a joined edit together). With --gate the other edits of must-fail/ are tried too. Without CRATE each crate is.
 # RT_JOBS says how many crates are tried side by side (as many as there are processors). One line a wrong body:
 #
 #   refused CRATE/NAME by src/FILE:LINE ..       a goal of the code's own contracts is open
@@ -22,15 +22,12 @@ jobs=${RT_JOBS:-$(nproc)}
 # part_edits CRATE TO: lays each wrong body of the crate as an edit of its own into the folder TO.
 part_edits() {
   local edit name
-  for edit in "$top/wrong_bodies/$1"/*.edit; do
-    if [ -f "$edit" ]; then cp "$edit" "$2/"; fi
-  done
-  for edit in "$top/crates/$1/must-fail"/*.edit; do
+  for edit in "$top/wrong_bodies/$1"/*.edit "$top/crates/$1/must-fail"/*.edit; do
     [ -f "$edit" ] || continue
     name=$(basename "$edit" .edit)
     if grep -q '^part: ' "$edit"; then
       awk -v to="$2/$name." '/^part: /{ if (out) close(out); out = to substr($0, 7) ".edit"; next } out { print > out }' "$edit"
-    elif [ -n "$gate" ]; then
+    elif [ -n "$gate" ] || [ "$(dirname "$edit")" = "$top/wrong_bodies/$1" ]; then
       cp "$edit" "$2/"
     fi
   done

@@ -1,0 +1,250 @@
+#!/usr/bin/env python3
+"""Some minutes of `jobd serve` with 100 jobs of all kinds, loaded and unloaded at random; called by live_soak.sh.
+
+    live_soak.py MINUTES JOBD JOBCTL
+
+In the end no child, no descriptor and no spool file may be left over, and the journal must replay to the replies that the
+requests got, and to the orders whose answers it holds. It prints what it did, and what is wrong, with status 1 then. SEED in
+the environment makes the choices again.
+"""
+import json
+import os
+import random
+import shutil
+import socket
+import subprocess
+import sys
+import tempfile
+import time
+
+JOBS = 100
+ANSWERED = {"spawned": "spawn", "spawn_refused": "spawn", "termed": "term", "killed": "kill"}
+REQUESTS = ("load", "unload", "start", "stop", "kickstart", "enable", "disable", "list", "print", "shutdown")
+
+
+class Soak:
+    def __init__(self, minutes, jobd, jobctl):
+        self.minutes, self.jobd, self.jobctl = minutes, jobd, jobctl
+        self.folder = tempfile.mkdtemp(prefix="soak.")
+        self.replies, self.wrong, self.counts = [], [], {}
+        self.random = random.Random(int(os.environ.get("SEED", "1")))
+        self.labels = [f"job{number:02d}" for number in range(JOBS)]
+
+    def path(self, name):
+        return os.path.join(self.folder, name)
+
+    def count(self, what):
+        self.counts[what] = self.counts.get(what, 0) + 1
+
+    def complain(self, text):
+        if len(self.wrong) < 20:
+            self.wrong.append(text)
+        self.count("faults")
+
+    # ---- definitions
+
+    def definition(self, number):
+        """Twelve kinds of jobs by turns."""
+        label = self.labels[number]
+        shell = lambda script: ["/bin/sh", "-c", script]
+        unix = {"s": {"SockPathName": self.path(f"{label}.socket")}}
+        kinds = [
+            dict(ProgramArguments=shell("exit 0"), RunAtLoad=True),
+            dict(ProgramArguments=shell("exec sleep 3"), KeepAlive=True, ThrottleInterval=1),
+            dict(ProgramArguments=shell("exit 3"), StartInterval=1, ThrottleInterval=0),
+            dict(ProgramArguments=shell(":"), StartCalendarInterval={}, ThrottleInterval=0),
+            dict(ProgramArguments=shell(":"), WatchPaths=[self.path(f"{label}.watched")], ThrottleInterval=1),
+            dict(ProgramArguments=shell(f"rm -f {self.path(label)}.queue/*"),
+                 QueueDirectories=[self.path(f"{label}.queue")], ThrottleInterval=1),
+            dict(ProgramArguments=["/bin/cat"], inetdCompatibility={"Wait": False}, Sockets=unix, ThrottleInterval=0),
+            dict(ProgramArguments=shell("kill -SEGV $$"), KeepAlive={"Crashed": True}, RunAtLoad=True, ThrottleInterval=2),
+            dict(ProgramArguments=shell("trap '' TERM; while :; do sleep 1; done"), RunAtLoad=True, ExitTimeOut=1),
+            dict(ProgramArguments=["/no/such/program"], RunAtLoad=True, ThrottleInterval=2),
+            dict(ProgramArguments=shell("exec sleep 1000"), RunAtLoad=True, LaunchOnlyOnce=True),
+            dict(ProgramArguments=shell("exec sleep 2"), KeepAlive={"PathState": {self.path(f"{label}.watched"): True}},
+                 Disabled=number % 24 == 11, ThrottleInterval=0),
+        ]
+        return dict(kinds[number % len(kinds)], Label=label)
+
+    def prepare(self):
+        os.mkdir(self.path("spool"))
+        for number, label in enumerate(self.labels):
+            os.mkdir(self.path(f"{label}.queue"))
+            with open(self.path(f"{label}.json"), "w") as out:
+                json.dump(self.definition(number), out)
+
+    # ---- what is done
+
+    def serve(self):
+        self.said = open(self.path("said"), "wb")
+        self.launcher = subprocess.Popen(
+            [self.jobd, "serve", "--socket", self.path("socket"), "--store", self.path("store"), "--spool", self.path("spool"),
+             "--journal", self.path("journal")], stdin=subprocess.DEVNULL, stdout=subprocess.PIPE, stderr=self.said, text=True)
+        if self.launcher.stdout.readline() != "jobd: ready\n":
+            self.complain("no ready line")
+        time.sleep(0.3)
+        self.open_before = self.descriptors()
+
+    def ask(self, *words):
+        done = subprocess.run([self.jobctl, "--socket", self.path("socket"), *words], capture_output=True, text=True)
+        self.replies.append((words, done.returncode, done.stdout + done.stderr))
+        self.count(words[0])
+        return done
+
+    def call(self, label):
+        """A client of a job's socket; what it sends must come back, if the job runs to its end."""
+        path, text = self.path(f"{label}.socket"), f"hello {self.random.random()}"
+        try:
+            with socket.socket(socket.AF_UNIX) as caller:
+                caller.settimeout(10)
+                caller.connect(path)
+                caller.sendall(text.encode())
+                caller.shutdown(socket.SHUT_WR)
+                got = b""
+                while piece := caller.recv(4096):
+                    got += piece
+        except OSError:
+            self.count("calls refused")
+            return
+        self.count("calls")
+        if got not in (b"", text.encode()):
+            self.complain(f"{label}: sent {text!r}, got {got!r}")
+
+    def act(self):
+        label, choice = self.random.choice(self.labels), self.random.random()
+        definition = self.path(f"{label}.json")
+        if choice < 0.30:
+            self.ask("load", *self.random.choice([[], [], ["-F"], ["-w"]]), definition)
+        elif choice < 0.45:
+            self.ask("unload", *self.random.choice([[], [], [], ["-w"]]), definition)
+        elif choice < 0.55:
+            self.ask(self.random.choice(["start", "stop", "enable", "disable", "print"]), label)
+        elif choice < 0.60:
+            self.ask("kickstart", *self.random.choice([[], ["-k"]]), label)
+        elif choice < 0.65:
+            self.ask("list")
+        elif choice < 0.75:
+            with open(self.path(f"{label}.watched"), "w") as out:
+                out.write("touched")
+        elif choice < 0.80:
+            if os.path.exists(self.path(f"{label}.watched")):
+                os.remove(self.path(f"{label}.watched"))
+        elif choice < 0.90:
+            with open(os.path.join(self.path(f"{label}.queue"), "item"), "w") as out:
+                out.write("queued")
+        else:
+            number = self.random.randrange(JOBS // 12) * 12 + 6
+            self.call(self.labels[number])
+
+    def run(self):
+        until = time.monotonic() + 60 * self.minutes
+        while time.monotonic() < until and self.launcher.poll() is None:
+            self.act()
+            time.sleep(self.random.random() * 0.05)
+
+    # ---- what must be left
+
+    def descriptors(self):
+        return sorted(os.listdir(f"/proc/{self.launcher.pid}/fd"), key=int)
+
+    def children(self):
+        with open(f"/proc/{self.launcher.pid}/task/{self.launcher.pid}/children") as told:
+            return told.read().split()
+
+    def unload_all(self):
+        for label in self.labels:
+            self.ask("unload", self.path(f"{label}.json"))
+        until = time.monotonic() + 60
+        while time.monotonic() < until:
+            if self.ask("list").stdout == "PID\tStatus\tLabel\n":
+                return
+            time.sleep(0.2)
+        self.complain("jobs are left a minute after the last unload")
+
+    def look(self):
+        time.sleep(0.5)
+        if self.children():
+            self.complain(f"children are left: {self.children()}")
+        if len(self.descriptors()) > len(self.open_before):
+            self.complain(f"descriptors are left: {len(self.open_before)} before, {len(self.descriptors())} after")
+        if os.listdir(self.path("spool")):
+            self.complain(f"spool files are left: {os.listdir(self.path('spool'))[:5]}")
+
+    def end(self):
+        """Half of the jobs are loaded again, so that the shutdown stops some."""
+        for label in self.labels[::2]:
+            self.ask("load", "-F", self.path(f"{label}.json"))
+        children = self.children()
+        self.ask("shutdown")
+        try:
+            status = self.launcher.wait(60)
+        except subprocess.TimeoutExpired:
+            self.launcher.kill()
+            status = "none in a minute"
+        if status != 0:
+            self.complain(f"the launcher ended with {status}")
+        self.said.close()
+        with open(self.path("said")) as told:
+            if text := told.read():
+                self.complain(f"standard error: {text[:200]}")
+        left = [pid for pid in children if os.path.exists(f"/proc/{pid}")]
+        if left:
+            self.complain(f"children are left after the end: {left}")
+        if os.path.exists(self.path("socket")):
+            self.complain("the control socket's file is left")
+        if os.listdir(self.path("spool")):
+            self.complain("spool files are left after the end")
+
+    def replay(self):
+        with open(self.path("journal")) as journal:
+            events = [json.loads(line) for line in journal][1:]
+            journal.seek(0)
+            done = subprocess.run([self.jobd, "replay"], stdin=journal, capture_output=True, text=True)
+        outcomes = [json.loads(line) for line in done.stdout.splitlines()]
+        self.counts["events"] = len(events)
+        if done.returncode != 0 or len(outcomes) != len(events):
+            self.complain(f"replay: status {done.returncode}, {len(outcomes)} outcomes of {len(events)} events")
+        self.compare_replies(events, outcomes)
+        self.compare_orders(events, outcomes)
+
+    def compare_replies(self, events, outcomes):
+        told = [(event["ev"], outcome["code"], outcome["text"])
+                for event, outcome in zip(events, outcomes) if event["ev"] in REQUESTS]
+        got = [(words[0], status, text) for words, status, text in self.replies]
+        self.counts["replies"] = len(got)
+        if told != got:
+            at = next((at for at, pair in enumerate(zip(told, got)) if pair[0] != pair[1]), min(len(told), len(got)))
+            self.complain(f"replies differ from number {at}: {told[at:at + 1]} in the journal, {got[at:at + 1]} from jobctl;"
+                          f" {len(told)} and {len(got)} in all")
+
+    def compare_orders(self, events, outcomes):
+        orders = [(order["order"], order["job"], order["run"])
+                  for outcome in outcomes for order in outcome["orders"] if order["order"] in ("spawn", "term", "kill")]
+        answers = [(ANSWERED[event["ev"]], event["job"], event["run"]) for event in events if event["ev"] in ANSWERED]
+        self.counts["orders"] = len(orders)
+        if orders != answers:
+            self.complain(f"{len(orders)} orders and {len(answers)} answers differ")
+
+    def whole(self):
+        self.prepare()
+        self.serve()
+        try:
+            self.run()
+            self.unload_all()
+            self.look()
+            self.end()
+            self.replay()
+        finally:
+            if self.launcher.poll() is None:
+                self.launcher.kill()
+        print(", ".join(f"{count} {what}" for what, count in sorted(self.counts.items())))
+        if self.wrong:
+            print(f"live_soak: see {self.folder}", *self.wrong, sep="\n", file=sys.stderr)
+            return 1
+        shutil.rmtree(self.folder)
+        print("live_soak: nothing is left over, and the journal tells the same")
+        return 0
+
+
+if __name__ == "__main__":
+    sys.exit(Soak(float(sys.argv[1]), sys.argv[2], sys.argv[3]).whole())

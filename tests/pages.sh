@@ -1,0 +1,230 @@
+#!/usr/bin/env bash
+# The manual pages beside the programs: each subcommand and option of the programs' words stands in their page, and the
+# other way round; so does each key that the reader of definitions knows, with its numbers. docs/USING.md has all of them too.
+# If build/jobd and build/jobctl are there, their help is asked too. If mandoc is there, the pages are clean under its lint. It
+# is run by hand.
+set -euo pipefail
+
+cd "$(dirname "$0")/.."
+python3 - <<'END'
+import os, re, subprocess, sys
+
+faults = []
+counts = {"words": 0, "keys": 0, "numbers": 0, "helps": 0}
+
+
+def read(*paths):
+    return "\n".join(open(path, encoding="utf-8").read() for path in paths)
+
+
+def same(what, wanted, found):
+    for name in sorted(wanted - found):
+        faults.append(f"{what}: {name} is not in the page")
+    for name in sorted(found - wanted):
+        faults.append(f"{what}: {name} is in the page alone")
+
+
+# ---- subcommands and options
+
+WORDS = "crates/launchctl_words/src/"
+
+
+def words_in(source, flags_of):
+    """The subcommands and options that the source gives to the reader of words."""
+    names = set(re.findall(r'(?:bare|label_words|target_words)\(\s*alloc,\s*"([a-z]+)"', source))
+    options = {"--" + name for name in re.findall(r'option\(\s*alloc,\s*"([a-z-]+)"', source)}
+    flags = {"-" + letter for letter in re.findall(r"""flag\(\s*alloc,\s*"[a-z]+",\s*'(\w)'""", flags_of)}
+    return names, options | flags
+
+
+def help_of(program, *words):
+    run = subprocess.run([program, *words, "--help"], stdin=subprocess.DEVNULL, capture_output=True, text=True)
+    if run.returncode != 0 or not run.stdout:
+        faults.append(f"{program} {' '.join(words)} --help: status {run.returncode}")
+    counts["helps"] += 1
+    return run.stdout
+
+
+def words_of_help(text):
+    """The subcommands and options that a help text lists, but for help itself."""
+    names, options, part = set(), set(), ""
+    for line in text.splitlines():
+        if re.match(r"\S.*:$", line):
+            part = line
+        elif part.startswith("Commands") and (row := re.match(r"  ([a-z]+)\b", line)):
+            names.add(row.group(1))
+        elif part.startswith("Options"):
+            row = re.match(r"\s+(-[-\w, ]*)", line)
+            options |= set(re.findall(r"(?<![\w-])--?[\w-]+", row.group(1))) if row else set()
+    return names - {"help"}, options - {"-h", "--help", "-V", "--version"}
+
+
+def options_of_page(page):
+    rows = re.findall(r"^\.It (?:.*? )?Fl .*$", page, re.M) + re.findall(r"^\.(?:Op )?Fl .*$", page, re.M)
+    found = set()
+    for row in rows:
+        for name in re.findall(r"Fl ([-\w]+)", row):
+            found.add("-" + name)
+    return found
+
+
+def check_program(program, page_path, source, flags_of, own_name):
+    page = read(page_path)
+    names, options = words_in(source, flags_of)
+    names.discard(own_name)
+    # A subcommand has an item or a section of its own, and stands in the synopsis.
+    synopsis = page.split(".Sh SYNOPSIS")[1].split(".Sh DESCRIPTION")[0]
+    in_synopsis = {word for row in re.findall(r"^\.(?:Op )?Cm (.*)$", synopsis, re.M) for word in re.findall(r"[a-z]+", row)}
+    own = set(re.findall(r"^\.It Cm ([a-z]+)", page, re.M)) | set(re.findall(rf"^\.Ss {own_name} ([a-z]+)$", page, re.M))
+    same(f"{page_path}: subcommands", names, own)
+    same(f"{page_path}: synopsis", names, in_synopsis)
+    same(f"{page_path}: options", options, options_of_page(page) - {"-h", "--help"})
+    items = {"-" + name for row in re.findall(r"^\.It (Fl .*)$", page, re.M) for name in re.findall(r"Fl ([-\w]+)", row)}
+    same(f"{page_path}: items of options", options, items - {"-h", "--help"})
+    for word in ("-h", "--help"):
+        if word not in items:
+            faults.append(f"{page_path}: {word} is not in the page")
+    counts["words"] += len(names) + len(options)
+    if os.access(program, os.X_OK):
+        told, told_options = words_of_help(help_of(program))
+        same(f"{program} --help: subcommands", told, own)
+        for name in sorted(told):
+            told_options |= words_of_help(help_of(program, name))[1]
+        same(f"{program}: options of the helps", {o for o in told_options if len(o) == 2 or o.startswith("--")}, items - {"-h", "--help"})
+
+
+control = read(WORDS + "control_words.rt")
+check_program("build/jobctl", "man/jobctl.1", control, control, "jobctl")
+check_program("build/jobd", "man/jobd.8", read(WORDS + "jobd.rt"), "", "jobd")
+
+# ---- the keys of a definition
+
+PAGE = "man/jobd.json.5"
+page = read(PAGE)
+names = read("crates/json_kinds/src/names.rt")
+keys = set(re.findall(r'KeyName::\w+ => "(\w+)"', names)) | set(re.findall(r'^pub const [A-Z_]+: &str = "(\w+)"', names, re.M))
+same(f"{PAGE}: keys", keys, set(re.findall(r"^\.It Va (\w+)$", page, re.M)))
+counts["keys"] = len(keys)
+reasons = set(re.findall(r'Reason::\w+ => "(\w+)"', names))
+fault_text = page.split(".Ss Fault")[1].split(".Ss ")[0]
+same(f"{PAGE}: reasons", reasons, set(re.findall(r"^\.Ql ([A-Z]\w+)", fault_text, re.M)))
+
+# ---- the numbers of the keys
+
+DEFS = "crates/job_defs/src/"
+SOURCE = {
+    "launch": read(DEFS + "launch.rt"),
+    "demand": read(DEFS + "demand.rt"),
+    "calendars": read(DEFS + "calendars.rt"),
+    "conditions": read(DEFS + "conditions.rt"),
+    "surroundings": read(DEFS + "surroundings.rt"),
+    "socket": read("crates/socket_defs/src/socket.rt"),
+    "host": read("crates/socket_defs/src/host.rt"),
+    "sockets": read("crates/socket_defs/src/sockets.rt"),
+    "rows": read("crates/json_kinds/src/rows.rt"),
+    "label": read("crates/history_model/specs/Labels.antt"),
+}
+# Each key, the file that checks it, and how its numbers stand there. Behind them stand numbers that the page may name too.
+NUMBERS = [
+    ("Label", "label", r"nat_lt (\d+) \(length bytes\) && nat_le \(length bytes\) (\d+)", {"32", "127"}),
+    ("Program", "launch", r"WORD_LIMIT: usize = ([\d_]+)", {"1"}),
+    ("ProgramArguments", "launch", r"WORD_LIMIT: usize = ([\d_]+)", {"256", "0"}),
+    ("ProgramArguments", "launch", r"words\.len\(\) > ([\d_]+)", {"4,096", "0"}),
+    ("PathState", "conditions", r"members\.len\(\) > ([\d_]+)", set()),
+    ("QueueDirectories", "demand", r"items\.len\(\) > ([\d_]+) - before", set()),
+    ("StartInterval", "demand", r"KeyName::StartInterval, ([\d_]+), ([\d_]+)", set()),
+    ("StartCalendarInterval", "calendars", r"entries\.len\(\) > ([\d_]+)", set()),
+    ("Minute", "calendars", r"MINUTE, (\d+), (\d+)", set()),
+    ("Hour", "calendars", r"HOUR, (\d+), (\d+)", set()),
+    ("Day", "calendars", r"DAY, (\d+), (\d+)", set()),
+    ("Weekday", "calendars", r"WEEKDAY, (\d+), (\d+)", set()),
+    ("Month", "calendars", r"MONTH, (\d+), (\d+)", {"400"}),
+    ("ThrottleInterval", "demand", r"KeyName::ThrottleInterval, ([\d_]+), ([\d_]+), ([\d_]+)", {"1"}),
+    ("ExitTimeOut", "demand", r"KeyName::ExitTimeOut, ([\d_]+), ([\d_]+), ([\d_]+)", set()),
+    ("EnvironmentVariables", "surroundings", r"members\.len\(\) > ([\d_]+)", {"1", "255", "4,096"}),
+    ("EnvironmentVariables", "surroundings", r"KeyName::EnvironmentVariables, (255)", {"1", "128", "4,096"}),
+    ("EnvironmentVariables", "surroundings", r"plain_text\(value, KeyName::EnvironmentVariables, ([\d_]+)", {"1", "128", "255"}),
+    ("Sockets", "sockets", r"room: usize = (\d+)", {"65,536", "64"}),
+    ("SockPathName", "socket", r"SOCKET_PATH_LIMIT: usize = ([\d_]+)", {"1", "0600"}),
+    ("SockNodeName", "host", r"n <= (255)", {"0", "127.0.0.1"}),
+    ("SockServiceName", "socket", r"([\d_]+) <= port && port <= ([\d_]+)", set()),
+    ("SockServiceName", "socket", r"KeyName::Sockets, (\d+), ([\d_]+)", set()),
+]
+
+
+def shown(number):
+    return f"{int(number.replace('_', '')):,}"
+
+
+def numbers_at(key):
+    text = re.split(rf"^\.It Va {key}$", page, flags=re.M)[1]
+    text = re.split(r"^\.(?:It Va|Ss|Sh) ", text, flags=re.M)[0]
+    return set(re.findall(r"(?<![\w.,])\d[\d,.]*\d|(?<![\w.,])\d", text))
+
+
+for key, where, pattern, others in NUMBERS:
+    row = re.search(pattern, SOURCE[where])
+    if row is None:
+        faults.append(f"{key}: its numbers are not found in the source: {pattern}")
+        continue
+    wanted = {shown(number) for number in row.groups()}
+    if key == "Label":  # more than 0 bytes
+        wanted = (wanted - {"0"}) | {"1"}
+    found = numbers_at(key)
+    for number in sorted(wanted - found):
+        faults.append(f"{PAGE}: {key}: {number} is not in the page")
+    for number in sorted(found - wanted - others):
+        faults.append(f"{PAGE}: {key}: {number} is in the page alone")
+    counts["numbers"] += len(wanted)
+row = re.search(r"PATH_LIMIT: usize = ([\d_]+)", SOURCE["rows"])
+if f"A path is a string of 1 to {shown(row.group(1))} bytes." not in page:
+    faults.append(f"{PAGE}: the length of a path is not in the page")
+
+# ---- docs/USING.md names all of them too
+
+USING = "docs/USING.md"
+rows = read(USING).splitlines()
+
+
+def near(key, text):
+    """The text stands in a row, or in the row behind it, that names the key."""
+    return any(f"`{key}`" in row and text in row + " " + after for row, after in zip(rows, rows[1:] + [""]))
+
+
+for key in sorted(keys):
+    if not near(key, ""):
+        faults.append(f"{USING}: {key} is not in the page")
+for key, where, pattern, others in NUMBERS:
+    row = re.search(pattern, SOURCE[where])
+    for number in row.groups() if row else ():
+        number = "1" if (key, number) == ("Label", "0") else shown(number)
+        if not near(key, number):
+            faults.append(f"{USING}: {key}: {number} is not in the page")
+for reason in sorted(reasons):
+    if not near(reason, ""):
+        faults.append(f"{USING}: {reason} is not in the page")
+control_names, control_options = words_in(control, control)
+for name in sorted(control_names - {"jobctl"}):
+    if not any(re.match(rf"\| `{name}\b", row) for row in rows):
+        faults.append(f"{USING}: {name} is not in the page")
+daemon_options = words_in(read(WORDS + "jobd.rt"), "")[1]
+for name in sorted(control_options | daemon_options):
+    if not any(re.search(rf"(?<![\w-]){name}(?![\w-])", row) for row in rows):
+        faults.append(f"{USING}: {name} is not in the page")
+
+for fault in faults:
+    print("pages:", fault, file=sys.stderr)
+if faults:
+    sys.exit(1)
+print(
+    f"pages: {counts['words']} subcommands and options, {counts['keys']} keys and {counts['numbers']} numbers agree;"
+    f" {counts['helps']} helps of built programs were asked"
+)
+END
+if command -v mandoc >/dev/null; then
+    cd man
+    mandoc -Tlint -W style jobd.8 jobctl.1 jobd.json.5 >&2
+    echo "pages: mandoc's lint is clean"
+else
+    echo "pages: mandoc is not here, so its lint was not run"
+fi
