@@ -24,8 +24,7 @@ const FAST: &str = r#"{"Label":"b","Program":"/bin/x","StartInterval":20}"#;
 
 const IDLE: &str = r#"{"Label":"c","Program":"/bin/x"}"#;
 
-const HOURLY: &str =
-    r#"{"Label":"d","Program":"/bin/x","StartCalendarInterval":{"Minute":14}}"#;
+const HOURLY: &str = r#"{"Label":"d","Program":"/bin/x","StartCalendarInterval":{"Minute":14}}"#;
 
 /// An event, then the next moment and whether there is a calendar.
 type Row = (Event, Option<u64>, bool);
