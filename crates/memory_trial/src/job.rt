@@ -2,11 +2,11 @@
 
 ghost use Rattle.std.specs.Prelude.{◌≤◌};
 
-use crate::trial::{Answer, Trial};
 use conditions::Conditions;
 use history_model::{MAX_UP, Reading};
 use job_core::JobCore;
 use job_defs::Def;
+use scarce_memory::{Answer, Trial};
 use socket_demand::{Exchange, Waiting};
 use std::alloc::{AllocError, Global};
 

@@ -4,41 +4,17 @@
 
 mod job;
 mod opening;
-mod scarce;
 mod store;
-mod trial;
 
 use crate::job::{DEFINITION, Making, Part};
 use crate::opening::{Opening, OwnFile, Place, State};
-use crate::scarce::Hoard;
 use crate::store::{Call, Using};
-use crate::trial::{Trial, Verdict, stand};
 use anyhow::{Result, bail};
 use job_defs::read_def;
+use scarce_memory::{Hoard, run_with_little, tell};
 use sqlite::{Alter, File, FileStore};
 use std::alloc::Global;
 use std::env;
-use std::process::Command;
-
-/// Runs this program again, by a shell that limits its memory to 512 MB.
-const SHELL: &str = "ulimit -v 524288 && exec \"$0\" short";
-
-/// Tries a call, and says how it stood that.
-fn tell<T: Trial>(
-    rt: &impl Print,
-    alloc: Global,
-    hoard: &mut Hoard,
-    name: &str,
-    trial: &mut T,
-) -> Result<()> {
-    match stand(alloc, hoard, trial)? {
-        Verdict::Stood(0) => bail!("{name}: was never refused memory"),
-        Verdict::Stood(_) => println!(rt; "{name}: no memory, then made")?,
-        Verdict::Fell(left) => bail!("{name}: wrong with {left} bytes left"),
-        Verdict::NotTried => bail!("{name}: not tried"),
-    }
-    Ok(())
-}
 
 fn parts(rt: &impl Print, alloc: Global, hoard: &mut Hoard) -> Result<()> {
     let listed = [
@@ -92,21 +68,14 @@ fn short(rt: &HostRuntime) -> Result<()> {
     open_stores(rt, rt.alloc(), &mut hoard)
 }
 
-fn again(rt: &HostRuntime) -> Result<()> {
-    let own = env::current_exe(rt)?;
-    let mut shell = Command::new(rt.alloc(), "/bin/sh")?;
-    let status = shell.arg("-c")?.arg(SHELL)?.arg(own.as_path())?.status(rt)?;
-    if status.success() {
-        Ok(())
-    } else {
-        bail!("the run with little memory failed")
-    }
-}
-
 fn main(rt: HostRuntime) -> Result<()> {
     let mut is_short = false;
     for word in env::args(&rt)? {
         is_short = word.as_str() == "short";
     }
-    if is_short { short(&rt) } else { again(&rt) }
+    if is_short {
+        short(&rt)
+    } else {
+        run_with_little(&rt)
+    }
 }

@@ -2,8 +2,8 @@
 //! but the opening of the file is generic over what the store stands on.
 
 use crate::store::{FIRST_VERSION, MOVED, answer_of, has};
-use crate::trial::{Answer, Trial};
 use override_store::OverrideStore;
+use scarce_memory::{Answer, Trial};
 use sqlite::{Alter, Connection, File, FileStore};
 use std::alloc::Global;
 use std::mem;

@@ -1,8 +1,8 @@
 //! The calls on an open store that take memory, over a database in memory.
 
-use crate::trial::{Answer, Trial};
 use history_model::Setting;
 use override_store::{OverrideStore, StoreFault};
+use scarce_memory::{Answer, Trial};
 use sqlite::{Alter, Connection, MemStore};
 use std::alloc::Global;
 

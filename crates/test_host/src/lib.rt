@@ -5,12 +5,6 @@
 
 #[cfg(test)]
 mod runs;
-#[cfg(test)]
-mod sink;
-#[cfg(test)]
-mod stage;
-#[cfg(test)]
-mod store;
 
 #[cfg(test)]
 mod tests {

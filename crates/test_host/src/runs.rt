@@ -1,9 +1,9 @@
 //! Turns of a launcher, and whether they answered, called, stored and wrote what they should.
 
-use crate::stage::{Stage, edge, header, holds, opened, reading, set_stage, store};
 use child_edge::{EdgeCall, Scripted};
 use history_model::{JobNo, Refusal, Setting, Text};
 use launcher::{HostFault, Input};
+use memory_stage::{Stage, edge, header, holds, opened, reading, set_stage, store};
 use std::alloc::Global;
 
 /// The number that the first job has.

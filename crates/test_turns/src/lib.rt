@@ -6,8 +6,6 @@
 #[cfg(test)]
 mod loads;
 #[cfg(test)]
-mod sink;
-#[cfg(test)]
 mod stage;
 #[cfg(test)]
 mod store;

@@ -1,6 +1,5 @@
 //! A launcher over an edge, a store and a journal that answer as they were told to.
 
-use crate::sink::Sink;
 use crate::store::ScriptedStore;
 use calendar_due::Zone;
 use child_edge::{MemoryEdge, Scripted};
@@ -10,6 +9,7 @@ use history_model::{JobNo, Reading, Refusal, Text};
 use job_table::JobTable;
 use launcher_load::{Loaded, load};
 use launcher_turn::{Happening, Room, turn};
+use memory_stage::Sink;
 use std::alloc::Global;
 
 /// The number that the first job has.

@@ -1,6 +1,6 @@
 //! A call under trial: made again and again where memory is short, by less and less, until it has enough.
 
-use crate::scarce::Hoard;
+use crate::hoard::Hoard;
 use std::alloc::{AllocError, Global};
 
 /// What a call answered.

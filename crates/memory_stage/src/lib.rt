@@ -1,0 +1,11 @@
+//! A launcher for tests: its edge answers by a script, its store of settings and its journal are in memory. Each of the three
+//! can be told to refuse.
+#![tactic(auto)]
+
+mod sink;
+mod stage;
+mod store;
+
+pub use sink::Sink;
+pub use stage::{Stage, edge, header, holds, opened, reading, set_stage, store};
+pub use store::MemoryStore;

@@ -1,0 +1,11 @@
+//! Calls that take memory, made where none is left and then where there is more and more, until each is made. For programs
+//! that run themselves once more with little memory.
+#![tactic(auto)]
+
+mod hoard;
+mod report;
+mod trial;
+
+pub use hoard::Hoard;
+pub use report::{run_with_little, tell};
+pub use trial::{Answer, Trial, Verdict, stand};

@@ -1,0 +1,226 @@
+//! Turns of a launcher where memory is short.
+
+use child_edge::{EdgeCall, Scripted};
+use history_model::{JobNo, Reading};
+use launcher::Input;
+use memory_stage::{Stage, set_stage};
+use scarce_memory::{Answer, Trial};
+use std::alloc::Global;
+
+/// A turn that takes memory, and what a second request shows of it.
+#[derive(Clone, Copy)]
+pub struct Turn {
+    pub name: &'static str,
+    /// The definition that is loaded first.
+    before: &'static [u8],
+    /// The answers of the outside, in order.
+    answers: &'static [(EdgeCall, Scripted)],
+    input: Input<'static>,
+    text: &'static str,
+    /// The request that shows what there is: first as it was before the turn, then as it is after it.
+    probe: &'static [u8],
+    was: &'static str,
+    is: &'static str,
+    /// How many calls to the outside a turn makes whose store refuses.
+    undone: usize,
+}
+
+/// A job that is started once it is loaded.
+pub const LOAD: &[u8] =
+    b"{\"req\":\"load\",\"def\":\"{\\\"Label\\\":\\\"a\\\",\\\"ProgramArguments\\\":[\\\"/bin/a\\\"],\\\"RunAtLoad\\\":true}\"}";
+
+/// A job that is started at each full quarter of an hour.
+const LOAD_CALENDAR: &[u8] =
+    b"{\"req\":\"load\",\"def\":\"{\\\"Label\\\":\\\"a\\\",\\\"ProgramArguments\\\":[\\\"/bin/a\\\"],\\\"StartCalendarInterval\\\":[{\\\"Minute\\\":0},{\\\"Minute\\\":15},{\\\"Minute\\\":30},{\\\"Minute\\\":45}]}\"}";
+
+/// A job with a socket, whose label is also enabled.
+const LOAD_LISTENING: &[u8] =
+    b"{\"req\":\"load\",\"w\":true,\"def\":\"{\\\"Label\\\":\\\"s\\\",\\\"ProgramArguments\\\":[\\\"/bin/x\\\"],\\\"Sockets\\\":{\\\"l\\\":{\\\"SockPathName\\\":\\\"/s\\\"}},\\\"inetdCompatibility\\\":{\\\"Wait\\\":false}}\"}";
+
+const LIST: &[u8] = b"{\"req\":\"list\"}";
+
+const PRINT: &[u8] = b"{\"req\":\"print\",\"job\":\"a\"}";
+
+const FIRST: JobNo = 0;
+
+const STARTED: (EdgeCall, Scripted) = (
+    EdgeCall::Start {
+        job: FIRST,
+        run: 1,
+        conn: None,
+    },
+    Scripted::Started(812),
+);
+
+const DONE: (EdgeCall, Scripted) = (EdgeCall::Release { job: 1 }, Scripted::Done);
+
+const RUNNING: &str = "PID\tStatus\tLabel\n812\t0\ta\n";
+
+const PRINTED: &str =
+    "a = {\n\tstate = running\n\tpid = 812\n\truns = 1\n\tlast exit = never\n\tdemand = no\n\tconnections = 0\n\tdisabled = false\n}\n";
+
+const DISABLED: &str =
+    "a = {\n\tstate = running\n\tpid = 812\n\truns = 1\n\tlast exit = never\n\tdemand = no\n\tconnections = 0\n\tdisabled = true\n}\n";
+
+/// 22:15 and one second, in UTC; the launcher begins at 22:13:20.
+const LATER: Reading = Reading {
+    up: 101_000,
+    wall: 1_700_000_101,
+};
+
+pub const TURNS: [Turn; 5] = [
+    Turn {
+        name: "turn: list",
+        before: LOAD,
+        answers: &[STARTED],
+        input: Input::Line(LIST),
+        text: RUNNING,
+        probe: LIST,
+        was: RUNNING,
+        is: RUNNING,
+        undone: 0,
+    },
+    Turn {
+        name: "turn: print",
+        before: LOAD,
+        answers: &[STARTED],
+        input: Input::Line(PRINT),
+        text: PRINTED,
+        probe: PRINT,
+        was: PRINTED,
+        is: PRINTED,
+        undone: 0,
+    },
+    Turn {
+        name: "turn: load -w, with a socket",
+        before: LOAD,
+        answers: &[STARTED, DONE, DONE, DONE],
+        input: Input::Line(LOAD_LISTENING),
+        text: "",
+        probe: LIST,
+        was: RUNNING,
+        is: "PID\tStatus\tLabel\n812\t0\ta\n-\t0\ts\n",
+        undone: 2,
+    },
+    Turn {
+        name: "turn: disable",
+        before: LOAD,
+        answers: &[STARTED],
+        input: Input::Line(b"{\"req\":\"disable\",\"job\":\"a\"}"),
+        text: "",
+        probe: PRINT,
+        was: PRINTED,
+        is: DISABLED,
+        undone: 0,
+    },
+    Turn {
+        name: "turn: a reading that crosses minutes",
+        before: LOAD_CALENDAR,
+        answers: &[STARTED],
+        input: Input::Clock(LATER),
+        text: "",
+        probe: LIST,
+        was: "PID\tStatus\tLabel\n-\t0\ta\n",
+        is: RUNNING,
+        undone: 0,
+    },
+];
+
+/// What became of a turn.
+#[derive(Clone, Copy, PartialEq, Eq)]
+enum Outcome {
+    Made,
+    /// It was made, and the journal was closed.
+    Closed,
+    NoMemory,
+    NotStored,
+    Other,
+}
+
+/// A turn on a launcher whose job runs.
+#[derive(Drop)]
+pub struct Turning {
+    turn: Turn,
+    stage: Option<Stage>,
+    calls: usize,
+    outcome: Outcome,
+}
+
+/// The code and whether the text is this one.
+fn asked(alloc: Global, stage: &mut Stage, input: Input<'_>, text: &str) -> (u8, bool) {
+    let reply = stage.turn(alloc, input);
+    let code = match reply.refusal {
+        Some(refusal) => refusal.code(),
+        None => 0,
+    };
+    (code, reply.text.as_str() == text)
+}
+
+fn outcome(alloc: Global, stage: &mut Stage, turn: &Turn) -> Outcome {
+    let (code, is_text) = asked(alloc, stage, turn.input, turn.text);
+    let has_closed = stage.tell_journal_closing();
+    match code {
+        0 if is_text && has_closed => Outcome::Closed,
+        0 if is_text => Outcome::Made,
+        1 => Outcome::NoMemory,
+        9 => Outcome::NotStored,
+        _ => Outcome::Other,
+    }
+}
+
+/// Whether a refused turn left all as it was, but for so many calls, and is made with memory.
+fn is_undone(alloc: Global, stage: &mut Stage, turn: &Turn, calls: usize) -> bool {
+    stage.edge().calls().len() == calls
+        && asked(alloc, stage, Input::Line(turn.probe), turn.was) == (0, true)
+        && outcome(alloc, stage, turn) == Outcome::Made
+        && asked(alloc, stage, Input::Line(turn.probe), turn.is) == (0, true)
+}
+
+impl Turning {
+    pub fn new(turn: Turn) -> Turning {
+        Turning {
+            turn,
+            stage: None,
+            calls: 0,
+            outcome: Outcome::Other,
+        }
+    }
+}
+
+impl Trial for Turning {
+    fn prepare(&mut self, alloc: Global) -> bool {
+        self.stage = None;
+        let Ok(mut stage) = set_stage(alloc, self.turn.answers, true, 1000) else {
+            return false;
+        };
+        let (code, is_text) = asked(alloc, &mut stage, Input::Line(self.turn.before), "");
+        self.calls = stage.edge().calls().len();
+        self.stage = Some(stage);
+        code == 0 && is_text
+    }
+
+    fn call(&mut self, alloc: Global) -> Answer {
+        let Some(stage) = self.stage.as_mut() else {
+            return Answer::Other;
+        };
+        self.outcome = outcome(alloc, stage, &self.turn);
+        match self.outcome {
+            Outcome::Made => Answer::Made,
+            Outcome::Closed | Outcome::NoMemory | Outcome::NotStored => Answer::NoMemory,
+            Outcome::Other => Answer::Other,
+        }
+    }
+
+    fn is_right(&mut self, alloc: Global, _answer: Answer) -> bool {
+        let Some(stage) = self.stage.as_mut() else {
+            return false;
+        };
+        match self.outcome {
+            Outcome::NoMemory => is_undone(alloc, stage, &self.turn, self.calls),
+            Outcome::NotStored => {
+                is_undone(alloc, stage, &self.turn, self.calls + self.turn.undone)
+            }
+            _ => asked(alloc, stage, Input::Line(self.turn.probe), self.turn.is) == (0, true),
+        }
+    }
+}
