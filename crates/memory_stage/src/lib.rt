@@ -2,10 +2,10 @@
 //! can be told to refuse.
 #![tactic(auto)]
 
+mod memory_store;
 mod sink;
 mod stage;
-mod store;
 
+pub use memory_store::MemoryStore;
 pub use sink::Sink;
 pub use stage::{Stage, edge, header, holds, opened, reading, set_stage, store};
-pub use store::MemoryStore;

@@ -156,7 +156,7 @@ fn asked(alloc: Global, stage: &mut Stage, input: Input<'_>, text: &str) -> (u8,
     (code, reply.text.as_str() == text)
 }
 
-fn outcome(alloc: Global, stage: &mut Stage, turn: &Turn) -> Outcome {
+fn taken(alloc: Global, stage: &mut Stage, turn: &Turn) -> Outcome {
     let (code, is_text) = asked(alloc, stage, turn.input, turn.text);
     let has_closed = stage.tell_journal_closing();
     match code {
@@ -172,7 +172,7 @@ fn outcome(alloc: Global, stage: &mut Stage, turn: &Turn) -> Outcome {
 fn is_undone(alloc: Global, stage: &mut Stage, turn: &Turn, calls: usize) -> bool {
     stage.edge().calls().len() == calls
         && asked(alloc, stage, Input::Line(turn.probe), turn.was) == (0, true)
-        && outcome(alloc, stage, turn) == Outcome::Made
+        && taken(alloc, stage, turn) == Outcome::Made
         && asked(alloc, stage, Input::Line(turn.probe), turn.is) == (0, true)
 }
 
@@ -203,7 +203,7 @@ impl Trial for Turning {
         let Some(stage) = self.stage.as_mut() else {
             return Answer::Other;
         };
-        self.outcome = outcome(alloc, stage, &self.turn);
+        self.outcome = taken(alloc, stage, &self.turn);
         match self.outcome {
             Outcome::Made => Answer::Made,
             Outcome::Closed | Outcome::NoMemory | Outcome::NotStored => Answer::NoMemory,

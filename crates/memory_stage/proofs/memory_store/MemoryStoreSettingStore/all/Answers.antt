@@ -1,4 +1,4 @@
-use Rattle.memory_stage.proofs.store.MemoryStoreSettingStore.all.Goals as goal
+use Rattle.memory_stage.proofs.memory_store.MemoryStoreSettingStore.all.Goals as goal
 
 -- it tells nothing
 pub returns-in-Ok : goal.returns-in-Ok

@@ -1,4 +1,4 @@
-use Rattle.memory_stage.proofs.store.MemoryStoreSettingStore.set.Goals as goal
+use Rattle.memory_stage.proofs.memory_store.MemoryStoreSettingStore.set.Goals as goal
 
 -- it tells nothing
 pub returns : goal.returns
