@@ -29,7 +29,7 @@ mod texts;
 
 use calendar_due::Zone;
 pub use changing::NewSetting;
-use history_model::{Ask, Ended, JobNo, Obs, Order, Reading, Refusal, Setting};
+use history_model::{Answer, Ask, Ended, JobNo, Obs, Order, Reading, Refusal, Setting};
 pub use job_core::JobEvent;
 use job_defs::Def;
 use jobs::Jobs;
@@ -229,7 +229,8 @@ impl JobTable {
         ensures known { IfOk result AreKnown }
         ensures* kept { sem 𝓛 (GoesOn self.entry result (OfJob label.now (Answered (answers.Spawned run pid)))) }
     {
-        self.jobs.tell(label, JobEvent::Spawned { run, pid })?;
+        self.jobs
+            .tell(label, JobEvent::Answered(Answer::Spawned { run, pid }))?;
         Ok(self.given())
     }
 
@@ -241,7 +242,8 @@ impl JobTable {
         ensures known { IfOk result AreKnown }
         ensures* kept { sem 𝓛 (GoesOn self.entry result (OfJob label.now (Answered (answers.SpawnRefused run)))) }
     {
-        self.jobs.tell(label, JobEvent::SpawnRefused { run })?;
+        self.jobs
+            .tell(label, JobEvent::Answered(Answer::SpawnRefused { run }))?;
         Ok(self.given())
     }
 
@@ -252,7 +254,8 @@ impl JobTable {
         ensures known { IfOk result AreKnown }
         ensures* kept { sem 𝓛 (GoesOn self.entry result (OfJob label.now (Answered (answers.Termed run ok)))) }
     {
-        self.jobs.tell(label, JobEvent::Termed { run, ok })?;
+        self.jobs
+            .tell(label, JobEvent::Answered(Answer::Termed { run, ok }))?;
         Ok(self.given())
     }
 
@@ -263,7 +266,8 @@ impl JobTable {
         ensures known { IfOk result AreKnown }
         ensures* kept { sem 𝓛 (GoesOn self.entry result (OfJob label.now (Answered (answers.Killed run ok)))) }
     {
-        self.jobs.tell(label, JobEvent::Killed { run, ok })?;
+        self.jobs
+            .tell(label, JobEvent::Answered(Answer::Killed { run, ok }))?;
         Ok(self.given())
     }
 
