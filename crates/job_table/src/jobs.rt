@@ -20,7 +20,7 @@ ghost use Rattle.job_table.specs.Telling.{AreFor, IsAccepted, present_with};
 
 use crate::entry::{Entry, News};
 use crate::index::remake;
-use crate::scan::{ask_all, place_of, release, tell_all, tidy};
+use crate::scan::{ask_all, has_calendars, place_of, release, tell_all, tidy};
 use calendar_due::Zone;
 use history_model::{Order, Reading, Refusal, Setting};
 use job_core::JobEvent;
@@ -42,6 +42,8 @@ pub struct Jobs {
     pub index: Index,
     /// No job left at the last event; where it is not set, one may have.
     pub all_stay: bool,
+    /// A job that is loaded, or that left at the last event, has calendar entries.
+    pub has_calendars: bool,
 }
 
 /// What finds the jobs that an event touches.
@@ -83,6 +85,7 @@ impl Jobs {
             &self.entries,
             self.reading,
         );
+        self.has_calendars = has_calendars(&self.entries);
         self.all_stay = true;
     }
 
@@ -147,7 +150,7 @@ impl Jobs {
         ensures room { HasSameRoom (seen self.old) (seen self.new) }
     {
         self.visited = ask_all(&mut self.entries, self.reading, &mut self.orders);
-        self.all_stay = false;
+        self.all_stay = self.visited as usize == self.entries.len();
         remake(
             &mut self.index.timers,
             &mut self.index.places,

@@ -29,6 +29,9 @@ impl JobTable {
         ensures jobs { (s : State) → KeepsState self.now s → result ≡ have_calendars s.jobs }
         ensures rows { result ≡ has_calendars self.now.rows }
     {
+        if self.jobs.all_stay {
+            return self.jobs.has_calendars;
+        }
         is_some_with_calendar(&self.jobs.entries)
     }
 }

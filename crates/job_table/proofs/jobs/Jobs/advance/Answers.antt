@@ -21,7 +21,7 @@ use Rattle.job_table.specs.Counts.{counts, count_in, IsCounted}
 use Rattle.job_table.specs.Entries.{row, name, rows, AllStay, is_named}
 use Rattle.job_table.specs.Index.{IsIndexed, moment_for, AreTimed, AreAlone, HaveRoom, ArePlaced, place_in, IsSpare}
 use Rattle.job_table.specs.Marking.{HavePlaces}
-use Rattle.job_table.specs.Minutes.{has_calendars}
+use Rattle.job_table.specs.Minutes.{has_calendars, some_calendar}
 use Rattle.job_table.specs.Outcomes.{given_by}
 use Rattle.job_table.specs.Sound.{seen, AreFree, IsSound}
 use Rattle.job_table.specs.Telling.{AreFor, IsAccepted}
@@ -155,6 +155,7 @@ returns-clause-sound c =
       few = omega arith;
       room = omega arith;
       named = named-of _ _ _ (returns-clause-indexed c);
+      calendars = c.requires.sound.calendars ∙ ap some_calendar (sym names);
     }
 
 pub returns-clause-names : goal.returns-clause-names
