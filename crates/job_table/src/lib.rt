@@ -12,12 +12,15 @@ ghost use Rattle.history_model.specs.Items.{Asked, Answered, Came, Left, RunEnde
 ghost use Rattle.history_model.specs.declared.Refusal.TheVariants.{NoMemory};
 ghost use Rattle.history_model.specs.Machine.{State, opened, ListJobs, PrintJob, OfJob, UnloadJob, ShutDown, Tick, Sight};
 
+mod advance;
 mod after;
 mod changing;
 mod entry;
 mod events;
+mod index;
 mod jobs;
 mod loading;
+mod mark;
 mod moments;
 mod opening;
 mod order;
@@ -26,6 +29,7 @@ mod questions;
 mod scan;
 mod settings;
 mod texts;
+mod visit;
 
 use calendar_due::Zone;
 pub use changing::NewSetting;
@@ -49,11 +53,11 @@ impl Model for JobTable {
 
     ghost Value = { Table };
 
-    ghost use Rattle.job_table.specs.Sound.{seen, IsSound};
+    ghost use Rattle.job_table.specs.Sound.{seen, IsWhole};
 
     ghost view = { λ t. seen t.jobs };
 
-    ghost invariant = { λ t. IsSound t.jobs };
+    ghost invariant = { λ t. IsWhole t.jobs };
 }
 
 /// What an event gave, lent out of the table.
