@@ -16,7 +16,7 @@ use crate::calendar::Calendar;
 use crate::paths::{Queues, Watches};
 use crate::{JobEvent, JobRow, JobState};
 use conditions::Conditions;
-use history_model::{Act, Ask, Ended, MAX_UP, MAX_WALL, Obs, Reading, Refusal};
+use history_model::{Act, Answer, Ask, Ended, MAX_UP, MAX_WALL, Obs, Reading, Refusal};
 use job_defs::Def;
 use pace::{Ending, Interval, Signal, Throttle};
 use socket_demand::Waiting;
@@ -104,12 +104,12 @@ impl Job {
     {
         match event {
             JobEvent::Read(at, calendar) => self.read(at, calendar, now),
-            JobEvent::Spawned { run, pid } => self.spawned(run, pid, now),
-            JobEvent::SpawnRefused { run } => self.spawn_refused(run, now),
+            JobEvent::Answered(Answer::Spawned { run, pid }) => self.spawned(run, pid, now),
+            JobEvent::Answered(Answer::SpawnRefused { run }) => self.spawn_refused(run, now),
             JobEvent::Ended(run, how) => self.ended(run, how, now),
             JobEvent::Asked(ask) => self.asked(ask, now),
-            JobEvent::Termed { run, ok } => self.termed(run, ok, now),
-            JobEvent::Killed { run, ok } => self.killed(run, ok, now),
+            JobEvent::Answered(Answer::Termed { run, ok }) => self.termed(run, ok, now),
+            JobEvent::Answered(Answer::Killed { run, ok }) => self.killed(run, ok, now),
             JobEvent::WaitRefused { run } => self.wait_refused(run, now),
             JobEvent::Saw(path, obs) => self.saw(path, obs, now),
             JobEvent::Came(conn) => self.came(conn, now),

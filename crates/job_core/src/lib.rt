@@ -17,7 +17,7 @@ mod calendar;
 mod job;
 mod paths;
 
-use history_model::{Act, Ask, Ended, MAX_UP, Obs, Reading, Refusal};
+use history_model::{Act, Answer, Ask, Ended, MAX_UP, Obs, Reading, Refusal};
 use job::Job;
 use job_defs::Def;
 use std::alloc::{AllocError, Global};
@@ -53,7 +53,7 @@ pub struct JobRow {
     pub connections: usize,
 }
 
-/// What happens to a job. The answers `Spawned` to `Killed` name the run of the order that they answer.
+/// What happens to a job.
 #[derive(Clone, Copy)]
 pub enum JobEvent<'a> {
     /// The clock, and whether a calendar entry matches a minute that it crossed.
@@ -65,10 +65,8 @@ pub enum JobEvent<'a> {
     Came(u64),
     /// A waiting connection left.
     Left(u64),
-    Spawned { run: u64, pid: u32 },
-    SpawnRefused { run: u64 },
-    Termed { run: u64, ok: bool },
-    Killed { run: u64, ok: bool },
+    /// The answer to an order. It names the order's run.
+    Answered(Answer),
     /// The run is over.
     Ended(u64, Ended),
     /// Whether the run is over could not be learned.

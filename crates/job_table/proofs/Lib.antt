@@ -21,3 +21,12 @@ pub mod Children
 pub mod Counting
 pub mod Numbering
 pub mod Waking
+pub mod Skipping
+pub mod Visiting
+pub mod Marking
+pub mod Timing
+pub mod Indexing
+pub mod Advancing
+pub mod Growing
+pub mod Touching
+pub mod Minutes

@@ -1,116 +1,99 @@
--- The least of the moments to come, over rows and over jobs.
-use Rattle.std.proofs.Common.{◌≡◌, ℕ, suc, ◌+◌, ◌<◌, ◌≤◌, ◌==◌, Bool, true, false, not, ◌&&◌, ◌||◌, cond, List, [], ◌∷◌, ◌++◌, take, length, get_or, min, Option, Some, None, refl, sym, ap, ◌∙◌, arith, add-one}
-use Rattle.std.proofs.lemmas.Bool.Decides.{nat_tests}
-use Rattle.std.specs.Prelude.{nat_lt}
+-- The least moment in the index is that of the machine's jobs, and calendars by rows are those of the jobs.
+use Rattle.std.proofs.Common.{◌≡◌, ◌⊎◌, inl, inr, ℕ, zero, suc, ◌<◌, ◌≤◌, ◌==◌, Bool, true, false, not, ◌&&◌, ◌||◌, cond, List, [], ◌∷◌, map, Option, Some, None, refl, sym, ap, ◌∙◌, subst, arith}
+use Rattle.std.specs.Prelude.{slice_get}
 use Rattle.std.specs.List.{list_any, AllByRecursion}
 use Rattle.std.specs.Option.{ForSome}
+use Rattle.timer_heap.specs.Timers.{Timers, moment_in, IsNoLater, IsLeast}
 use Rattle.history_model.specs.declared.Reading.{Reading}
 use Rattle.history_model.specs.Clock.{definition_of}
 use Rattle.history_model.specs.Moments.{next_moment}
-use Rattle.history_model.specs.Coming.{sooner, next_by}
+use Rattle.history_model.specs.Coming.{next_by}
 use Rattle.history_model.specs.Machine.{Job}
 use Rattle.history_model.proofs.Coming.{next-by}
 use Rattle.job_table.specs.Rows.{Row}
-use Rattle.job_table.specs.Kept.{KeepsJobs}
-use Rattle.job_table.specs.Entries.{row, rows}
+use Rattle.job_table.specs.Kept.{KeepsJob, KeepsJobs}
+use Rattle.job_table.specs.Entries.{row, rows, name}
+use Rattle.job_table.specs.Index.{AreTimed, AreAlone, moment_for}
 use Rattle.job_table.specs.Minutes.{is_some_entry, has_calendars}
-use Rattle.job_table.specs.Moments.{is_moment, IsNextUp, soonest, have_calendars}
+use Rattle.job_table.specs.Moments.{is_moment, IsNextUp, have_calendars}
 use Rattle.job_table.specs.declared.entry.Entry.{Entry}
-use Rattle.job_table.proofs.Lists.{at-take}
-use Rattle.job_table.proofs.Scanning.{rows-append}
-
--- ---- the lesser of two moments
-
-sooner-None : (a : Option ℕ) → a ≡ sooner a None
-sooner-None None = refl
-sooner-None (Some m) = refl
-
-min-assoc : (a b c : ℕ) → min a (min b c) ≡ min (min a b) c
-min-assoc a b c = omega arith
-
-sooner-assoc : (a b c : Option ℕ) → sooner a (sooner b c) ≡ sooner (sooner a b) c
-sooner-assoc None b c = refl
-sooner-assoc (Some m) None c = refl
-sooner-assoc (Some m) (Some n) None = refl
-sooner-assoc (Some m) (Some n) (Some k) = ap Some (min-assoc m n k)
-
--- ---- one row more
-
-soonest-append : (up : ℕ) (xs ys : List Row) → soonest up (xs ++ ys) ≡ sooner (soonest up xs) (soonest up ys)
-soonest-append up [] ys = refl
-soonest-append up (x ∷ xs) ys = ap (sooner (next_by x.facts up)) (soonest-append up xs ys) ∙ sooner-assoc (next_by x.facts up) (soonest up xs) (soonest up ys)
-
-pub moment-step : (up : ℕ) (es : List Entry) (i : ℕ) (e : Entry) (least later : Option ℕ) → i < length es → e ≡ get_or es i e →
-    later ≡ cond e.has_left least (sooner least (next_by e.core.facts up)) → least ≡ soonest up (rows (take i es)) →
-    later ≡ soonest up (rows (take (i + 1) es))
-moment-step up es i e least later within is next before =
-    next
-    ∙ go e.has_left
-    ∙ ap (λ m. sooner m (soonest up (cond e.has_left [] (row e ∷ [])))) before
-    ∙ sym (soonest-append up (rows (take i es)) (cond e.has_left [] (row e ∷ [])))
-    ∙ ap (soonest up) (sym (ap rows (at-take es i e within is) ∙ rows-append (take i es) (e ∷ [])))
-    ∙ ap (λ n. soonest up (rows (take n es))) (sym (add-one i))
-  where
-    go : (b : Bool) → cond b least (sooner least (next_by e.core.facts up)) ≡ sooner least (soonest up (cond b [] (row e ∷ [])))
-    go true = sooner-None least
-    go false = ap (sooner least) (sooner-None (next_by e.core.facts up))
+use Rattle.job_table.proofs.Advancing.{holder}
 
 -- ---- the moments of jobs
 
--- no job has a moment before this one
-abbrev AreFrom : ℕ → List Job → Type 0
-AreFrom m jobs = AllByRecursion (λ job. ForSome (next_moment job.past) (λ n. m ≤ n)) jobs
+known : (at : Reading) (r : Row) (job : Job) → KeepsJob at r job → next_moment job.past ≡ next_by r.facts at.up
+known at r job keeps = next-by job.past keeps.keeps.lawful ∙ (λ i. next_by (sym keeps.keeps.same i) (sym keeps.present i).up)
 
-abbrev is-one : ℕ → List Job → Bool
-is-one m jobs = list_any (λ job. is_moment m (next_moment job.past)) jobs
+-- what holds of each moment in the index holds of each job's next moment
+each-moment : (P : Option ℕ → Type 0) (at : Reading) (timers : Timers) (es : List Entry) (jobs : List Job) → AreTimed timers at.up es → ((number : ℕ) → P (moment_in timers number)) →
+    KeepsJobs at (rows es) jobs → AllByRecursion (λ job. P (next_moment job.past)) jobs
+each-moment P at timers [] [] timed each keeps = tt
+each-moment P at timers [] (job ∷ jobs) timed each keeps = absurd keeps
+each-moment P at timers (e ∷ es) jobs timed each keeps =
+    go e.has_left refl jobs keeps (λ others. each-moment P at timers es others (λ k x there. timed (suc k) x there) each)
+  where
+    go : (b : Bool) → e.has_left ≡ b → (all : List Job) → KeepsJobs at (cond b (rows es) (row e ∷ rows es)) all →
+        ((others : List Job) → KeepsJobs at (rows es) others → AllByRecursion (λ job. P (next_moment job.past)) others) → AllByRecursion (λ job. P (next_moment job.past)) all
+    go true is all keeps later = later all keeps
+    go false is [] keeps later = absurd keeps
+    go false is (job ∷ others) keeps later =
+        let own : moment_in timers e.number ≡ next_moment job.past =
+        timed 0 e refl ∙ ap (λ b. cond b None (next_by e.core.facts at.up)) is ∙ sym (known at (row e) job keeps.0) in
+        (subst P own (each e.number), later others keeps.1)
 
-lower : (m n : ℕ) → m ≤ n → (jobs : List Job) → AreFrom n jobs → AreFrom m jobs
-lower m n le [] from = tt
-lower m n le (job ∷ jobs) from = (λ k some. (let above : n ≤ k = from.0 k some in omega (arith, le, above)), lower m n le jobs from.1)
-
-none-before : (m : ℕ) (jobs : List Job) → AllByRecursion (λ job. next_moment job.past ≡ None) jobs → AreFrom m jobs
-none-before m [] none = tt
-none-before m (job ∷ jobs) none = (λ k some. (let clash : None ≡ Some k = sym none.0 ∙ some in absurd (cc clash)), none-before m jobs none.1)
-
-or-first : (a b : Bool) → a ≡ true → (a || b) ≡ true
-or-first a b e = ap (λ v. v || b) e
+same-number : (n : ℕ) → (n == n) ≡ true
+same-number n = grind arith
 
 or-second : (a b : Bool) → b ≡ true → (a || b) ≡ true
 or-second true b e = refl
 or-second false b e = e
 
-same-number : (n : ℕ) → (n == n) ≡ true
-same-number n = grind arith
-
-own-moment : (job : Job) (m n : ℕ) → next_moment job.past ≡ Some n → m ≤ n → ForSome (next_moment job.past) (λ k. m ≤ k)
-own-moment job m n own le = λ k some. let same : Some n ≡ Some k = sym own ∙ some in let found : n ≡ k = cc same in omega (arith, le, found)
-
--- of a job's own moment and the least of the others' the lesser is the least of all
-joined : (job : Job) (jobs : List Job) (a b : Option ℕ) → next_moment job.past ≡ a → IsNextUp jobs b → IsNextUp (job ∷ jobs) (sooner a b)
-joined job jobs None None own rest = (own, rest)
-joined job jobs None (Some n) own rest =
-    let apart : ForSome (next_moment job.past) (λ k. n ≤ k) = λ k some. (let clash : None ≡ Some k = sym own ∙ some in absurd (cc clash)) in
-    (or-second (is_moment n (next_moment job.past)) (is-one n jobs) rest.0, (apart, rest.1))
-joined job jobs (Some m) None own rest =
-    (or-first (is_moment m (next_moment job.past)) (is-one m jobs) (ap (is_moment m) own ∙ same-number m), (own-moment job m m own (omega arith), none-before m jobs rest))
-joined job jobs (Some m) (Some n) own rest = (go (nat_lt m n) refl, (own-moment job (min m n) m own (omega arith), lower (min m n) n (omega arith) jobs rest.1))
+-- the moment of a job that has not left is that of some job
+some-moment : (at : Reading) (m : ℕ) (es : List Entry) (k : ℕ) (e : Entry) (jobs : List Job) → slice_get es k ≡ Some e → moment_for e at.up ≡ Some m → KeepsJobs at (rows es) jobs →
+    list_any (λ job. is_moment m (next_moment job.past)) jobs ≡ true
+some-moment at m [] zero e jobs there is keeps = cc
+some-moment at m [] (suc k) e jobs there is keeps = cc
+some-moment at m (x ∷ es) zero e jobs there is keeps = go x.has_left refl jobs keeps
   where
-    go : (b : Bool) → nat_lt m n ≡ b → is-one (min m n) (job ∷ jobs) ≡ true
-    go true e =
-        let same : min m n ≡ m = grind (arith, nat_tests, e) in
-        or-first (is_moment (min m n) (next_moment job.past)) (is-one (min m n) jobs) (ap (is_moment (min m n)) own ∙ ap (λ k. m == k) same ∙ same-number m)
-    go false e =
-        let same : min m n ≡ n = grind (arith, nat_tests, e) in
-        or-second (is_moment (min m n) (next_moment job.past)) (is-one (min m n) jobs) (ap (λ k. is-one k jobs) same ∙ rest.0)
+    same : x ≡ e
+    same = cc
 
--- the least by the rows is that of the jobs for which they stand
-pub next-up : (at : Reading) (rs : List Row) (jobs : List Job) → KeepsJobs at rs jobs → IsNextUp jobs (soonest at.up rs)
-next-up at [] [] keeps = tt
-next-up at [] (job ∷ jobs) keeps = absurd keeps
-next-up at (r ∷ rs) [] keeps = absurd keeps
-next-up at (r ∷ rs) (job ∷ jobs) keeps =
-    let known : next_moment job.past ≡ next_by r.facts at.up = next-by job.past keeps.0.keeps.lawful ∙ (λ i. next_by (sym keeps.0.keeps.same i) (sym keeps.0.present i).up) in
-    joined job jobs (next_by r.facts at.up) (soonest at.up rs) known (next-up at rs jobs keeps.1)
+    own : moment_for x at.up ≡ Some m
+    own = ap (λ y. moment_for y at.up) same ∙ is
+
+    go : (b : Bool) → x.has_left ≡ b → (all : List Job) → KeepsJobs at (cond b (rows es) (row x ∷ rows es)) all → list_any (λ job. is_moment m (next_moment job.past)) all ≡ true
+    go true left all keeps = let clash : None ≡ Some m = sym (ap (λ b. cond b None (next_by x.core.facts at.up)) left) ∙ own in absurd (cc clash)
+    go false left [] keeps = absurd keeps
+    go false left (job ∷ others) keeps =
+        let found : next_moment job.past ≡ Some m = known at (row x) job keeps.0 ∙ sym (ap (λ b. cond b None (next_by x.core.facts at.up)) left) ∙ own in
+        ap (λ o. is_moment m o || list_any (λ other. is_moment m (next_moment other.past)) others) found
+        ∙ ap (λ b. b || list_any (λ other. is_moment m (next_moment other.past)) others) (same-number m)
+some-moment at m (x ∷ es) (suc k) e jobs there is keeps = go x.has_left jobs keeps (λ others. some-moment at m es k e others there is)
+  where
+    go : (b : Bool) (all : List Job) → KeepsJobs at (cond b (rows es) (row x ∷ rows es)) all →
+        ((others : List Job) → KeepsJobs at (rows es) others → list_any (λ job. is_moment m (next_moment job.past)) others ≡ true) →
+        list_any (λ job. is_moment m (next_moment job.past)) all ≡ true
+    go true all keeps later = later all keeps
+    go false [] keeps later = absurd keeps
+    go false (job ∷ others) keeps later = or-second (is_moment m (next_moment job.past)) (list_any (λ other. is_moment m (next_moment other.past)) others) (later others keeps.1)
+
+-- no job has a moment where the index has none
+pub none-up : (at : Reading) (timers : Timers) (es : List Entry) (jobs : List Job) → AreTimed timers at.up es → IsLeast timers None → KeepsJobs at (rows es) jobs → IsNextUp jobs None
+none-up at timers es jobs timed least keeps = each-moment (λ moment. moment ≡ None) at timers es jobs timed least keeps
+
+-- the least moment in the index is the least of the jobs
+pub least-up : (at : Reading) (timers : Timers) (es : List Entry) (jobs : List Job) (number m : ℕ) → AreTimed timers at.up es → AreAlone timers (map name es) →
+    IsLeast timers (Some (number, m)) → KeepsJobs at (rows es) jobs → IsNextUp jobs (Some m)
+least-up at timers es jobs number m timed alone least keeps =
+    let found = holder es number (alone number m least.0) in
+    let own : moment_for found.1 at.up ≡ Some m = sym (timed found.0 found.1 found.2) ∙ ap (moment_in timers) found.3 ∙ least.0 in (
+      some-moment at m es found.0 found.1 jobs found.2 own keeps,
+      each-moment (λ moment. ForSome moment (λ n. m ≤ n)) at timers es jobs timed (λ k n there. no-less n k (least.1 k n there)) keeps,
+    )
+  where
+    no-less : (n k : ℕ) → IsNoLater m number n k → m ≤ n
+    no-less n k (inl before) = omega (arith, before)
+    no-less n k (inr same) = let equal = same.0 in omega (arith, equal)
 
 -- ---- calendars
 

@@ -18,4 +18,8 @@ pub mod Shown
 pub mod Listed
 pub mod Nearest
 pub mod Moments
+pub mod Visiting
+pub mod Marking
+pub mod Index
+pub mod Touching
 pub mod Ends

@@ -5,9 +5,7 @@ use Rattle.std.specs.List.{list_any, AllByRecursion}
 use Rattle.std.specs.Option.{ForSome}
 use Rattle.history_model.specs.Clock.{definition_of}
 use Rattle.history_model.specs.Moments.{next_moment}
-use Rattle.history_model.specs.Coming.{sooner, next_by}
 use Rattle.history_model.specs.Machine.{Job}
-use Rattle.job_table.specs.Rows.{Row}
 use Rattle.job_table.specs.Minutes.{is_some_entry}
 
 -- there is a moment, and it is this one
@@ -20,11 +18,6 @@ abbrev pub IsNextUp : List Job → Option ℕ → Type 0
 IsNextUp jobs None = AllByRecursion (λ job. next_moment job.past ≡ None) jobs
 IsNextUp jobs (Some m) =
     (list_any (λ job. is_moment m (next_moment job.past)) jobs ≡ true) × AllByRecursion (λ job. ForSome (next_moment job.past) (λ n. m ≤ n)) jobs
-
--- the same by the rows
-abbrev pub soonest : ℕ → List Row → Option ℕ
-soonest up [] = None
-soonest up (row ∷ rows) = sooner (next_by row.facts up) (soonest up rows)
 
 -- some job has calendar entries
 abbrev pub have_calendars : List Job → Bool

@@ -19,9 +19,12 @@ abbrev pub held_after : Option Setting → List Setting → ℕ
 held_after None settings = length settings
 held_after (Some setting) settings = held_with setting.label settings
 
--- no memory was taken: there is room for as many jobs, orders, settings and numbers as before
+-- no memory was taken: there is room for as many jobs, orders, settings and numbers as before, and in the index of moments too
 pub record HasSameRoom (old new : Table) : Type 0 where
   pub jobs : new.reserved.jobs ≡ old.reserved.jobs
   pub orders : new.reserved.orders ≡ old.reserved.orders
   pub settings : new.reserved.settings ≡ old.reserved.settings
   pub numbers : new.numbers.capacity ≡ old.numbers.capacity
+  pub moments : new.reserved.moments ≡ old.reserved.moments
+  pub marks : new.reserved.marks ≡ old.reserved.marks
+  pub places : new.reserved.places ≡ old.reserved.places

@@ -16,6 +16,7 @@ ghost use Rattle.job_core.specs.Events.{item_of};
 ghost use Rattle.job_table.specs.Kept.{numbered};
 ghost use Rattle.job_table.specs.News.{item_for};
 ghost use Rattle.job_table.specs.Telling.{IsTold};
+ghost use Rattle.job_table.specs.Visiting.{IsVisit};
 ghost use Rattle.job_table.specs.Entries.{row, name};
 ghost use Rattle.job_table.specs.Rows.{Name, definition_of_number, is_known};
 ghost use Rattle.std.specs.Prelude.{List, is_some, true};
@@ -72,6 +73,22 @@ impl Entry {
         ensures { IsTold now (Some (item_of event.entry)) self.old self.new }
     {
         let _accepted = self.core.event(event, now);
+    }
+
+    /// Takes in what is news for this job, and asks it for its orders.
+    pub fn visit(&mut self, news: News<'_>, before: Reading, now: Reading, orders: &mut Vec<Order>)
+        requires before_in_range { before.up ≤ MAX_UP }
+        requires in_range { now.up ≤ MAX_UP }
+        requires room { vec_len orders.old + 66 ≤ vec_capacity orders.old }
+        ensures visit { IsVisit before now (item_for news.entry self.old.def) self.old self.new orders.old.items orders.new.items }
+        ensures decided { self.new.core.decided ≡ cond self.new.has_left self.old.core.decided ((self.old.core.decided + 1) % 2 ^ 64) }
+        ensures known { (names : List Name) → is_some (definition_of_number names self.old.number) ≡ true → list_all (is_known names) orders.old.items ≡ true → list_all (is_known names) orders.new.items ≡ true }
+        ensures name { name self.new ≡ name self.old }
+        ensures count { vec_len orders.new ≤ vec_len orders.old + 66 }
+        ensures capacity { vec_capacity orders.new ≡ vec_capacity orders.old }
+    {
+        self.hear(news, before);
+        self.ask(now, orders);
     }
 
     /// Asks the job for its orders. One that is gone closes its connections and leaves.

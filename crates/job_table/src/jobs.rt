@@ -19,11 +19,13 @@ ghost use Rattle.job_core.specs.Memory.{NeedsNoMemory};
 ghost use Rattle.job_table.specs.Telling.{AreFor, IsAccepted, present_with};
 
 use crate::entry::{Entry, News};
-use crate::scan::{ask_all, place_of, release, tell_all, tidy};
+use crate::index::remake;
+use crate::scan::{ask_all, has_calendars, place_of, release, tell_all, tidy};
 use calendar_due::Zone;
 use history_model::{Order, Reading, Refusal, Setting};
 use job_core::JobEvent;
 use slab::Slab;
+use timer_heap::TimerHeap;
 
 /// The loaded jobs in byte order of labels, what decides over them, and the orders of the last event.
 #[derive(Drop)]
@@ -37,15 +39,32 @@ pub struct Jobs {
     pub numbers: Slab<()>,
     pub orders: Vec<Order>,
     pub visited: u32,
+    pub index: Index,
+    /// No job left at the last event; where it is not set, one may have.
+    pub all_stay: bool,
+    /// A job that is loaded, or that left at the last event, has calendar entries.
+    pub has_calendars: bool,
+}
+
+/// What finds the jobs that an event touches.
+#[derive(Drop)]
+pub struct Index {
+    /// The next moment of each job, by its number.
+    pub timers: TimerHeap,
+    /// The places that the present event marked, each with the moment 0; empty between events.
+    pub ready: TimerHeap,
+    /// The place of each job, by its number.
+    pub places: Vec<u32>,
 }
 
 impl Jobs {
-    ghost use Rattle.job_table.specs.Sound.{seen, IsSound};
+    ghost use Rattle.job_table.specs.Sound.{seen, IsSound, IsWhole};
     ghost use Rattle.job_table.specs.Alike.{IsAlike};
 
     /// Drops the jobs that left at the last event, and its orders.
     pub fn begin(&mut self)
-        requires { IsSound self.old }
+        requires { IsWhole self.old }
+        ensures whole { IsWhole self.new }
         ensures sound { IsSound self.new }
         ensures stay { AllStay self.new.entries.items }
         ensures rows { rows self.new.entries.items ≡ rows self.old.entries.items }
@@ -54,9 +73,20 @@ impl Jobs {
         ensures alike { IsAlike self.old self.new }
         ensures room { HasSameRoom (seen self.old) (seen self.new) }
     {
+        self.orders.clear();
+        if self.all_stay {
+            return;
+        }
         release(&self.entries, &mut self.numbers);
         tidy(&mut self.entries);
-        self.orders.clear();
+        remake(
+            &mut self.index.timers,
+            &mut self.index.places,
+            &self.entries,
+            self.reading,
+        );
+        self.has_calendars = has_calendars(&self.entries);
+        self.all_stay = true;
     }
 
     /// Hands an event to the job with this label.
@@ -74,6 +104,7 @@ impl Jobs {
         ensures memory { NeedsNoMemory result }
         ensures sound { IsSound self.new }
         ensures stay { AllStay self.new.entries.items }
+        ensures index { self.new.index ≡ self.old.index }
         ensures orders { self.new.orders ≡ self.old.orders }
         ensures alike { IsAlike self.old self.new }
         ensures room { HasSameRoom (seen self.old) (seen self.new) }
@@ -114,10 +145,17 @@ impl Jobs {
             labelled (map name self.new.entries.items) self.new.orders.items ≡ flat_map orders_of jobs }
         ensures names { map name self.new.entries.items ≡ map name self.old.entries.items }
         ensures counted { IsCounted (counts (rows self.old.entries.items)) (rows self.new.entries.items) self.new.visited }
-        ensures sound { IsSound self.new }
+        ensures whole { IsWhole self.new }
         ensures alike { IsAlike self.old self.new }
         ensures room { HasSameRoom (seen self.old) (seen self.new) }
     {
         self.visited = ask_all(&mut self.entries, self.reading, &mut self.orders);
+        self.all_stay = self.visited as usize == self.entries.len();
+        remake(
+            &mut self.index.timers,
+            &mut self.index.places,
+            &self.entries,
+            self.reading,
+        );
     }
 }

@@ -12,12 +12,15 @@ ghost use Rattle.history_model.specs.Items.{Asked, Answered, Came, Left, RunEnde
 ghost use Rattle.history_model.specs.declared.Refusal.TheVariants.{NoMemory};
 ghost use Rattle.history_model.specs.Machine.{State, opened, ListJobs, PrintJob, OfJob, UnloadJob, ShutDown, Tick, Sight};
 
+mod advance;
 mod after;
 mod changing;
 mod entry;
 mod events;
+mod index;
 mod jobs;
 mod loading;
+mod mark;
 mod moments;
 mod opening;
 mod order;
@@ -26,10 +29,11 @@ mod questions;
 mod scan;
 mod settings;
 mod texts;
+mod visit;
 
 use calendar_due::Zone;
 pub use changing::NewSetting;
-use history_model::{Ask, Ended, JobNo, Obs, Order, Reading, Refusal, Setting};
+use history_model::{Answer, Ask, Ended, JobNo, Obs, Order, Reading, Refusal, Setting};
 pub use job_core::JobEvent;
 use job_defs::Def;
 use jobs::Jobs;
@@ -49,11 +53,11 @@ impl Model for JobTable {
 
     ghost Value = { Table };
 
-    ghost use Rattle.job_table.specs.Sound.{seen, IsSound};
+    ghost use Rattle.job_table.specs.Sound.{seen, IsWhole};
 
     ghost view = { λ t. seen t.jobs };
 
-    ghost invariant = { λ t. IsSound t.jobs };
+    ghost invariant = { λ t. IsWhole t.jobs };
 }
 
 /// What an event gave, lent out of the table.
@@ -229,7 +233,8 @@ impl JobTable {
         ensures known { IfOk result AreKnown }
         ensures* kept { sem 𝓛 (GoesOn self.entry result (OfJob label.now (Answered (answers.Spawned run pid)))) }
     {
-        self.jobs.tell(label, JobEvent::Spawned { run, pid })?;
+        self.jobs
+            .tell(label, JobEvent::Answered(Answer::Spawned { run, pid }))?;
         Ok(self.given())
     }
 
@@ -241,7 +246,8 @@ impl JobTable {
         ensures known { IfOk result AreKnown }
         ensures* kept { sem 𝓛 (GoesOn self.entry result (OfJob label.now (Answered (answers.SpawnRefused run)))) }
     {
-        self.jobs.tell(label, JobEvent::SpawnRefused { run })?;
+        self.jobs
+            .tell(label, JobEvent::Answered(Answer::SpawnRefused { run }))?;
         Ok(self.given())
     }
 
@@ -252,7 +258,8 @@ impl JobTable {
         ensures known { IfOk result AreKnown }
         ensures* kept { sem 𝓛 (GoesOn self.entry result (OfJob label.now (Answered (answers.Termed run ok)))) }
     {
-        self.jobs.tell(label, JobEvent::Termed { run, ok })?;
+        self.jobs
+            .tell(label, JobEvent::Answered(Answer::Termed { run, ok }))?;
         Ok(self.given())
     }
 
@@ -263,7 +270,8 @@ impl JobTable {
         ensures known { IfOk result AreKnown }
         ensures* kept { sem 𝓛 (GoesOn self.entry result (OfJob label.now (Answered (answers.Killed run ok)))) }
     {
-        self.jobs.tell(label, JobEvent::Killed { run, ok })?;
+        self.jobs
+            .tell(label, JobEvent::Answered(Answer::Killed { run, ok }))?;
         Ok(self.given())
     }
 

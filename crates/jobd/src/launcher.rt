@@ -5,11 +5,12 @@ ghost use Rattle.jobd.specs.Answers.{IsAnswered, WillWrite};
 ghost use Rattle.table_opening.specs.Events.{event_of, event_in};
 ghost use Rattle.table_opening.specs.Output.{IsOutput};
 
+use crate::events::happened;
 use crate::loads::LoadWords;
-use crate::{events, loads, opening, whole};
+use crate::{loads, opening, whole};
 use ctl_protocol::{LineReader, ReadFault};
-use history_model::Event;
-use job_table::JobTable;
+use history_model::{Answer, Ask, Event};
+use job_table::{JobEvent, JobTable};
 use replay_loop::LineMachine;
 use std::alloc::{AllocError, Global};
 
@@ -43,9 +44,14 @@ fn asked(alloc: Global, table: &mut JobTable, event: Event) -> Result<Vec<u8>, A
             },
         ),
         Event::Unload { job, w, store } => loads::unload(alloc, table, job.as_str(), w, store),
-        Event::Start { job } => events::start(alloc, table, job.as_str()),
-        Event::Stop { job } => events::stop(alloc, table, job.as_str()),
-        Event::Kickstart { job, k } => events::kickstart(alloc, table, job.as_str(), k),
+        Event::Start { job } => happened(alloc, table, job.as_str(), JobEvent::Asked(Ask::Start)),
+        Event::Stop { job } => happened(alloc, table, job.as_str(), JobEvent::Asked(Ask::Stop)),
+        Event::Kickstart { job, k } => happened(
+            alloc,
+            table,
+            job.as_str(),
+            JobEvent::Asked(Ask::Kickstart(k)),
+        ),
         Event::Enable { job, store } => loads::set_disabled(
             alloc,
             table,
@@ -65,14 +71,44 @@ fn asked(alloc: Global, table: &mut JobTable, event: Event) -> Result<Vec<u8>, A
         Event::Shutdown => whole::shutdown(alloc, table),
         Event::Clock(at) => whole::clock(alloc, table, at),
         Event::Saw { path, obs } => whole::saw(alloc, table, path.as_str(), obs),
-        Event::Came { job, conn } => events::came(alloc, table, job.as_str(), conn),
-        Event::Left { job, conn } => events::left(alloc, table, job.as_str(), conn),
-        Event::Spawned { job, run, pid } => events::spawned(alloc, table, job.as_str(), run, pid),
-        Event::SpawnRefused { job, run } => events::spawn_refused(alloc, table, job.as_str(), run),
-        Event::Termed { job, run, ok } => events::termed(alloc, table, job.as_str(), run, ok),
-        Event::Killed { job, run, ok } => events::killed(alloc, table, job.as_str(), run, ok),
-        Event::Ended { job, run, how } => events::ended(alloc, table, job.as_str(), run, how),
-        Event::WaitRefused { job, run } => events::wait_refused(alloc, table, job.as_str(), run),
+        Event::Came { job, conn } => happened(alloc, table, job.as_str(), JobEvent::Came(conn)),
+        Event::Left { job, conn } => happened(alloc, table, job.as_str(), JobEvent::Left(conn)),
+        Event::Spawned { job, run, pid } => happened(
+            alloc,
+            table,
+            job.as_str(),
+            JobEvent::Answered(Answer::Spawned { run, pid }),
+        ),
+        Event::SpawnRefused { job, run } => happened(
+            alloc,
+            table,
+            job.as_str(),
+            JobEvent::Answered(Answer::SpawnRefused { run }),
+        ),
+        Event::Termed { job, run, ok } => happened(
+            alloc,
+            table,
+            job.as_str(),
+            JobEvent::Answered(Answer::Termed { run, ok }),
+        ),
+        Event::Killed { job, run, ok } => happened(
+            alloc,
+            table,
+            job.as_str(),
+            JobEvent::Answered(Answer::Killed { run, ok }),
+        ),
+        Event::Ended { job, run, how } => happened(
+            alloc,
+            table,
+            job.as_str(),
+            JobEvent::Ended(run, how),
+        ),
+        Event::WaitRefused { job, run } => happened(
+            alloc,
+            table,
+            job.as_str(),
+            JobEvent::WaitRefused { run },
+        ),
     }
 }
 

@@ -2,7 +2,6 @@
 
 ghost use Rattle.std.specs.Prelude.{◌≡◌, None};
 ghost use Rattle.history_model.specs.Clock.{reading_in};
-ghost use Rattle.history_model.specs.Items.{Answered};
 ghost use Rattle.job_core.specs.Events.{item_of};
 ghost use Rattle.launcher_turn.specs.Events.{item_told};
 
@@ -46,19 +45,6 @@ pub enum Happening<'a> {
     Shutdown,
 }
 
-/// The table's event for the answer to an order.
-fn answer_event(answer: Answer) -> JobEvent<'static>
-    ensures item { item_of result ≡ Answered answer }
-    ensures silent { reading_in (item_of result) ≡ None }
-{
-    match answer {
-        Answer::Spawned { run, pid } => JobEvent::Spawned { run, pid },
-        Answer::SpawnRefused { run } => JobEvent::SpawnRefused { run },
-        Answer::Termed { run, ok } => JobEvent::Termed { run, ok },
-        Answer::Killed { run, ok } => JobEvent::Killed { run, ok },
-    }
-}
-
 /// The table's event for what happens to a job.
 pub(crate) fn job_event(news: News) -> JobEvent<'static>
     ensures item { item_of result ≡ item_told news }
@@ -72,6 +58,6 @@ pub(crate) fn job_event(news: News) -> JobEvent<'static>
         News::Left(conn) => JobEvent::Left(conn),
         News::Ended(run, how) => JobEvent::Ended(run, how),
         News::WaitRefused(run) => JobEvent::WaitRefused { run },
-        News::Answered(answer) => answer_event(answer),
+        News::Answered(answer) => JobEvent::Answered(answer),
     }
 }

@@ -2,7 +2,7 @@
 //! once more at the moment of the load.
 
 use crate::play::Step;
-use history_model::{Act, Ask, Ended, Obs, Reading, Refusal};
+use history_model::{Act, Answer, Ask, Ended, Obs, Reading, Refusal};
 use job_core::JobEvent;
 
 const SPAWN_1: Option<Act> = Some(Act::Spawn { run: 1, conn: None });
@@ -13,9 +13,9 @@ const TERM_1: Option<Act> = Some(Act::Term { run: 1 });
 
 const KILL_1: Option<Act> = Some(Act::Kill { run: 1 });
 
-const SPAWNED_1: JobEvent<'static> = JobEvent::Spawned { run: 1, pid: 7 };
+const SPAWNED_1: JobEvent<'static> = JobEvent::Answered(Answer::Spawned { run: 1, pid: 7 });
 
-const SPAWNED_2: JobEvent<'static> = JobEvent::Spawned { run: 2, pid: 8 };
+const SPAWNED_2: JobEvent<'static> = JobEvent::Answered(Answer::Spawned { run: 2, pid: 8 });
 
 const ENDED_1: JobEvent<'static> = JobEvent::Ended(1, Ended::Code(0));
 
@@ -74,7 +74,11 @@ pub const ONCE: &str =
 
 pub static REFUSED: [Step; 8] = [
     Step(AT_LOAD, None, SPAWN_1),
-    Step(JobEvent::SpawnRefused { run: 1 }, None, None),
+    Step(
+        JobEvent::Answered(Answer::SpawnRefused { run: 1 }),
+        None,
+        None,
+    ),
     Step(AT_1, None, SPAWN_2),
     Step(SPAWNED_2, None, None),
     Step(ENDED_1, Some(Refusal::Stale), None),
@@ -89,11 +93,23 @@ pub static STOPPED: [Step; 9] = [
     Step(AT_LOAD, None, SPAWN_1),
     Step(SPAWNED_1, None, None),
     Step(JobEvent::Asked(Ask::Stop), None, TERM_1),
-    Step(JobEvent::Termed { run: 1, ok: false }, None, None),
+    Step(
+        JobEvent::Answered(Answer::Termed { run: 1, ok: false }),
+        None,
+        None,
+    ),
     Step(AT_1, None, TERM_1),
-    Step(JobEvent::Termed { run: 1, ok: true }, None, None),
+    Step(
+        JobEvent::Answered(Answer::Termed { run: 1, ok: true }),
+        None,
+        None,
+    ),
     Step(AT_10, None, KILL_1),
-    Step(JobEvent::Killed { run: 1, ok: true }, None, None),
+    Step(
+        JobEvent::Answered(Answer::Killed { run: 1, ok: true }),
+        None,
+        None,
+    ),
     Step(JobEvent::Ended(1, Ended::Signal(9)), None, None),
 ];
 
@@ -102,7 +118,11 @@ pub static STRUCK: [Step; 8] = [
     Step(SPAWNED_1, None, None),
     Step(AT_1, None, None),
     Step(JobEvent::Asked(Ask::Kickstart(true)), None, KILL_1),
-    Step(JobEvent::Killed { run: 1, ok: false }, None, None),
+    Step(
+        JobEvent::Answered(Answer::Killed { run: 1, ok: false }),
+        None,
+        None,
+    ),
     Step(AT_2, None, KILL_1),
     Step(JobEvent::Ended(1, Ended::Signal(9)), None, None),
     Step(AT_10, None, SPAWN_2),
@@ -154,7 +174,11 @@ pub static CARRIED: [Step; 11] = [
             conn: Some(3),
         }),
     ),
-    Step(JobEvent::SpawnRefused { run: 1 }, None, None),
+    Step(
+        JobEvent::Answered(Answer::SpawnRefused { run: 1 }),
+        None,
+        None,
+    ),
     Step(
         AT_10,
         None,

@@ -1,10 +1,24 @@
 -- The rows are those of the jobs that have not left, and their calendars those of the machine's jobs.
-use Rattle.std.proofs.Common.{not, ◌&&◌, ap, sym, subst, ◌∙◌}
+use Rattle.std.proofs.Common.{◌≡◌, not, ◌&&◌, ap, sym, subst, ◌∙◌}
 use Rattle.std.specs.List.{list_any}
 use Rattle.job_table.specs.Kept.{KeepsJobs}
 use Rattle.job_table.specs.Minutes.{is_some_entry, has_calendars}
 use Rattle.job_table.proofs.Waking.{calendars-rows, calendars-jobs}
+use Rattle.job_table.proofs.Handing.{calendars-rows as stay-rows, calendars-names}
 use Rattle.job_table.proofs.JobTable.has_calendars.Goals as goal
+
+by-flag : (c : goal.Then-self) → c.self.inside.jobs.has_calendars ≡ has_calendars c.args.self.now.rows
+by-flag c =
+    let es = c.self.inside.jobs.entries.items in
+    c.self.invariant.sound.calendars
+    ∙ sym (stay-rows es (c.self.invariant.stay c.if-self.true) ∙ calendars-names es)
+    ∙ ap (λ t. has_calendars t.rows) c.self.view_is
+
+pub returns-then-self-clause-rows : goal.returns-then-self-clause-rows
+returns-then-self-clause-rows c = by-flag c
+
+pub returns-then-self-clause-jobs : goal.returns-then-self-clause-jobs
+returns-then-self-clause-jobs c = λ s keeps. by-flag c ∙ calendars-jobs s.reading c.args.self.now.rows s.jobs keeps.jobs
 
 pub returns-clause-jobs : goal.returns-clause-jobs
 returns-clause-jobs c = λ s keeps.

@@ -1,14 +1,35 @@
--- The rows' least moment is that of the machine's jobs.
-use Rattle.std.proofs.Common.{ap, sym, subst, ◌∙◌}
-use Rattle.job_table.specs.Kept.{KeepsJobs}
+-- The index's least moment is that of the machine's jobs.
+use Rattle.std.proofs.Common.{◌≡◌, None, ap, sym, subst, ◌∙◌}
+use Rattle.history_model.specs.declared.Reading.{Reading}
+use Rattle.history_model.specs.Machine.{State}
+use Rattle.job_table.specs.Kept.{KeepsJobs, KeepsState}
 use Rattle.job_table.specs.Entries.{rows}
-use Rattle.job_table.specs.Moments.{IsNextUp, soonest}
-use Rattle.job_table.proofs.Waking.{next-up}
+use Rattle.job_table.specs.Index.{AreTimed}
+use Rattle.job_table.specs.Moments.{IsNextUp}
+use Rattle.job_table.specs.Rows.{Table}
+use Rattle.job_table.specs.Sound.{seen}
+use Rattle.job_table.specs.declared.jobs.Jobs.{Jobs}
+use Rattle.timer_heap.specs.Timers.{IsLeast}
+use Rattle.job_table.proofs.Waking.{none-up, least-up}
 use Rattle.job_table.proofs.JobTable.next_up.Goals as goal
+
+jobs-of : (table : Table) (jobs : Jobs) → seen jobs ≡ table → (s : State) → KeepsState table s → KeepsJobs s.reading (rows jobs.entries.items) s.jobs
+jobs-of table jobs is s keeps = subst (λ rs. KeepsJobs s.reading rs s.jobs) (ap (λ t. t.rows) (sym is)) keeps.jobs
+
+reading-of : (table : Table) (jobs : Jobs) → seen jobs ≡ table → (s : State) → KeepsState table s → jobs.reading ≡ s.reading
+reading-of table jobs is s keeps = ap (λ t. t.reading) is ∙ keeps.reading
+
+pub returns-in_err-_job : goal.returns-in_err-_job
+returns-in_err-_job c = λ s keeps.
+    let jobs = c.self.inside.jobs in
+    let at = reading-of c.args.self.now jobs c.self.view_is s keeps in
+    subst (IsNextUp s.jobs) (sym c.from_residual.ensures)
+    (none-up s.reading jobs.index.timers jobs.entries.items s.jobs (subst (λ r. AreTimed jobs.index.timers r.up jobs.entries.items) at c.self.invariant.indexed.timed)
+    (subst (IsLeast jobs.index.timers) c.in_err-_job.was c.least.ensures) (jobs-of c.args.self.now jobs c.self.view_is s keeps))
 
 pub returns : goal.returns
 returns c = λ s keeps.
-    let own = subst (λ rs. KeepsJobs s.reading rs s.jobs) (ap (λ t. t.rows) (sym c.self.view_is)) keeps.jobs in
-    let jobs = subst (λ es. KeepsJobs s.reading (rows es) s.jobs) (sym c.deref.ensures.value) own in
-    let up = ap (λ t. t.reading.up) c.self.view_is ∙ ap (λ r. r.up) keeps.reading in
-    subst (IsNextUp s.jobs) (sym (c.soonest.ensures ∙ ap (λ u. soonest u (rows c.deref.result.now)) up)) (next-up s.reading (rows c.deref.result.now) s.jobs jobs)
+    let jobs = c.self.inside.jobs in
+    let at = reading-of c.args.self.now jobs c.self.view_is s keeps in
+    least-up s.reading jobs.index.timers jobs.entries.items s.jobs c.in_ok-_job._job c.in_ok-_job.moment (subst (λ r. AreTimed jobs.index.timers r.up jobs.entries.items) at c.self.invariant.indexed.timed)
+    c.self.invariant.indexed.alone (subst (IsLeast jobs.index.timers) c.in_ok-_job.was c.least.ensures) (jobs-of c.args.self.now jobs c.self.view_is s keeps)

@@ -1,0 +1,63 @@
+-- One more entry is in the index.
+use Rattle.std.proofs.Common.{◌≡◌, ◌≤◌, ◌<◌, ◌+◌, ℕ, Some, None, map, length, true, refl, sym, ap, ◌∙◌, subst, arith}
+use Rattle.std.specs.Prelude.{is_some, slice_get, slice_set}
+use Rattle.std.proofs.lemmas.List.{length-set}
+use Rattle.std.proofs.lemmas.Option.{slice_get_within}
+use Rattle.timer_heap.specs.Timers.{moment_in, room}
+use Rattle.job_table.specs.Rows.{definition_of_number}
+use Rattle.job_table.specs.Entries.{name}
+use Rattle.job_table.specs.Index.{moment_for, place_in}
+use Rattle.job_table.specs.declared.entry.Entry.{Entry}
+use Rattle.job_table.proofs.Known.{named-at, all-named}
+use Rattle.job_table.proofs.Timing.{alone-after, get-at}
+use Rattle.job_table.proofs.Indexing.{one-more, place-same, place-other, is-named-at}
+use Rattle.job_table.proofs.index.remake.Goals as goal
+
+pub loop-entry-preserved : goal.loop-entry-preserved
+loop-entry-preserved c =
+    let inv = c.loop-entry.invariant in
+    let es = c.args.entries.now in
+    let i = c.loop-entry.entry-index in
+    let e : Entry = c.entry-item.result in
+    let within : i < length es = omega arith in
+    let is = c.entry-item.is in
+    let named = named-at (map name es) es es i e within refl is (all-named es) in
+    let fits : e.number < length c.loop-entry.places = subst (λ n. e.number < n) (sym inv.long) (c.requires.fits e.number named) in
+    record {
+      here = ap (λ n. n + 1) inv.here;
+      long = length-set c.loop-entry.places e.number c.loop-entry.place ∙ inv.long;
+      spaces = c.retime.ensures.room ∙ inv.spaces;
+      alone = alone-after c.loop-entry.timers c.retime.new.timers (map name es) e.number (moment_for e c.args.at.up) c.retime.ensures named inv.alone;
+      timed = one-more es c.requires.once i e within is {P = λ k x. moment_in c.retime.new.timers x.number ≡ moment_for x c.args.at.up}
+          (λ k x at low apart. c.retime.ensures.others x.number apart ∙ inv.timed k x at low) c.retime.ensures.changed;
+      placed = one-more es c.requires.once i e within is {P = λ k x. place_in (slice_set c.loop-entry.places e.number c.loop-entry.place) x.number ≡ k}
+          (λ k x at low apart. place-other c.loop-entry.places e.number c.loop-entry.place x.number apart ∙ inv.placed k x at low)
+          (place-same c.loop-entry.places e.number c.loop-entry.place fits ∙ inv.here);
+    }
+
+-- the number of the entry at hand has a place and a moment
+pub bounds-places-entry : goal.bounds-places-entry
+bounds-places-entry c =
+    let es = c.args.entries.now in
+    let i = c.loop-entry.entry-index in
+    let e : Entry = c.entry-item.result in
+    let named = named-at (map name es) es es i e (omega arith) refl c.entry-item.is (all-named es) in
+    subst (λ n. e.number < n) (sym c.loop-entry.invariant.long) (c.requires.fits e.number named)
+
+pub retime-requires-clause-room : goal.retime-requires-clause-room
+retime-requires-clause-room c =
+    let es = c.args.entries.now in
+    let i = c.loop-entry.entry-index in
+    let e : Entry = c.entry-item.result in
+    let named = named-at (map name es) es es i e (omega arith) refl c.entry-item.is (all-named es) in
+    subst (λ n. e.number < n) (sym c.loop-entry.invariant.spaces) (c.requires.space e.number named)
+
+pub returns-clause-timed : goal.returns-clause-timed
+returns-clause-timed c = λ k e at. c.loop-entry.invariant.timed k e at
+    (let inside = slice_get_within c.args.entries.now k e at in let over = c.loop-entry-test.false in omega (arith, inside, over))
+
+pub returns-clause-placed : goal.returns-clause-placed
+returns-clause-placed c = λ k e at. (
+  subst (λ n. e.number < n) (sym c.loop-entry.invariant.long) (c.requires.fits e.number (is-named-at c.args.entries.now k e at)),
+  c.loop-entry.invariant.placed k e at (let inside = slice_get_within c.args.entries.now k e at in let over = c.loop-entry-test.false in omega (arith, inside, over)),
+)

@@ -1,0 +1,255 @@
+-- The places that are marked are those of the jobs that the reading touches.
+use Rattle.std.proofs.Common.{◌≡◌, ◌≤◌, ◌<◌, ◌++◌, ℕ, Bool, true, false, ◌||◌, map, drop, length, Option, Some, None, [], refl, ap, sym, subst, ◌∙◌, nat_lt, arith}
+use Rattle.std.specs.Prelude.{Ok, slice_get}
+use Rattle.std.specs.List.{list_all, filter_map}
+use Rattle.std.specs.Vec.{vec_capacity, with_items}
+use Rattle.std.proofs.lemmas.Bool.Decides.{nat_tests}
+use Rattle.timer_heap.specs.Timers.{moment_in, room}
+use Rattle.history_model.specs.declared.Reading.{Reading as Moment}
+use Rattle.history_model.specs.declared.Refusal.TheVariants.{ClockRefused}
+use Rattle.history_model.specs.declared.TheConstants.{MAX_UP, MAX_WALL}
+use Rattle.history_model.specs.Items.{Item, Read}
+use Rattle.history_model.specs.Clock.{definition_of}
+use Rattle.history_model.specs.Calendar.{crossed, calendar_fires}
+use Rattle.history_model.specs.Refusals.{is_clock_refused}
+use Rattle.history_model.specs.Acceptance.{refused_if}
+use Rattle.history_model.specs.Machine.{State, Job, Tick}
+use Rattle.history_model.specs.Step.{taken, told, stays, orders_of}
+use Rattle.job_table.specs.Rows.{IsOnce, is_known}
+use Rattle.job_table.specs.Kept.{KeepsJobs, KeepsState, numbered_all}
+use Rattle.job_table.specs.Counts.{counts, count_in, IsCounted}
+use Rattle.job_table.specs.Entries.{row, name, rows, AllStay, is_named}
+use Rattle.job_table.specs.Index.{IsIndexed, moment_for, AreTimed, AreAlone, HaveRoom, ArePlaced, place_in, IsSpare}
+use Rattle.job_table.specs.Marking.{HavePlaces}
+use Rattle.job_table.specs.Minutes.{has_calendars, some_calendar}
+use Rattle.job_table.specs.Outcomes.{given_by}
+use Rattle.job_table.specs.Sound.{seen, AreFree, IsSound}
+use Rattle.job_table.specs.Telling.{AreFor, IsAccepted}
+use Rattle.job_table.specs.Visiting.{is_spared, AreSpared, AreAtRest, AreVisitedOnce}
+use Rattle.job_table.specs.declared.entry.Entry.{Entry}
+use Rattle.job_table.specs.declared.entry.News.TheVariants as news
+use Rattle.job_table.specs.declared.jobs.Jobs.{Jobs}
+use Rattle.job_table.proofs.Lists.{lent-back}
+use Rattle.job_table.proofs.Places.{rows-all}
+use Rattle.job_table.proofs.Known.{all-named}
+use Rattle.job_table.proofs.Holding.{held-names}
+use Rattle.job_table.proofs.Steps.{IsDone, IsAskedOf, accepted}
+use Rattle.job_table.proofs.Handing.{own-jobs, readings, readings-fine}
+use Rattle.job_table.proofs.Advancing.{have-places, is-spare, spare-timed, alone-still, mark-at, mark-reason, are-marked, spared-all, rest-all, told-labelled, visits-counted, name-get}
+use Rattle.job_table.proofs.Numbering.{names-begun}
+use Rattle.job_table.proofs.Growing.{named-of}
+use Rattle.job_table.proofs.Touching.{spared-count, marks-touch}
+use Rattle.job_table.proofs.jobs.Jobs.advance.Goals as goal
+
+or-first : (a b : Bool) → (a || b) ≡ false → a ≡ false
+or-first true b e = cc
+or-first false b e = refl
+
+or-second : (a b : Bool) → (a || b) ≡ false → b ≡ false
+or-second true b e = cc
+or-second false b e = e
+
+-- an accepted reading does not fall, and keeps its bounds
+later : (before at : Moment) → is_clock_refused before at ≡ false → (before.up ≤ at.up) × (at.up ≤ MAX_UP) × (at.wall ≤ MAX_WALL)
+later before at fine =
+    let third = or-second (nat_lt at.up before.up || nat_lt MAX_UP at.up) (nat_lt MAX_WALL at.wall) fine in
+    let two = or-first (nat_lt at.up before.up || nat_lt MAX_UP at.up) (nat_lt MAX_WALL at.wall) fine in
+    let first = or-first (nat_lt at.up before.up) (nat_lt MAX_UP at.up) two in
+    let second = or-second (nat_lt at.up before.up) (nat_lt MAX_UP at.up) two in
+    (grind (arith, nat_tests, first), grind (arith, nat_tests, second), grind (arith, nat_tests, third))
+
+pub mark_due-requires-clause-places : goal.mark_due-requires-clause-places
+mark_due-requires-clause-places c =
+    let old = c.args.self.now in
+    subst (λ ps. HavePlaces old.index.timers ps old.index.ready) (sym c.deref.ensures.value)
+    (have-places old.entries.items old.index.timers old.index.places.items old.index.ready c.requires.indexed.alone c.requires.indexed.placed c.requires.indexed.marks)
+
+pub visit_ready-visited-requires-clause-inside : goal.visit_ready-visited-requires-clause-inside
+visit_ready-visited-requires-clause-inside c =
+    let old = c.args.self.now in
+    let indexed = c.requires.indexed in
+    let m = are-marked old.entries.items c.deref-2.result.now c.args.at c.args.minutes.now old.index.timers c.mark_due.new.timers old.index.places.items c.deref.result.now c.mark_due.new.ready c.mark_minutes.new.ready
+    c.deref.ensures.value c.deref-2.ensures.value c.mark_due.ensures.marked c.mark_due.ensures.marks c.mark_minutes.ensures.spared c.mark_minutes.ensures.marks in
+    λ place moment there. subst (λ xs. place < length xs) (sym c.deref_mut.ensures.value)
+    (mark-at old.entries.items c.requires.stay old.reading c.args.at c.args.minutes.now old.index.timers c.mark_due.new.timers old.index.places.items c.mark_due.new.ready c.mark_minutes.new.ready
+    indexed.timed indexed.alone indexed.placed m.marked m.reached m.spared m.minute place moment there).1
+
+pub visit_ready-visited-requires-clause-spared : goal.visit_ready-visited-requires-clause-spared
+visit_ready-visited-requires-clause-spared c =
+    let old = c.args.self.now in
+    let indexed = c.requires.indexed in
+    let m = are-marked old.entries.items c.deref-2.result.now c.args.at c.args.minutes.now old.index.timers c.mark_due.new.timers old.index.places.items c.deref.result.now c.mark_due.new.ready c.mark_minutes.new.ready
+    c.deref.ensures.value c.deref-2.ensures.value c.mark_due.ensures.marked c.mark_due.ensures.marks c.mark_minutes.ensures.spared c.mark_minutes.ensures.marks in
+    subst (AreSpared c.mark_minutes.new.ready old.reading (news.Reading c.args.at c.args.minutes) 0) (sym c.deref_mut.ensures.value)
+    (spared-all old.reading c.args.at c.args.minutes (later old.reading c.args.at c.requires.accepted).0 c.mark_minutes.new.ready 0 old.entries.items
+    (λ k e there none. is-spare old.entries.items c.requires.stay old.reading c.args.at c.args.minutes.now old.index.timers c.mark_due.new.timers old.index.places.items c.mark_due.new.ready c.mark_minutes.new.ready
+    indexed.timed indexed.alone indexed.placed m.marked m.reached m.spared m.minute k e there (subst (λ p. is_spared c.mark_minutes.new.ready p ≡ true) (omega arith) none)))
+
+pub visit_ready-visited-requires-clause-timed : goal.visit_ready-visited-requires-clause-timed
+visit_ready-visited-requires-clause-timed c =
+    let old = c.args.self.now in
+    let indexed = c.requires.indexed in
+    let m = are-marked old.entries.items c.deref-2.result.now c.args.at c.args.minutes.now old.index.timers c.mark_due.new.timers old.index.places.items c.deref.result.now c.mark_due.new.ready c.mark_minutes.new.ready
+    c.deref.ensures.value c.deref-2.ensures.value c.mark_due.ensures.marked c.mark_due.ensures.marks c.mark_minutes.ensures.spared c.mark_minutes.ensures.marks in
+    λ k e there none. spare-timed old.entries.items c.requires.stay old.reading c.args.at c.args.minutes.now old.index.timers c.mark_due.new.timers old.index.places.items c.mark_due.new.ready c.mark_minutes.new.ready
+    indexed.timed indexed.alone indexed.placed m.marked m.reached m.spared m.minute (later old.reading c.args.at c.requires.accepted).0 k e (ap (λ xs. slice_get xs k) (sym c.deref_mut.ensures.value) ∙ there) none
+
+pub visit_ready-visited-requires-clause-alone : goal.visit_ready-visited-requires-clause-alone
+visit_ready-visited-requires-clause-alone c =
+    let old = c.args.self.now in
+    let indexed = c.requires.indexed in
+    let m = are-marked old.entries.items c.deref-2.result.now c.args.at c.args.minutes.now old.index.timers c.mark_due.new.timers old.index.places.items c.deref.result.now c.mark_due.new.ready c.mark_minutes.new.ready
+    c.deref.ensures.value c.deref-2.ensures.value c.mark_due.ensures.marked c.mark_due.ensures.marks c.mark_minutes.ensures.spared c.mark_minutes.ensures.marks in
+    subst (λ xs. AreAlone c.mark_due.new.timers (map name xs)) (sym c.deref_mut.ensures.value)
+    (alone-still old.entries.items c.requires.stay old.reading c.args.at c.args.minutes.now old.index.timers c.mark_due.new.timers old.index.places.items c.mark_due.new.ready c.mark_minutes.new.ready
+    indexed.timed indexed.alone indexed.placed m.marked m.reached m.spared m.minute)
+
+pub returns-clause-counted : goal.returns-clause-counted
+returns-clause-counted c =
+    let es = c.args.self.now.entries.items in
+    let after = c.visit_ready-visited.new.entries in
+    let whole = lent-back after (drop (length after) es) c.args.self.now.entries.len (omega arith) in
+    subst (λ all. IsCounted (counts (rows es)) (rows all) c.visit_ready-visited.result.0) (sym whole)
+    (visits-counted c.mark_minutes.new.ready es after c.visit_ready-visited.result.0 c.requires.stay c.requires.sound.once
+    (subst (λ all. AreVisitedOnce c.mark_minutes.new.ready 0 all after) c.deref_mut.ensures.value c.visit_ready-visited.ensures.asked) c.visit_ready-visited.ensures.visited)
+
+pub returns-clause-indexed : goal.returns-clause-indexed
+returns-clause-indexed c =
+    let old = c.args.self.now in
+    let es = old.entries.items in
+    let after = c.visit_ready-visited.new.entries in
+    let whole = lent-back after (drop (length after) es) old.entries.len (omega arith) in
+    let names = ap (map name) whole ∙ c.visit_ready-visited.ensures.names ∙ ap (map name) c.deref_mut.ensures.value in
+    let indexed = c.requires.indexed in
+    let long : length after ≡ length es = omega arith in
+    let fits = indexed.marks in
+    record {
+      timed = subst (AreTimed c.visit_ready-visited.new.timers c.args.at.up) (sym whole) c.visit_ready-visited.ensures.timed;
+      alone = subst (AreAlone c.visit_ready-visited.new.timers) (ap (map name) c.deref_mut.ensures.value ∙ sym names) c.visit_ready-visited.ensures.alone;
+      space = subst (HaveRoom c.visit_ready-visited.new.timers) (sym names)
+          (λ number named. subst (λ r. number < r) (sym (c.visit_ready-visited.ensures.space ∙ c.mark_due.ensures.timers)) (indexed.space number named));
+      placed = λ k e there. (let found = name-get es _ k e names there in let own = indexed.placed k found.0 found.1 in
+          (subst (λ n. n < length old.index.places.items) found.2 own.0, ap (place_in old.index.places.items) (sym found.2) ∙ own.1));
+      empty = c.visit_ready-visited.ensures.done;
+      marks =
+          let count : length _ ≡ length after = ap length whole in
+          let spaces = c.visit_ready-visited.ensures.marks ∙ c.mark_minutes.ensures.room ∙ c.mark_due.ensures.room in
+          omega (arith, count, long, fits, spaces);
+    }
+
+pub returns-clause-sound : goal.returns-clause-sound
+returns-clause-sound c =
+    let es = c.args.self.now.entries.items in
+    let after = c.visit_ready-visited.new.entries in
+    let whole = lent-back after (drop (length after) es) c.args.self.now.entries.len (omega arith) in
+    let names = ap (map name) whole ∙ c.visit_ready-visited.ensures.names ∙ ap (map name) c.deref_mut.ensures.value in
+    record {
+      in_range = (later c.args.self.now.reading c.args.at c.requires.accepted).1;
+      wall = (later c.args.self.now.reading c.args.at c.requires.accepted).2;
+      once = subst IsOnce (sym names) c.requires.sound.once;
+      held = held-names _ _ c.args.self.now.numbers (sym names) c.requires.sound.held;
+      free = subst (AreFree c.args.self.now.numbers) (sym names) c.requires.sound.free;
+      known = subst (λ ns. list_all (is_known ns) c.visit_ready-visited.new.orders.items ≡ true) (sym names)
+          (c.visit_ready-visited.ensures.known (map name es) (ap (list_all (is_named (map name es))) c.deref_mut.ensures.value ∙ all-named es)
+          (ap (list_all (is_known (map name es))) c.requires.empty));
+      few = omega arith;
+      room = omega arith;
+      named = named-of _ _ _ (returns-clause-indexed c);
+      calendars = c.requires.sound.calendars ∙ ap some_calendar (sym names);
+    }
+
+pub returns-clause-names : goal.returns-clause-names
+returns-clause-names c =
+    let es = c.args.self.now.entries.items in
+    let after = c.visit_ready-visited.new.entries in
+    let whole = lent-back after (drop (length after) es) c.args.self.now.entries.len (omega arith) in
+    ap (map name) whole ∙ c.visit_ready-visited.ensures.names ∙ ap (map name) c.deref_mut.ensures.value
+    ∙ names-begun es es c.requires.stay refl
+
+-- the table that is left
+abbrev left-as : goal.After-at-1 → Jobs
+left-as c = record c.args.self.now {
+  reading = c.args.at;
+  entries = with_items c.args.self.now.entries c.visit_ready-visited.new.entries;
+  orders = c.visit_ready-visited.new.orders;
+  visited = c.visit_ready-visited.result.0;
+  index = record { timers = c.visit_ready-visited.new.timers; ready = c.visit_ready-visited.new.ready; places = c.args.self.now.index.places };
+}
+
+-- the machine's next state, and its outcome
+done : (c : goal.After-at-1) (s : State) → KeepsState (seen c.args.self.now) s → IsDone s (Tick c.args.at) (seen (left-as c)) (given_by (Ok tt) (seen (left-as c)))
+done c s keeps =
+    let old = c.args.self.now in
+    let at = c.args.at in
+    let es = old.entries.items in
+    let after = c.visit_ready-visited.new.entries in
+    let ready = c.mark_minutes.new.ready in
+    let whole = lent-back after (drop (length after) es) old.entries.len (omega arith) in
+    let names = ap (map name) whole ∙ c.visit_ready-visited.ensures.names ∙ ap (map name) c.deref_mut.ensures.value in
+    let indexed = c.requires.indexed in
+    let m = are-marked es c.deref-2.result.now at c.args.minutes.now old.index.timers c.mark_due.new.timers old.index.places.items c.deref.result.now c.mark_due.new.ready ready
+    c.deref.ensures.value c.deref-2.ensures.value c.mark_due.ensures.marked c.mark_due.ensures.marks c.mark_minutes.ensures.spared c.mark_minutes.ensures.marks in
+    let item : Job → Option Item = λ job. Some (Read at (calendar_fires s.zone (definition_of job.past).calendar s.reading.wall at.wall)) in
+    let own : KeepsJobs old.reading (rows es) s.jobs = own-jobs old s keeps in
+    let crosses : has_calendars (rows es) ≡ true → c.args.minutes.now ≡ map s.zone (crossed s.reading.wall at.wall) =
+    λ some. c.requires.minutes some ∙ (λ i. map (keeps.zone i) (crossed (keeps.reading i).wall at.wall)) in
+    let for : AreFor (news.Reading at c.args.minutes) item (rows es) s.jobs = readings s.zone s.reading at c.args.minutes (rows es) s.jobs crosses keeps.jobs in
+    let fine : IsAccepted old.reading item =
+    readings-fine old.reading at (λ job. calendar_fires s.zone (definition_of job.past).calendar s.reading.wall at.wall) c.requires.accepted in
+    let rests : AreAtRest ready 0 (told item s.jobs) =
+    rest-all old.reading at c.args.minutes (later old.reading at c.requires.accepted).0 ready item fine 0 es s.jobs
+    (λ k e there none. is-spare es c.requires.stay old.reading at c.args.minutes.now old.index.timers c.mark_due.new.timers old.index.places.items c.mark_due.new.ready ready
+    indexed.timed indexed.alone indexed.placed m.marked m.reached m.spared m.minute k e there (subst (λ p. is_spared ready p ≡ true) (omega arith) none))
+    (subst (λ rs. AreFor (news.Reading at c.args.minutes) item rs s.jobs) (rows-all es c.requires.stay) for) (subst (λ rs. KeepsJobs old.reading rs s.jobs) (rows-all es c.requires.stay) own) keeps.rests in
+    let lent = c.deref_mut.ensures.value in
+    let for_lent = subst (λ xs. AreFor (news.Reading at c.args.minutes) item (rows xs) s.jobs) (sym lent) for in
+    let own_lent = subst (λ xs. KeepsJobs old.reading (rows xs) s.jobs) (sym lent) own in
+    let kept : KeepsJobs at (rows after) (filter_map stays (told item s.jobs)) = c.visit_ready-visited.ensures.kept s.jobs item for_lent fine rests own_lent in
+    let orders : c.visit_ready-visited.new.orders.items ≡ numbered_all (rows es) (told item s.jobs) =
+    c.visit_ready-visited.ensures.orders s.jobs item for_lent fine rests own_lent ∙ (λ i. c.requires.empty i ++ numbered_all (rows (lent i)) (told item s.jobs)) in
+    accepted (seen old) (seen (left-as c)) s (Tick at) [] c.requires.sound.in_range keeps
+    (ap (λ b. refused_if b ClockRefused None) (ap (λ r. is_clock_refused r at) (sym keeps.reading) ∙ c.requires.accepted))
+    (record {
+      reading = refl;
+      zone = keeps.zone;
+      settings = keeps.settings;
+      shutdown = keeps.shutdown;
+      jobs = subst (λ xs. KeepsJobs at (rows xs) (filter_map stays (told item s.jobs))) (sym whole) kept;
+      orders = told-labelled old.reading item _ es c.visit_ready-visited.new.orders.items s.jobs names c.requires.stay c.requires.sound.once own orders;
+    }) refl
+
+pub returns-clause-answer : goal.returns-clause-answer
+returns-clause-answer c = λ s keeps. (done c s keeps).outcome
+
+pub returns-clause-kept : goal.returns-clause-kept
+returns-clause-kept c = λ s keeps. (done c s keeps).kept
+
+pub returns-clause-untouched : goal.returns-clause-untouched
+returns-clause-untouched c = λ s keeps label past found positive none.
+    let old = c.args.self.now in
+    let es = old.entries.items in
+    let after = c.visit_ready-visited.new.entries in
+    let whole = lent-back after (drop (length after) es) old.entries.len (omega arith) in
+    let own : KeepsJobs old.reading (rows es) s.jobs = own-jobs old s keeps in
+    let indexed = c.requires.indexed in
+    let m = are-marked es c.deref-2.result.now c.args.at c.args.minutes.now old.index.timers c.mark_due.new.timers old.index.places.items c.deref.result.now c.mark_due.new.ready c.mark_minutes.new.ready
+    c.deref.ensures.value c.deref-2.ensures.value c.mark_due.ensures.marked c.mark_due.ensures.marks c.mark_minutes.ensures.spared c.mark_minutes.ensures.marks in
+    let crosses : has_calendars (rows es) ≡ true → c.args.minutes.now ≡ map s.zone (crossed old.reading.wall c.args.at.wall) =
+    λ some. c.requires.minutes some ∙ (λ i. map (keeps.zone i) (crossed old.reading.wall c.args.at.wall)) in
+    let asked = subst (λ all. AreVisitedOnce c.mark_minutes.new.ready 0 all after) c.deref_mut.ensures.value c.visit_ready-visited.ensures.asked in
+    ap (λ xs. count_in (counts (rows xs)) label) whole
+    ∙ spared-count s.zone old.reading c.args.at c.mark_minutes.new.ready 0 es after s.jobs label past c.requires.stay asked
+    (subst (λ rs. KeepsJobs old.reading rs s.jobs) (rows-all es c.requires.stay) own)
+    (marks-touch s.zone old.reading c.args.at c.args.minutes.now c.mark_minutes.new.ready 0 es s.jobs
+    (λ k e there marked. mark-reason es c.requires.stay old.reading c.args.at c.args.minutes.now old.index.timers c.mark_due.new.timers old.index.places.items c.mark_due.new.ready c.mark_minutes.new.ready
+    indexed.timed indexed.alone indexed.placed m.marked m.reached m.spared m.minute k e there (subst (λ p. is_spared c.mark_minutes.new.ready p ≡ false) (omega arith) marked))
+    (λ some. crosses (ap has_calendars (rows-all es c.requires.stay) ∙ some)) (subst (λ rs. KeepsJobs old.reading rs s.jobs) (rows-all es c.requires.stay) own))
+    found positive none
+    ∙ ap (λ rs. count_in (counts rs) label) (sym (rows-all es c.requires.stay))
+
+pub returns-clause-stay : goal.returns-clause-stay
+returns-clause-stay c = λ all.
+    let es = c.args.self.now.entries.items in
+    let after = c.visit_ready-visited.new.entries in
+    let whole = lent-back after (drop (length after) es) c.args.self.now.entries.len (omega arith) in
+    subst AllStay (sym whole) (c.visit_ready-visited.ensures.stay all)
