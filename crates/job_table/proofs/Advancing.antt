@@ -1,6 +1,6 @@
 -- A reading touches the jobs at the marked places; each other job has it though nobody told it.
-use Rattle.std.proofs.Common.{◌≡◌, ◌≢◌, ◌⊎◌, inl, inr, ℕ, zero, suc, ◌+◌, ◌%◌, ◌^◌, ◌==◌, ◌<◌, ◌≤◌, nat_lt, Bool, true, false, not, ◌||◌, ◌&&◌, cond, List, [], ◌∷◌, ◌++◌, map, length, get_or, Option, Some, None, is_some, refl, sym, ap, ◌∙◌, subst, arith, Bor}
-use Rattle.std.specs.Prelude.{slice_get, is_none, if◌then◌else◌}
+use Rattle.std.proofs.Common.{◌≡◌, ◌⊎◌, inl, inr, ℕ, zero, suc, ◌+◌, ◌==◌, ◌<◌, ◌≤◌, Bool, true, false, not, ◌||◌, ◌&&◌, cond, List, [], ◌∷◌, ◌++◌, map, length, Option, Some, None, is_some, refl, sym, ap, ◌∙◌, subst, arith, Bor}
+use Rattle.std.specs.Prelude.{slice_get, is_none}
 use Rattle.std.specs.List.{list_any, list_all, filter, flat_map, AllByRecursion}
 use Rattle.std.proofs.lemmas.Bool.Decides.{nat_tests}
 use Rattle.std.proofs.lemmas.Option.{slice_get_within}
@@ -9,7 +9,6 @@ use Rattle.history_model.specs.declared.Reading.{Reading as Moment}
 use Rattle.history_model.specs.declared.CivilMinute.{CivilMinute}
 use Rattle.history_model.specs.declared.Entry.{Entry as Due}
 use Rattle.history_model.specs.declared.Order.{Order}
-use Rattle.history_model.specs.declared.Act.{Act}
 use Rattle.history_model.specs.Items.{Item, Read, History}
 use Rattle.history_model.specs.Clock.{now}
 use Rattle.history_model.specs.Calendar.{allows, matches}
@@ -18,29 +17,26 @@ use Rattle.history_model.specs.Keeps.{Keeps}
 use Rattle.history_model.specs.Labels.{Label}
 use Rattle.history_model.specs.Machine.{Job}
 use Rattle.history_model.specs.Step.{acts_of, orders_of, told, with_item}
-use Rattle.history_model.specs.Refusals.{is_clock_refused}
-use Rattle.history_model.specs.declared.TheConstants.{MAX_UP, MAX_WALL}
 use Rattle.history_model.specs.Skipping.{IsLater}
 use Rattle.job_table.proofs.Skipping.{skipped, skipped-due}
 use Rattle.history_model.proofs.Sparing.{next-same}
-use Rattle.job_table.specs.Rows.{Row, Name, IsOnce, definition_of_number, label_of}
+use Rattle.job_table.specs.Rows.{Name, IsOnce, definition_of_number, label_of}
 use Rattle.job_table.specs.Kept.{KeepsJob, KeepsJobs, IsAtRest, numbered, numbered_all, labelled}
 use Rattle.job_table.specs.Counts.{counts, count_in, next_count, went_up, is_near, IsCounted}
 use Rattle.job_table.specs.Entries.{row, name, rows, AllStay}
 use Rattle.job_table.specs.News.{item_for}
 use Rattle.job_table.specs.Telling.{refusal_if, IsTold, AreFor, IsAccepted}
 use Rattle.job_table.specs.Visiting.{is_spared, AreSpared, AreAtRest, AreVisitedOnce, count_visited}
-use Rattle.job_table.specs.Index.{moment_for, place_in, AreTimed, AreAlone, HaveRoom, ArePlaced, is_minute_among, IsSpare}
+use Rattle.job_table.specs.Index.{moment_for, place_in, AreTimed, AreAlone, ArePlaced, is_minute_among, IsSpare}
 use Rattle.job_table.specs.Marking.{HavePlaces, IsMarked, IsReachedAt, IsMinuteAt}
 use Rattle.job_table.specs.declared.entry.Entry.{Entry}
-use Rattle.job_table.specs.declared.entry.News.{News}
 use Rattle.job_table.specs.declared.entry.News.TheVariants as news
 use Rattle.job_table.proofs.Touching.{IsReason}
 use Rattle.job_table.proofs.Lists.{map-append, or-false}
 use Rattle.job_table.proofs.Places.{rows-all}
 use Rattle.job_table.proofs.Labelling.{IsNamed, is-named, labelled-numbered}
 use Rattle.job_table.proofs.Telling.{label-with}
-use Rattle.job_table.proofs.Counting.{AreFor as HaveCounts, for-all, goes-up, not-next, same-number}
+use Rattle.job_table.proofs.Counting.{AreFor as HaveCounts, for-all, goes-up, same-number}
 
 -- ---- entries by place and by number
 

@@ -1,13 +1,13 @@
 -- The index goes by names, by rows, and grows.
-use Rattle.std.proofs.Common.{◌≡◌, ◌⊎◌, inl, inr, ℕ, zero, suc, ◌+◌, ◌==◌, ◌<◌, ◌≤◌, Bool, true, false, not, cond, List, [], ◌∷◌, ◌++◌, map, take, drop, length, Option, Some, None, is_some, refl, sym, ap, ◌∙◌, subst, arith}
+use Rattle.std.proofs.Common.{◌≡◌, ◌⊎◌, inl, inr, ℕ, zero, suc, ◌+◌, ◌==◌, ◌<◌, ◌≤◌, Bool, true, false, not, cond, List, [], ◌∷◌, ◌++◌, map, take, drop, length, Some, None, is_some, refl, sym, ap, ◌∙◌, subst, arith}
 use Rattle.std.specs.Prelude.{slice_get, slice_index_or, get_or, unwrap_or}
-use Rattle.std.specs.List.{filter, position}
+use Rattle.std.specs.List.{filter}
 use Rattle.std.proofs.lemmas.Bool.Decides.{nat_tests}
-use Rattle.timer_heap.specs.Timers.{Timers, moment_in, room, KeepsMoments}
+use Rattle.timer_heap.specs.Timers.{moment_in, room, KeepsMoments}
 use Rattle.history_model.specs.Coming.{next_by}
 use Rattle.job_table.specs.Rows.{Row, Name, definition_of_number}
-use Rattle.job_table.specs.Entries.{row, rows, name, stays, AllStay, is_above, entered}
-use Rattle.job_table.specs.Index.{moment_for, AreTimed, AreAlone, HaveRoom, ArePlaced, IsNamed, IsIndexOf}
+use Rattle.job_table.specs.Entries.{row, rows, name, stays, AllStay}
+use Rattle.job_table.specs.Index.{moment_for, AreTimed, AreAlone, ArePlaced, IsNamed, IsIndexOf}
 use Rattle.job_table.specs.declared.entry.Entry.{Entry}
 use Rattle.job_table.specs.declared.jobs.Index.{Index}
 use Rattle.job_table.proofs.Places.{rows-all}

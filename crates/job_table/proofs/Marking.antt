@@ -1,7 +1,7 @@
 -- One job after the other whose moment is reached gets its mark.
-use Rattle.std.proofs.Common.{◌≡◌, ◌≢◌, ◌⊎◌, inl, inr, ℕ, ◌≤◌, ◌<◌, ◌==◌, nat_lt, Bool, true, false, List, Option, Some, None, refl, sym, ap, ◌∙◌, subst, arith}
+use Rattle.std.proofs.Common.{◌≡◌, ◌⊎◌, inl, inr, ℕ, ◌≤◌, ◌<◌, ◌==◌, Bool, true, false, List, Option, Some, None, refl, sym, ap, ◌∙◌, subst, arith}
 use Rattle.std.proofs.lemmas.Bool.Decides.{nat_tests}
-use Rattle.timer_heap.specs.Timers.{Timers, moment_in, Updates, IsLeast, IsPopped}
+use Rattle.timer_heap.specs.Timers.{Timers, moment_in, Updates}
 use Rattle.history_model.specs.Skipping.{IsLater}
 use Rattle.job_table.specs.Index.{place_in}
 use Rattle.job_table.specs.Marking.{IsMarked, IsReachedAt}

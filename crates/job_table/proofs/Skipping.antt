@@ -1,5 +1,5 @@
 -- A reading that reaches no moment of a job: the same facts keep its past with the reading, and nothing new is due.
-use Rattle.std.proofs.Common.{◌≡◌, ◌≤◌, ◌<◌, false, None, Some, ◌∷◌, sym, ap, ◌∙◌, subst}
+use Rattle.std.proofs.Common.{◌≡◌, ◌≤◌, false, None, ◌∷◌, sym, ap, ◌∙◌, subst}
 use Rattle.history_model.specs.declared.Reading.{Reading}
 use Rattle.history_model.specs.Items.{Read, History}
 use Rattle.history_model.specs.Clock.{now}

@@ -1,18 +1,18 @@
 -- Where a job has a mark, the reading touches it.
-use Rattle.std.proofs.Common.{◌≡◌, ◌⊎◌, inl, inr, ℕ, zero, suc, ◌+◌, ◌-◌, ◌*◌, ◌/◌, ◌==◌, ◌<◌, ◌≤◌, nat_lt, nat_le, Bool, true, false, ◌||◌, ◌&&◌, cond, List, [], ◌∷◌, map, Option, Some, None, refl, sym, ap, ◌∙◌, subst, arith}
+use Rattle.std.proofs.Common.{◌≡◌, ◌⊎◌, inl, inr, ℕ, suc, ◌+◌, ◌-◌, ◌*◌, ◌/◌, ◌==◌, ◌<◌, ◌≤◌, nat_lt, nat_le, Bool, true, false, ◌||◌, ◌&&◌, cond, List, [], ◌∷◌, map, Option, Some, None, refl, sym, ap, ◌∙◌, subst, arith}
 use Rattle.std.specs.Prelude.{slice_get, if◌then◌else◌}
 use Rattle.std.specs.Option.{ForSome}
 use Rattle.std.specs.List.{filter, list_any}
 use Rattle.std.proofs.lemmas.Bool.{eqb-true}
 use Rattle.std.proofs.lemmas.Bool.Decides.{nat_tests}
 use Rattle.std.proofs.Math.Nat.{div-lt_iff_lt-mul, le-div_iff_mul-le, mul-le-mul_right}
-use Rattle.timer_heap.specs.Timers.{Timers, moment_in}
+use Rattle.timer_heap.specs.Timers.{Timers}
 use Rattle.history_model.specs.declared.Reading.{Reading as Moment}
 use Rattle.history_model.specs.declared.CivilMinute.{CivilMinute}
 use Rattle.history_model.specs.declared.Entry.{Entry as Due}
 use Rattle.history_model.specs.Items.{History}
 use Rattle.history_model.specs.Search.{first}
-use Rattle.history_model.specs.Clock.{now, load_of, definition_of, periods, crosses_interval}
+use Rattle.history_model.specs.Clock.{now, load_of, definition_of, crosses_interval}
 use Rattle.history_model.specs.Calendar.{Zone, allows, crossed}
 use Rattle.history_model.specs.Coming.{next_by}
 use Rattle.history_model.specs.Facts.{Facts}
@@ -24,7 +24,7 @@ use Rattle.history_model.proofs.Coming.{next-by}
 use Rattle.history_model.proofs.Next.{is-one}
 use Rattle.job_table.specs.Kept.{KeepsJob, KeepsJobs}
 use Rattle.job_table.specs.Counts.{counts, count_in}
-use Rattle.job_table.specs.Entries.{row, name, rows, AllStay}
+use Rattle.job_table.specs.Entries.{row, rows, AllStay}
 use Rattle.job_table.specs.Index.{is_minute_among}
 use Rattle.job_table.specs.Minutes.{is_some_entry, has_calendars}
 use Rattle.job_table.specs.Visiting.{is_spared, AreVisitedOnce}

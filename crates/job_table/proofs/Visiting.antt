@@ -1,14 +1,14 @@
 -- The walk passes the jobs without a mark as they are, and comes one place further at each job with one.
-use Rattle.std.proofs.Common.{◌≡◌, ℕ, zero, suc, ◌+◌, ◌-◌, ◌<◌, ◌≤◌, Bool, true, false, not, ◌||◌, cond, List, [], ◌∷◌, ◌++◌, map, take, drop, length, get_or, Option, Some, None, refl, sym, ap, ◌∙◌, subst, append_assoc, append-nil, arith}
+use Rattle.std.proofs.Common.{◌≡◌, ℕ, zero, suc, ◌+◌, ◌-◌, ◌<◌, ◌≤◌, Bool, true, false, ◌||◌, cond, List, [], ◌∷◌, ◌++◌, map, take, drop, length, get_or, Option, Some, None, refl, sym, ap, ◌∙◌, subst, append_assoc, append-nil, arith}
 use Rattle.std.specs.Prelude.{slice_set}
 use Rattle.std.specs.List.{filter_map, cons_option}
-use Rattle.timer_heap.specs.Timers.{Timers, moment_in}
+use Rattle.timer_heap.specs.Timers.{Timers}
 use Rattle.history_model.specs.declared.Reading.{Reading}
 use Rattle.history_model.specs.declared.Order.{Order}
 use Rattle.history_model.specs.declared.Act.TheVariants.{Close, Gone}
 use Rattle.history_model.specs.Demands.{waiting}
-use Rattle.history_model.specs.Items.{Item, History}
-use Rattle.history_model.specs.Clock.{now, definition_of}
+use Rattle.history_model.specs.Items.{Item}
+use Rattle.history_model.specs.Clock.{now}
 use Rattle.history_model.specs.Runs.{is_gone}
 use Rattle.history_model.specs.Due.{due}
 use Rattle.history_model.specs.Keeps.{Keeps, ordered}

@@ -1,11 +1,10 @@
 -- The least moment in the index is that of the machine's jobs, and calendars by rows are those of the jobs.
-use Rattle.std.proofs.Common.{◌≡◌, ◌⊎◌, inl, inr, ℕ, zero, suc, ◌<◌, ◌≤◌, ◌==◌, Bool, true, false, not, ◌&&◌, ◌||◌, cond, List, [], ◌∷◌, map, Option, Some, None, refl, sym, ap, ◌∙◌, subst, arith}
+use Rattle.std.proofs.Common.{◌≡◌, inl, inr, ℕ, zero, suc, ◌≤◌, ◌==◌, Bool, true, false, not, ◌&&◌, ◌||◌, cond, List, [], ◌∷◌, map, Option, Some, None, refl, sym, ap, ◌∙◌, subst, arith}
 use Rattle.std.specs.Prelude.{slice_get}
 use Rattle.std.specs.List.{list_any, AllByRecursion}
 use Rattle.std.specs.Option.{ForSome}
 use Rattle.timer_heap.specs.Timers.{Timers, moment_in, IsNoLater, IsLeast}
 use Rattle.history_model.specs.declared.Reading.{Reading}
-use Rattle.history_model.specs.Clock.{definition_of}
 use Rattle.history_model.specs.Moments.{next_moment}
 use Rattle.history_model.specs.Coming.{next_by}
 use Rattle.history_model.specs.Machine.{Job}

@@ -1,5 +1,5 @@
 -- The index of moments: what holds of it beside the entries.
-use Rattle.std.specs.Prelude.{◌≡◌, ℕ, zero, suc, ◌<◌, ◌≤◌, Bool, true, cond, List, [], ◌∷◌, length, map, Option, Some, None, is_some, slice_get, slice_index_or}
+use Rattle.std.specs.Prelude.{◌≡◌, ℕ, ◌<◌, ◌≤◌, Bool, true, cond, List, length, map, Option, Some, None, is_some, slice_get, slice_index_or}
 use Rattle.timer_heap.specs.Timers.{Timers, moment_in, room}
 use Rattle.history_model.specs.Coming.{next_by}
 use Rattle.job_table.specs.Rows.{Name, definition_of_number}

@@ -1,5 +1,5 @@
 -- Marks for the jobs whose moment is reached. Places lie by job number.
-use Rattle.std.specs.Prelude.{◌≡◌, ◌⊎◌, ℕ, ◌≤◌, ◌<◌, List, length, Option, Some, None}
+use Rattle.std.specs.Prelude.{◌≡◌, ◌⊎◌, ℕ, ◌≤◌, ◌<◌, List, length, Some, None}
 use Rattle.timer_heap.specs.Timers.{Timers, moment_in, room}
 use Rattle.std.specs.Prelude.{slice_get, true}
 use Rattle.history_model.specs.declared.CivilMinute.{CivilMinute}

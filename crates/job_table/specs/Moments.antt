@@ -1,6 +1,6 @@
 -- When time alone may next make an order due, over all loaded jobs (launchd.plist(5): StartInterval, ThrottleInterval,
 -- ExitTimeOut; StartCalendarInterval).
-use Rattle.std.specs.Prelude.{◌≡◌, ◌≤◌, ℕ, ◌==◌, Bool, true, false, List, [], ◌∷◌, Option, Some, None}
+use Rattle.std.specs.Prelude.{◌≡◌, ◌≤◌, ℕ, ◌==◌, Bool, true, false, List, Option, Some, None}
 use Rattle.std.specs.List.{list_any, AllByRecursion}
 use Rattle.std.specs.Option.{ForSome}
 use Rattle.history_model.specs.Clock.{definition_of}

@@ -1,5 +1,5 @@
-//! How many jobs one event asks for their order, in a table of many: the plain scan asks each job that stays, and none where
-//! the event is refused.
+//! How many jobs one event asks for their order. A reading asks those whose next moment it reaches and those with a calendar
+//! entry of a crossed minute, each other event each job that stays, and a refused event none.
 
 use crate::steps::{at, empty_table, load};
 use crate::visits::Event::*;
@@ -7,9 +7,10 @@ use history_model::{Ended, Obs, Refusal};
 use job_table::{JobTable, Step};
 use std::alloc::{AllocError, Global};
 
-/// What happens. Each label is one of `a000` to `a098`, of jobs that start each hour, or `x`, that starts each 30 seconds.
+/// What happens.
 #[derive(Clone, Copy)]
 enum Event {
+    Load(&'static str),
     Clock(u64),
     Saw(&'static str),
     Start(&'static str),
@@ -22,11 +23,12 @@ enum Event {
 /// An event, with how many jobs are asked and how many orders come; none where the event is refused.
 type Row = (Event, Option<(u32, usize)>);
 
-static ROWS: &[Row] = &[
-    (Clock(29_999), Some((100, 0))),
-    (Clock(30_000), Some((100, 1))),
+/// Each label is one of `a000` to `a098`, of jobs that start each hour, or `x`, that starts each 30 seconds.
+static MANY: &[Row] = &[
+    (Clock(29_999), Some((0, 0))),
+    (Clock(30_000), Some((1, 1))),
     (Spawned("x", 1), Some((100, 0))),
-    (Clock(30_001), Some((100, 0))),
+    (Clock(30_001), Some((0, 0))),
     (Clock(30_000), None),
     (Saw("/w"), Some((100, 0))),
     (Start("a050"), Some((100, 1))),
@@ -42,6 +44,34 @@ static ROWS: &[Row] = &[
     (Clock(60_000), Some((0, 0))),
 ];
 
+const A: &str = r#"{"Label":"a","Program":"/bin/x","StartInterval":30,"ThrottleInterval":0}"#;
+
+const B: &str = r#"{"Label":"b","Program":"/bin/x","StartInterval":30,"ThrottleInterval":0}"#;
+
+/// The first reading is at 22:13:20.
+const HALF_PAST: &str = r#"{"Label":"m","Program":"/bin/x","StartCalendarInterval":{"Minute":30}}"#;
+
+/// Two jobs have the same moments. One leaves, and its number goes to the next load. The minute 22:14 is no job's.
+static FEW: &[Row] = &[
+    (Load(B), Some((1, 0))),
+    (Load(A), Some((2, 0))),
+    (Load(HALF_PAST), Some((3, 0))),
+    (Load(A), None),
+    (Clock(29_999), Some((0, 0))),
+    (Clock(30_000), Some((2, 2))),
+    (Spawned("a", 1), Some((3, 0))),
+    (Spawned("b", 1), Some((3, 0))),
+    (Clock(40_000), Some((0, 0))),
+    (Ended0("b", 1), Some((3, 0))),
+    (Unload("b"), Some((2, 1))),
+    (Clock(60_000), Some((1, 0))),
+    (Load(B), Some((3, 0))),
+    (Clock(89_999), Some((0, 0))),
+    (Clock(90_000), Some((2, 1))),
+    (Clock(999_999), Some((2, 0))),
+    (Clock(1_000_000), Some((1, 1))),
+];
+
 fn told(given: Result<Step<'_>, Refusal>) -> Option<(u32, usize)> {
     let given = given.ok()?;
     Some((given.visited, given.orders.len()))
@@ -54,6 +84,11 @@ fn happens(alloc: Global, table: &mut JobTable, event: Event) -> Option<(u32, us
         stamp: 5,
     };
     match event {
+        Load(definition) => {
+            load(alloc, table, definition).ok()?;
+            let given = table.given();
+            Some((given.visited, given.orders.len()))
+        }
         Clock(up) => told(table.clock(alloc, at(up, 1_700_000_000 + up / 1_000))),
         Saw(path) => told(table.saw(path, seen)),
         Start(label) => told(table.start(label)),
@@ -90,22 +125,32 @@ fn are_loaded(alloc: Global, table: &mut JobTable) -> Result<bool, AllocError> {
 }
 
 /// The position of the first row that goes another way than it says.
-fn first_fault(alloc: Global, rows: &[Row]) -> Option<usize> {
-    let Ok(mut table) = empty_table(alloc) else {
-        return Some(rows.len());
-    };
-    if are_loaded(alloc, &mut table) != Ok(true) {
-        return Some(rows.len());
-    }
+fn first_fault(alloc: Global, table: &mut JobTable, rows: &[Row]) -> Option<usize> {
     for (position, (event, wanted)) in rows.iter().enumerate() {
-        if happens(alloc, &mut table, *event) != *wanted {
+        if happens(alloc, table, *event) != *wanted {
             return Some(position);
         }
     }
     None
 }
 
+/// The same of a new table, with the hundred jobs or with none.
+fn fault_from_new(alloc: Global, is_full: bool, rows: &[Row]) -> Option<usize> {
+    let Ok(mut table) = empty_table(alloc) else {
+        return Some(rows.len());
+    };
+    if is_full && are_loaded(alloc, &mut table) != Ok(true) {
+        return Some(rows.len());
+    }
+    first_fault(alloc, &mut table, rows)
+}
+
 #[test]
-fn each_job_that_stays_is_asked(rt: HostRuntime) {
-    assert_eq!(rt; first_fault(rt.alloc(), ROWS), None);
+fn a_reading_asks_the_jobs_that_it_touches(rt: HostRuntime) {
+    assert_eq!(rt; fault_from_new(rt.alloc(), true, MANY), None);
+}
+
+#[test]
+fn equal_moments_and_numbers_given_anew(rt: HostRuntime) {
+    assert_eq!(rt; fault_from_new(rt.alloc(), false, FEW), None);
 }

@@ -1,7 +1,6 @@
 -- The rows are those of the jobs that have not left, and their calendars those of the machine's jobs.
-use Rattle.std.proofs.Common.{◌≡◌, not, ◌&&◌, ap, sym, subst, ◌∙◌}
+use Rattle.std.proofs.Common.{◌≡◌, not, ◌&&◌, ap, sym, ◌∙◌}
 use Rattle.std.specs.List.{list_any}
-use Rattle.job_table.specs.Kept.{KeepsJobs}
 use Rattle.job_table.specs.Minutes.{is_some_entry, has_calendars}
 use Rattle.job_table.proofs.Waking.{calendars-rows, calendars-jobs}
 use Rattle.job_table.proofs.Handing.{calendars-rows as stay-rows, calendars-names}

@@ -1,6 +1,5 @@
 -- The index's least moment is that of the machine's jobs.
-use Rattle.std.proofs.Common.{◌≡◌, None, ap, sym, subst, ◌∙◌}
-use Rattle.history_model.specs.declared.Reading.{Reading}
+use Rattle.std.proofs.Common.{◌≡◌, ap, sym, subst, ◌∙◌}
 use Rattle.history_model.specs.Machine.{State}
 use Rattle.job_table.specs.Kept.{KeepsJobs, KeepsState}
 use Rattle.job_table.specs.Entries.{rows}

@@ -1,15 +1,14 @@
 -- One more entry is in the index.
-use Rattle.std.proofs.Common.{◌≡◌, ◌≤◌, ◌<◌, ◌+◌, ℕ, Some, None, map, length, true, refl, sym, ap, ◌∙◌, subst, arith}
-use Rattle.std.specs.Prelude.{is_some, slice_get, slice_set}
+use Rattle.std.proofs.Common.{◌≡◌, ◌<◌, ◌+◌, map, length, refl, sym, ap, ◌∙◌, subst, arith}
+use Rattle.std.specs.Prelude.{slice_set}
 use Rattle.std.proofs.lemmas.List.{length-set}
 use Rattle.std.proofs.lemmas.Option.{slice_get_within}
-use Rattle.timer_heap.specs.Timers.{moment_in, room}
-use Rattle.job_table.specs.Rows.{definition_of_number}
+use Rattle.timer_heap.specs.Timers.{moment_in}
 use Rattle.job_table.specs.Entries.{name}
 use Rattle.job_table.specs.Index.{moment_for, place_in}
 use Rattle.job_table.specs.declared.entry.Entry.{Entry}
 use Rattle.job_table.proofs.Known.{named-at, all-named}
-use Rattle.job_table.proofs.Timing.{alone-after, get-at}
+use Rattle.job_table.proofs.Timing.{alone-after}
 use Rattle.job_table.proofs.Indexing.{one-more, place-same, place-other, is-named-at}
 use Rattle.job_table.proofs.index.remake.Goals as goal
 

@@ -1,5 +1,5 @@
 -- The entries passed are in the index.
-use Rattle.std.proofs.Common.{◌≡◌, ◌≤◌, ◌<◌, ℕ, List, Some, None, map, length}
+use Rattle.std.proofs.Common.{◌≡◌, ◌<◌, ℕ, Some, map, length}
 use Rattle.std.specs.Prelude.{slice_get}
 use Rattle.timer_heap.specs.Timers.{moment_in, room}
 use Rattle.job_table.specs.Entries.{name}

@@ -1,5 +1,5 @@
 -- What is marked so far.
-use Rattle.std.proofs.Common.{◌≡◌, ◌≤◌, ℕ, Some}
+use Rattle.std.proofs.Common.{◌≡◌, ℕ, Some}
 use Rattle.timer_heap.specs.Timers.{moment_in, room, timer_count}
 use Rattle.job_table.specs.Marking.{IsReachedAt}
 use Rattle.job_table.proofs.Marking.{IsSoFar}

@@ -12,7 +12,7 @@ use Rattle.job_table.proofs.Known.{named-at, all-named}
 use Rattle.job_table.proofs.Timing.{retimed, alone-after}
 use Rattle.job_table.specs.Rows.{IsOnce, definition_of_number}
 use Rattle.job_table.specs.Index.{moment_for}
-use Rattle.job_table.proofs.Visiting.{IsWalked, IsThrough, skip-to, visit-one, walk-over}
+use Rattle.job_table.proofs.Visiting.{IsWalked, skip-to, visit-one, walk-over}
 use Rattle.job_table.proofs.visit.visit_ready.Goals as goal
 use Rattle.job_table.proofs.visit.visit_ready.Goals.{then-not-entry, else-not-entry}
 

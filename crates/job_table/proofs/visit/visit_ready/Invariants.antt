@@ -1,5 +1,5 @@
 -- The walk has come as far as the front, and the marks before it are taken.
-use Rattle.std.proofs.Common.{◌≡◌, true, ◌-◌, ◌+◌, ◌*◌, ◌≤◌, ◌<◌, ℕ, List, Some, None, map, length}
+use Rattle.std.proofs.Common.{◌≡◌, true, ◌-◌, ◌+◌, ◌*◌, ◌≤◌, ◌<◌, ℕ, List, None, map, length}
 use Rattle.std.specs.List.{list_all}
 use Rattle.std.specs.Vec.{vec_capacity, vec_len}
 use Rattle.timer_heap.specs.Timers.{moment_in, room}

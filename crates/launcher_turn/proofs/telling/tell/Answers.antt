@@ -8,8 +8,9 @@ use Rattle.launcher_turn.proofs.telling.tell.Goals as goal
 
 pub returns-in-Clock-clause-happens : goal.returns-in-Clock-clause-happens
 returns-in-Clock-clause-happens g c =
+    let ends = c.clock.follows.holds-at-none in
     read-on (Tick c.in-Clock.at) (event_of c.args.what) c.args.table.now c.clock.follows.lender-at-none c.clock.result c.carry_given.result _ _ _ _ (ap event_of (sym c.in-Clock.is))
-    c.carry_given.ensures.answer c.clock.ensures.answer c.clock.ensures.known c.clock.follows.holds-at-none c.carry_given.ensures.carried
+    c.carry_given.ensures.answer c.clock.ensures.answer c.clock.ensures.known (ends.0, ends.1, ends.2) c.carry_given.ensures.carried
 
 pub returns-in-Saw-clause-happens : goal.returns-in-Saw-clause-happens
 returns-in-Saw-clause-happens g c =

@@ -1,10 +1,9 @@
 -- The places that are marked are those of the jobs that the reading touches.
-use Rattle.std.proofs.Common.{◌≡◌, ◌≤◌, ◌<◌, ◌++◌, ℕ, Bool, true, false, ◌||◌, map, drop, length, Option, Some, None, [], refl, ap, sym, subst, ◌∙◌, nat_lt, arith}
+use Rattle.std.proofs.Common.{◌≡◌, ◌≤◌, ◌<◌, ◌++◌, Bool, true, false, ◌||◌, map, drop, length, Option, Some, None, [], refl, ap, sym, subst, ◌∙◌, nat_lt, arith}
 use Rattle.std.specs.Prelude.{Ok, slice_get}
 use Rattle.std.specs.List.{list_all, filter_map}
-use Rattle.std.specs.Vec.{vec_capacity, with_items}
+use Rattle.std.specs.Vec.{with_items}
 use Rattle.std.proofs.lemmas.Bool.Decides.{nat_tests}
-use Rattle.timer_heap.specs.Timers.{moment_in, room}
 use Rattle.history_model.specs.declared.Reading.{Reading as Moment}
 use Rattle.history_model.specs.declared.Refusal.TheVariants.{ClockRefused}
 use Rattle.history_model.specs.declared.TheConstants.{MAX_UP, MAX_WALL}
@@ -14,26 +13,25 @@ use Rattle.history_model.specs.Calendar.{crossed, calendar_fires}
 use Rattle.history_model.specs.Refusals.{is_clock_refused}
 use Rattle.history_model.specs.Acceptance.{refused_if}
 use Rattle.history_model.specs.Machine.{State, Job, Tick}
-use Rattle.history_model.specs.Step.{taken, told, stays, orders_of}
+use Rattle.history_model.specs.Step.{told, stays}
 use Rattle.job_table.specs.Rows.{IsOnce, is_known}
 use Rattle.job_table.specs.Kept.{KeepsJobs, KeepsState, numbered_all}
 use Rattle.job_table.specs.Counts.{counts, count_in, IsCounted}
-use Rattle.job_table.specs.Entries.{row, name, rows, AllStay, is_named}
-use Rattle.job_table.specs.Index.{IsIndexed, moment_for, AreTimed, AreAlone, HaveRoom, ArePlaced, place_in, IsSpare}
+use Rattle.job_table.specs.Entries.{name, rows, AllStay, is_named}
+use Rattle.job_table.specs.Index.{AreTimed, AreAlone, HaveRoom, place_in}
 use Rattle.job_table.specs.Marking.{HavePlaces}
 use Rattle.job_table.specs.Minutes.{has_calendars, some_calendar}
 use Rattle.job_table.specs.Outcomes.{given_by}
-use Rattle.job_table.specs.Sound.{seen, AreFree, IsSound}
+use Rattle.job_table.specs.Sound.{seen, AreFree}
 use Rattle.job_table.specs.Telling.{AreFor, IsAccepted}
 use Rattle.job_table.specs.Visiting.{is_spared, AreSpared, AreAtRest, AreVisitedOnce}
-use Rattle.job_table.specs.declared.entry.Entry.{Entry}
 use Rattle.job_table.specs.declared.entry.News.TheVariants as news
 use Rattle.job_table.specs.declared.jobs.Jobs.{Jobs}
 use Rattle.job_table.proofs.Lists.{lent-back}
 use Rattle.job_table.proofs.Places.{rows-all}
 use Rattle.job_table.proofs.Known.{all-named}
 use Rattle.job_table.proofs.Holding.{held-names}
-use Rattle.job_table.proofs.Steps.{IsDone, IsAskedOf, accepted}
+use Rattle.job_table.proofs.Steps.{IsDone, accepted}
 use Rattle.job_table.proofs.Handing.{own-jobs, readings, readings-fine}
 use Rattle.job_table.proofs.Advancing.{have-places, is-spare, spare-timed, alone-still, mark-at, mark-reason, are-marked, spared-all, rest-all, told-labelled, visits-counted, name-get}
 use Rattle.job_table.proofs.Numbering.{names-begun}
