@@ -218,7 +218,12 @@ impl Trial for Turning {
         match self.outcome {
             Outcome::NoMemory => is_undone(alloc, stage, &self.turn, self.calls),
             Outcome::NotStored => {
-                is_undone(alloc, stage, &self.turn, self.calls + self.turn.undone)
+                is_undone(
+                    alloc,
+                    stage,
+                    &self.turn,
+                    self.calls.saturating_add(self.turn.undone),
+                )
             }
             _ => asked(alloc, stage, Input::Line(self.turn.probe), self.turn.is) == (0, true),
         }
