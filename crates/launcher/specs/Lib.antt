@@ -1,3 +1,4 @@
 pub mod Faults
 pub mod Hosts
 pub mod Inputs
+pub mod Lends

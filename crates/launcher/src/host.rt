@@ -1,9 +1,11 @@
 //! The launcher: how it is made, and what it lends.
 
-ghost use Rattle.std.specs.Prelude.{◌≡◌, ◌↔◌, IfOk, IsTrue, is_some};
+ghost use Rattle.std.specs.Prelude.{◌≡◌, ◌↔◌, IfOk, IsTrue, is_some, true};
+ghost use Rattle.std.specs.Borrow.{sem};
 ghost use Rattle.event_journal.specs.Journals.{fresh, held, told, is_writing};
 ghost use Rattle.launcher.specs.Hosts.{IsNew, standing};
 ghost use Rattle.launcher.specs.Faults.{FaultOf};
+ghost use Rattle.launcher.specs.Lends.{lends_edge};
 
 use crate::making::{Inside, make_inside, store_fault, with_settings};
 use child_edge::{ChildEdge, SocketEdge};
@@ -82,6 +84,7 @@ impl<T: SettingStore + Drop, E: ChildEdge + SocketEdge + Drop, W: Write + Drop> 
         ensures store { result.1 ≡ self.store }
         ensures edge { result.2 ≡ self.edge }
         ensures journal { is_some result.3 ≡ is_writing self.journal }
+        ensures bytes { is_writing self.journal ≡ true → held W.contents result.3 ≡ self.journal.bytes }
     {
         let Host {
             table,
@@ -102,8 +105,9 @@ impl<T: SettingStore, E: ChildEdge + SocketEdge, W: Write> Host<T, E, W> {
         &self.table
     }
 
-    /// The outside, for what is asked of it between turns.
+    /// The outside, for what is asked of it between turns. All else of the launcher stays as it is.
     pub fn edge(&mut self) -> &mut E
+        ensures* writes_back { sem 𝓛 (lends_edge T.row E.row W.row W.Write self.entry result) }
         ensures now { result.now ≡ self.old.edge }
     {
         &mut self.edge

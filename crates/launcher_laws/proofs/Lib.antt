@@ -1,0 +1,9 @@
+pub mod Free
+pub mod ReadBack
+pub mod Events
+pub mod Headers
+pub mod Lines
+pub mod Runs
+pub mod Lasted
+pub mod Replayed
+pub mod Reopened

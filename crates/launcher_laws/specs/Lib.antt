@@ -1,0 +1,4 @@
+pub mod Tellable
+pub mod Runs
+pub mod Lasting
+pub mod Replays

@@ -1,0 +1,93 @@
+-- What a launcher goes through: its turns, one after another.
+use Rattle.std.specs.Prelude.{◌≡◌, ◌⊎◌, ℕ, true, List, [], ◌∷◌, map, Option, Some, None}
+use Rattle.std.specs.List.{flat_map, AllZip}
+use Rattle.history_model.specs.declared.Refusal.{Refusal}
+use Rattle.history_model.specs.declared.Refusal.TheVariants.{BadRequest}
+use Rattle.history_model.specs.declared.Order.{Order}
+use Rattle.history_model.specs.declared.event.Event as journal
+use Rattle.history_model.specs.declared.event.Setting.{Setting}
+use Rattle.history_model.specs.Step.{Outcome}
+use Rattle.job_table.specs.Rows.{Name}
+use Rattle.job_table.specs.Kept.{labelled}
+use Rattle.child_edge.specs.Calls.{Tells}
+use Rattle.order_edge.specs.Calls.{Entry, call_of, calls_in}
+use Rattle.event_journal.specs.Journals.{told}
+use Rattle.load_asking.specs.declared.asking.Asked.{Asked}
+use Rattle.launcher_load.specs.LoadTurns.{is_memory}
+use Rattle.launcher.specs.Inputs.{answered}
+use Rattle.launcher.specs.Hosts.{Standing, Hears}
+
+-- how a launcher stands, and its store of settings
+pub record Moment (T : Type 0) : Type 0 where
+  pub stands : Standing
+  pub store : T
+
+-- A turn: the event that came, before the outside was asked, or none; the reply, a refusal or words; and the moments before and after it.
+pub record Turn (T : Type 0) : Type 0 where
+  pub event : Option journal.Event
+  pub refusal : Option Refusal
+  pub words : List ℕ
+  pub before : Moment T
+  pub after : Moment T
+
+-- Between two turns the outside may be asked other things, and the closing of the journal be told. The table and the store stay.
+pub record IsBetween {T : Type 0} (old new : Moment T) : Type 0 where
+  pub table : new.stands.table ≡ old.stands.table
+  pub store : new.store ≡ old.store
+  pub journal : (new.stands.journal ≡ old.stands.journal) ⊎ (new.stands.journal ≡ told old.stands.journal)
+
+module _ {T : Type 0} (holds : T → List Setting → Type 0) where
+  -- the turn was heard, as `Host::turn` promises
+  abbrev pub WasHeard : Turn T → Type 0
+  WasHeard turn = Hears turn.event turn.refusal turn.words turn.before.stands turn.after.stands (holds turn.before.store) (holds turn.after.store)
+
+  -- these turns, each heard, lead from the first moment to the last
+  abbrev pub AreTurns : Moment T → List (Turn T) → Moment T → Type 0
+  AreTurns first [] last = IsBetween first last
+  AreTurns first (turn ∷ turns) last = IsBetween first turn.before × WasHeard turn × AreTurns turn.after turns last
+
+-- ---- what they did
+
+-- a line that is no request, and what found no memory, is no event
+abbrev pub IsNoEvent : {T : Type 0} → Turn T → Type 0
+IsNoEvent turn = (is_memory turn.refusal ≡ true) ⊎ ((turn.event ≡ None) × (turn.refusal ≡ Some BadRequest))
+
+-- The events of a turn, as the journal tells them, and their outcomes. The first event is the one that came, with what the outside
+-- answered to it, and its outcome is the reply; the others are the answers to the orders. The orders in all outcomes are the calls that
+-- were made, in order, each once, after what a load asks of its sockets.
+pub record AreOutcomesOf {T : Type 0} (turn : Turn T) (events : List journal.Event) (outs : List Outcome) : Type 0 where
+  pub event : journal.Event
+  pub came : turn.event ≡ Some event
+  pub outside : Asked
+  pub answers : List journal.Event
+  pub first : events ≡ answered outside event ∷ answers
+  pub reply : Outcome
+  pub others : List Outcome
+  pub all : outs ≡ reply ∷ others
+  pub refusal : reply.refusal ≡ turn.refusal
+  pub words : turn.refusal ≡ None → reply.text ≡ turn.words
+  pub names : List Name
+  pub orders : List Order
+  pub given : labelled names orders ≡ flat_map (λ (out : Outcome). out.orders) outs
+  pub asked : Option (List Entry)
+  pub entries : List Entry
+  pub tells : Tells asked entries turn.after.stands.calls
+  pub calls : calls_in entries ≡ map call_of orders
+
+-- what a turn adds to a run of the machine: its events, and their outcomes
+abbrev pub Part : Type 0
+Part = List journal.Event × List Outcome
+
+-- what is no event adds nothing
+abbrev pub IsToldBy : {T : Type 0} → Turn T → Part → Type 0
+IsToldBy turn part = (IsNoEvent turn × (part.0 ≡ []) × (part.1 ≡ [])) ⊎ AreOutcomesOf turn part.0 part.1
+
+-- so each turn adds its part
+abbrev pub AreTold : {T : Type 0} → List (Turn T) → List Part → Type 0
+AreTold turns parts = AllZip IsToldBy turns parts
+
+abbrev pub events_in : List Part → List journal.Event
+events_in parts = flat_map (λ (part : Part). part.0) parts
+
+abbrev pub outcomes_in : List Part → List Outcome
+outcomes_in parts = flat_map (λ (part : Part). part.1) parts
