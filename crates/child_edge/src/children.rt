@@ -105,6 +105,17 @@ impl<P: OpenProcess + Drop> Children<P> {
         self.child(job, run)?.kill()
     }
 
+    /// The first child, from the job of this number on, that has ended or whose wait the system refuses: its job and run. It
+    /// stays until it is polled.
+    pub(crate) fn over_from(&mut self, job: JobNo) -> Option<(JobNo, u64)> {
+        for (run, number) in self.numbers.range((job, 0)..) {
+            if is_over(&mut self.started, *number) {
+                return Some(*run);
+            }
+        }
+        None
+    }
+
     /// How the run's child ended, if it did. It is then waited for, and gone.
     pub(crate) fn poll(&mut self, job: JobNo, run: u64) -> io::Result<Option<End>> {
         let Some(status) = self.child(job, run)?.try_wait()? else {
@@ -116,6 +127,14 @@ impl<P: OpenProcess + Drop> Children<P> {
             ended: end_of(status),
             conn: started.and_then(|gone| gone.conn),
         }))
+    }
+}
+
+// Whether a poll of the child would tell more than that it runs.
+fn is_over<P: OpenProcess + Drop>(started: &mut Slab<Started<P>>, number: usize) -> bool {
+    match started.get_mut(number) {
+        Some(started) => !matches!(started.child.try_wait(), Ok(None)),
+        None => true,
     }
 }
 

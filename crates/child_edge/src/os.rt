@@ -80,6 +80,21 @@ impl<R: Processes> OsEdge<R> {
         self.sockets.listener_from(job)
     }
 
+    /// Which bind gave the job its sockets, if it has some: each bind of this edge has a number of its own, so a client that
+    /// came to sockets which were given up since is known. Takes no memory.
+    pub fn bind_of(&self, job: JobNo) -> Option<u64> {
+        self.sockets.bind_of(job)
+    }
+
+    /// The least number, this one or above it, of a job whose child has ended, or of whose child the system does not tell; and
+    /// the child's run. The system is asked once about each child up to that one, and no failure is counted. The child stays:
+    /// `poll` tells how it ended, or is refused. Takes no memory.
+    pub fn over_from(&mut self, job: JobNo) -> Option<(JobNo, u64)>
+        ensures { self.new ≡ self.old }
+    {
+        self.children.over_from(job)
+    }
+
     /// Has clients that come to a job's socket wake the poll of this registry, under the token; asked again, it does so for
     /// the sockets that were bound since. An `Err` where the poll refuses: it may be asked again.
     pub fn register(&mut self, registry: &Registry, token: Token) -> io::Result<()>

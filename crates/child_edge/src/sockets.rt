@@ -12,10 +12,11 @@ use std::io;
 use std::io::ErrorKind;
 use std::net::Net;
 
-/// The sockets of a job, and whether a poll knows them.
+/// The sockets of a job, by which bind it has them, and whether a poll knows them.
 #[derive(Drop)]
 struct Bound {
     listeners: Vec<Listener>,
+    bind: u64,
     is_registered: bool,
 }
 
@@ -23,6 +24,8 @@ struct Bound {
 pub(crate) struct Sockets {
     alloc: Global,
     jobs: BTreeMap<JobNo, Bound>,
+    // How many binds were made.
+    binds: u64,
 }
 
 impl Sockets {
@@ -30,6 +33,7 @@ impl Sockets {
         Sockets {
             alloc,
             jobs: BTreeMap::new(alloc),
+            binds: 0,
         }
     }
 
@@ -42,8 +46,10 @@ impl Sockets {
         }
         let bound = Bound {
             listeners: bind_all(rt, self.alloc, def.sockets())?,
+            bind: self.binds,
             is_registered: false,
         };
+        self.binds = self.binds.wrapping_add(1);
         match self.jobs.insert(job, bound) {
             Ok(_) => Ok(()),
             Err(failed) => {
@@ -87,6 +93,12 @@ impl Sockets {
     pub(crate) fn listener_from(&self, job: JobNo) -> Option<JobNo> {
         let (number, _) = self.jobs.range(job..).next()?;
         Some(*number)
+    }
+
+    /// Which bind gave the job its sockets, if it has some: each bind has a number of its own.
+    pub(crate) fn bind_of(&self, job: JobNo) -> Option<u64> {
+        let bound = self.jobs.get(&job)?;
+        Some(bound.bind)
     }
 
     /// Has clients that come to a socket bound since the last call wake the poll, under the token.

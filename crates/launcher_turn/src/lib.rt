@@ -14,6 +14,6 @@ mod turns;
 pub use carrying::carry_all;
 pub use happening::{Happening, News};
 pub use questions::{list, print};
-pub use room::{AnswerQueue, LabelRoom, Room};
+pub use room::{AnswerQueue, LabelRoom, MOST_JOBS, Room};
 pub use settling::settle;
 pub use turns::turn;

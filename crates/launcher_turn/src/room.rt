@@ -9,8 +9,11 @@ use order_edge::Pending;
 use std::alloc::{AllocError, Global};
 use std::marker::Model;
 
-/// How many answers one turn has at most: of each of 1,024 jobs one spawn, one KILL and one TERM.
-const MOST_ANSWERS: usize = 3 * 1024;
+/// How many jobs are loaded at most.
+pub const MOST_JOBS: usize = 1024;
+
+/// How many answers one turn has at most: of each job one spawn, one KILL and one TERM.
+const MOST_ANSWERS: usize = 3 * MOST_JOBS;
 
 /// How many bytes a label has at most.
 const LONGEST_LABEL: usize = 255;
@@ -91,7 +94,7 @@ impl LabelRoom {
     }
 
     /// Copies a text of at most 255 bytes, as each label is. Takes no memory for it.
-    pub(crate) fn copy(&mut self, text: &str)
+    pub fn copy(&mut self, text: &str)
         ensures { length text.now ≤ 255 → self.new ≡ text.now }
     {
         self.text.clear();
@@ -99,7 +102,7 @@ impl LabelRoom {
     }
 
     /// The text, lent.
-    pub(crate) fn as_str(&self) -> &str
+    pub fn as_str(&self) -> &str
         ensures { result.now ≡ self.now }
     {
         self.text.as_str()

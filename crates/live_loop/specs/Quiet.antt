@@ -1,14 +1,24 @@
 -- Which readings of the clocks may change something.
-use Rattle.std.specs.Prelude.{ℕ, ◌/◌, Bool, false, ◌||◌, ◌&&◌, nat_le, nat_lt, Option, Some, None}
+use Rattle.std.specs.Prelude.{ℕ, Bool, true, false, ◌||◌, ◌&&◌, nat_le, nat_lt, List, Option, Some, None}
+use Rattle.std.specs.List.{list_any}
 use Rattle.history_model.specs.declared.Reading.{Reading}
+use Rattle.history_model.specs.Calendar.{crossed}
+use Rattle.history_model.specs.Moments.{next_moment}
+use Rattle.history_model.specs.Machine.{Job}
+use Rattle.job_table.specs.Moments.{have_calendars}
 
--- whether the moment, if there is one, is reached
-abbrev pub is_reached : Option ℕ → ℕ → Bool
-is_reached None up = false
-is_reached (Some moment) up = nat_le moment up
+-- the moment, if there is one, is reached
+abbrev pub is_reached : ℕ → Option ℕ → Bool
+is_reached up None = false
+is_reached up (Some moment) = nat_le moment up
 
--- The reading may change something since the last one: the moment is reached, or a civil minute began and some job counts
--- them, or the wall clock was set back.
-abbrev pub may_change : Reading → Reading → Option ℕ → Bool → Bool
-may_change last at moment has_calendars =
-    is_reached moment at.up || (has_calendars && nat_lt (last.wall / 60) (at.wall / 60) || nat_lt at.wall last.wall)
+-- some civil minute is crossed between the two readings of the wall clock
+abbrev pub is_minute_crossed : ℕ → ℕ → Bool
+is_minute_crossed before wall = list_any (λ minute. true) (crossed before wall)
+
+-- A reading may change something since the last one: some job's next moment is reached, or some job has calendar entries and
+-- a civil minute is crossed, or the wall clock was set back.
+abbrev pub may_change : List Job → Reading → Reading → Bool
+may_change jobs last at =
+    list_any (λ job. is_reached at.up (next_moment job.past)) jobs
+    || (have_calendars jobs && is_minute_crossed last.wall at.wall || nat_lt at.wall last.wall)

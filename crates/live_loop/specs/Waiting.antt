@@ -1,13 +1,25 @@
 -- How long a round waits, in milliseconds.
-use Rattle.std.specs.Prelude.{ℕ, ◌*◌, ◌-◌, Bool, true, false, Option, Some, None, min}
+use Rattle.std.specs.Prelude.{ℕ, ◌+◌, ◌^◌, ◌≤◌, Bool, true, false, List, [], ◌∷◌, Option, min, max}
+use Rattle.std.specs.Option.{ForSome}
 
--- The longest wait after a round of this one: a millisecond, where something happened in it, and else twice as long, up to a
--- tenth of a second.
-abbrev pub pause_after : Bool → ℕ → ℕ
-pause_after true pause = 1
-pause_after false pause = min (pause * 2) 100
+-- How many quiet rounds there were since one in which something happened. The rounds stand newest first, each as whether
+-- something happened in it.
+abbrev pub quiet_rounds : List Bool → ℕ
+quiet_rounds [] = 0
+quiet_rounds (true ∷ rounds) = 0
+quiet_rounds (false ∷ rounds) = quiet_rounds rounds + 1
 
--- The wait that does not go past the moment, if there is one.
-abbrev pub wait_until : ℕ → ℕ → Option ℕ → ℕ
-wait_until wait up None = wait
-wait_until wait up (Some moment) = min wait (moment - up)
+-- the pause after these rounds: a millisecond, doubled by each quiet round, and at most a tenth of a second
+abbrev pub pause_after : List Bool → ℕ
+pause_after rounds = min (2 ^ quiet_rounds rounds) 100
+
+-- a wait from up on does not go past the moment, if there is one
+abbrev pub IsNotPast : ℕ → Option ℕ → ℕ → Type 0
+IsNotPast up moment wait = ForSome moment (λ m. up + wait ≤ max up m)
+
+-- the longest wait that is within the pause, and goes past neither the next moment of the table nor the next look at paths
+pub record IsLongestWait (pause up : ℕ) (moment look : Option ℕ) (wait : ℕ) : Type 0 where
+  pub within : wait ≤ pause
+  pub before_moment : IsNotPast up moment wait
+  pub before_look : IsNotPast up look wait
+  pub longest : (other : ℕ) → other ≤ pause → IsNotPast up moment other → IsNotPast up look other → other ≤ wait

@@ -23,9 +23,12 @@ pub(crate) enum Gathered {
 /// As many pieces are read in a round.
 const PIECES: u32 = 16;
 
+/// A client, by the bind that gave the job the socket to which it came. The job's number alone does not tell: another job may
+/// have it since.
 #[derive(Drop)]
 pub(crate) struct Caller {
     pub(crate) job: JobNo,
+    pub(crate) bind: u64,
     pub(crate) client: Client,
     pub(crate) exchange: Exchange,
     // Bytes came in the last round.

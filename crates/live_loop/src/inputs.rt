@@ -114,20 +114,9 @@ impl<T: SettingStore, E: ChildEdge + SocketEdge, W: Write> Inputs<T, E, W> {
         if let Ok(at) = self.host.edge().read() {
             self.at = at;
         }
-        if self.may_change() {
+        if is_wanted(self.host.table(), self.at) {
             self.tell_time(alloc);
         }
-    }
-
-    // Whether the reading of the round may change something.
-    fn may_change(&self) -> bool {
-        let table = self.host.table();
-        is_wanted(
-            table.reading(),
-            self.at,
-            table.next_up(),
-            table.has_calendars(),
-        )
     }
 
     // Hands in the reading of the round, unless it is the launcher's own already.

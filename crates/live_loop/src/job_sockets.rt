@@ -5,8 +5,8 @@ use crate::inputs::Inputs;
 use crate::system::System;
 use child_edge::{Client, OsEdge, SocketEdge};
 use history_model::JobNo;
-use job_table::JobTable;
 use launcher::Input;
+use launcher_turn::{LabelRoom, MOST_JOBS};
 use load_asking::SettingStore;
 use mio::{Registry, Token};
 use slab::Slab;
@@ -24,12 +24,6 @@ const SENDING: Token = Token(2);
 /// As many clients are heard at a time; further ones are closed.
 const CALLERS: usize = 64;
 
-/// As many jobs are loaded at most.
-const MOST_JOBS: u32 = 1024;
-
-/// As many bytes a label has at most.
-const LONGEST_LABEL: usize = 255;
-
 /// The clients whose request still comes, and the number of the next whole one. The numbers rise through all loads of all
 /// jobs, so none is used twice.
 #[derive(Drop)]
@@ -37,7 +31,6 @@ pub(crate) struct JobSockets {
     alloc: Global,
     callers: Slab<Caller>,
     conn: u64,
-    label: String,
     // Clients may have come since all sockets were tried.
     may_have_come: bool,
 }
@@ -45,12 +38,10 @@ pub(crate) struct JobSockets {
 impl JobSockets {
     pub(crate) fn new(alloc: Global) -> Result<JobSockets, AllocError> {
         let callers = Slab::with_capacity(alloc, CALLERS)?;
-        let label = String::with_capacity(alloc, LONGEST_LABEL)?;
         Ok(JobSockets {
             alloc,
             callers,
             conn: 1,
-            label,
             may_have_come: true,
         })
     }
@@ -92,19 +83,22 @@ impl JobSockets {
         edge: &mut OsEdge<R>,
         job: JobNo,
     ) -> bool {
+        let Some(bind) = edge.bind_of(job) else {
+            return false;
+        };
         let mut has_come = false;
         for _ in 0..2 * CALLERS {
             let Some(client) = edge.accept(job) else {
                 return has_come;
             };
             has_come = true;
-            self.welcome(registry, job, client);
+            self.welcome(registry, job, bind, client);
         }
         self.may_have_come = true;
         has_come
     }
 
-    fn welcome(&mut self, registry: &Registry, job: JobNo, client: Client) {
+    fn welcome(&mut self, registry: &Registry, job: JobNo, bind: u64, client: Client) {
         if self.callers.len() >= CALLERS {
             return;
         }
@@ -113,6 +107,7 @@ impl JobSockets {
         };
         let mut caller = Caller {
             job,
+            bind,
             client,
             exchange,
             is_heard: false,
@@ -127,6 +122,7 @@ impl JobSockets {
         &mut self,
         alloc: Global,
         inputs: &mut Inputs<T, OsEdge<R>, W>,
+        label: &mut LabelRoom,
     ) -> bool {
         let mut is_busy = false;
         for key in 0..CALLERS {
@@ -135,7 +131,7 @@ impl JobSockets {
                 Gathered::MayGoOn => is_busy = true,
                 Gathered::Whole => {
                     if let Some(caller) = self.callers.try_remove(key) {
-                        self.hand_in(alloc, inputs, caller);
+                        self.hand_in(alloc, inputs, label, caller);
                     }
                 }
                 Gathered::Lost => {
@@ -146,7 +142,8 @@ impl JobSockets {
         is_busy
     }
 
-    // What became of one client. That of a job which has given up its sockets is let go.
+    // What became of one client. One that came to sockets which were given up since is let go, also where the number has new
+    // ones.
     fn gathered<T: SettingStore, R: System, W: Write>(
         &mut self,
         inputs: &mut Inputs<T, OsEdge<R>, W>,
@@ -155,7 +152,7 @@ impl JobSockets {
         let Some(caller) = self.callers.get_mut(key) else {
             return Gathered::Waits;
         };
-        if inputs.host.edge().listener_from(caller.job) != Some(caller.job) {
+        if inputs.host.edge().bind_of(caller.job) != Some(caller.bind) {
             return Gathered::Lost;
         }
         let gathered = caller.gather();
@@ -170,6 +167,7 @@ impl JobSockets {
         &mut self,
         alloc: Global,
         inputs: &mut Inputs<T, OsEdge<R>, W>,
+        label: &mut LabelRoom,
         caller: Caller,
     ) {
         let Caller {
@@ -188,17 +186,11 @@ impl JobSockets {
         {
             return;
         }
-        let is_named = name(inputs.host.table(), job, &mut self.label);
-        if !is_named || !came(alloc, inputs, self.label.as_str(), conn) {
+        label.copy(inputs.host.table().given().label(job));
+        if !came(alloc, inputs, label.as_str(), conn) {
             inputs.host.edge().close(job, conn);
         }
     }
-}
-
-// Puts the job's label in its room.
-fn name(table: &JobTable, job: JobNo, label: &mut String) -> bool {
-    label.clear();
-    label.push_str(table.given().label(job)).is_ok()
 }
 
 fn came<T: SettingStore, R: System, W: Write>(

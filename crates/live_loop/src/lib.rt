@@ -20,3 +20,4 @@ pub use live::Live;
 pub use quiet::is_wanted;
 pub use rounds::{round, serve};
 pub use system::System;
+pub use waiting::{next_pause, round_wait};

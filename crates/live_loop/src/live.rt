@@ -9,6 +9,7 @@ use crate::waiting::SHORTEST;
 use child_edge::OsEdge;
 use control_socket::ControlSocket;
 use launcher::Host;
+use launcher_turn::LabelRoom;
 use load_asking::SettingStore;
 use mio::{Events, Poll, Token};
 use std::alloc::{AllocError, Global};
@@ -20,9 +21,6 @@ const CONTROL: Token = Token(0);
 /// As many events are told at a time. More of them only wake the next round.
 const EVENTS: usize = 128;
 
-/// As many bytes a label has at most.
-const LONGEST_LABEL: usize = 255;
-
 /// A launcher over the real system, with its control socket, the poll that both wait on, and what its rounds remember of one
 /// another.
 #[derive(Drop)]
@@ -33,7 +31,7 @@ pub struct Live<R: System, T: SettingStore, W: Write> {
     pub(crate) events: Events,
     pub(crate) sights: Sights,
     pub(crate) sockets: JobSockets,
-    pub(crate) label: String,
+    pub(crate) label: LabelRoom,
     // The longest wait of the next round, in milliseconds.
     pub(crate) pause: u64,
     // A client may go on at once.
@@ -48,14 +46,14 @@ struct Rooms {
     events: Events,
     sights: Sights,
     sockets: JobSockets,
-    label: String,
+    label: LabelRoom,
 }
 
 fn make_rooms(alloc: Global) -> Result<Rooms, AllocError> {
     let events = Events::with_capacity(alloc, EVENTS)?;
     let sights = Sights::new(alloc)?;
     let sockets = JobSockets::new(alloc)?;
-    let label = String::with_capacity(alloc, LONGEST_LABEL)?;
+    let label = LabelRoom::new(alloc)?;
     Ok(Rooms {
         events,
         sights,

@@ -1,21 +1,42 @@
 //! Which readings of the clocks may change something. The others are not handed to the launcher, so that the journal of one
 //! in which nothing happens does not grow.
 
-ghost use Rattle.std.specs.Prelude.{◌≡◌};
-ghost use Rattle.live_loop.specs.Quiet.{may_change};
+ghost use Rattle.std.specs.Prelude.{◌≡◌, List};
+ghost use Rattle.std.specs.List.{list_any};
+ghost use Rattle.history_model.specs.Machine.{Job, State};
+ghost use Rattle.history_model.specs.Moments.{next_moment};
+ghost use Rattle.job_table.specs.Kept.{KeepsState};
+ghost use Rattle.job_table.specs.Moments.{IsNextUp};
+ghost use Rattle.live_loop.specs.Quiet.{is_reached as has_come, is_minute_crossed as is_some_minute, may_change};
 
 use history_model::Reading;
+use job_table::JobTable;
 
-/// Whether the reading may change something since the last one that was handed in: the least moment of `up` from which time
-/// alone may make an order due is reached, or a civil minute began while a job with calendar entries is loaded, or the wall
-/// clock was set back.
-pub fn is_wanted(last: Reading, at: Reading, moment: Option<u64>, has_calendars: bool) -> bool
-    ensures { result ≡ may_change last at moment has_calendars }
+/// Whether the reading may change something since the table's last one: a job's next moment is reached, or some job has
+/// calendar entries and a civil minute is crossed, or the wall clock was set back. It takes no memory.
+pub fn is_wanted(table: &JobTable, at: Reading) -> bool
+    ensures { (s : State) → KeepsState table.now s → result ≡ may_change s.jobs table.now.reading at }
 {
-    let is_reached = match moment {
+    let last = table.reading();
+    let is_due = is_reached(table.next_up(), at.up);
+    let has_calendars = table.has_calendars();
+    let is_minute = is_minute_crossed(last.wall, at.wall);
+    let is_back = at.wall < last.wall;
+    is_due | (has_calendars & is_minute | is_back)
+}
+
+// The least of all jobs' moments stands for them all.
+fn is_reached(moment: Option<u64>, up: u64) -> bool
+    ensures { (jobs : List Job) → IsNextUp jobs moment → result ≡ list_any (λ job. has_come up (next_moment job.past)) jobs }
+{
+    match moment {
         None => false,
-        Some(moment) => moment <= at.up,
-    };
-    let is_minute = has_calendars && last.wall / 60 < at.wall / 60;
-    is_reached || is_minute || at.wall < last.wall
+        Some(moment) => moment <= up,
+    }
+}
+
+fn is_minute_crossed(before: u64, wall: u64) -> bool
+    ensures { result ≡ is_some_minute before wall }
+{
+    before / 60 < wall / 60
 }

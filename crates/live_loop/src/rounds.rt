@@ -5,7 +5,7 @@ use crate::fault::ServeFault;
 use crate::job_sockets::COMING;
 use crate::live::Live;
 use crate::system::System;
-use crate::waiting::{next_pause, until};
+use crate::waiting::{next_pause, round_wait};
 use load_asking::SettingStore;
 use std::alloc::Global;
 use std::io::Write;
@@ -15,7 +15,7 @@ use std::time::Duration;
 /// As many milliseconds of `up` a launcher with no job left waits for clients that don't take their reply.
 const PATIENCE: u64 = 1_000;
 
-/// One round. It waits at most a tenth of a second, reads the clock, polls each child, looks at the listed paths once in
+/// One round. It waits at most a tenth of a second, reads the clock, asks about each child, looks at the listed paths once in
 /// 1,000 milliseconds of `up`, serves the control clients and takes new ones, and does the same for the clients of jobs'
 /// sockets. What it finds is handed to the launcher, one by one.
 ///
@@ -71,8 +71,8 @@ fn next_wait<R: System, T: SettingStore, W: Write>(live: &mut Live<R, T, W>) -> 
         return 0;
     }
     let up = live.inputs.up_now();
-    let wait = until(live.pause, up, live.inputs.next_moment());
-    until(wait, up, live.sights.next_look(live.inputs.host.table()))
+    let look = live.sights.next_look(live.inputs.host.table());
+    round_wait(live.pause, up, live.inputs.next_moment(), look)
 }
 
 fn serve_clients<R: System, T: SettingStore, W: Write>(alloc: Global, live: &mut Live<R, T, W>) {
@@ -82,7 +82,9 @@ fn serve_clients<R: System, T: SettingStore, W: Write>(alloc: Global, live: &mut
     if live.sockets.accept(live.poll.registry(), edge) {
         live.inputs.stir();
     }
-    let is_sending = live.sockets.gather(alloc, &mut live.inputs);
+    let is_sending = live
+        .sockets
+        .gather(alloc, &mut live.inputs, &mut live.label);
     let is_taking = live.inputs.host.edge().forward();
     live.is_busy = is_asking || is_sending || is_taking;
 }

@@ -1,18 +1,18 @@
 //! How long a round waits, in milliseconds.
 
-ghost use Rattle.std.specs.Prelude.{◌≡◌};
-ghost use Rattle.live_loop.specs.Waiting.{pause_after, wait_until};
+ghost use Rattle.std.specs.Prelude.{◌≡◌, ◌≤◌, ◌∷◌, ℕ, Bool, List};
+ghost use Rattle.live_loop.specs.Waiting.{pause_after, IsNotPast, IsLongestWait};
 
-/// As long a round waits at most.
+/// The longest pause.
 const LONGEST: u64 = 100;
 
-/// As long a round waits at most after one in which something happened.
+/// The pause after a round in which something happened, and before the first one.
 pub(crate) const SHORTEST: u64 = 1;
 
-/// The pause of the round after one of this pause: the shortest, where something happened in it, and else twice as long, up
-/// to the longest.
-pub(crate) fn next_pause(is_active: bool, pause: u64) -> u64
-    ensures { result ≡ pause_after is_active pause }
+/// The pause after one round more, of the pause after those before it: a millisecond, doubled by each quiet round since one in
+/// which something happened, and at most a tenth of a second.
+pub fn next_pause(is_active: bool, pause: u64) -> u64
+    ensures { (rounds : List Bool) → pause ≡ pause_after rounds → result ≡ pause_after (is_active ∷ rounds) }
 {
     if is_active {
         SHORTEST
@@ -21,9 +21,18 @@ pub(crate) fn next_pause(is_active: bool, pause: u64) -> u64
     }
 }
 
-/// The wait from `up` on that does not go past the moment, if there is one.
-pub(crate) fn until(wait: u64, up: u64, moment: Option<u64>) -> u64
-    ensures { result ≡ wait_until wait up moment }
+/// How long a round waits from `up` on: the longest time that is within the pause and goes past neither the next moment of the
+/// table nor the next look at paths, where there is one.
+pub fn round_wait(pause: u64, up: u64, moment: Option<u64>, look: Option<u64>) -> u64
+    ensures { IsLongestWait pause up moment look result }
+{
+    until(until(pause, up, moment), up, look)
+}
+
+fn until(wait: u64, up: u64, moment: Option<u64>) -> u64
+    ensures within { result ≤ wait }
+    ensures not_past { (other : ℕ) → other ≤ result → IsNotPast up moment other }
+    ensures longest { (other : ℕ) → other ≤ wait → IsNotPast up moment other → other ≤ result }
 {
     match moment {
         None => wait,

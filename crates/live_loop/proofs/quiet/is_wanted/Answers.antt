@@ -1,0 +1,12 @@
+use Rattle.std.proofs.Common.{◌≡◌}
+use Rattle.std.specs.List.{list_any}
+use Rattle.history_model.specs.Moments.{next_moment}
+use Rattle.job_table.specs.Moments.{have_calendars}
+use Rattle.live_loop.specs.Quiet.{is_reached as has_come}
+use Rattle.live_loop.proofs.quiet.is_wanted.Goals as goal
+
+pub returns : goal.returns
+returns c = λ s keeps.
+    let due : c.is_reached-is_due.result ≡ list_any (λ job. has_come c.args.at.up (next_moment job.past)) s.jobs = c.is_reached-is_due.ensures s.jobs (c.next_up.ensures s keeps) in
+    let calendars : c.has_calendars-has_calendars.result ≡ have_calendars s.jobs = c.has_calendars-has_calendars.ensures.jobs s keeps in
+    cc
