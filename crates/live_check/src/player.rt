@@ -1,10 +1,10 @@
 //! Plays the scenes.
 
 use crate::asking::{ask, comes_to_tell, list, run};
-use crate::calling::call;
-use crate::files::comes_to_hold;
+use crate::calling::{begin, call, call_port, finish, send};
+use crate::files::{comes_to_have, comes_to_hold};
 use crate::journal::replay;
-use crate::scenes::{FAULTS, FULL, REQUESTS, SETTINGS};
+use crate::scenes::{AROUND, CALLERS, DEMANDS, ENDS, FAULTS, FULL, REQUESTS, SETTINGS, TOGETHER};
 use crate::serving::{end, serve};
 use crate::stage::Stage;
 use crate::step::Step;
@@ -35,6 +35,12 @@ fn wait_for_text(rt: &HostRuntime, stage: &Stage, name: &str, text: &str) -> io:
     tell_wait(rt, name, comes_to_hold(rt, path.as_str(), text.as_str()))
 }
 
+fn wait_for_part(rt: &HostRuntime, stage: &Stage, name: &str, part: &str) -> io::Result<()> {
+    let path = stage.path(rt.alloc(), name)?;
+    let part = stage.text(rt.alloc(), part)?;
+    tell_wait(rt, name, comes_to_have(rt, path.as_str(), part.as_str()))
+}
+
 fn wait_for_answer(rt: &HostRuntime, stage: &Stage, words: &str, part: &str) -> io::Result<()> {
     let came = comes_to_tell(rt, stage, words, part)?;
     tell_wait(rt, words, came)
@@ -50,7 +56,12 @@ fn play(rt: &HostRuntime, stage: &mut Stage, step: Step) -> io::Result<()> {
         Step::Make(name, text) => make(rt, stage, name, text),
         Step::MakeFolder(name) => make_folder(rt, stage, name),
         Step::Holds(name, text) => wait_for_text(rt, stage, name, text),
+        Step::Has(name, part) => wait_for_part(rt, stage, name, part),
         Step::Call(name, text) => call(rt, stage, name, text),
+        Step::CallPort(port, text) => call_port(rt, stage, port, text),
+        Step::Begin(name, text) => begin(rt, stage, name, text),
+        Step::Finish => finish(rt, stage),
+        Step::SendLines(lines) => send(rt, stage, lines),
         Step::Tells(words, part) => wait_for_answer(rt, stage, words, part),
         Step::Replay(name, part) => replay(rt, stage, name, part),
     }
@@ -73,11 +84,24 @@ fn play_scene(rt: &HostRuntime, name: &str, steps: &[Step]) -> io::Result<()> {
     cleared
 }
 
-fn play_scenes(rt: &HostRuntime) -> io::Result<()> {
+fn play_requests(rt: &HostRuntime) -> io::Result<()> {
     play_scene(rt, "requests", REQUESTS)?;
     play_scene(rt, "settings", SETTINGS)?;
     play_scene(rt, "faults", FAULTS)?;
     play_scene(rt, "full", FULL)
+}
+
+fn play_jobs(rt: &HostRuntime) -> io::Result<()> {
+    play_scene(rt, "together", TOGETHER)?;
+    play_scene(rt, "around", AROUND)?;
+    play_scene(rt, "demands", DEMANDS)?;
+    play_scene(rt, "ends", ENDS)?;
+    play_scene(rt, "callers", CALLERS)
+}
+
+fn play_scenes(rt: &HostRuntime) -> io::Result<()> {
+    play_requests(rt)?;
+    play_jobs(rt)
 }
 
 /// Plays each scene. The status is 0, or 1 where a step could not be made.

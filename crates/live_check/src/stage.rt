@@ -1,18 +1,22 @@
-//! Where a scene is played: its folder, this program, and the launcher, while it runs.
+//! Where a scene is played: its folder, this program, the launcher, while it runs, and a client that called.
 
 use crate::files::placed;
 use std::alloc::{AllocError, Global};
 use std::io::ErrorKind;
+use std::os::unix::net::UnixStream;
 use std::process::{Child, Command, Processes};
 use std::{env, fs, io, process};
 
 #[derive(Drop)]
 pub struct Stage {
     pub folder: String,
+    // The last three bytes of its address, which begins with 127.
+    pub node: [u8; 3],
     pub program: String,
     // The words before those of the scene: none, unless this program is run by a loader, as by `rt try`.
     pub front: String,
     pub launcher: Option<Child<<HostRuntime as Processes>::Started>>,
+    pub caller: Option<UnixStream>,
 }
 
 fn own_path(rt: &HostRuntime) -> io::Result<String> {
@@ -48,6 +52,12 @@ fn folder_name(rt: &HostRuntime, above: &str, name: &str) -> Result<String, Allo
     format!(in rt.alloc(); "{above}/live-{id}-{name}")
 }
 
+// By this process's number, so that no other run has it. The number is below 2^22.
+fn own_node(rt: &HostRuntime) -> [u8; 3] {
+    let [_, second, third, fourth] = process::id(rt.process()).to_be_bytes();
+    [second, third, fourth]
+}
+
 fn new_folder(rt: &HostRuntime, name: &str) -> io::Result<String> {
     let above = folder_above(rt)?;
     let folder = folder_name(rt, above.as_str(), name)?;
@@ -63,15 +73,19 @@ impl Stage {
         let folder = new_folder(rt, name)?;
         Ok(Stage {
             folder,
+            node: own_node(rt),
             program,
             front,
             launcher: None,
+            caller: None,
         })
     }
 
-    /// The text with the scene's folder.
+    /// The text with the scene's folder and address.
     pub fn text(&self, alloc: Global, text: &str) -> Result<String, AllocError> {
-        placed(alloc, text, self.folder.as_str())
+        let [second, third, fourth] = self.node;
+        let address = format!(in alloc; "127.{second}.{third}.{fourth}")?;
+        placed(alloc, text, self.folder.as_str(), address.as_str())
     }
 
     /// The path of a file in the scene's folder.
