@@ -55,6 +55,20 @@ mod tests {
         assert!(rt; is_so);
     }
 
+    /// A child that runs is not over; one that has ended is, until it is polled.
+    #[test]
+    fn a_child_that_ended_is_over(rt: HostRuntime) {
+        let is_so = holds(&rt, "over", Trial::Over);
+        assert!(rt; is_so);
+    }
+
+    /// Sockets that were given up and bound again are other ones.
+    #[test]
+    fn each_bind_has_its_number(rt: HostRuntime) {
+        let is_so = holds(&rt, "binds", Trial::Binds);
+        assert!(rt; is_so);
+    }
+
     #[test]
     fn the_wall_clock_is_the_systems(rt: HostRuntime) {
         let is_so = holds(&rt, "clock", Trial::Clock);

@@ -1,8 +1,8 @@
 //! Ends of children, sights of paths, and the clock.
 
 use crate::stage::{Stage, System, job_of, path_of, pause};
-use child_edge::{ChildEdge, ClockEdge, PathEdge};
-use history_model::{Ended, Obs};
+use child_edge::{ChildEdge, ClockEdge, PathEdge, SocketEdge};
+use history_model::{Ended, JobNo, Obs};
 use job_defs::Def;
 use std::time::SystemTime;
 
@@ -74,4 +74,44 @@ pub fn keeps_time(rt: &HostRuntime, edge: &mut System) -> Option<bool> {
     let told = edge.read().ok()?;
     let after = now(rt)?;
     Some(before <= told.wall && told.wall <= after)
+}
+
+/// The first child that is over, if one is within five seconds.
+fn over(rt: &HostRuntime, edge: &mut System) -> Option<(JobNo, u64)> {
+    for _ in 0..500u32 {
+        if let Some(run) = edge.over_from(0) {
+            return Some(run);
+        }
+        pause(rt);
+    }
+    None
+}
+
+/// Whether of two children, one that runs and one that has ended, the second alone is over, from its job's number on and no
+/// further, until it is polled.
+pub fn is_over_alone(rt: &HostRuntime, stage: &mut Stage) -> Option<bool> {
+    let long = job_of(rt, stage, "localhost", "exec sleep 60")?;
+    let short = job_of(rt, stage, "localhost", "exit 3")?;
+    stage.edge.start(0, 1, &long, None).ok()?;
+    stage.edge.start(7, 2, &short, None).ok()?;
+    let first = over(rt, &mut stage.edge) == Some((7, 2));
+    let further = stage.edge.over_from(8).is_some();
+    let told = stage.edge.poll(7, 2).ok()? == Some(Ended::Code(3));
+    let again = stage.edge.over_from(0).is_some();
+    stage.edge.kill(0, 1).ok()?;
+    let killed = end_of(rt, &mut stage.edge) == Some(Ended::Signal(9));
+    Some(first && !further && told && !again && killed)
+}
+
+/// Whether a job's sockets have a number while they stand, and another one when they are bound again.
+pub fn are_apart(rt: &HostRuntime, stage: &mut Stage) -> Option<bool> {
+    let def = job_of(rt, stage, "localhost", "exit 0")?;
+    let before = stage.edge.bind_of(0).is_some();
+    stage.edge.bind(0, &def).ok()?;
+    let first = stage.edge.bind_of(0)?;
+    stage.edge.release(0);
+    let between = stage.edge.bind_of(0).is_some();
+    stage.edge.bind(0, &def).ok()?;
+    let second = stage.edge.bind_of(0)?;
+    Some(!before && !between && first != second)
 }
