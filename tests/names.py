@@ -1,0 +1,87 @@
+#!/usr/bin/env python3
+"""Checks the names that the documents give: each stands in the repository, and each wrong body stands in a document.
+
+    tests/names.py
+
+The documents are README.md, CHANGELOG.md, docs/, the README.md of each crate and contrib/, and bench/RESULTS.md.
+A name is a word of small letters with an underscore, as `no_order_is_left`; it has to stand in a source, a definition, a
+proof, an edit, a script or a path, or below in OUTSIDE. Of `File.name`, as `Due.is_throttled`, a file of that name has to hold
+the name. Each wrong body has to be named in a document, or the edit that it is a part of. They stand in
+crates/CRATE/must-fail/ and in wrong_bodies/CRATE/.
+One line a fault; the status is 1 if there is one.
+"""
+import os
+import re
+import sys
+
+TOP = os.path.dirname(os.path.dirname(os.path.abspath(__file__)))
+WORD = re.compile(r"[A-Za-z0-9_]+")
+
+# Names of the standard library, of ported crates and of the kernel.
+OUTSIDE = {"include_str", "get_flag", "tcp_wmem"}
+
+
+def files_below(*folders):
+    for folder in folders:
+        for at, below, names in os.walk(f"{TOP}/{folder}"):
+            below[:] = sorted(it for it in below if it not in ("out", "build", ".git"))
+            yield from (f"{at}/{name}" for name in sorted(names))
+
+
+def text_of(path):
+    with open(path, encoding="utf-8", errors="replace") as it:
+        return it.read()
+
+
+def documents():
+    yield from (f"{TOP}/{name}" for name in ("README.md", "CHANGELOG.md", "bench/RESULTS.md"))
+    yield from (it for it in files_below("docs") if it.endswith(".md"))
+    yield from (it for it in files_below("crates", "contrib") if os.path.basename(it) == "README.md")
+
+
+def sources():
+    for path in files_below("crates", "wrong_bodies", "tests", "bench", "examples", "completions", "contrib", "man"):
+        if not path.endswith(".md"):
+            yield path
+
+
+def wrong_bodies():
+    """Each wrong body, with its edit's name and path."""
+    for path in files_below("crates", "wrong_bodies"):
+        if path.endswith(".edit"):
+            parts = re.findall(r"(?m)^part: (\S+)", text_of(path))
+            edit = os.path.basename(path)[: -len(".edit")]
+            for name in parts or [edit]:
+                yield name, edit, os.path.relpath(path, TOP)
+
+
+def main():
+    known, holders = set(), {}
+    for path in sources():
+        words = set(WORD.findall(text_of(path))) | set(WORD.findall(os.path.relpath(path, TOP)))
+        known |= words
+        if path.endswith((".antt", ".rt")):
+            holders.setdefault(os.path.basename(path).rsplit(".", 1)[0], []).append(words)
+    for name in ("crates.txt", "Makefile", "install.mk"):
+        known |= set(WORD.findall(text_of(f"{TOP}/{name}")))
+    faults, named = [], set()
+    for path in documents():
+        short = os.path.relpath(path, TOP)
+        for number, line in enumerate(text_of(path).splitlines(), 1):
+            words = set(WORD.findall(line))
+            named |= words
+            for word in sorted(words - known):
+                if "_" in word.strip("_") and word.islower() and word not in OUTSIDE:
+                    faults.append(f"{short}:{number}: {word} stands nowhere in the repository")
+            for file, name in re.findall(r"`(?:[a-z_]+::)?([A-Z][A-Za-z]+)\.([a-z_]\w*)`", line):
+                if file in holders and not any(name in words for words in holders[file]):
+                    faults.append(f"{short}:{number}: {file} does not hold {name}")
+    for name, edit, path in wrong_bodies():
+        if name not in named and edit not in named:
+            faults.append(f"{path}: no document names {name}")
+    print("\n".join([*faults, f"{len(faults)} faults"]))
+    return 1 if faults else 0
+
+
+if __name__ == "__main__":
+    sys.exit(main())
