@@ -1,13 +1,16 @@
 #!/usr/bin/env bash
-# The completions, asked in real shells: bash and zsh through a terminal, fish by its own call. A stand-in for jobctl answers
-# `list`. A shell that is not here is skipped, with a line that says so. It is run by hand.
+# The completions, asked in real shells: bash and zsh through a terminal, fish by its own call. Two launchers run, whose jobs are to
+# be offered: completions.sh [JOBD JOBCTL], or build/jobd and build/jobctl. If these are not there, a stand-in for jobctl answers
+# `list`, and a line says so. A shell that is not here is skipped, with a line that says so. It is run by hand.
 set -euo pipefail
 
 cd "$(dirname "$0")/.."
-python3 - "$PWD/completions" <<'END'
+python3 - "$PWD/completions" "$(realpath "${1:-build/jobd}")" "$(realpath "${2:-build/jobctl}")" <<'END'
 import os, pty, re, select, shutil, subprocess, sys, tempfile, time
 
-FOLDER = sys.argv[1]
+FOLDER, JOBD, CONTROL = sys.argv[1:]
+# The labels of the jobs behind each socket.
+LABELS = {"jobd.sock": ["org.example.web", "org.example.backup", "local.poll"], "other.sock": ["far.away"]}
 JOBCTL = """#!/bin/sh
 socket=jobd.sock
 if [ "$1" = --socket ]; then socket=$2; shift 2; fi
@@ -93,17 +96,41 @@ def by_fish(line, folder, environment):
     return "\n".join(row.split("\t")[0] for row in run.stdout.splitlines())
 
 
+def launch(folder, socket, labels):
+    """A launcher at the socket, with a job of each label, and jobctl's way to its end."""
+    place = f"{folder}/bin/of-{socket}"
+    os.mkdir(place)
+    words = [JOBD, "serve", "--socket", socket, "--store", f"{place}/store", "--spool", place]
+    launcher = subprocess.Popen(words, cwd=folder, stdout=subprocess.PIPE, text=True)
+    launcher.stdout.readline()
+    for label in labels:
+        with open(f"{place}/job.json", "w") as it:
+            it.write('{"Label":"%s","Program":"/bin/true"}' % label)
+        subprocess.run([CONTROL, "--socket", socket, "load", f"{place}/job.json"], cwd=folder, check=True)
+    return launcher
+
+
+def give_programs(folder):
+    """Puts jobctl into the folder's bin: the real one with its launchers, which are returned, or the stand-in."""
+    if os.path.isfile(JOBD) and os.path.isfile(CONTROL):
+        os.symlink(CONTROL, f"{folder}/bin/jobctl")
+        return {socket: launch(folder, socket, labels) for socket, labels in LABELS.items()}
+    with open(f"{folder}/bin/jobctl", "w") as program:
+        program.write(JOBCTL)
+    os.chmod(f"{folder}/bin/jobctl", 0o755)
+    open(f"{folder}/other.sock", "w").close()
+    return {}
+
+
 def try_shell(name, asked):
     if shutil.which(name) is None:
         print(f"completions: {name} is not here, so it was not asked")
         return
     with tempfile.TemporaryDirectory() as folder:
         os.mkdir(f"{folder}/bin")
-        with open(f"{folder}/bin/jobctl", "w") as program:
-            program.write(JOBCTL)
-        os.chmod(f"{folder}/bin/jobctl", 0o755)
+        launchers = give_programs(folder)
         os.mkdir(f"{folder}/jobs.d")
-        for file in ("web.json", "old.plist", "other.sock"):
+        for file in ("web.json", "old.plist"):
             open(f"{folder}/{file}", "w").close()
         environment = dict(os.environ, PATH=f"{folder}/bin:" + os.environ["PATH"], HOME=folder, TERM="dumb", LC_ALL="C.UTF-8")
         for line, offered, others in CASES:
@@ -117,7 +144,10 @@ def try_shell(name, asked):
             for word in others:
                 if word in words:
                     faults.append(f"{name}: {line!r} offers {word}")
-    print(f"completions: {name} was asked {len(CASES)} times")
+        for socket, launcher in launchers.items():
+            subprocess.run([CONTROL, "--socket", socket, "shutdown"], cwd=folder, check=True)
+            launcher.wait(timeout=30)
+    print(f"completions: {name} was asked {len(CASES)} times, " + ("beside two launchers" if launchers else "with a stand-in for jobctl"))
 
 
 try_shell("bash", by_bash)
