@@ -1,10 +1,10 @@
 #!/bin/sh
 # The shell of SQLite reads the file that a store wrote, and a store opens the file of the first version that the shell wrote.
-# The program is `store_trial`: its path is the first word, or build/store_trial.
+# The program is `try_store`: its path is the first word, or build/try_store.
 set -eu
 
 shell=${SQLITE3:-sqlite3}
-program=${1:-build/store_trial}
+program=${1:-build/try_store}
 tab=$(printf '\t')
 
 if ! command -v "$shell" >/dev/null 2>&1; then

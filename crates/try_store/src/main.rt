@@ -1,5 +1,5 @@
 //! Lists the settings in the file of a store, after it set one if that is asked for:
-//! `store_trial PATH [enabled|disabled LABEL SECOND]`. The script `tests/store_shell.sh` runs it beside the shell of SQLite.
+//! `try_store PATH [enabled|disabled LABEL SECOND]`. The script `tests/store_shell.sh` runs it beside the shell of SQLite.
 #![tactic(auto)]
 
 use history_model::Setting;
@@ -128,7 +128,7 @@ fn main(rt: HostRuntime) -> ExitCode {
     match ending {
         Ok(()) => ExitCode::SUCCESS,
         Err(told) => {
-            let _told = eprintln!(rt; "store_trial: {told}");
+            let _told = eprintln!(rt; "try_store: {told}");
             ExitCode::FAILURE
         }
     }

@@ -1,5 +1,5 @@
 //! Makes calls that take memory where none is left, and then with more and more, until each is made. The program runs
-//! itself once more for that, with its memory limited by the shell: `memory_trial`, and within `memory_trial short`.
+//! itself once more for that, with its memory limited by the shell: `try_scarce_calls`, and within `try_scarce_calls short`.
 #![tactic(auto)]
 
 mod job;
