@@ -29,4 +29,5 @@ pub mod Indexing
 pub mod Advancing
 pub mod Growing
 pub mod Touching
+pub mod Touched
 pub mod Minutes

@@ -22,4 +22,5 @@ pub mod Visiting
 pub mod Marking
 pub mod Index
 pub mod Touching
+pub mod Touched
 pub mod Ends

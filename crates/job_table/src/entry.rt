@@ -14,7 +14,7 @@ ghost use Rattle.history_model.specs.Clock as clock;
 ghost use Rattle.job_defs.specs.Definitions.{definition, path_wish};
 ghost use Rattle.job_core.specs.Events.{item_of};
 ghost use Rattle.job_table.specs.Kept.{numbered};
-ghost use Rattle.job_table.specs.News.{item_for};
+ghost use Rattle.job_table.specs.News.{item_for, concerns, told_at};
 ghost use Rattle.job_table.specs.Telling.{IsTold};
 ghost use Rattle.job_table.specs.Visiting.{IsVisit};
 ghost use Rattle.job_table.specs.Entries.{row, name};
@@ -36,9 +36,11 @@ pub struct Entry {
     pub has_left: bool,
 }
 
-/// What every job is told.
+/// What an event tells the jobs.
 #[derive(Clone, Copy)]
 pub enum News<'a> {
+    /// Nothing: the job at this place, and no other, was told already.
+    Told(usize),
     /// The launcher shuts down.
     Shutdown,
     /// The clock, and the civil minutes that it crossed.
@@ -54,6 +56,7 @@ impl Entry {
         ensures { IsTold now (item_for news.entry self.old.def) self.old self.new }
     {
         match news {
+            News::Told(_) => {}
             News::Shutdown => self.take_in(JobEvent::Asked(Ask::Shutdown), now),
             News::Reading(at, minutes) => {
                 let fires = Calendar::fires(self.def.calendar(), minutes);
@@ -138,6 +141,27 @@ impl Entry {
             job: self.number,
             act: Act::Gone,
         });
+    }
+}
+
+/// Whether a job with this definition is told something.
+pub fn concerns(news: News<'_>, def: &Def) -> bool
+    ensures { result ≡ concerns news.entry def.now }
+{
+    match news {
+        News::Told(_) => false,
+        News::Shutdown | News::Reading(_, _) => true,
+        News::Sight(path, _) => lists(def, path),
+    }
+}
+
+/// The place of the job that was told already.
+pub fn told_at(news: News<'_>) -> Option<usize>
+    ensures { result ≡ told_at news.entry }
+{
+    match news {
+        News::Told(place) => Some(place),
+        News::Shutdown | News::Reading(_, _) | News::Sight(_, _) => None,
     }
 }
 

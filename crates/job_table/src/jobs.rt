@@ -1,11 +1,10 @@
 //! The fields of the table, and the parts of which its events are made.
 
-ghost use Rattle.std.specs.Prelude.{◌≡◌, [], List, Option, None, OnOk, OnErr, map, Some};
+ghost use Rattle.std.specs.Prelude.{◌≡◌, ◌<◌, [], List, Option, None, OnOk, OnErr, IfOk, map, length, Some};
 ghost use Rattle.std.specs.List.{filter_map, flat_map, filter};
 ghost use Rattle.history_model.specs.Search.{first};
 ghost use Rattle.history_model.specs.Clock.{reading_in, present_after};
 ghost use Rattle.history_model.specs.Items.{Item};
-ghost use Rattle.history_model.specs.Keeps.{reply};
 ghost use Rattle.history_model.specs.Machine.{Job, is_of, past_in};
 ghost use Rattle.history_model.specs.Acceptance.{refusal_at};
 ghost use Rattle.history_model.specs.Step.{told, told_one, stays, orders_of};
@@ -17,10 +16,17 @@ ghost use Rattle.job_table.specs.Entries.{rows, name, AllStay};
 ghost use Rattle.job_table.specs.Counts.{counts, IsCounted};
 ghost use Rattle.job_core.specs.Memory.{NeedsNoMemory};
 ghost use Rattle.job_table.specs.Telling.{AreFor, IsAccepted, present_with};
+ghost use Rattle.job_table.specs.Loads.{refusal_told};
+ghost use Rattle.job_table.specs.Touched.{told_with, IsHandedAt, AreTimedBut, RestBut, SparesBut};
+ghost use Rattle.job_table.specs.Index.{ArePlaced};
+ghost use Rattle.job_table.specs.News.{told_at};
+ghost use Rattle.std.specs.Option.{ForSome};
 
 use crate::entry::{Entry, News};
 use crate::index::remake;
-use crate::scan::{ask_all, has_calendars, place_of, release, tell_all, tidy};
+use crate::mark::mark_touched;
+use crate::scan::{ask_all, has_calendars, place_of, release, tidy};
+use crate::visit::visit_ready;
 use calendar_due::Zone;
 use history_model::{Order, Reading, Refusal, Setting};
 use job_core::JobEvent;
@@ -89,13 +95,14 @@ impl Jobs {
         self.all_stay = true;
     }
 
-    /// Hands an event to the job with this label.
-    pub fn hand(&mut self, label: &str, event: JobEvent<'_>) -> Result<(), Refusal>
+    /// Hands an event to the job with this label, and tells the job's place.
+    pub fn hand(&mut self, label: &str, event: JobEvent<'_>) -> Result<usize, Refusal>
         requires sound { IsSound self.old }
         requires stay { AllStay self.old.entries.items }
         requires silent { reading_in (item_of event) ≡ None }
         ensures answer { (jobs : List Job) → KeepsJobs self.old.reading (rows self.old.entries.items) jobs →
-            result ≡ reply (refusal_at (past_in (first (filter (is_of label.now) jobs))) (item_of event.entry)) }
+            refusal_told result ≡ refusal_at (past_in (first (filter (is_of label.now) jobs))) (item_of event.entry) }
+        ensures place { IfOk result (λ place. IsHandedAt label.now place self.old.entries.items self.new.entries.items) }
         ensures kept { (jobs : List Job) → KeepsJobs self.old.reading (rows self.old.entries.items) jobs →
             OnOk result (KeepsJobs self.old.reading (rows self.new.entries.items) (told_one label.now (item_of event.entry) jobs)) }
         ensures rows { OnErr result (rows self.new.entries.items ≡ rows self.old.entries.items) }
@@ -113,25 +120,44 @@ impl Jobs {
             return Err(Refusal::NoSuchJob);
         };
         let entry = &mut self.entries[place];
-        entry.core.event(event, self.reading)
+        let answer = entry.core.event(event, self.reading);
+        told_with(answer, place)
     }
 
-    /// Tells every job the news.
-    pub fn tell_all(&mut self, news: News<'_>)
+    /// Tells the jobs that the news touch what is new to them, and asks them alone. The reading stays.
+    pub fn ask_touched(&mut self, news: News<'_>)
         requires sound { IsSound self.old }
         requires stay { AllStay self.old.entries.items }
-        ensures kept { (jobs : List Job) → (item : Job → Option Item) → AreFor news.entry item (rows self.old.entries.items) jobs →
-            IsAccepted self.old.reading item → KeepsJobs self.old.reading (rows self.old.entries.items) jobs →
-            KeepsJobs (present_with news.entry self.old.reading) (rows self.new.entries.items) (told item jobs) }
+        requires empty { self.old.orders.items ≡ [] }
+        requires still { present_with news self.old.reading ≡ self.old.reading }
+        requires inside { ForSome (told_at news) (λ place. place < length self.old.entries.items) }
+        requires placed { ArePlaced self.old.index.places.items self.old.entries.items }
+        requires timed { AreTimedBut news self.old }
+        ensures kept { (jobs : List Job) (item : Job → Option Item) → AreFor news.entry item (rows self.old.entries.items) jobs → IsAccepted self.old.reading item →
+            RestBut news.entry 0 (rows self.old.entries.items) jobs → KeepsJobs self.old.reading (rows self.old.entries.items) jobs →
+            KeepsJobs self.old.reading (rows self.new.entries.items) (filter_map stays (told item jobs)) }
+        ensures orders { (jobs : List Job) (item : Job → Option Item) → AreFor news.entry item (rows self.old.entries.items) jobs → IsAccepted self.old.reading item →
+            RestBut news.entry 0 (rows self.old.entries.items) jobs → KeepsJobs self.old.reading (rows self.old.entries.items) jobs →
+            labelled (map name self.new.entries.items) self.new.orders.items ≡ flat_map orders_of (told item jobs) }
         ensures names { map name self.new.entries.items ≡ map name self.old.entries.items }
-        ensures counts { counts (rows self.new.entries.items) ≡ counts (rows self.old.entries.items) }
-        ensures sound { IsSound self.new }
-        ensures stay { AllStay self.new.entries.items }
-        ensures orders { self.new.orders ≡ self.old.orders }
+        ensures counted { IsCounted (counts (rows self.old.entries.items)) (rows self.new.entries.items) self.new.visited }
+        ensures spared { SparesBut news.entry self.old.entries.items self.new.entries.items }
+        ensures whole { IsWhole self.new }
         ensures alike { IsAlike self.old self.new }
         ensures room { HasSameRoom (seen self.old) (seen self.new) }
     {
-        tell_all(&mut self.entries, news, self.reading);
+        mark_touched(&self.entries, news, &mut self.index.ready);
+        let (visited, all_stay) = visit_ready(
+            &mut self.entries,
+            &mut self.index.ready,
+            &mut self.index.timers,
+            news,
+            self.reading,
+            self.reading,
+            &mut self.orders,
+        );
+        self.visited = visited;
+        self.all_stay = all_stay;
     }
 
     /// Asks all jobs.
@@ -157,5 +183,15 @@ impl Jobs {
             &self.entries,
             self.reading,
         );
+    }
+}
+
+/// The answer of the job at this place, with the place.
+fn told_with(answer: Result<(), Refusal>, place: usize) -> Result<usize, Refusal>
+    ensures { result ≡ told_with answer place }
+{
+    match answer {
+        Ok(()) => Ok(place),
+        Err(refusal) => Err(refusal),
     }
 }

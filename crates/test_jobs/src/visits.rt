@@ -1,5 +1,6 @@
 //! How many jobs one event asks for their order. A reading asks those whose next moment it reaches and those with a calendar
-//! entry of a crossed minute, each other event each job that stays, and a refused event none.
+//! entry of a crossed minute, a sight those that list its path, an event of one job that job, a shutdown and a load each job.
+//! One that leaves is not asked, and a refused event asks none.
 
 use crate::steps::{at, empty_table, load};
 use crate::visits::Event::*;
@@ -27,16 +28,16 @@ type Row = (Event, Option<(u32, usize)>);
 static MANY: &[Row] = &[
     (Clock(29_999), Some((0, 0))),
     (Clock(30_000), Some((1, 1))),
-    (Spawned("x", 1), Some((100, 0))),
+    (Spawned("x", 1), Some((1, 0))),
     (Clock(30_001), Some((0, 0))),
     (Clock(30_000), None),
-    (Saw("/w"), Some((100, 0))),
-    (Start("a050"), Some((100, 1))),
+    (Saw("/w"), Some((0, 0))),
+    (Start("a050"), Some((1, 1))),
     (Start("b"), None),
-    (Spawned("a050", 1), Some((100, 0))),
-    (Unload("a000"), Some((99, 1))),
+    (Spawned("a050", 1), Some((1, 0))),
+    (Unload("a000"), Some((0, 1))),
     (Start("a000"), None),
-    (Ended0("a050", 1), Some((99, 0))),
+    (Ended0("a050", 1), Some((1, 0))),
     (Ended0("a050", 1), None),
     (Shutdown, Some((1, 99))),
     (Shutdown, None),
@@ -59,17 +60,34 @@ static FEW: &[Row] = &[
     (Load(A), None),
     (Clock(29_999), Some((0, 0))),
     (Clock(30_000), Some((2, 2))),
-    (Spawned("a", 1), Some((3, 0))),
-    (Spawned("b", 1), Some((3, 0))),
+    (Spawned("a", 1), Some((1, 0))),
+    (Spawned("b", 1), Some((1, 0))),
     (Clock(40_000), Some((0, 0))),
-    (Ended0("b", 1), Some((3, 0))),
-    (Unload("b"), Some((2, 1))),
+    (Ended0("b", 1), Some((1, 0))),
+    (Unload("b"), Some((0, 1))),
     (Clock(60_000), Some((1, 0))),
     (Load(B), Some((3, 0))),
     (Clock(89_999), Some((0, 0))),
     (Clock(90_000), Some((2, 1))),
     (Clock(999_999), Some((2, 0))),
     (Clock(1_000_000), Some((1, 1))),
+];
+
+const FIRST_TO_WATCH: &str = r#"{"Label":"a0005","Program":"/bin/x","WatchPaths":["/w"]}"#;
+
+const LAST_TO_WATCH: &str = r#"{"Label":"y","Program":"/bin/x","WatchPaths":["/u","/w"]}"#;
+
+/// Two of the many jobs list the path, and one of them another too.
+static WATCHED: &[Row] = &[
+    (Load(FIRST_TO_WATCH), Some((101, 0))),
+    (Load(LAST_TO_WATCH), Some((102, 0))),
+    (Saw("/v"), Some((0, 0))),
+    (Saw("/w"), Some((2, 0))),
+    (Saw("/u"), Some((1, 0))),
+    (Unload("a0005"), Some((0, 1))),
+    (Saw("/w"), Some((1, 0))),
+    (Unload("y"), Some((0, 1))),
+    (Saw("/w"), Some((0, 0))),
 ];
 
 fn told(given: Result<Step<'_>, Refusal>) -> Option<(u32, usize)> {
@@ -153,4 +171,9 @@ fn a_reading_asks_the_jobs_that_it_touches(rt: HostRuntime) {
 #[test]
 fn equal_moments_and_numbers_given_anew(rt: HostRuntime) {
     assert_eq!(rt; fault_from_new(rt.alloc(), false, FEW), None);
+}
+
+#[test]
+fn a_sight_asks_the_jobs_that_list_its_path(rt: HostRuntime) {
+    assert_eq!(rt; fault_from_new(rt.alloc(), true, WATCHED), None);
 }

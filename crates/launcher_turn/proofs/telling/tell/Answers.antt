@@ -14,24 +14,28 @@ returns-in-Clock-clause-happens g c =
 
 pub returns-in-Saw-clause-happens : goal.returns-in-Saw-clause-happens
 returns-in-Saw-clause-happens g c =
+    let ends = c.saw.follows.holds-at-none in
     handed-on (Sight c.in-Saw.path.now c.in-Saw.obs) (event_of c.args.what) c.args.table.now c.saw.follows.lender-at-none c.saw.result c.carry_given-in-Saw.result _ _ _ _ (ap event_of (sym c.in-Saw.is))
-    c.carry_given-in-Saw.ensures.answer c.saw.ensures.answer c.saw.ensures.known c.saw.follows.holds-at-none c.carry_given-in-Saw.ensures.carried
+    c.carry_given-in-Saw.ensures.answer c.saw.ensures.answer c.saw.ensures.known (ends.0, ends.1, ends.2) c.carry_given-in-Saw.ensures.carried
 
 pub returns-in-ToJob-clause-happens : goal.returns-in-ToJob-clause-happens
 returns-in-ToJob-clause-happens g c =
+    let ends = c.tell.follows.holds-at-none in
     handed-on _ (event_of c.args.what) c.args.table.now c.tell.follows.lender-at-none c.tell.result c.carry_given-in-ToJob.result _ _ _ _
     (ap (OfJob c.in-ToJob.label.now) c.job_event.ensures.item ∙ ap event_of (sym c.in-ToJob.is))
-    c.carry_given-in-ToJob.ensures.answer c.tell.ensures.answer c.tell.ensures.known c.tell.follows.holds-at-none c.carry_given-in-ToJob.ensures.carried
+    c.carry_given-in-ToJob.ensures.answer c.tell.ensures.answer c.tell.ensures.known (ends.0, ends.1, ends.2) c.carry_given-in-ToJob.ensures.carried
 
 pub returns-in-Unload-clause-happens : goal.returns-in-Unload-clause-happens
 returns-in-Unload-clause-happens g c =
+    let ends = c.unload.follows.holds-at-none in
     handed-on (UnloadJob c.in-Unload.label.now false true) (event_of c.args.what) c.args.table.now c.unload.follows.lender-at-none c.unload.result c.carry_given-in-Unload.result _ _ _ _ (ap event_of (sym c.in-Unload.is))
-    c.carry_given-in-Unload.ensures.answer (c.unload.ensures.answer true) c.unload.ensures.known c.unload.follows.holds-at-none c.carry_given-in-Unload.ensures.carried
+    c.carry_given-in-Unload.ensures.answer (c.unload.ensures.answer true) c.unload.ensures.known (ends.0, ends.1, ends.2) c.carry_given-in-Unload.ensures.carried
 
 pub returns-in-Shutdown-clause-happens : goal.returns-in-Shutdown-clause-happens
 returns-in-Shutdown-clause-happens g c =
+    let ends = c.shutdown.follows.holds-at-none in
     handed-on ShutDown (event_of c.args.what) c.args.table.now c.shutdown.follows.lender-at-none c.shutdown.result c.carry_given-in-Shutdown.result _ _ _ _ (ap event_of (sym c.in-Shutdown.is))
-    c.carry_given-in-Shutdown.ensures.answer c.shutdown.ensures.answer c.shutdown.ensures.known c.shutdown.follows.holds-at-none c.carry_given-in-Shutdown.ensures.carried
+    c.carry_given-in-Shutdown.ensures.answer c.shutdown.ensures.answer c.shutdown.ensures.known (ends.0, ends.1, ends.2) c.carry_given-in-Shutdown.ensures.carried
 
 pub returns-in-Clock-clause-memory : goal.returns-in-Clock-clause-memory
 returns-in-Clock-clause-memory g c = λ none. (

@@ -1,0 +1,134 @@
+-- The jobs at the marked places are those that the news touch.
+use Rattle.std.proofs.Common.{◌≡◌, ◌<◌, ◌++◌, true, false, not, map, drop, length, ap, sym, subst, ◌∙◌, arith}
+use Rattle.std.specs.Prelude.{slice_get}
+use Rattle.std.specs.List.{list_all, filter_map}
+use Rattle.history_model.specs.Step.{told, stays}
+use Rattle.job_table.specs.Rows.{IsOnce, is_known}
+use Rattle.job_table.specs.Kept.{KeepsJobs, numbered_all}
+use Rattle.job_table.specs.Counts.{counts, count_in, IsCounted}
+use Rattle.job_table.specs.Entries.{name, rows, AllStay, is_named}
+use Rattle.job_table.specs.Index.{IsIndexOf, AreTimed, AreAlone, HaveRoom, place_in}
+use Rattle.job_table.specs.Minutes.{some_calendar}
+use Rattle.job_table.specs.News.{is_touched}
+use Rattle.job_table.specs.Sound.{AreFree}
+use Rattle.job_table.specs.Telling.{AreFor}
+use Rattle.job_table.specs.Touched.{RestBut}
+use Rattle.job_table.specs.Visiting.{is_spared, AreSpared, AreVisitedOnce}
+use Rattle.std.specs.Vec.{with_items}
+use Rattle.job_table.specs.declared.jobs.Index.{Index}
+use Rattle.job_table.proofs.Lists.{lent-back}
+use Rattle.job_table.proofs.Places.{rows-all}
+use Rattle.job_table.proofs.Known.{all-named}
+use Rattle.job_table.proofs.Holding.{held-names}
+use Rattle.job_table.proofs.Advancing.{told-labelled, visits-counted, name-get}
+use Rattle.job_table.proofs.Growing.{named-of, length-names}
+use Rattle.job_table.proofs.Touched.{spared-all, rest-all, spared-count, not-true, marked-at}
+use Rattle.job_table.proofs.jobs.Jobs.ask_touched.Goals as goal
+
+pub visit_ready-visited-requires-clause-spared : goal.visit_ready-visited-requires-clause-spared
+visit_ready-visited-requires-clause-spared c =
+    let old = c.args.self.now in
+    let ready = c.mark_touched.new.ready in
+    subst (AreSpared ready old.reading c.args.news 0) (sym c.deref_mut.ensures.value)
+    (spared-all c.args.news ready old.reading 0 old.entries.items (marked-at c.args.news ready c.deref.result.now old.entries.items c.deref.ensures.value c.mark_touched.ensures.touched))
+
+pub visit_ready-visited-requires-clause-timed : goal.visit_ready-visited-requires-clause-timed
+visit_ready-visited-requires-clause-timed c = λ place entry there none.
+    let ready = c.mark_touched.new.ready in
+    let at = ap (λ xs. slice_get xs place) (sym c.deref_mut.ensures.value) ∙ there in
+    c.requires.timed place entry at
+    (not-true (is_spared ready place) (is_touched c.args.news place entry.def) (c.mark_touched.ensures.touched place entry (ap (λ xs. slice_get xs place) c.deref.ensures.value ∙ at)) none)
+
+pub returns-clause-kept : goal.returns-clause-kept
+returns-clause-kept c = λ jobs item for fine rests keeps.
+    let old = c.args.self.now in
+    let es = old.entries.items in
+    let ready = c.mark_touched.new.ready in
+    let after = c.visit_ready-visited.new.entries in
+    let whole = lent-back after (drop (length after) es) old.entries.len (omega arith) in
+    let lent = c.deref_mut.ensures.value in
+    let all = rows-all es c.requires.stay in
+    let idle = rest-all c.args.news ready old.reading item 0 es jobs (marked-at c.args.news ready c.deref.result.now es c.deref.ensures.value c.mark_touched.ensures.touched)
+    (subst (λ rs. AreFor c.args.news item rs jobs) all for) (subst (λ rs. KeepsJobs old.reading rs jobs) all keeps) (subst (λ rs. RestBut c.args.news 0 rs jobs) all rests) in
+    subst (λ xs. KeepsJobs old.reading (rows xs) (filter_map stays (told item jobs))) (sym whole)
+    (c.visit_ready-visited.ensures.kept jobs item (subst (λ xs. AreFor c.args.news item (rows xs) jobs) (sym lent) for) fine idle (subst (λ xs. KeepsJobs old.reading (rows xs) jobs) (sym lent) keeps))
+
+pub returns-clause-orders : goal.returns-clause-orders
+returns-clause-orders c = λ jobs item for fine rests keeps.
+    let old = c.args.self.now in
+    let es = old.entries.items in
+    let ready = c.mark_touched.new.ready in
+    let after = c.visit_ready-visited.new.entries in
+    let whole = lent-back after (drop (length after) es) old.entries.len (omega arith) in
+    let lent = c.deref_mut.ensures.value in
+    let names = ap (map name) whole ∙ c.visit_ready-visited.ensures.names ∙ ap (map name) lent in
+    let all = rows-all es c.requires.stay in
+    let idle = rest-all c.args.news ready old.reading item 0 es jobs (marked-at c.args.news ready c.deref.result.now es c.deref.ensures.value c.mark_touched.ensures.touched)
+    (subst (λ rs. AreFor c.args.news item rs jobs) all for) (subst (λ rs. KeepsJobs old.reading rs jobs) all keeps) (subst (λ rs. RestBut c.args.news 0 rs jobs) all rests) in
+    told-labelled old.reading item _ es c.visit_ready-visited.new.orders.items jobs names c.requires.stay c.requires.sound.once keeps
+    (c.visit_ready-visited.ensures.orders jobs item (subst (λ xs. AreFor c.args.news item (rows xs) jobs) (sym lent) for) fine idle (subst (λ xs. KeepsJobs old.reading (rows xs) jobs) (sym lent) keeps)
+    ∙ (λ i. c.requires.empty i ++ numbered_all (rows (lent i)) (told item jobs)))
+
+pub returns-clause-counted : goal.returns-clause-counted
+returns-clause-counted c =
+    let es = c.args.self.now.entries.items in
+    let after = c.visit_ready-visited.new.entries in
+    let whole = lent-back after (drop (length after) es) c.args.self.now.entries.len (omega arith) in
+    subst (λ all. IsCounted (counts (rows es)) (rows all) c.visit_ready-visited.result.0) (sym whole)
+    (visits-counted c.mark_touched.new.ready es after c.visit_ready-visited.result.0 c.requires.stay c.requires.sound.once
+    (subst (λ all. AreVisitedOnce c.mark_touched.new.ready 0 all after) c.deref_mut.ensures.value c.visit_ready-visited.ensures.asked) c.visit_ready-visited.ensures.visited)
+
+pub returns-clause-spared : goal.returns-clause-spared
+returns-clause-spared c = λ label others.
+    let es = c.args.self.now.entries.items in
+    let ready = c.mark_touched.new.ready in
+    let after = c.visit_ready-visited.new.entries in
+    let whole = lent-back after (drop (length after) es) c.args.self.now.entries.len (omega arith) in
+    let marked = marked-at c.args.news ready c.deref.result.now es c.deref.ensures.value c.mark_touched.ensures.touched in
+    ap (λ xs. count_in (counts (rows xs)) label) whole
+    ∙ spared-count ready 0 es after label c.requires.stay (subst (λ all. AreVisitedOnce ready 0 all after) c.deref_mut.ensures.value c.visit_ready-visited.ensures.asked)
+    (λ k e there has. marked k e there ∙ ap not (subst (λ p. is_touched c.args.news p e.def ≡ false) (omega arith) (others k e there has)))
+    ∙ ap (λ rs. count_in (counts rs) label) (sym (rows-all es c.requires.stay))
+
+pub returns-clause-whole : goal.returns-clause-whole
+returns-clause-whole c =
+    let old = c.args.self.now in
+    let es = old.entries.items in
+    let after = c.visit_ready-visited.new.entries in
+    let whole = lent-back after (drop (length after) es) old.entries.len (omega arith) in
+    let names = ap (map name) whole ∙ c.visit_ready-visited.ensures.names ∙ ap (map name) c.deref_mut.ensures.value in
+    let long : length after ≡ length es = omega arith in
+    let fits = c.requires.sound.named.marks in
+    let index : Index = record { timers = c.visit_ready-visited.new.timers; ready = c.visit_ready-visited.new.ready; places = old.index.places } in
+    let indexed : IsIndexOf index old.reading.up (with_items old.entries after).items = record {
+      timed = subst (AreTimed c.visit_ready-visited.new.timers old.reading.up) (sym whole) c.visit_ready-visited.ensures.timed;
+      alone = subst (AreAlone c.visit_ready-visited.new.timers) (ap (map name) c.deref_mut.ensures.value ∙ sym names) c.visit_ready-visited.ensures.alone;
+      space = subst (HaveRoom c.visit_ready-visited.new.timers) (sym names)
+          (λ number named. subst (λ r. number < r) (sym c.visit_ready-visited.ensures.space) (c.requires.sound.named.space number named));
+      placed = λ k e there. (let found = name-get es _ k e names there in let own = c.requires.placed k found.0 found.1 in
+          (subst (λ n. n < length old.index.places.items) found.2 own.0, ap (place_in old.index.places.items) (sym found.2) ∙ own.1));
+      empty = c.visit_ready-visited.ensures.done;
+      marks =
+          let count : length _ ≡ length after = ap length whole in
+          let names_long = length-names es in
+          let spaces = c.visit_ready-visited.ensures.marks ∙ c.mark_touched.ensures.room in
+          omega (arith, count, long, fits, spaces, names_long);
+    } in
+    record {
+      sound = record {
+        in_range = c.requires.sound.in_range;
+        wall = c.requires.sound.wall;
+        once = subst IsOnce (sym names) c.requires.sound.once;
+        held = held-names _ _ old.numbers (sym names) c.requires.sound.held;
+        free = subst (AreFree old.numbers) (sym names) c.requires.sound.free;
+        known = subst (λ ns. list_all (is_known ns) c.visit_ready-visited.new.orders.items ≡ true) (sym names)
+            (c.visit_ready-visited.ensures.known (map name es) (ap (list_all (is_named (map name es))) c.deref_mut.ensures.value ∙ all-named es)
+            (ap (list_all (is_known (map name es))) c.requires.empty));
+        few = let few = c.requires.sound.few in omega (arith, few);
+        room = let room = c.requires.sound.room in let more = c.visit_ready-visited.ensures.capacity in omega (arith, room, more);
+        named = named-of index old.reading.up (with_items old.entries after).items indexed;
+        calendars = c.requires.sound.calendars ∙ ap some_calendar (sym names);
+      };
+      indexed = indexed;
+      stay = λ all. subst AllStay (sym whole) (c.visit_ready-visited.ensures.stay all);
+    }
