@@ -18,13 +18,15 @@ use Rattle.ctl_protocol.specs.HeaderLines.{header_text}
 use Rattle.job_table.specs.Opening.{opening_refusal}
 use Rattle.job_table.specs.Rows.{Table}
 use Rattle.order_edge.specs.Calls.{Entry}
+use Rattle.load_asking.specs.declared.store.StoreFault.{StoreFault}
+use Rattle.load_asking.specs.declared.store.StoreFault.TheVariants as answers
 use Rattle.load_asking.specs.Stores.{StoreCall, AreTold}
 use Rattle.event_journal.specs.Journals.{Kept, Grows}
 use Rattle.launcher_turn.specs.Turns.{IsLed}
 use Rattle.table_opening.specs.Openings.{OpensBy, StandsOpened}
 use Rattle.launcher.specs.declared.host.HostFault.{HostFault}
 use Rattle.launcher.specs.declared.host.HostFault.TheVariants as faults
-use Rattle.launcher.specs.Faults.{IsFaultOf, IsStores, IsBadHeader}
+use Rattle.launcher.specs.Faults.{IsFaultOf, IsBadHeader, fault_of_store}
 use Rattle.launcher.specs.Hosts.{standing, with_settings, IsNew}
 
 -- a reading that is refused nowhere is within its limit
@@ -61,10 +63,9 @@ made_new header settings table calls stores stores' first noted before after sta
 -- ---- faults
 
 -- a fault of the store says nothing of the header
-pub stores_fault : (header : Header) (fault : HostFault) → IsStores fault → IsFaultOf header fault
-stores_fault header faults.NoMemory is = tt
-stores_fault header faults.Store is = tt
-stores_fault header faults.Header is = absurd is
+pub stores_fault : (header : Header) (fault : StoreFault) → IsFaultOf header (fault_of_store fault)
+stores_fault header answers.NoMemory = tt
+stores_fault header answers.Refused = tt
 
 -- the header's own settings are no part of its fault
 pub same_fault : (header : Header) (settings : List Setting) (fault : HostFault) → IsFaultOf (with_settings header settings) fault → IsFaultOf header fault

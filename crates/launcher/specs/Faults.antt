@@ -1,10 +1,17 @@
 -- Why a launcher could not be made.
-use Rattle.std.specs.Prelude.{◌≡◌, ◌⊎◌, Bool, true, false, Result, Ok, Err}
+use Rattle.std.specs.Prelude.{◌≡◌, ◌⊎◌, Bool, true, false, List, Result, Ok, Err}
+use Rattle.std.specs.List.{list_all}
+use Rattle.history_model.specs.declared.event.Setting.{Setting}
+use Rattle.history_model.specs.Labels.{is_label}
 use Rattle.history_model.specs.Refusals.{is_clock_refused}
 use Rattle.ctl_protocol.specs.declared.header.Header.{Header}
-use Rattle.table_opening.specs.Openings.{IsNoZone}
+use Rattle.job_table.specs.Rows.{Table}
+use Rattle.load_asking.specs.declared.store.StoreFault.{StoreFault}
+use Rattle.load_asking.specs.declared.store.StoreFault.TheVariants as answers
+use Rattle.table_opening.specs.Openings.{IsNoZone, StandsOpened}
 use Rattle.launcher.specs.declared.host.HostFault.{HostFault}
 use Rattle.launcher.specs.declared.host.HostFault.TheVariants as faults
+use Rattle.launcher.specs.Hosts.{with_settings}
 
 -- the header tells no machine: its zone is none, or its reading is past a limit
 abbrev pub IsBadHeader : Header → Type 0
@@ -21,8 +28,20 @@ abbrev pub FaultOf : {A : Type 0} → Header → Result A HostFault → Type 0
 FaultOf header (Ok made) = IsBadHeader header → ⊥
 FaultOf header (Err fault) = IsFaultOf header fault
 
--- a fault of the store, or want of memory
-abbrev pub IsStores : HostFault → Type 0
-IsStores faults.NoMemory = Unit {0}
-IsStores faults.Store = Unit {0}
-IsStores faults.Header = ⊥
+-- what a fault of the store is to the launcher
+abbrev pub fault_of_store : StoreFault → HostFault
+fault_of_store answers.NoMemory = faults.NoMemory
+fault_of_store answers.Refused = faults.Store
+
+-- Of a header with the settings that the store gave: Store is answered only if one of them is of a name that is no label, Header only if the
+-- header tells no machine. Memory may be refused at any time.
+abbrev pub IsFaultWith : Header → HostFault → Type 0
+IsFaultWith header faults.NoMemory = Unit {0}
+IsFaultWith header faults.Store = list_all (λ (setting : Setting). is_label setting.label) header.overrides ≡ false
+IsFaultWith header faults.Header = IsBadHeader header
+
+-- The fault of the store is the launcher's. With the settings that it gave, oldest first, the header opens the launcher's table, or there is such a fault.
+abbrev pub ComesOf : {A : Type 0} → (A → Table) → Header → Result (List Setting) StoreFault → Result A HostFault → Type 0
+ComesOf table header (Err fault) result = result ≡ Err (fault_of_store fault)
+ComesOf table header (Ok settings) (Ok made) = StandsOpened (with_settings header settings) (table made)
+ComesOf table header (Ok settings) (Err fault) = IsFaultWith (with_settings header settings) fault

@@ -1,10 +1,12 @@
 //! The launcher: how it is made, and what it lends.
 
-ghost use Rattle.std.specs.Prelude.{◌≡◌, ◌↔◌, IfOk, IsTrue, is_some, true};
+ghost use Rattle.std.specs.Prelude.{◌≡◌, ◌↔◌, IfOk, IsTrue, List, Result, is_some, true};
 ghost use Rattle.std.specs.Borrow.{sem};
+ghost use Rattle.history_model.specs.declared.event.Setting.{Setting};
+ghost use Rattle.load_asking.specs.declared.store.StoreFault.{StoreFault};
 ghost use Rattle.event_journal.specs.Journals.{fresh, held, told, is_writing};
 ghost use Rattle.launcher.specs.Hosts.{IsNew, standing};
-ghost use Rattle.launcher.specs.Faults.{FaultOf};
+ghost use Rattle.launcher.specs.Faults.{ComesOf, FaultOf};
 ghost use Rattle.launcher.specs.Lends.{lends_edge};
 
 use crate::making::{Inside, make_inside, store_fault, with_settings};
@@ -52,6 +54,7 @@ impl<T: SettingStore + Drop, E: ChildEdge + SocketEdge + Drop, W: Write + Drop> 
     ) -> Result<Host<T, E, W>, HostFault>
         ensures new { IfOk result (λ host. IsNew header (E.told edge) (T.told store) (fresh (held W.contents journal) (is_some journal)) (standing host.table (E.told host.edge) (T.told host.store) host.journal) (T.holds store) (T.holds host.store)) }
         ensures faults { FaultOf header result }
+        ensures comes { (answer : Result (List Setting) StoreFault) × (T.may_give store answer × ComesOf (λ host. host.table) header answer result) }
     {
         let mut store = store;
         let settings = match store.all(alloc) {

@@ -1,11 +1,11 @@
 //! What a launcher is made of, as its header tells it.
 
-ghost use Rattle.std.specs.Prelude.{◌≡◌, IfOk, is_some};
+ghost use Rattle.std.specs.Prelude.{◌≡◌, IfErr, IfOk, is_some};
 ghost use Rattle.ctl_protocol.specs.HeaderLines.{header_text};
 ghost use Rattle.event_journal.specs.Journals.{Grows, fresh, held};
 ghost use Rattle.table_opening.specs.Openings.{StandsOpened};
 ghost use Rattle.launcher.specs.Hosts.{with_settings as with_overrides};
-ghost use Rattle.launcher.specs.Faults.{IsStores, FaultOf};
+ghost use Rattle.launcher.specs.Faults.{FaultOf, IsFaultWith, fault_of_store};
 
 use crate::host::HostFault;
 use ctl_protocol::{Header, LineReader, Settings};
@@ -29,7 +29,7 @@ pub(crate) struct Inside<W: Write> {
 
 /// The fault that the store's is.
 pub(crate) fn store_fault(fault: StoreFault) -> HostFault
-    ensures { IsStores result }
+    ensures { result ≡ fault_of_store fault }
 {
     match fault {
         StoreFault::NoMemory => HostFault::NoMemory,
@@ -75,6 +75,7 @@ pub(crate) fn make_inside<W: Write + Drop>(
     ensures opened { IfOk result (λ made. StandsOpened header made.table) }
     ensures noted { IfOk result (λ made. Grows (fresh (held W.contents journal) (is_some journal)) made.journal (header_text header)) }
     ensures faults { FaultOf header result }
+    ensures fault { IfErr result (IsFaultWith header) }
 {
     let Ok((room, reader)) = reserved(alloc) else {
         return Err(HostFault::NoMemory);

@@ -1,6 +1,6 @@
 //! Where the settings of labels last.
 
-ghost use Rattle.std.specs.Prelude.{◌≡◌, ◌≤◌, List, [], ◌∷◌, Option, IfOk, reverse, true};
+ghost use Rattle.std.specs.Prelude.{◌≡◌, ◌≤◌, List, [], ◌∷◌, Option, Result, Ok, Err, IfOk, MatchResult, reverse, true};
 ghost use Rattle.history_model.specs.declared.event.Setting.{Setting as Held};
 ghost use Rattle.history_model.specs.Labels.{is_label};
 ghost use Rattle.history_model.specs.Step.{set_if};
@@ -20,11 +20,16 @@ pub enum StoreFault {
 
 /// Keeps the settings of labels, or refuses one.
 pub trait SettingStore {
+    ghost use Rattle.load_asking.specs.declared.store.StoreFault.{StoreFault};
+
     /// The store holds these settings, newest first, as long as it is what the implementation says of an honest one.
     ghost holds: { Self → List Held → Type 0 };
 
     /// The settings that it was asked to keep, with its answers, oldest first. A store that does not tell them has none.
     ghost told: { Self → Option (List StoreCall) };
+
+    /// What it may answer if it is asked for its settings, oldest first. A store that tells nothing of that may answer anything.
+    ghost may_give: { Self → Result (List Held) StoreFault → Type 0 };
 
     /// Stores that the label is disabled, or enabled, and the second of Unix time in which that was said. Tells whether it
     /// was stored; a refused setting leaves the store as it was.
@@ -38,5 +43,6 @@ pub trait SettingStore {
     fn all(&mut self, alloc: Global) -> Result<Vec<Setting>, StoreFault>
         ensures told { AreTold (Self.told self.old) [] (Self.told self.new) }
         ensures same { (settings : List Held) → Self.holds self.old settings → Self.holds self.new settings }
+        ensures answers { MatchResult result (λ all. Self.may_give self.old (Ok all.items)) (λ fault. Self.may_give self.old (Err fault)) }
         ensures gives { IfOk result (λ all. (settings : List Held) → Self.holds self.old settings → Self.holds self.new (reverse all.items)) };
 }

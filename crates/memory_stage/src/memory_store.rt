@@ -1,20 +1,23 @@
 //! A store of settings in memory, which refuses where it was told to.
 
-ghost use Rattle.std.specs.Prelude.{List, None};
+ghost use Rattle.std.specs.Prelude.{◌≡◌, List, None, MatchResult};
 ghost use Rattle.history_model.specs.declared.event.Setting.{Setting as Held};
+ghost use Rattle.memory_stage.specs.Answers.{MayGive};
 
 use history_model::{Setting, Text};
 use load_asking::{SettingStore, StoreFault};
 use std::alloc::Global;
 
-/// A store that takes each setting, or refuses each.
+/// A store that takes each setting, or refuses each; and gives its settings, or does not.
 #[derive(Drop)]
 pub struct MemoryStore {
     pub alloc: Global,
     /// What it holds, oldest first.
     pub held: Vec<Setting>,
-    /// What it answers.
+    /// What it answers if it is told a setting.
     pub answer: bool,
+    /// What it answers if it is asked for its settings and does not give them.
+    pub fault: Option<StoreFault>,
 }
 
 impl MemoryStore {
@@ -41,19 +44,24 @@ impl MemoryStore {
     }
 
     /// Copies of what it holds.
-    fn copies(&self, alloc: Global) -> Result<Vec<Setting>, StoreFault> {
+    fn copies(&self, alloc: Global) -> Result<Vec<Setting>, StoreFault>
+        ensures { MatchResult result (λ all. all.items ≡ self.now.held.items) (λ fault. fault ≡ StoreFault.NoMemory) }
+    {
         let mut all = Vec::new(alloc);
         for setting in &self.held {
             let setting = copied(alloc, setting)?;
-            if all.push(setting).is_err() {
-                return Err(StoreFault::NoMemory);
+            match all.push(setting) {
+                Ok(()) => {}
+                Err(_) => return Err(StoreFault::NoMemory),
             }
         }
         Ok(all)
     }
 }
 
-fn copied(alloc: Global, setting: &Setting) -> Result<Setting, StoreFault> {
+fn copied(alloc: Global, setting: &Setting) -> Result<Setting, StoreFault>
+    ensures { MatchResult result (λ copy. copy ≡ setting.now) (λ fault. fault ≡ StoreFault.NoMemory) }
+{
     match Text::copy_of(alloc, setting.label.as_str()) {
         Ok(label) => Ok(Setting {
             label,
@@ -68,11 +76,16 @@ impl SettingStore for MemoryStore {
 
     ghost told = { λ s. None };
 
+    ghost may_give = { λ s answer. MayGive s.held.items s.fault answer };
+
     fn set(&mut self, label: &str, disabled: bool, _changed: u64) -> bool {
         self.keep(label, disabled)
     }
 
     fn all(&mut self, alloc: Global) -> Result<Vec<Setting>, StoreFault> {
+        if let Some(fault) = self.fault {
+            return Err(fault);
+        }
         match self.copies(alloc) {
             Ok(all) => Ok(all),
             Err(fault) => Err(fault),

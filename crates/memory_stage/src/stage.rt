@@ -44,12 +44,13 @@ pub fn header(alloc: Global, zone: &str, up: u64) -> Result<Header, Refusal> {
     })
 }
 
-/// A store that holds these settings, and answers so.
+/// A store that holds these settings and gives them, and answers so if it is told another.
 pub fn store(alloc: Global, held: Vec<Setting>, answer: bool) -> MemoryStore {
     MemoryStore {
         alloc,
         held,
         answer,
+        fault: None,
     }
 }
 

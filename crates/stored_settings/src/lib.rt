@@ -35,6 +35,8 @@ impl<S: Alter> SettingStore for StoredSettings<S> {
 
     ghost told = { λ s. None };
 
+    ghost may_give = { λ s answer. Unit {0} };
+
     fn set(&mut self, label: &str, disabled: bool, changed: u64) -> bool {
         match self.store.set(label, disabled, changed) {
             Ok(()) => true,

@@ -11,7 +11,8 @@ mod tests {
     use crate::runs::*;
     use child_edge::{EdgeCall, Scripted};
     use history_model::Ended;
-    use launcher::Input;
+    use launcher::{HostFault, Input};
+    use load_asking::StoreFault;
 
     const STARTED: Scripted = Scripted::Started(812);
 
@@ -119,6 +120,22 @@ mod tests {
         let holds = is_bad_header(rt.alloc(), "UTC0", 9_000_000_000_000_001) == Ok(true);
         assert!(rt; holds);
         let holds = is_bad_header(rt.alloc(), "UTC0", 9_000_000_000_000_000) == Ok(false);
+        assert!(rt; holds);
+    }
+
+    /// A launcher is made of what its store gives. If the store gives nothing, or the setting of a name that is no label, that is the
+    /// launcher's fault.
+    #[test]
+    fn a_store_that_gives_nothing_opens_none(rt: HostRuntime) {
+        let holds = matches!(fault_over(rt.alloc(), "a", None), Ok(None));
+        assert!(rt; holds);
+        let given = fault_over(rt.alloc(), "a", Some(StoreFault::Refused));
+        let holds = matches!(given, Ok(Some(HostFault::Store)));
+        assert!(rt; holds);
+        let given = fault_over(rt.alloc(), "a", Some(StoreFault::NoMemory));
+        let holds = matches!(given, Ok(Some(HostFault::NoMemory)));
+        assert!(rt; holds);
+        let holds = matches!(fault_over(rt.alloc(), "", None), Ok(Some(HostFault::Store)));
         assert!(rt; holds);
     }
 

@@ -3,6 +3,7 @@
 use child_edge::{EdgeCall, Scripted};
 use history_model::{JobNo, Refusal, Setting, Text};
 use launcher::{HostFault, Input};
+use load_asking::StoreFault;
 use memory_stage::{Stage, edge, header, holds, opened, reading, set_stage, store};
 use std::alloc::Global;
 
@@ -110,9 +111,9 @@ pub fn is_stored(alloc: Global) -> Result<bool, Refusal> {
     Ok(made && store.is_one("z", true))
 }
 
-/// Says whether a launcher whose store disables the job's label begins with that.
-pub fn has_begun_with(alloc: Global) -> Result<bool, Refusal> {
-    let Ok(label) = Text::copy_of(alloc, "a") else {
+/// The one setting that this name is disabled.
+fn disabled(alloc: Global, name: &str) -> Result<Vec<Setting>, Refusal> {
+    let Ok(label) = Text::copy_of(alloc, name) else {
         return Err(Refusal::NoMemory);
     };
     let mut held = Vec::new(alloc);
@@ -120,9 +121,30 @@ pub fn has_begun_with(alloc: Global) -> Result<bool, Refusal> {
         label,
         disabled: true,
     };
-    if held.push(setting).is_err() {
-        return Err(Refusal::NoMemory);
+    match held.push(setting) {
+        Ok(()) => Ok(held),
+        Err(_) => Err(Refusal::NoMemory),
     }
+}
+
+/// The fault of a launcher whose store disables this name and, if it is asked for its settings, answers so. None if it is made.
+pub fn fault_over(
+    alloc: Global,
+    name: &str,
+    fault: Option<StoreFault>,
+) -> Result<Option<HostFault>, Refusal> {
+    let mut store = store(alloc, disabled(alloc, name)?, true);
+    store.fault = fault;
+    let header = header(alloc, "UTC0", 0)?;
+    match opened(alloc, header, store, edge(alloc, &[])?, 10) {
+        Ok(_) => Ok(None),
+        Err(fault) => Ok(Some(fault)),
+    }
+}
+
+/// Says whether a launcher whose store disables the job's label begins with that.
+pub fn has_begun_with(alloc: Global) -> Result<bool, Refusal> {
+    let held = disabled(alloc, "a")?;
     let header = header(alloc, "UTC0", 0)?;
     let edge = edge(alloc, &[])?;
     let Ok(mut stage) = opened(alloc, header, store(alloc, held, true), edge, 10) else {

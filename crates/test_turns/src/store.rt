@@ -1,6 +1,6 @@
 //! A store that answers as it was told to, and counts how often it was asked.
 
-ghost use Rattle.std.specs.Prelude.{List, None};
+ghost use Rattle.std.specs.Prelude.{◌≡◌, List, [], None, Ok};
 ghost use Rattle.history_model.specs.declared.event.Setting.{Setting as Held};
 
 use history_model::Setting;
@@ -20,6 +20,8 @@ impl SettingStore for ScriptedStore {
     ghost holds = { λ s settings. Unit {0} };
 
     ghost told = { λ s. None };
+
+    ghost may_give = { λ s answer. (answer ≡ Ok []) };
 
     fn set(&mut self, _label: &str, _disabled: bool, _changed: u64) -> bool {
         self.asked = self.asked.saturating_add(1);

@@ -1,11 +1,11 @@
 -- The parts, put together.
-use Rattle.std.proofs.Common.{subst}
-use Rattle.std.specs.Prelude.{is_some}
+use Rattle.std.proofs.Common.{subst, sym, ap}
+use Rattle.std.specs.Prelude.{is_some, Ok, Err}
 use Rattle.ctl_protocol.specs.declared.header.Header.{Header}
 use Rattle.ctl_protocol.specs.HeaderLines.{header_text}
 use Rattle.event_journal.specs.Journals.{Grows, fresh, held}
 use Rattle.table_opening.specs.Openings.{StandsOpened}
-use Rattle.launcher.specs.Faults.{IsFaultOf, IsBadHeader}
+use Rattle.launcher.specs.Faults.{IsFaultOf, IsFaultWith, IsBadHeader}
 use Rattle.launcher.proofs.First.{made_new, stores_fault, same_fault}
 use Rattle.launcher.proofs.host.Host.new.Goals as goal
 
@@ -22,8 +22,19 @@ pub returns-in-Ok-make_inside-clause-faults : goal.returns-in-Ok-make_inside-cla
 returns-in-Ok-make_inside-clause-faults g c = subst (λ (h : Header). IsBadHeader h → ⊥) c.with_settings.ensures c.in-Ok-make_inside.ensures.faults
 
 pub returns-in-Err-clause-faults : goal.returns-in-Err-clause-faults
-returns-in-Err-clause-faults g c = stores_fault c.args.header c.store_fault.result c.store_fault.ensures
+returns-in-Err-clause-faults g c = subst (IsFaultOf c.args.header) (sym c.store_fault.ensures) (stores_fault c.args.header c.in-Err.fault)
 
 pub returns-in-Err-make_inside-clause-faults : goal.returns-in-Err-make_inside-clause-faults
 returns-in-Err-make_inside-clause-faults g c =
     same_fault c.args.header c.in-Ok.settings.items c.in-Err-make_inside.fault (subst (λ (h : Header). IsFaultOf h c.in-Err-make_inside.fault) c.with_settings.ensures c.in-Err-make_inside.ensures.faults)
+
+pub returns-in-Ok-make_inside-clause-comes : goal.returns-in-Ok-make_inside-clause-comes
+returns-in-Ok-make_inside-clause-comes g c =
+    (Ok c.in-Ok.settings.items, (c.in-Ok.ensures.answers, subst (λ (h : Header). StandsOpened h c.in-Ok-make_inside.field-0.table) c.with_settings.ensures c.in-Ok-make_inside.ensures.opened))
+
+pub returns-in-Err-clause-comes : goal.returns-in-Err-clause-comes
+returns-in-Err-clause-comes g c = (Err c.in-Err.fault, (c.in-Err.ensures.answers, ap Err c.store_fault.ensures))
+
+pub returns-in-Err-make_inside-clause-comes : goal.returns-in-Err-make_inside-clause-comes
+returns-in-Err-make_inside-clause-comes g c =
+    (Ok c.in-Ok.settings.items, (c.in-Ok.ensures.answers, subst (λ (h : Header). IsFaultWith h c.in-Err-make_inside.fault) c.with_settings.ensures c.in-Err-make_inside.ensures.fault))
