@@ -1,7 +1,8 @@
 -- What comes to a launcher, as events of the journal and of the machine.
-use Rattle.std.specs.Prelude.{Bool, true, false, Option, Some, None, option_and_then}
+use Rattle.std.specs.Prelude.{ℕ, Bool, true, false, if◌then◌else◌, List, Option, Some, None, option_and_then}
 use Rattle.history_model.specs.declared.event.Event as journal
 use Rattle.history_model.specs.declared.event.Event.TheVariants as told
+use Rattle.history_model.specs.Labels.{is_label}
 use Rattle.ctl_protocol.specs.Rows.{request_at}
 use Rattle.load_asking.specs.declared.asking.Asked.{Asked}
 use Rattle.launcher.specs.declared.input.Input.{Input}
@@ -30,15 +31,19 @@ asked_in (told.Killed job run ok) = None
 asked_in (told.Ended job run how) = None
 asked_in (told.WaitRefused job run) = None
 
+-- what happens to the job of this label; under a name that is no label nothing does
+abbrev pub if_label : List ℕ → journal.Event → Option journal.Event
+if_label name event = if is_label name then Some event else None
+
 -- the event that an input is, before the outside was asked; a line that is no request is none
 abbrev pub event_given : Input → Option journal.Event
 event_given (inputs.Line line) = option_and_then asked_in (request_at line.now)
 event_given (inputs.Clock at) = Some (told.Clock at)
 event_given (inputs.Saw path obs) = Some (told.Saw path.now obs)
-event_given (inputs.Came job conn) = Some (told.Came job.now conn)
-event_given (inputs.Left job conn) = Some (told.Left job.now conn)
-event_given (inputs.Ended job run how) = Some (told.Ended job.now run how)
-event_given (inputs.WaitRefused job run) = Some (told.WaitRefused job.now run)
+event_given (inputs.Came job conn) = if_label job.now (told.Came job.now conn)
+event_given (inputs.Left job conn) = if_label job.now (told.Left job.now conn)
+event_given (inputs.Ended job run how) = if_label job.now (told.Ended job.now run how)
+event_given (inputs.WaitRefused job run) = if_label job.now (told.WaitRefused job.now run)
 
 -- the event with what the outside answered to it
 abbrev pub answered : Asked → journal.Event → journal.Event

@@ -3,15 +3,16 @@
 ghost use Rattle.std.specs.Prelude.{◌≡◌, Some, true};
 ghost use Rattle.launcher_load.specs.LoadTurns.{is_memory};
 ghost use Rattle.launcher_turn.specs.Events.{is_clock};
-ghost use Rattle.launcher_turn.specs.Lines.{told_by};
+ghost use Rattle.launcher_turn.specs.Lines.{told_by, told_of};
 ghost use Rattle.launcher.specs.Hosts.{Hears, standing};
-ghost use Rattle.launcher.specs.Inputs.{event_given, wants_memory};
+ghost use Rattle.launcher.specs.Inputs.{event_given, if_label, wants_memory};
 
 use crate::host::Host;
 use crate::input::Input;
-use crate::replies::done;
+use crate::replies::{done, refused};
 use child_edge::{ChildEdge, SocketEdge};
-use history_model::Reply;
+use history_model::{Refusal, Reply};
+use job_defs::is_label;
 use launcher_turn::{Happening, News, turn};
 use load_asking::SettingStore;
 use std::alloc::Global;
@@ -22,7 +23,7 @@ impl<T: SettingStore, E: ChildEdge + SocketEdge, W: Write> Host<T, E, W> {
     /// event, first in first out, until none is left. The journal gets the line of each event, and is flushed at the end. The
     /// reply is that of the input.
     ///
-    /// A line that is no request is answered by BadRequest, and is no event. NoMemory comes only to a line or a reading of the
+    /// A line that is no request, or what happened under a name that is no label, is answered by BadRequest, and is no event. NoMemory comes only to a line or a reading of the
     /// clocks, before anything was carried out; it is no event either.
     pub fn turn(&mut self, alloc: Global, input: Input<'_>) -> Reply
         ensures hears { Hears (event_given input.entry) result.refusal result.text (standing self.old.table (E.told self.old.edge) (T.told self.old.store) self.old.journal) (standing self.new.table (E.told self.new.edge) (T.told self.new.store) self.new.journal) (T.holds self.old.store) (T.holds self.new.store) }
@@ -42,18 +43,22 @@ impl<T: SettingStore, E: ChildEdge + SocketEdge, W: Write> Host<T, E, W> {
             Input::Line(line) => self.line(alloc, line),
             Input::Clock(at) => self.happen(alloc, Happening::Clock(at)),
             Input::Saw(path, obs) => self.happen(alloc, Happening::Saw(path, obs)),
-            Input::Came(job, conn) => {
-                self.happen(alloc, Happening::ToJob(job, News::Came(conn)))
-            }
-            Input::Left(job, conn) => {
-                self.happen(alloc, Happening::ToJob(job, News::Left(conn)))
-            }
-            Input::Ended(job, run, how) => {
-                self.happen(alloc, Happening::ToJob(job, News::Ended(run, how)))
-            }
-            Input::WaitRefused(job, run) => {
-                self.happen(alloc, Happening::ToJob(job, News::WaitRefused(run)))
-            }
+            Input::Came(job, conn) => self.happen_to(alloc, job, News::Came(conn)),
+            Input::Left(job, conn) => self.happen_to(alloc, job, News::Left(conn)),
+            Input::Ended(job, run, how) => self.happen_to(alloc, job, News::Ended(run, how)),
+            Input::WaitRefused(job, run) => self.happen_to(alloc, job, News::WaitRefused(run)),
+        }
+    }
+
+    /// What happens to the job of this label. A name that is no label is answered by BadRequest.
+    fn happen_to(&mut self, alloc: Global, job: &str, what: News) -> Reply
+        ensures hears { Hears (if_label job.now (told_of job.now what)) result.refusal result.text (standing self.old.table (E.told self.old.edge) (T.told self.old.store) self.old.journal) (standing self.new.table (E.told self.new.edge) (T.told self.new.store) self.new.journal) (T.holds self.old.store) (T.holds self.new.store) }
+        ensures memory { is_memory result.refusal ≡ true → ⊥ }
+    {
+        if is_label(job) {
+            self.happen(alloc, Happening::ToJob(job, what))
+        } else {
+            refused(alloc, Refusal::BadRequest)
         }
     }
 

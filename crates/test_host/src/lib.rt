@@ -95,14 +95,31 @@ mod tests {
     /// A line that is no request is no event, and has no line in the journal; nor has what only the outside can tell.
     #[test]
     fn a_line_that_is_no_request_is_no_event(rt: HostRuntime) {
-        let holds = is_unread(rt.alloc(), b"{\"req\":\"lists\"}") == Ok(true);
-        assert!(rt; holds);
-        let holds = is_unread(rt.alloc(), b"{\"req\":\"clock\",\"up\":1,\"wall\":1}") == Ok(true);
-        assert!(rt; holds);
-        let holds = is_unread(rt.alloc(), b"{\"ev\":\"list\"}") == Ok(true);
-        assert!(rt; holds);
-        let holds = is_unread(rt.alloc(), b"") == Ok(true);
-        assert!(rt; holds);
+        let lines: [&[u8]; 4] = [
+            b"{\"req\":\"lists\"}",
+            b"{\"req\":\"clock\",\"up\":1,\"wall\":1}",
+            b"{\"ev\":\"list\"}",
+            b"",
+        ];
+        for line in lines {
+            let holds = is_no_event(rt.alloc(), Input::Line(line)) == Ok(true);
+            assert!(rt; holds);
+        }
+    }
+
+    /// What happens under a name that is no label is no event either.
+    #[test]
+    fn a_name_that_is_no_label_is_no_event(rt: HostRuntime) {
+        let inputs = [
+            Input::Came("", 1),
+            Input::Left("a/b", 1),
+            Input::Ended("a\n", 1, Ended::Code(0)),
+            Input::WaitRefused("", 1),
+        ];
+        for input in inputs {
+            let holds = is_no_event(rt.alloc(), input) == Ok(true);
+            assert!(rt; holds);
+        }
     }
 
     /// The launcher begins with the settings of its store.

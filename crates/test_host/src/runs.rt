@@ -95,10 +95,10 @@ pub fn is_noted_unstored(alloc: Global) -> Result<bool, Refusal> {
     Ok(refused && holds(stage, NOT_STORED, b""))
 }
 
-/// Says whether a line is answered by code 2 and leaves the journal as it was.
-pub fn is_unread(alloc: Global, line: &[u8]) -> Result<bool, Refusal> {
+/// Says whether an input is answered by code 2 and leaves the journal as it was.
+pub fn is_no_event(alloc: Global, input: Input<'_>) -> Result<bool, Refusal> {
     let mut stage = set_stage(alloc, &[], true, 10)?;
-    let refused = is_answered(alloc, &mut stage, Input::Line(line), 2, "");
+    let refused = is_answered(alloc, &mut stage, input, 2, "");
     Ok(refused && holds(stage, HEADER, b""))
 }
 

@@ -1,6 +1,6 @@
 //! A store that answers as it was told to, and counts how often it was asked.
 
-ghost use Rattle.std.specs.Prelude.{◌≡◌, List, [], None, Ok};
+ghost use Rattle.std.specs.Prelude.{List, None};
 ghost use Rattle.history_model.specs.declared.event.Setting.{Setting as Held};
 
 use history_model::Setting;
@@ -21,7 +21,7 @@ impl SettingStore for ScriptedStore {
 
     ghost told = { λ s. None };
 
-    ghost may_give = { λ s answer. (answer ≡ Ok []) };
+    ghost may_give = { λ s answer. Unit {0} };
 
     fn set(&mut self, _label: &str, _disabled: bool, _changed: u64) -> bool {
         self.asked = self.asked.saturating_add(1);

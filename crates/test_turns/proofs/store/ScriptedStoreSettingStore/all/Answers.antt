@@ -1,6 +1,5 @@
-use Rattle.std.proofs.Common.{refl}
 use Rattle.test_turns.proofs.store.ScriptedStoreSettingStore.all.Goals as goal
 
 -- it tells nothing
 pub returns : goal.returns
-returns c = record { told = λ after is. cc; same = λ settings holds. tt; answers = refl; gives = λ settings holds. tt }
+returns c = record { told = λ after is. cc; same = λ settings holds. tt; answers = tt; gives = λ settings holds. tt }
