@@ -23,8 +23,8 @@ impl<T: SettingStore, E: ChildEdge + SocketEdge, W: Write> Host<T, E, W> {
     /// event, first in first out, until none is left. The journal gets the line of each event, and is flushed at the end. The
     /// reply is that of the input.
     ///
-    /// A line that is no request, or what happened under a name that is no label, is answered by BadRequest, and is no event. NoMemory comes only to a line or a reading of the
-    /// clocks, before anything was carried out; it is no event either.
+    /// A line that is no request, or what happened under a name that is no label, is answered by BadRequest, and is no event.
+    /// NoMemory comes only to a line or a reading of the clocks, before anything was carried out; it is no event either.
     pub fn turn(&mut self, alloc: Global, input: Input<'_>) -> Reply
         ensures hears { Hears (event_given input.entry) result.refusal result.text (standing self.old.table (E.told self.old.edge) (T.told self.old.store) self.old.journal) (standing self.new.table (E.told self.new.edge) (T.told self.new.store) self.new.journal) (T.holds self.old.store) (T.holds self.new.store) }
         ensures memory { is_memory result.refusal ≡ true → wants_memory input.entry ≡ true }
