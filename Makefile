@@ -2,7 +2,8 @@
 # make test   the gate: every proof from nothing, the wrong bodies, the tests, the programs
 # make times  the gate, and then what each crate cost it, in processor seconds
 # make build  proves, and leaves the programs as build/jobd and build/jobctl
-# make bench  times build/jobd, the calendar and the live launcher; BASELINE=PROGRAM takes turns with another program
+# make bench  times build/jobd, the calendar and the live launcher, and counts the instructions of a line; BASELINE=PROGRAM takes turns
+#             with another program
 .PHONY: run test times build bench need_rt
 
 # One job a check, as many checks side by side as there are processors: two jobs of one check cost a quarter more.
@@ -30,6 +31,7 @@ bench: build
 	@python3 bench/replay.py
 	@bench/calendar.sh
 	@python3 bench/live.py
+	@python3 bench/instructions.py
 
 need_rt:
 	@command -v rt > /dev/null 2>&1 || { echo "rt is not on the PATH: install the Rattle kit (README, What you need)" >&2; exit 127; }

@@ -71,9 +71,10 @@ def instructions(command, path, folder):
     return None
 
 
-def per_line(command, kind, jobs, folder):
+def per_line(command, kind, jobs, folder, lengths=(200, 1200)):
+    """The instructions of a line, as text; `-` where they were not counted."""
     counts = []
-    for lines in (200, 1200):
+    for lines in lengths:
         path = os.path.join(folder, "short")
         counts.append((write_stream(path, kind, jobs, lines), instructions(command, path, folder)))
     (few, less), (many, more) = counts
@@ -111,4 +112,5 @@ def main():
     sys.exit(0 if all(alike) else 1)
 
 
-main()
+if __name__ == "__main__":
+    main()

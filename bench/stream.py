@@ -9,6 +9,8 @@ JOBS jobs are loaded first. Then come about LINES lines of one KIND:
   interval  the clock is read each second, and every job runs once a minute or so
   looks     a watched path of one job after another is looked at, and changes at each fourth look
   loads     a job is loaded and unloaded again, beside the others
+  asks      one job after another, which ran once and is throttled, is asked to start
+  minutes   each reading crosses a minute, and no job has an entry for it (at most 59 lines)
 The stream is the same for the same words.
 """
 import json
@@ -88,7 +90,23 @@ def loads(jobs, lines):
         yield line({"ev": "unload", "job": name})
 
 
-KINDS = {kind.__name__: kind for kind in (ticks, starts, interval, looks, loads)}
+def asks(jobs, lines):
+    for number in range(jobs):
+        yield load(label(number), ThrottleInterval=86_400)
+        yield line({"ev": "start", "job": label(number)})
+        yield from answered(label(number), 1)
+    for turn in range(lines):
+        yield line({"ev": "start", "job": label(turn % jobs)})
+
+
+def minutes(jobs, lines):
+    for number in range(jobs):
+        yield load(label(number), StartCalendarInterval={"Minute": WALL // 60 % 60})
+    for crossed in range(1, min(lines, 59) + 1):
+        yield clock(60 * crossed)
+
+
+KINDS = {kind.__name__: kind for kind in (ticks, starts, interval, looks, loads, asks, minutes)}
 
 
 def main():

@@ -1,13 +1,11 @@
-//! The files of a store on disks in memory, with and without fuses.
+//! The files of a store on disks in memory, with and without fuses. What lets a store go is proved for its whole type, so all
+//! that can be is generic over what the store stands on.
 
 use history_model::Setting;
-use override_store::OverrideStore;
-use sqlite::{Connection, FileStore, Files, Options};
+use sqlite::{Alter, Connection, FileStore, Files, Options};
 use sqlite_disk::{Disk, Fuse, Memory};
 use std::alloc::Global;
-
-/// A store's files whose disks stop.
-pub type Stopping = Files<Fuse<Memory>>;
+use stored_settings::opened;
 
 /// The connection over these files, if they can be used.
 pub fn connected<D: Disk + Drop>(
@@ -20,11 +18,19 @@ pub fn connected<D: Disk + Drop>(
     Connection::open_files(alloc, files, Options::new(7)).ok()
 }
 
-fn store_over<D: Disk + Drop>(
+/// The settings that a store on this connection has, and what stays of the connection.
+fn listed<S: Alter + Drop>(alloc: Global, conn: Connection<S>) -> Option<(Vec<Setting>, S)> {
+    let (settings, all) = opened(alloc, conn).ok()?;
+    Some((all, settings.store.close_on().into_store()))
+}
+
+/// The settings that a store over these files has, and the files.
+pub fn listed_from<D: Disk + Drop>(
     alloc: Global,
     files: Files<D>,
-) -> Option<OverrideStore<FileStore<D>>> {
-    OverrideStore::open_on(alloc, connected(alloc, files)?).ok()
+) -> Option<(Vec<Setting>, Files<D>)> {
+    let (all, store) = listed(alloc, connected(alloc, files)?)?;
+    Some((all, store.close()))
 }
 
 /// The files of a store with no setting.
@@ -33,13 +39,8 @@ pub fn empty_files(alloc: Global) -> Option<Files<Memory>> {
         log: Memory::new(alloc),
         db: Memory::new(alloc),
     };
-    store_over(alloc, files)?.close_on().close_files().ok()
-}
-
-/// The settings that a store over these files has.
-pub fn settings_of(alloc: Global, files: Files<Memory>) -> Option<Vec<Setting>> {
-    let mut store = store_over(alloc, files)?;
-    store.all(alloc).ok()
+    let (_none, files) = listed_from(alloc, files)?;
+    Some(files)
 }
 
 fn copy(alloc: Global, disk: &Memory) -> Option<Memory> {
@@ -49,14 +50,19 @@ fn copy(alloc: Global, disk: &Memory) -> Option<Memory> {
 }
 
 /// Copies of the files; that of the log stops after so many calls, and that of the database after so many.
-pub fn fused(alloc: Global, from: &Files<Memory>, log: u64, db: u64) -> Option<Stopping> {
+pub fn fused(
+    alloc: Global,
+    from: &Files<Memory>,
+    log: u64,
+    db: u64,
+) -> Option<Files<Fuse<Memory>>> {
     let log = Fuse::new(copy(alloc, &from.log)?, log);
     let db = Fuse::new(copy(alloc, &from.db)?, db);
     Some(Files { log, db })
 }
 
 /// What the disks hold, without their fuses.
-pub fn left(alloc: Global, files: &Stopping) -> Option<Files<Memory>> {
+pub fn left(alloc: Global, files: &Files<Fuse<Memory>>) -> Option<Files<Memory>> {
     let log = copy(alloc, files.log.inner())?;
     let db = copy(alloc, files.db.inner())?;
     Some(Files { log, db })

@@ -1,16 +1,16 @@
 //! A launcher that disables a label over disks that stop.
 
-use crate::disks::{Stopping, connected, empty_files, fused, left, settings_of};
-use child_edge::{EdgeCall, MemoryEdge, Scripted};
+use crate::disks::{connected, empty_files, fused, left, listed_from};
+use child_edge::{ChildEdge, EdgeCall, MemoryEdge, Scripted, SocketEdge};
 use history_model::Setting;
 use launcher::{Host, Input};
+use load_asking::SettingStore;
 use memory_stage::{Sink, edge, header};
-use sqlite::{FileStore, Files};
-use sqlite_disk::{Fuse, Memory};
+use sqlite::{Alter, Connection, Files};
+use sqlite_disk::{Disk, Memory};
 use std::alloc::Global;
-use stored_settings::{StoredSettings, opened};
-
-type Launcher = Host<StoredSettings<FileStore<Fuse<Memory>>>, MemoryEdge, Sink>;
+use std::io::Write;
+use stored_settings::opened;
 
 /// More calls than any run makes.
 const MANY: u64 = 1_000_000;
@@ -20,26 +20,50 @@ const DISABLE: &[u8] = b"{\"req\":\"disable\",\"job\":\"a\"}";
 const LOAD: &[u8] =
     b"{\"req\":\"load\",\"def\":\"{\\\"Label\\\":\\\"a\\\",\\\"ProgramArguments\\\":[\\\"/bin/a\\\"]}\"}";
 
-/// A launcher over these files; none where a disk stopped before it was made.
-fn launched(alloc: Global, files: Stopping) -> Option<Launcher> {
-    let (store, _) = opened(alloc, connected(alloc, files)?).ok()?;
+/// The codes that `a`'s disabling and then a load of it were answered.
+type Codes = (u8, u8);
+
+/// A launcher over this store; none where the store refused.
+fn launched<T: SettingStore + Drop>(alloc: Global, store: T) -> Option<Host<T, MemoryEdge, Sink>> {
     let header = header(alloc, "UTC0", 0).ok()?;
     let calls: [(EdgeCall, Scripted); 0] = [];
     let edge = edge(alloc, &calls).ok()?;
     Host::new(alloc, header, store, edge, None).ok()
 }
 
-fn code(alloc: Global, host: &mut Launcher, line: &[u8]) -> u8 {
+fn code<T: SettingStore, E: ChildEdge + SocketEdge, W: Write>(
+    alloc: Global,
+    host: &mut Host<T, E, W>,
+    line: &[u8],
+) -> u8 {
     match host.turn(alloc, Input::Line(line)).refusal {
         Some(refusal) => refusal.code(),
         None => 0,
     }
 }
 
-/// The files of a launcher's store, closed as far as that goes.
-fn files_of(host: Launcher) -> Stopping {
+/// The store once `a` was disabled and loaded.
+fn turned<T: SettingStore + Drop, E: ChildEdge + SocketEdge + Drop, W: Write + Drop>(
+    alloc: Global,
+    host: Host<T, E, W>,
+) -> (Codes, T) {
+    let mut host = host;
+    let disabled = code(alloc, &mut host, DISABLE);
+    let loaded = code(alloc, &mut host, LOAD);
     let (_table, store, _edge, _journal) = host.into_parts();
-    store.store.close_on().into_store().close()
+    ((disabled, loaded), store)
+}
+
+/// What stays of the connection, closed as far as that goes; none where a disk stopped before the launcher was made.
+fn run_over<S: Alter + Drop>(alloc: Global, conn: Connection<S>) -> Option<(Codes, S)> {
+    let (settings, _) = opened(alloc, conn).ok()?;
+    let (codes, settings) = turned(alloc, launched(alloc, settings)?);
+    Some((codes, settings.store.close_on().into_store()))
+}
+
+fn run_from<D: Disk + Drop>(alloc: Global, files: Files<D>) -> Option<(Codes, Files<D>)> {
+    let (codes, store) = run_over(alloc, connected(alloc, files)?)?;
+    Some((codes, store.close()))
 }
 
 /// Whether `a` alone has a setting, and that disables it.
@@ -50,10 +74,9 @@ fn is_disabled(all: &[Setting]) -> bool {
     }
 }
 
-/// Whether a store may have these settings where `a` was disabled with the first code, and a load of it then answered the
-/// second.
-fn may_follow(disabled: u8, loaded: u8, all: &[Setting]) -> bool {
-    match (disabled, loaded) {
+/// Whether a store may have these settings where those codes were answered.
+fn may_follow(codes: Codes, all: &[Setting]) -> bool {
+    match codes {
         (0, 5) => is_disabled(all),
         (9, 0) => all.is_empty() || is_disabled(all),
         _ => false,
@@ -62,16 +85,12 @@ fn may_follow(disabled: u8, loaded: u8, all: &[Setting]) -> bool {
 
 /// Whether the setting was acknowledged; none where what is found does not follow.
 fn stops(alloc: Global, from: &Files<Memory>, log: u64, db: u64) -> Option<bool> {
-    let files = fused(alloc, from, log, db)?;
-    let Some(mut host) = launched(alloc, files) else {
+    let Some((codes, files)) = run_from(alloc, fused(alloc, from, log, db)?) else {
         return Some(false);
     };
-    let disabled = code(alloc, &mut host, DISABLE);
-    let loaded = code(alloc, &mut host, LOAD);
-    let files = left(alloc, &files_of(host))?;
-    let all = settings_of(alloc, files)?;
-    if may_follow(disabled, loaded, &all) {
-        Some(disabled == 0)
+    let (all, _files) = listed_from(alloc, left(alloc, &files)?)?;
+    if may_follow(codes, &all) {
+        Some(codes.0 == 0)
     } else {
         None
     }
