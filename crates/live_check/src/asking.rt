@@ -1,7 +1,7 @@
 //! Programs that are run to their end.
 
 use crate::files::pause;
-use crate::stage::{Stage, add_words};
+use crate::stage::{Reply, Stage, add_words};
 use std::alloc::Global;
 use std::io;
 use std::process::{Command, Output};
@@ -38,8 +38,28 @@ fn jobd(alloc: Global, stage: &Stage, words: &str) -> io::Result<Command> {
     Ok(command)
 }
 
-pub fn ask(rt: &HostRuntime, stage: &Stage, words: &str) -> io::Result<()> {
+// Runs `jobctl`, and keeps what it was answered.
+fn asked(rt: &HostRuntime, stage: &mut Stage, words: &str) -> io::Result<Output> {
     let output = jobctl(rt.alloc(), stage, words)?.output(rt)?;
+    let replies = &mut stage.replies;
+    replies.push(Reply {
+        code: code_of(&output),
+        text: String::from_str(rt.alloc(), said(&output))?,
+    })?;
+    Ok(output)
+}
+
+// A refusal's text is on standard error.
+fn said(output: &Output) -> &str {
+    if output.stdout.is_empty() {
+        text_of(output.stderr.as_slice())
+    } else {
+        text_of(output.stdout.as_slice())
+    }
+}
+
+pub fn ask(rt: &HostRuntime, stage: &mut Stage, words: &str) -> io::Result<()> {
+    let output = asked(rt, stage, words)?;
     print_end(rt, words, &output)
 }
 
@@ -68,13 +88,18 @@ pub fn list(rt: &HostRuntime, stage: &Stage, words: &str) -> io::Result<()> {
     print_fronts(rt, text_of(output.stdout.as_slice()))
 }
 
-fn is_told(rt: &HostRuntime, stage: &Stage, words: &str, part: &str) -> io::Result<bool> {
-    let output = jobctl(rt.alloc(), stage, words)?.output(rt)?;
+fn is_told(rt: &HostRuntime, stage: &mut Stage, words: &str, part: &str) -> io::Result<bool> {
+    let output = asked(rt, stage, words)?;
     Ok(text_of(output.stdout.as_slice()).contains(part))
 }
 
 /// Whether `jobctl` comes to answer with this in its text.
-pub fn comes_to_tell(rt: &HostRuntime, stage: &Stage, words: &str, part: &str) -> io::Result<bool> {
+pub fn comes_to_tell(
+    rt: &HostRuntime,
+    stage: &mut Stage,
+    words: &str,
+    part: &str,
+) -> io::Result<bool> {
     for _ in 0..1000u32 {
         if is_told(rt, stage, words, part)? {
             return Ok(true);

@@ -2,9 +2,11 @@
 
 use crate::asking::{ask, comes_to_tell, list, run};
 use crate::calling::{begin, call, call_port, finish, send};
-use crate::files::{comes_to_have, comes_to_hold};
-use crate::journal::replay;
-use crate::scenes::{AROUND, CALLERS, DEMANDS, ENDS, FAULTS, FULL, REQUESTS, SETTINGS, TOGETHER};
+use crate::files::{comes_to_have, comes_to_hold, is_there};
+use crate::journal::{compare, replay};
+use crate::scenes::{
+    AROUND, CALLERS, DEMANDS, ENDS, FAULTS, FULL, KILLED, REQUESTS, SETTINGS, THERE, TOGETHER,
+};
 use crate::serving::{end, serve};
 use crate::stage::Stage;
 use crate::step::Step;
@@ -41,7 +43,19 @@ fn wait_for_part(rt: &HostRuntime, stage: &Stage, name: &str, part: &str) -> io:
     tell_wait(rt, name, comes_to_have(rt, path.as_str(), part.as_str()))
 }
 
-fn wait_for_answer(rt: &HostRuntime, stage: &Stage, words: &str, part: &str) -> io::Result<()> {
+// The file holds the number in a line.
+fn tell_gone(rt: &HostRuntime, stage: &Stage, name: &str) -> io::Result<()> {
+    let path = stage.path(rt.alloc(), name)?;
+    let number = fs::read_to_string(rt, path.as_str())?;
+    let process = format!(in rt.alloc(); "/proc/{}", number.trim())?;
+    if is_there(rt, process.as_str()) {
+        println!(rt; "{name}: left")
+    } else {
+        println!(rt; "{name}: gone")
+    }
+}
+
+fn wait_for_answer(rt: &HostRuntime, stage: &mut Stage, words: &str, part: &str) -> io::Result<()> {
     let came = comes_to_tell(rt, stage, words, part)?;
     tell_wait(rt, words, came)
 }
@@ -64,6 +78,8 @@ fn play(rt: &HostRuntime, stage: &mut Stage, step: Step) -> io::Result<()> {
         Step::SendLines(lines) => send(rt, stage, lines),
         Step::Tells(words, part) => wait_for_answer(rt, stage, words, part),
         Step::Replay(name, part) => replay(rt, stage, name, part),
+        Step::Compare(name) => compare(rt, stage, name),
+        Step::Gone(name) => tell_gone(rt, stage, name),
     }
 }
 
@@ -99,9 +115,15 @@ fn play_jobs(rt: &HostRuntime) -> io::Result<()> {
     play_scene(rt, "callers", CALLERS)
 }
 
+fn play_states(rt: &HostRuntime) -> io::Result<()> {
+    play_scene(rt, "killed", KILLED)?;
+    play_scene(rt, "there", THERE)
+}
+
 fn play_scenes(rt: &HostRuntime) -> io::Result<()> {
     play_requests(rt)?;
-    play_jobs(rt)
+    play_jobs(rt)?;
+    play_states(rt)
 }
 
 /// Plays each scene. The status is 0, or 1 where a step could not be made.

@@ -37,10 +37,18 @@ const SEVEN: &str =
     r#"{"Label":"seven","ProgramArguments":["/bin/sh","-c","exit 7"],"RunAtLoad":true}"#;
 
 const MILD: &str =
-    r#"{"Label":"mild","ProgramArguments":["/bin/sh","-c","exec sleep 60"],"RunAtLoad":true,"ExitTimeOut":0}"#;
+    r#"{"Label":"mild","ProgramArguments":["/bin/sh","-c","while :; do :; done"],"RunAtLoad":true,"ExitTimeOut":0}"#;
 
 const DEAF: &str =
-    r#"{"Label":"deaf","ProgramArguments":["/bin/sh","-c","trap '' TERM; : > @/deafened; while :; do sleep 0.1; done"],"RunAtLoad":true,"ExitTimeOut":1}"#;
+    r#"{"Label":"deaf","ProgramArguments":["/bin/sh","-c","trap '' TERM; echo $$ > @/deafened; while :; do :; done"],"RunAtLoad":true,"ExitTimeOut":1}"#;
+
+/// Kept while the file is there; so it begins once the file was made.
+const WHILE_THERE: &str =
+    r#"{"Label":"there","ProgramArguments":["/bin/sh","-c","echo found > @/found"],"KeepAlive":{"PathState":{"@/flag":true}}}"#;
+
+/// Kept while the file is not there.
+const WHILE_GONE: &str =
+    r#"{"Label":"gone","ProgramArguments":["/bin/sh","-c","exit 3"],"KeepAlive":{"PathState":{"@/flag":false}}}"#;
 
 const NET: &str =
     r##"{"Label":"net","ProgramArguments":["/bin/cat"],"inetdCompatibility":{"Wait":false},"Sockets":{"s":{"SockNodeName":"#","SockServiceName":17007}}}"##;
@@ -184,7 +192,7 @@ pub static ENDS: &[Step] = &[
     Tells("print mild", "state = running"),
     Ask("stop mild"),
     Tells("print mild", "last exit = signal 15"),
-    Holds("deafened", ""),
+    Has("deafened", "\n"),
     Ask("stop deaf"),
     Tells("print deaf", "last exit = signal 9"),
     Ask("stop deaf"),
@@ -193,6 +201,37 @@ pub static ENDS: &[Step] = &[
     End,
     Replay("journal", r#""ev":"stop""#),
     Replay("journal", r#""ev":"list"}"#),
+    Compare("journal"),
+];
+
+pub static KILLED: &[Step] = &[
+    Make("deaf.json", DEAF),
+    Serve("--journal journal"),
+    Ask("load deaf.json"),
+    Has("deafened", "\n"),
+    Ask("shutdown"),
+    End,
+    Gone("deafened"),
+    Replay("journal", r#""ev":"shutdown""#),
+    Replay("journal", r#""ev":"killed""#),
+    Replay("journal", r#""ev":"ended""#),
+    Compare("journal"),
+];
+
+pub static THERE: &[Step] = &[
+    Make("there.json", WHILE_THERE),
+    Make("gone.json", WHILE_GONE),
+    Serve("--journal journal"),
+    Ask("load there.json"),
+    Ask("load gone.json"),
+    Tells("print gone", "last exit = code 3"),
+    Ask("list"),
+    Make("flag", ""),
+    Holds("found", "found\n"),
+    Tells("print there", "last exit = code 0"),
+    Ask("shutdown"),
+    End,
+    Compare("journal"),
 ];
 
 pub static CALLERS: &[Step] = &[

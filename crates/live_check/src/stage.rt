@@ -17,6 +17,15 @@ pub struct Stage {
     pub front: String,
     pub launcher: Option<Child<<HostRuntime as Processes>::Started>>,
     pub caller: Option<UnixStream>,
+    // What `jobctl` was answered, oldest first.
+    pub replies: Vec<Reply>,
+}
+
+/// What `jobctl` was answered: its status, and its text.
+#[derive(Drop)]
+pub struct Reply {
+    pub code: i32,
+    pub text: String,
 }
 
 fn own_path(rt: &HostRuntime) -> io::Result<String> {
@@ -78,6 +87,7 @@ impl Stage {
             front,
             launcher: None,
             caller: None,
+            replies: Vec::new(rt.alloc()),
         })
     }
 

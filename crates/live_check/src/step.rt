@@ -36,4 +36,8 @@ pub enum Step {
     Tells(&'static str, &'static str),
     /// Replays the journal, and prints the outcome of each event that has this text in its line.
     Replay(&'static str, &'static str),
+    /// Replays the journal, and says whether each request has the outcome that `jobctl` was answered.
+    Compare(&'static str),
+    /// Says whether the process is left whose number the file holds.
+    Gone(&'static str),
 }

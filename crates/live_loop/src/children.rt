@@ -1,12 +1,12 @@
 //! The children, each asked about once a round.
 
-use crate::inputs::Inputs;
 use crate::system::System;
 use child_edge::{ChildEdge, OsEdge};
 use history_model::JobNo;
 use launcher::Input;
 use launcher_turn::{LabelRoom, MOST_JOBS};
 use load_asking::SettingStore;
+use round_findings::Inputs;
 use std::alloc::Global;
 use std::io::Write;
 

@@ -1,7 +1,6 @@
 //! The clients of jobs' sockets, from their coming to the end of their request. Then the edge of the system has them.
 
 use crate::caller::{Caller, Gathered};
-use crate::inputs::Inputs;
 use crate::system::System;
 use child_edge::{Client, OsEdge, SocketEdge};
 use history_model::JobNo;
@@ -9,6 +8,7 @@ use launcher::Input;
 use launcher_turn::{LabelRoom, MOST_JOBS};
 use load_asking::SettingStore;
 use mio::{Registry, Token};
+use round_findings::Inputs;
 use slab::Slab;
 use socket_demand::Exchange;
 use std::alloc::{AllocError, Global};

@@ -6,18 +6,14 @@
 mod caller;
 mod children;
 mod fault;
-mod inputs;
 mod job_sockets;
 mod live;
-mod paths;
-mod quiet;
 mod rounds;
 mod system;
 mod waiting;
 
 pub use fault::ServeFault;
 pub use live::Live;
-pub use quiet::is_wanted;
 pub use rounds::{round, serve};
 pub use system::System;
 pub use waiting::{next_pause, round_wait};

@@ -1,9 +1,7 @@
 //! The launcher with what its loop waits on.
 
 use crate::fault::ServeFault;
-use crate::inputs::Inputs;
 use crate::job_sockets::JobSockets;
-use crate::paths::Sights;
 use crate::system::System;
 use crate::waiting::SHORTEST;
 use child_edge::OsEdge;
@@ -12,6 +10,7 @@ use launcher::Host;
 use launcher_turn::LabelRoom;
 use load_asking::SettingStore;
 use mio::{Events, Poll, Token};
+use round_findings::{Inputs, Sights};
 use std::alloc::{AllocError, Global};
 use std::io::Write;
 

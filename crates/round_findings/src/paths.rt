@@ -22,7 +22,7 @@ const MOST_PATHS: u32 = 65_536;
 /// What was last seen at each path and handed in. A sight that is equal to the last one is not handed in again, unless a job
 /// was loaded since.
 #[derive(Drop)]
-pub(crate) struct Sights {
+pub struct Sights {
     alloc: Global,
     seen: BTreeMap<String, Obs>,
     path: String,
@@ -30,7 +30,7 @@ pub(crate) struct Sights {
 }
 
 impl Sights {
-    pub(crate) fn new(alloc: Global) -> Result<Sights, AllocError> {
+    pub fn new(alloc: Global) -> Result<Sights, AllocError> {
         let path = String::with_capacity(alloc, LONGEST_PATH)?;
         Ok(Sights {
             alloc,
@@ -41,7 +41,7 @@ impl Sights {
     }
 
     /// The moment of `up` of the next look, if a path is listed.
-    pub(crate) fn next_look(&self, table: &JobTable) -> Option<u64> {
+    pub fn next_look(&self, table: &JobTable) -> Option<u64> {
         match table.path_after("") {
             None => None,
             Some(_) => Some(self.next),
@@ -50,7 +50,7 @@ impl Sights {
 
     /// Looks at each listed path, if it is time: in byte order, and hands in what is new. A refused look is no event. It says
     /// whether it was time.
-    pub(crate) fn look<T: SettingStore, E: ChildEdge + SocketEdge + PathEdge, W: Write>(
+    pub fn look<T: SettingStore, E: ChildEdge + SocketEdge + PathEdge, W: Write>(
         &mut self,
         alloc: Global,
         inputs: &mut Inputs<T, E, W>,

@@ -13,8 +13,8 @@ use std::io::Write;
 /// A launcher at the reading of the present round. That reading is handed to it before any other input of the round, and
 /// else only if it may change something.
 #[derive(Drop)]
-pub(crate) struct Inputs<T: SettingStore, E: ChildEdge + SocketEdge, W: Write> {
-    pub(crate) host: Host<T, E, W>,
+pub struct Inputs<T: SettingStore, E: ChildEdge + SocketEdge, W: Write> {
+    pub host: Host<T, E, W>,
     at: Reading,
     // The launcher did not take the reading.
     is_refused: bool,
@@ -37,7 +37,7 @@ enum Asked {
 
 impl<T: SettingStore, E: ChildEdge + SocketEdge, W: Write> Inputs<T, E, W> {
     /// The launcher at its own last reading.
-    pub(crate) fn new(alloc: Global, host: Host<T, E, W>) -> Result<Inputs<T, E, W>, AllocError>
+    pub fn new(alloc: Global, host: Host<T, E, W>) -> Result<Inputs<T, E, W>, AllocError>
     where
         T: Drop,
         E: Drop,
@@ -57,12 +57,12 @@ impl<T: SettingStore, E: ChildEdge + SocketEdge, W: Write> Inputs<T, E, W> {
     }
 
     /// The reading of the present round.
-    pub(crate) fn at(&self) -> Reading {
+    pub fn at(&self) -> Reading {
         self.at
     }
 
     /// The `up` of now, or of the round where the clock can't be read.
-    pub(crate) fn up_now(&mut self) -> u64
+    pub fn up_now(&mut self) -> u64
     where
         E: ClockEdge,
     {
@@ -73,22 +73,22 @@ impl<T: SettingStore, E: ChildEdge + SocketEdge, W: Write> Inputs<T, E, W> {
     }
 
     /// Whether something happened in this round.
-    pub(crate) fn is_active(&self) -> bool {
+    pub fn is_active(&self) -> bool {
         self.is_active
     }
 
     /// Something happened that is no input, as bytes that came.
-    pub(crate) fn stir(&mut self) {
+    pub fn stir(&mut self) {
         self.is_active = true;
     }
 
     /// Whether a shutdown was accepted, and no job is left.
-    pub(crate) fn has_ended(&self) -> bool {
+    pub fn has_ended(&self) -> bool {
         self.is_ending && self.host.table().is_empty()
     }
 
     /// Whether a load was accepted since this was asked last.
-    pub(crate) fn take_loaded(&mut self) -> bool {
+    pub fn take_loaded(&mut self) -> bool {
         let has_loaded = self.has_loaded;
         self.has_loaded = false;
         has_loaded
@@ -96,7 +96,7 @@ impl<T: SettingStore, E: ChildEdge + SocketEdge, W: Write> Inputs<T, E, W> {
 
     /// The next moment of `up` at which time alone may make an order due. None also while readings are refused, so that a
     /// moment that was reached does not keep the loop from waiting.
-    pub(crate) fn next_moment(&self) -> Option<u64> {
+    pub fn next_moment(&self) -> Option<u64> {
         if self.is_refused {
             None
         } else {
@@ -106,7 +106,7 @@ impl<T: SettingStore, E: ChildEdge + SocketEdge, W: Write> Inputs<T, E, W> {
 
     /// Begins a round at a new reading, which is handed in if it may change something. If the clock can't be read, the round
     /// is at the reading of the one before.
-    pub(crate) fn begin(&mut self, alloc: Global)
+    pub fn begin(&mut self, alloc: Global)
     where
         E: ClockEdge,
     {
@@ -132,7 +132,7 @@ impl<T: SettingStore, E: ChildEdge + SocketEdge, W: Write> Inputs<T, E, W> {
 
     /// Hands in what happened, after the reading of the round. A refused wait is told each round, so it is no reason to wait
     /// less.
-    pub(crate) fn give(&mut self, alloc: Global, input: Input<'_>) -> Reply {
+    pub fn give(&mut self, alloc: Global, input: Input<'_>) -> Reply {
         let was_active = self.is_active;
         self.tell_time(alloc);
         self.is_active = match input {

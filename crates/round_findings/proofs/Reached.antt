@@ -9,7 +9,7 @@ use Rattle.history_model.specs.Moments.{next_moment}
 use Rattle.history_model.specs.Machine.{Job}
 use Rattle.history_model.specs.Calendar.{minutes_above, last_before, crossed}
 use Rattle.job_table.specs.Moments.{is_moment, IsNextUp}
-use Rattle.live_loop.specs.Quiet.{is_reached, is_minute_crossed}
+use Rattle.round_findings.specs.Quiet.{is_reached, is_minute_crossed}
 
 or-in : (a b : Bool) → b ≡ true → (a || b) ≡ true
 or-in true b e = refl

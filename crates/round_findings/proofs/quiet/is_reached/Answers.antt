@@ -1,7 +1,7 @@
 use Rattle.std.proofs.Common.{sym, ap, ◌∙◌}
-use Rattle.live_loop.specs.Quiet.{is_reached as has_reached}
-use Rattle.live_loop.proofs.Reached.{reached}
-use Rattle.live_loop.proofs.quiet.is_reached.Goals as goal
+use Rattle.round_findings.specs.Quiet.{is_reached as has_reached}
+use Rattle.round_findings.proofs.Reached.{reached}
+use Rattle.round_findings.proofs.quiet.is_reached.Goals as goal
 
 pub returns-in-None : goal.returns-in-None
 returns-in-None c = λ jobs next. sym (ap (has_reached c.args.up) c.in-None.is) ∙ reached c.args.up c.args.moment jobs next

@@ -2,8 +2,8 @@ use Rattle.std.proofs.Common.{◌≡◌}
 use Rattle.std.specs.List.{list_any}
 use Rattle.history_model.specs.Moments.{next_moment}
 use Rattle.job_table.specs.Moments.{have_calendars}
-use Rattle.live_loop.specs.Quiet.{is_reached as has_come}
-use Rattle.live_loop.proofs.quiet.is_wanted.Goals as goal
+use Rattle.round_findings.specs.Quiet.{is_reached as has_come}
+use Rattle.round_findings.proofs.quiet.is_wanted.Goals as goal
 
 pub returns : goal.returns
 returns c = λ s keeps.

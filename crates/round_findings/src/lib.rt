@@ -1,0 +1,11 @@
+//! What a round of the live loop finds, handed to the launcher as inputs, one by one: readings of the clocks and sights of paths
+//! only where they may change something, and all else as it comes. Over any edge, so that a test can hand in a clock.
+#![tactic(auto)]
+
+mod inputs;
+mod paths;
+mod quiet;
+
+pub use inputs::Inputs;
+pub use paths::Sights;
+pub use quiet::is_wanted;

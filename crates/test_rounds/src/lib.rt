@@ -1,0 +1,55 @@
+//! The same stream of inputs told to two launchers: to one as the live loop tells it, without the readings and the sights that
+//! may change nothing, and to the other whole. Both have to answer and to order the same. The clock and the paths are handed
+//! in. What is ordered is read off the rules of launchd.plist(5), and off no run of this code. Nothing but tests is here.
+#![tactic(auto)]
+
+#[cfg(test)]
+mod edge;
+#[cfg(test)]
+mod pair;
+#[cfg(test)]
+mod step;
+#[cfg(test)]
+mod streams;
+
+#[cfg(test)]
+mod tests {
+    use crate::pair::is_spared;
+    use crate::streams::{CALENDAR, INTERVAL, PATH_STATE, QUEUED, THROTTLE, WATCHED};
+
+    #[test]
+    fn an_interval_needs_no_reading_before_its_moment(rt: HostRuntime) {
+        let holds = is_spared(rt.alloc(), &INTERVAL) == Ok(true);
+        assert!(rt; holds);
+    }
+
+    #[test]
+    fn a_calendar_minute_comes_by_the_clock(rt: HostRuntime) {
+        let holds = is_spared(rt.alloc(), &CALENDAR) == Ok(true);
+        assert!(rt; holds);
+    }
+
+    #[test]
+    fn a_throttle_and_a_timeout_come_by_the_clock(rt: HostRuntime) {
+        let holds = is_spared(rt.alloc(), &THROTTLE) == Ok(true);
+        assert!(rt; holds);
+    }
+
+    #[test]
+    fn a_job_is_kept_while_a_file_is_there(rt: HostRuntime) {
+        let holds = is_spared(rt.alloc(), &PATH_STATE) == Ok(true);
+        assert!(rt; holds);
+    }
+
+    #[test]
+    fn a_watched_path_needs_no_equal_sight(rt: HostRuntime) {
+        let holds = is_spared(rt.alloc(), &WATCHED) == Ok(true);
+        assert!(rt; holds);
+    }
+
+    #[test]
+    fn a_queue_directory_needs_no_equal_sight(rt: HostRuntime) {
+        let holds = is_spared(rt.alloc(), &QUEUED) == Ok(true);
+        assert!(rt; holds);
+    }
+}

@@ -1,0 +1,27 @@
+//! What a stream is made of.
+
+use child_edge::{EdgeCall, Scripted};
+use history_model::{Ended, Obs};
+
+/// One step of a stream.
+#[derive(Clone, Copy)]
+pub enum Step {
+    /// A round: the clocks stand at so many milliseconds of `up`, and so many seconds past the start; paths are looked at if it
+    /// is time.
+    Round(u64, u64),
+    /// From now on this is at the first path.
+    First(Obs),
+    /// From now on this is at the second path.
+    Second(Obs),
+    /// A line of a control client.
+    Ask(&'static str),
+    /// The job's run ended so.
+    End(&'static str, u64, Ended),
+}
+
+/// Steps, what they lead to, and how many inputs of them the loop leaves out.
+pub struct Stream {
+    pub steps: &'static [Step],
+    pub orders: &'static [(EdgeCall, Scripted)],
+    pub left_out: usize,
+}
