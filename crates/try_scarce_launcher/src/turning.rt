@@ -8,7 +8,6 @@ use scarce_memory::{Answer, Trial};
 use std::alloc::Global;
 
 /// A turn that takes memory, and what a second request shows of it.
-#[derive(Clone, Copy)]
 pub struct Turn {
     pub name: &'static str,
     /// The definition that is loaded first.
@@ -68,7 +67,7 @@ const LATER: Reading = Reading {
     wall: 1_700_000_101,
 };
 
-pub const TURNS: [Turn; 5] = [
+pub static TURNS: &[Turn] = &[
     Turn {
         name: "turn: list",
         before: LOAD,
@@ -140,7 +139,7 @@ enum Outcome {
 /// A turn on a launcher whose job runs.
 #[derive(Drop)]
 pub struct Turning {
-    turn: Turn,
+    turn: &'static Turn,
     stage: Option<Stage>,
     calls: usize,
     outcome: Outcome,
@@ -177,7 +176,7 @@ fn is_undone(alloc: Global, stage: &mut Stage, turn: &Turn, calls: usize) -> boo
 }
 
 impl Turning {
-    pub fn new(turn: Turn) -> Turning {
+    pub fn new(turn: &'static Turn) -> Turning {
         Turning {
             turn,
             stage: None,
@@ -203,7 +202,7 @@ impl Trial for Turning {
         let Some(stage) = self.stage.as_mut() else {
             return Answer::Other;
         };
-        self.outcome = taken(alloc, stage, &self.turn);
+        self.outcome = taken(alloc, stage, self.turn);
         match self.outcome {
             Outcome::Made => Answer::Made,
             Outcome::Closed | Outcome::NoMemory | Outcome::NotStored => Answer::NoMemory,
@@ -216,12 +215,12 @@ impl Trial for Turning {
             return false;
         };
         match self.outcome {
-            Outcome::NoMemory => is_undone(alloc, stage, &self.turn, self.calls),
+            Outcome::NoMemory => is_undone(alloc, stage, self.turn, self.calls),
             Outcome::NotStored => {
                 is_undone(
                     alloc,
                     stage,
-                    &self.turn,
+                    self.turn,
                     self.calls.saturating_add(self.turn.undone),
                 )
             }
