@@ -5,9 +5,10 @@ use crate::calling::{begin, call, call_port, finish, send};
 use crate::files::{comes_to_have, comes_to_hold, is_there};
 use crate::journal::{compare, replay};
 use crate::scenes::{
-    AROUND, CALLERS, DEMANDS, ENDS, FAULTS, FULL, KILLED, REQUESTS, SETTINGS, THERE, TOGETHER,
+    AROUND, CALLERS, CRASHED, DEMANDS, ENDS, FAULTS, FULL, KILLED, REQUESTS, SETTINGS, THERE,
+    TOGETHER,
 };
-use crate::serving::{end, serve};
+use crate::serving::{end, kill, serve};
 use crate::stage::Stage;
 use crate::step::Step;
 use std::{fs, io};
@@ -55,6 +56,15 @@ fn tell_gone(rt: &HostRuntime, stage: &Stage, name: &str) -> io::Result<()> {
     }
 }
 
+fn tell_there(rt: &HostRuntime, stage: &Stage, name: &str) -> io::Result<()> {
+    let path = stage.path(rt.alloc(), name)?;
+    if is_there(rt, path.as_str()) {
+        println!(rt; "{name}: there")
+    } else {
+        println!(rt; "{name}: removed")
+    }
+}
+
 fn wait_for_answer(rt: &HostRuntime, stage: &mut Stage, words: &str, part: &str) -> io::Result<()> {
     let came = comes_to_tell(rt, stage, words, part)?;
     tell_wait(rt, words, came)
@@ -64,6 +74,7 @@ fn play(rt: &HostRuntime, stage: &mut Stage, step: Step) -> io::Result<()> {
     match step {
         Step::Serve(words) => serve(rt, stage, words),
         Step::End => end(rt, stage),
+        Step::Kill => kill(rt, stage),
         Step::Ask(words) => ask(rt, stage, words),
         Step::Run(words) => run(rt, stage, words),
         Step::List(words) => list(rt, stage, words),
@@ -80,6 +91,7 @@ fn play(rt: &HostRuntime, stage: &mut Stage, step: Step) -> io::Result<()> {
         Step::Replay(name, part) => replay(rt, stage, name, part),
         Step::Compare(name) => compare(rt, stage, name),
         Step::Gone(name) => tell_gone(rt, stage, name),
+        Step::Lies(name) => tell_there(rt, stage, name),
     }
 }
 
@@ -117,7 +129,8 @@ fn play_jobs(rt: &HostRuntime) -> io::Result<()> {
 
 fn play_states(rt: &HostRuntime) -> io::Result<()> {
     play_scene(rt, "killed", KILLED)?;
-    play_scene(rt, "there", THERE)
+    play_scene(rt, "there", THERE)?;
+    play_scene(rt, "crashed", CRASHED)
 }
 
 fn play_scenes(rt: &HostRuntime) -> io::Result<()> {

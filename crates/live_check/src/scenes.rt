@@ -42,6 +42,10 @@ const MILD: &str =
 const DEAF: &str =
     r#"{"Label":"deaf","ProgramArguments":["/bin/sh","-c","trap '' TERM; echo $$ > @/deafened; while :; do :; done"],"RunAtLoad":true,"ExitTimeOut":1}"#;
 
+/// Ends by itself, after the scene.
+const LASTS: &str =
+    r#"{"Label":"lasts","ProgramArguments":["/bin/sh","-c","echo $$ > @/lasting; exec sleep 5"],"RunAtLoad":true}"#;
+
 /// Kept while the file is there; so it begins once the file was made.
 const WHILE_THERE: &str =
     r#"{"Label":"there","ProgramArguments":["/bin/sh","-c","echo found > @/found"],"KeepAlive":{"PathState":{"@/flag":true}}}"#;
@@ -232,6 +236,32 @@ pub static THERE: &[Step] = &[
     Ask("shutdown"),
     End,
     Compare("journal"),
+];
+
+/// The job of the killed launcher lives on, and is not adopted.
+pub static CRASHED: &[Step] = &[
+    Make("idle.json", IDLE),
+    Make("lasts.json", LASTS),
+    Make("spool/3-1.request", "left by an earlier launcher"),
+    Make("spool/notes", "a user's own"),
+    Serve("--journal journal"),
+    Lies("spool/3-1.request"),
+    Lies("spool/notes"),
+    Ask("load lasts.json"),
+    Has("lasting", "\n"),
+    Ask("disable idle"),
+    Ask("enable lasts"),
+    Kill,
+    Gone("lasting"),
+    Serve("--journal later"),
+    Ask("list"),
+    Ask("load idle.json"),
+    Ask("shutdown"),
+    End,
+    List("overrides --store store"),
+    Replay("journal", r#""ev":"load""#),
+    Replay("journal", r#""ev":"disable""#),
+    Replay("journal", r#""ev":"enable""#),
 ];
 
 pub static CALLERS: &[Step] = &[

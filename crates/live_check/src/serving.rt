@@ -1,13 +1,11 @@
 //! The launcher while it serves.
 
 use crate::files::is_there;
-use crate::stage::{Stage, add_words};
+use crate::stage::{Launcher, Stage, add_words, kill_if_runs};
 use std::fs::File;
 use std::io::{BufRead, BufReader};
-use std::process::{Child, Command, Processes, Stdio};
+use std::process::{Command, Stdio};
 use std::{fs, io};
-
-type Launcher = Child<<HostRuntime as Processes>::Started>;
 
 const SERVE: &str = "jobd serve --socket socket --store store --spool spool";
 
@@ -36,6 +34,13 @@ pub fn serve(rt: &HostRuntime, stage: &mut Stage, words: &str) -> io::Result<()>
     let line = first_line(rt, &mut launcher)?;
     stage.launcher = Some(launcher);
     print!(rt; "{line}")
+}
+
+/// Kills the launcher.
+pub fn kill(rt: &HostRuntime, stage: &mut Stage) -> io::Result<()> {
+    kill_if_runs(stage.launcher.take())?;
+    let word = socket_word(rt, stage)?;
+    println!(rt; "killed, socket {word}")
 }
 
 fn wait(launcher: Option<Launcher>) -> io::Result<i32> {

@@ -7,6 +7,9 @@ use std::os::unix::net::UnixStream;
 use std::process::{Child, Command, Processes};
 use std::{env, fs, io, process};
 
+/// A launcher that was started.
+pub type Launcher = Child<<HostRuntime as Processes>::Started>;
+
 #[derive(Drop)]
 pub struct Stage {
     pub folder: String,
@@ -15,7 +18,7 @@ pub struct Stage {
     pub program: String,
     // The words before those of the scene: none, unless this program is run by a loader, as by `rt try`.
     pub front: String,
-    pub launcher: Option<Child<<HostRuntime as Processes>::Started>>,
+    pub launcher: Option<Launcher>,
     pub caller: Option<UnixStream>,
     // What `jobctl` was answered, oldest first.
     pub replies: Vec<Reply>,
@@ -120,12 +123,18 @@ impl Stage {
             launcher,
             ..
         } = self;
-        if let Some(mut launcher) = launcher {
-            launcher.kill()?;
-            launcher.wait()?;
-        }
+        kill_if_runs(launcher)?;
         fs::remove_dir_all(rt, folder.as_str())
     }
+}
+
+/// Kills the launcher by signal 9, if there is one.
+pub fn kill_if_runs(launcher: Option<Launcher>) -> io::Result<()> {
+    if let Some(mut launcher) = launcher {
+        launcher.kill()?;
+        launcher.wait()?;
+    }
+    Ok(())
 }
 
 /// Adds these words, which blanks part.

@@ -8,6 +8,8 @@ pub enum Step {
     Serve(&'static str),
     /// Waits for the launcher's end. Prints its status, what it said on standard error, and whether its socket's file is left.
     End,
+    /// Kills the launcher by signal 9. Says whether its socket's file is left.
+    Kill,
     /// Runs `jobctl` on the scene's socket with these words. Prints its status and what it wrote.
     Ask(&'static str),
     /// Runs `jobd` with these words. Prints its status and what it wrote.
@@ -40,4 +42,6 @@ pub enum Step {
     Compare(&'static str),
     /// Says whether the process is left whose number the file holds.
     Gone(&'static str),
+    /// Says whether something is there at the path.
+    Lies(&'static str),
 }
