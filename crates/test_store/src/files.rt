@@ -108,6 +108,11 @@ fn new_files(alloc: Global) -> Files<Memory> {
     Files { log, db }
 }
 
+/// The files of a store with no setting.
+pub fn empty_files(alloc: Global) -> Option<Files<Memory>> {
+    closed(store_over(alloc, new_files(alloc))?)
+}
+
 /// The connection's files once the text was run.
 fn ran<D: Disk + Drop>(conn: Connection<FileStore<D>>, sql: &str) -> Option<Files<D>> {
     let mut conn = conn;

@@ -2,15 +2,13 @@
 //! settings: what was acknowledged is found again.
 
 use crate::calls::{Row, SECOND, all_of, connected, opened, sets, show_all};
+use crate::disks::{MANY, fused, left};
 use crate::files::old_files;
 use history_model::Setting;
 use override_store::OverrideStore;
 use sqlite::{Alter, Connection, Files, Options};
-use sqlite_disk::{Disk, Fuse, Memory};
+use sqlite_disk::{Disk, Memory};
 use std::alloc::Global;
-
-/// More calls than any run makes.
-const MANY: u64 = 1_000_000;
 
 const ON: Row<'static> = ("c", true, SECOND);
 
@@ -29,25 +27,6 @@ const NOTHING: Said = Said {
     first: false,
     second: false,
 };
-
-fn copy(alloc: Global, disk: &Memory) -> Option<Memory> {
-    let mut out = Memory::new(alloc);
-    let is_written = out.write_at(0, disk.bytes()).is_ok();
-    if is_written { Some(out) } else { None }
-}
-
-/// What the disks hold, without their fuses.
-fn left(alloc: Global, files: &Files<Fuse<Memory>>) -> Option<Files<Memory>> {
-    let log = copy(alloc, files.log.inner())?;
-    let db = copy(alloc, files.db.inner())?;
-    Some(Files { log, db })
-}
-
-fn fused(alloc: Global, from: &Files<Memory>, log: u64, db: u64) -> Option<Files<Fuse<Memory>>> {
-    let log = Fuse::new(copy(alloc, &from.log)?, log);
-    let db = Fuse::new(copy(alloc, &from.db)?, db);
-    Some(Files { log, db })
-}
 
 fn set_twice<S: Alter>(store: &mut OverrideStore<S>) -> Said {
     let first = sets(store, ON);
@@ -85,7 +64,8 @@ fn run_from<D: Disk + Drop>(alloc: Global, files: Files<D>) -> Option<(Said, Fil
     }
 }
 
-fn found<D: Disk + Drop>(alloc: Global, files: Files<D>) -> Option<Vec<Setting>> {
+/// The settings that a store over these files has.
+pub fn found<D: Disk + Drop>(alloc: Global, files: Files<D>) -> Option<Vec<Setting>> {
     let conn = connected(alloc, files, 9)?;
     let mut store = opened(alloc, conn)?;
     all_of(alloc, &mut store).ok()

@@ -1,6 +1,10 @@
-//! A launcher that disables a label over disks that stop.
+//! A launcher over a store whose disks stop after so many calls, for each number of calls: a setting that was acknowledged is
+//! found by the store that is opened again, and one that was refused is not made.
 
-use crate::disks::{connected, empty_files, fused, left, listed_from};
+use crate::calls::connected;
+use crate::disks::{MANY, fused, left};
+use crate::files::empty_files;
+use crate::stops::found;
 use child_edge::{ChildEdge, EdgeCall, MemoryEdge, Scripted, SocketEdge};
 use history_model::Setting;
 use launcher::{Host, Input};
@@ -11,9 +15,6 @@ use sqlite_disk::{Disk, Memory};
 use std::alloc::Global;
 use std::io::Write;
 use stored_settings::opened;
-
-/// More calls than any run makes.
-const MANY: u64 = 1_000_000;
 
 const DISABLE: &[u8] = b"{\"req\":\"disable\",\"job\":\"a\"}";
 
@@ -62,7 +63,7 @@ fn run_over<S: Alter + Drop>(alloc: Global, conn: Connection<S>) -> Option<(Code
 }
 
 fn run_from<D: Disk + Drop>(alloc: Global, files: Files<D>) -> Option<(Codes, Files<D>)> {
-    let (codes, store) = run_over(alloc, connected(alloc, files)?)?;
+    let (codes, store) = run_over(alloc, connected(alloc, files, 7)?)?;
     Some((codes, store.close()))
 }
 
@@ -88,7 +89,7 @@ fn stops(alloc: Global, from: &Files<Memory>, log: u64, db: u64) -> Option<bool>
     let Some((codes, files)) = run_from(alloc, fused(alloc, from, log, db)?) else {
         return Some(false);
     };
-    let (all, _files) = listed_from(alloc, left(alloc, &files)?)?;
+    let all = found(alloc, left(alloc, &files)?)?;
     if may_follow(codes, &all) {
         Some(codes.0 == 0)
     } else {
@@ -97,7 +98,7 @@ fn stops(alloc: Global, from: &Files<Memory>, log: u64, db: u64) -> Option<bool>
 }
 
 /// Whether each stop of the log, or of the database, is followed, up to a run whose setting is acknowledged.
-pub fn each_stop_is_followed(alloc: Global, is_log: bool) -> bool {
+fn each_stop_is_followed(alloc: Global, is_log: bool) -> bool {
     let Some(from) = empty_files(alloc) else {
         return false;
     };
@@ -110,4 +111,16 @@ pub fn each_stop_is_followed(alloc: Global, is_log: bool) -> bool {
         }
     }
     false
+}
+
+/// The log's disk stops within the opening, the setting or the closing.
+#[test]
+fn a_setting_lasts_where_the_log_stops(rt: HostRuntime) {
+    assert!(rt; each_stop_is_followed(rt.alloc(), true));
+}
+
+/// The database's disk stops.
+#[test]
+fn a_setting_lasts_where_the_database_stops(rt: HostRuntime) {
+    assert!(rt; each_stop_is_followed(rt.alloc(), false));
 }
