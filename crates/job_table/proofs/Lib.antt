@@ -31,3 +31,4 @@ pub mod Growing
 pub mod Touching
 pub mod Touched
 pub mod Minutes
+pub mod Wanting

@@ -17,6 +17,7 @@ use Rattle.history_model.specs.Step.{told, stays}
 use Rattle.job_table.specs.Rows.{IsOnce, is_known}
 use Rattle.job_table.specs.Kept.{KeepsJobs, KeepsState, numbered_all}
 use Rattle.job_table.specs.Counts.{counts, count_in, IsCounted}
+use Rattle.job_table.specs.Wanted.{AreWanted}
 use Rattle.job_table.specs.Entries.{name, rows, AllStay, is_named}
 use Rattle.job_table.specs.Index.{AreTimed, AreAlone, HaveRoom, place_in}
 use Rattle.job_table.specs.Marking.{HavePlaces}
@@ -154,6 +155,7 @@ returns-clause-sound c =
       room = omega arith;
       named = named-of _ _ _ (returns-clause-indexed c);
       calendars = c.requires.sound.calendars ∙ ap some_calendar (sym names);
+      wanted = subst (AreWanted c.args.self.now.wanted) (sym names) c.requires.sound.wanted;
     }
 
 pub returns-clause-names : goal.returns-clause-names

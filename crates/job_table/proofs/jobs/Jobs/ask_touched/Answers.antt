@@ -6,6 +6,7 @@ use Rattle.history_model.specs.Step.{told, stays}
 use Rattle.job_table.specs.Rows.{IsOnce, is_known}
 use Rattle.job_table.specs.Kept.{KeepsJobs, numbered_all}
 use Rattle.job_table.specs.Counts.{counts, count_in, IsCounted}
+use Rattle.job_table.specs.Wanted.{AreWanted}
 use Rattle.job_table.specs.Entries.{name, rows, AllStay, is_named}
 use Rattle.job_table.specs.Index.{IsIndexOf, AreTimed, AreAlone, HaveRoom, place_in}
 use Rattle.job_table.specs.Minutes.{some_calendar}
@@ -128,6 +129,7 @@ returns-clause-whole c =
         room = let room = c.requires.sound.room in let more = c.visit_ready-visited.ensures.capacity in omega (arith, room, more);
         named = named-of index old.reading.up (with_items old.entries after).items indexed;
         calendars = c.requires.sound.calendars ∙ ap some_calendar (sym names);
+        wanted = subst (AreWanted c.args.self.now.wanted) (sym names) c.requires.sound.wanted;
       };
       indexed = indexed;
       stay = λ all. subst AllStay (sym whole) (c.visit_ready-visited.ensures.stay all);
