@@ -91,14 +91,16 @@ static WATCHED: &[Row] = &[
 ];
 
 const QUARTERS: &str =
-    r#"{"Label":"q","Program":"/bin/x","StartCalendarInterval":[{"Minute":15},{"Minute":45}]}"#;
+    r#"{"Label":"q","Program":"/bin/x","ThrottleInterval":0,"StartCalendarInterval":[{"Minute":15},{"Minute":45}]}"#;
 
 /// Its entry has no minute.
-const LATE: &str = r#"{"Label":"e","Program":"/bin/x","StartCalendarInterval":{"Hour":23}}"#;
+const LATE: &str =
+    r#"{"Label":"e","Program":"/bin/x","ThrottleInterval":0,"StartCalendarInterval":{"Hour":23}}"#;
 
 const IDLE: &str = r#"{"Label":"i","Program":"/bin/x"}"#;
 
-/// A minute of no job, then those of each job's entries. What has no minute is asked at each one.
+/// A minute of no job, then those of each job's entries. What has no minute is asked at each one. The job of 22:30 has a throttle,
+/// which ends before 22:45.
 static MINUTES: &[Row] = &[
     (Load(QUARTERS), Some((1, 0))),
     (Load(HALF_PAST), Some((2, 0))),
@@ -107,7 +109,7 @@ static MINUTES: &[Row] = &[
     (Clock(100_000), Some((1, 1))),
     (Clock(160_000), Some((0, 0))),
     (Clock(1_000_000), Some((1, 1))),
-    (Clock(1_900_000), Some((1, 0))),
+    (Clock(1_900_000), Some((2, 0))),
     (Load(LATE), Some((3, 0))),
     (Clock(1_960_000), Some((1, 0))),
     (Clock(2_020_000), Some((1, 0))),
