@@ -3,6 +3,7 @@ pub mod Kept
 pub mod Outcomes
 pub mod Counts
 pub mod Minutes
+pub mod Wanted
 pub mod Entries
 pub mod Asking
 pub mod Sound

@@ -1,13 +1,16 @@
-//! What a number of a job stands for.
+//! Where a job stands among the others: by its number, and by its label.
 
-ghost use Rattle.std.specs.Prelude.{◌≡◌, Some, true, map, is_some};
+ghost use Rattle.std.specs.Prelude.{◌≡◌, Some, true, map, is_some, unwrap_or, length, not};
 ghost use Rattle.std.specs.List.{position};
-ghost use Rattle.job_table.specs.Rows.{label_of, definition_of_number};
-ghost use Rattle.job_table.specs.Entries.{name, has_number};
+ghost use Rattle.history_model.specs.Labels.{is_before};
+ghost use Rattle.history_model.specs.WholeLaws.{AreInOrder};
+ghost use Rattle.job_table.specs.Rows.{label_of, definition_of_number, labels_in};
+ghost use Rattle.job_table.specs.Entries.{name, has_number, has_label, is_here, is_above};
 ghost use Rattle.job_table.specs.Index.{ArePlaced};
 
 use crate::entry::Entry;
 use crate::jobs::Jobs;
+use crate::order::is_before;
 use history_model::JobNo;
 use job_defs::Def;
 
@@ -52,4 +55,60 @@ fn place_of_number(entries: &[Entry], places: &[u32], number: JobNo) -> Option<u
         return None;
     }
     Some(place)
+}
+
+/// The place of the job with this label.
+pub fn place_of(entries: &[Entry], label: &str) -> Option<usize>
+    requires { AreInOrder (labels_in (map name entries.now)) }
+    ensures { result ≡ position (has_label label.now) entries.now }
+{
+    let place = entries.partition_point(|entry| is_below(entry, label));
+    if place >= entries.len() {
+        return None;
+    }
+    if has_label(&entries[place], label) {
+        return Some(place);
+    }
+    None
+}
+
+/// Whether the job's label is before this one.
+fn is_below(entry: &Entry, label: &str) -> bool
+    ensures { result ≡ is_before entry.now.def.label label.now }
+{
+    is_before(entry.def.label(), label)
+}
+
+/// Whether this is the job's label.
+fn has_label(entry: &Entry, label: &str) -> bool
+    ensures { result ≡ has_label label.now entry.now }
+{
+    label == entry.def.label()
+}
+
+/// The place of the job with this label that has not left.
+pub fn place_here(entries: &[Entry], label: &str) -> Option<usize>
+    requires { AreInOrder (labels_in (map name entries.now)) }
+    ensures { result ≡ position (is_here label.now) entries.now }
+{
+    let place = place_of(entries, label)?;
+    if entries[place].has_left {
+        return None;
+    }
+    Some(place)
+}
+
+/// The place before the first job with a greater label, or the last.
+pub fn place_before(entries: &[Entry], label: &str) -> usize
+    requires { AreInOrder (labels_in (map name entries.now)) }
+    ensures { result ≡ unwrap_or (position (is_above label.now) entries.now) (length entries.now) }
+{
+    entries.partition_point(|entry| is_no_later(entry, label))
+}
+
+/// Whether the job's label is this one or before it.
+fn is_no_later(entry: &Entry, label: &str) -> bool
+    ensures { result ≡ not (is_above label.now entry.now) }
+{
+    !is_before(label, entry.def.label())
 }

@@ -23,10 +23,12 @@ ghost use Rattle.job_table.specs.News.{told_at};
 ghost use Rattle.std.specs.Option.{ForSome};
 
 use crate::entry::{Entry, News};
+use crate::find::place_of;
 use crate::index::remake;
 use crate::mark::mark_touched;
-use crate::scan::{ask_all, has_calendars, place_of, release, tidy};
+use crate::scan::{ask_all, has_calendars, release, tidy};
 use crate::visit::visit_ready;
+use crate::wanted::WantedMinutes;
 use calendar_due::Zone;
 use history_model::{Order, Reading, Refusal, Setting};
 use job_core::JobEvent;
@@ -50,6 +52,8 @@ pub struct Jobs {
     pub all_stay: bool,
     /// A job that is loaded, or that left at the last event, has calendar entries.
     pub has_calendars: bool,
+    /// The minutes that the calendars of those jobs want.
+    pub wanted: WantedMinutes,
 }
 
 /// What finds the jobs that an event touches.
@@ -92,6 +96,7 @@ impl Jobs {
             self.reading,
         );
         self.has_calendars = has_calendars(&self.entries);
+        self.wanted = WantedMinutes::of(&self.entries);
         self.all_stay = true;
     }
 

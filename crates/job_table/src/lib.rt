@@ -31,6 +31,7 @@ mod scan;
 mod settings;
 mod texts;
 mod visit;
+mod wanted;
 
 use calendar_due::Zone;
 pub use changing::NewSetting;

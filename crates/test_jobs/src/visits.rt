@@ -90,6 +90,45 @@ static WATCHED: &[Row] = &[
     (Saw("/w"), Some((0, 0))),
 ];
 
+const QUARTERS: &str =
+    r#"{"Label":"q","Program":"/bin/x","ThrottleInterval":0,"StartCalendarInterval":[{"Minute":15},{"Minute":45}]}"#;
+
+/// Its entry has no minute.
+const LATE: &str =
+    r#"{"Label":"e","Program":"/bin/x","ThrottleInterval":0,"StartCalendarInterval":{"Hour":23}}"#;
+
+const IDLE: &str = r#"{"Label":"i","Program":"/bin/x"}"#;
+
+/// A minute of no job, then those of each job's entries. What has no minute is asked at each one. The job of 22:30 has a throttle,
+/// which ends before 22:45.
+static MINUTES: &[Row] = &[
+    (Load(QUARTERS), Some((1, 0))),
+    (Load(HALF_PAST), Some((2, 0))),
+    (Clock(39_999), Some((0, 0))),
+    (Clock(40_000), Some((0, 0))),
+    (Clock(100_000), Some((1, 1))),
+    (Clock(160_000), Some((0, 0))),
+    (Clock(1_000_000), Some((1, 1))),
+    (Clock(1_900_000), Some((2, 0))),
+    (Load(LATE), Some((3, 0))),
+    (Clock(1_960_000), Some((1, 0))),
+    (Clock(2_020_000), Some((1, 0))),
+    (Unload("e"), Some((0, 1))),
+    (Clock(2_080_000), Some((0, 0))),
+    (Load(LATE), Some((3, 0))),
+    (Clock(2_800_000), Some((1, 1))),
+    (Clock(2_800_001), Some((0, 0))),
+];
+
+/// A reading over an hour crosses the minutes of each calendar.
+static HOUR: &[Row] = &[
+    (Load(QUARTERS), Some((1, 0))),
+    (Load(HALF_PAST), Some((2, 0))),
+    (Load(IDLE), Some((3, 0))),
+    (Load(LATE), Some((4, 0))),
+    (Clock(3_600_000), Some((3, 3))),
+];
+
 fn told(given: Result<Step<'_>, Refusal>) -> Option<(u32, usize)> {
     let given = given.ok()?;
     Some((given.visited, given.orders.len()))
@@ -176,4 +215,14 @@ fn equal_moments_and_numbers_given_anew(rt: HostRuntime) {
 #[test]
 fn a_sight_asks_the_jobs_that_list_its_path(rt: HostRuntime) {
     assert_eq!(rt; fault_from_new(rt.alloc(), true, WATCHED), None);
+}
+
+#[test]
+fn a_minute_asks_the_jobs_with_an_entry_of_it(rt: HostRuntime) {
+    assert_eq!(rt; fault_from_new(rt.alloc(), false, MINUTES), None);
+}
+
+#[test]
+fn an_hour_asks_each_job_with_a_calendar(rt: HostRuntime) {
+    assert_eq!(rt; fault_from_new(rt.alloc(), false, HOUR), None);
 }
