@@ -31,4 +31,6 @@ pub mod Growing
 pub mod Touching
 pub mod Touched
 pub mod Minutes
+pub mod Withdrawing
+pub mod Entered
 pub mod Wanting

@@ -5,7 +5,6 @@ pub mod Counts
 pub mod Minutes
 pub mod Wanted
 pub mod Entries
-pub mod Asking
 pub mod Sound
 pub mod Alike
 pub mod News
