@@ -31,3 +31,8 @@ pub mod Growing
 pub mod Touching
 pub mod Touched
 pub mod Minutes
+pub mod Withdrawing
+pub mod Entered
+pub mod Wanting
+pub mod Finding
+pub mod Ordering

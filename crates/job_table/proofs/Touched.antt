@@ -259,6 +259,20 @@ rest-handed at label item told (row ∷ rs) (e ∷ es) (suc k) place (job ∷ jo
     subst (RestBut (Told told) place (row ∷ rs)) (ap (λ b. cond b (with_item job (Some item) ∷ jobs) (job ∷ told_one label item jobs)) (sym of))
     ((λ apart. rests.0), rest-handed at label item told rs es k (suc place) jobs keeps.1 here.1 (omega (arith, is)) rests.1)
 
+-- the table once the jobs that the news touch are asked, which were told already
+pub told-already : (told new : Jobs) (t : State) (place : ℕ) → IsAlike told new → IsHead told t → KeepsJobs told.reading (rows told.entries.items) t.jobs →
+    RestBut (Told place) 0 (rows told.entries.items) t.jobs →
+    ((jobs : List Job) (what : Job → Option Item) → AreFor (Told place) what (rows told.entries.items) jobs → IsAccepted told.reading what → RestBut (Told place) 0 (rows told.entries.items) jobs →
+    KeepsJobs told.reading (rows told.entries.items) jobs → KeepsJobs told.reading (rows new.entries.items) (filter_map stays (told_of what jobs))) →
+    ((jobs : List Job) (what : Job → Option Item) → AreFor (Told place) what (rows told.entries.items) jobs → IsAccepted told.reading what → RestBut (Told place) 0 (rows told.entries.items) jobs →
+    KeepsJobs told.reading (rows told.entries.items) jobs → labelled (map name new.entries.items) new.orders.items ≡ flat_map orders_of (told_of what jobs)) →
+    IsAskedOf (seen new) t
+told-already told new t place asks is keeps rests kept orders =
+    let none = told-none t.jobs in
+    asked-so told new t asks is
+    (subst (λ js. KeepsJobs told.reading (rows new.entries.items) (filter_map stays js)) none (kept t.jobs (λ job. None) (for-none place (rows told.entries.items) t.jobs) (λ job present. refl) rests keeps))
+    (orders t.jobs (λ job. None) (for-none place (rows told.entries.items) t.jobs) (λ job present. refl) rests keeps ∙ ap (flat_map orders_of) none)
+
 -- the table once the one job has the item and is asked
 pub handed-on : (old begun told new : Jobs) (s t : State) (label : Label) (item : Item) (place : ℕ) → KeepsState (seen old) s → IsAlike old begun →
     rows begun.entries.items ≡ rows old.entries.items → AllStay begun.entries.items → IsAlike begun told → IsAlike told new → IsHead told t → told_one label item s.jobs ≡ t.jobs →
@@ -277,10 +291,7 @@ handed-on old begun told new s t label item place keeps begins same stay hands a
     subst (RestBut (Told place) 0 (rows told.entries.items)) jobs
     (rest-handed begun.reading label item place (rows told.entries.items) begun.entries.items place 0 s.jobs (subst (λ rs. KeepsJobs begun.reading rs s.jobs) (rows-all begun.entries.items stay) start)
     (first-where (has_label label) begun.entries.items place handed.at) (omega arith) keeps.rests) in
-    let none = told-none t.jobs in
-    asked-so told new t asks is
-    (subst (λ js. KeepsJobs told.reading (rows new.entries.items) (filter_map stays js)) none (kept t.jobs (λ job. None) (for-none place (rows told.entries.items) t.jobs) (λ job present. refl) rests with_it))
-    (orders t.jobs (λ job. None) (for-none place (rows told.entries.items) t.jobs) (λ job present. refl) rests with_it ∙ ap (flat_map orders_of) none)
+    told-already told new t place asks is with_it rests kept orders
 
 -- no job of another label was asked
 pub others-spared : (old told new : Jobs) (label : Label) (place : ℕ) (es : List Entry) → IsHandedAt label place es told.entries.items → SparesBut (Told place) told.entries.items new.entries.items →

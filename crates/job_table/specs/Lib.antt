@@ -3,8 +3,8 @@ pub mod Kept
 pub mod Outcomes
 pub mod Counts
 pub mod Minutes
+pub mod Wanted
 pub mod Entries
-pub mod Asking
 pub mod Sound
 pub mod Alike
 pub mod News

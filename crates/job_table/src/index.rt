@@ -37,6 +37,21 @@ pub fn remake(timers: &mut TimerHeap, places: &mut [u32], entries: &[Entry], at:
     }
 }
 
+/// Gives each entry's number its place. It takes no memory.
+pub fn place_all(places: &mut [u32], entries: &[Entry])
+    requires once { IsOnce (map name entries.now) }
+    requires few { length entries.now ≤ 1024 }
+    requires fits { (number : ℕ) → is_some (definition_of_number (map name entries.now) number) ≡ true → number < length places.old }
+    ensures placed { ArePlaced places.new entries.now }
+    ensures length { length places.new ≡ length places.old }
+{
+    let mut place = 0;
+    for entry in entries {
+        places[entry.number as usize] = place;
+        place += 1;
+    }
+}
+
 /// Makes room for a job with this number beside the entries.
 pub fn grow(
     index: &mut Index,

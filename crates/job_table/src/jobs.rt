@@ -3,7 +3,7 @@
 ghost use Rattle.std.specs.Prelude.{◌≡◌, ◌<◌, [], List, Option, None, OnOk, OnErr, IfOk, map, length, Some};
 ghost use Rattle.std.specs.List.{filter_map, flat_map, filter};
 ghost use Rattle.history_model.specs.Search.{first};
-ghost use Rattle.history_model.specs.Clock.{reading_in, present_after};
+ghost use Rattle.history_model.specs.Clock.{reading_in};
 ghost use Rattle.history_model.specs.Items.{Item};
 ghost use Rattle.history_model.specs.Machine.{Job, is_of, past_in};
 ghost use Rattle.history_model.specs.Acceptance.{refusal_at};
@@ -23,10 +23,12 @@ ghost use Rattle.job_table.specs.News.{told_at};
 ghost use Rattle.std.specs.Option.{ForSome};
 
 use crate::entry::{Entry, News};
+use crate::find::place_of;
 use crate::index::remake;
 use crate::mark::mark_touched;
-use crate::scan::{ask_all, has_calendars, place_of, release, tidy};
+use crate::scan::{has_calendars, release, tidy};
 use crate::visit::visit_ready;
+use crate::wanted::WantedMinutes;
 use calendar_due::Zone;
 use history_model::{Order, Reading, Refusal, Setting};
 use job_core::JobEvent;
@@ -50,6 +52,8 @@ pub struct Jobs {
     pub all_stay: bool,
     /// A job that is loaded, or that left at the last event, has calendar entries.
     pub has_calendars: bool,
+    /// The minutes that the calendars of those jobs want.
+    pub wanted: WantedMinutes,
 }
 
 /// What finds the jobs that an event touches.
@@ -92,6 +96,7 @@ impl Jobs {
             self.reading,
         );
         self.has_calendars = has_calendars(&self.entries);
+        self.wanted = WantedMinutes::of(&self.entries);
         self.all_stay = true;
     }
 
@@ -158,31 +163,6 @@ impl Jobs {
         );
         self.visited = visited;
         self.all_stay = all_stay;
-    }
-
-    /// Asks all jobs.
-    pub fn ask(&mut self)
-        requires sound { IsSound self.old }
-        requires stay { AllStay self.old.entries.items }
-        requires empty { self.old.orders.items ≡ [] }
-        ensures kept { (jobs : List Job) → KeepsJobs self.old.reading (rows self.old.entries.items) jobs →
-            KeepsJobs self.old.reading (rows self.new.entries.items) (filter_map stays jobs) }
-        ensures orders { (jobs : List Job) → KeepsJobs self.old.reading (rows self.old.entries.items) jobs →
-            labelled (map name self.new.entries.items) self.new.orders.items ≡ flat_map orders_of jobs }
-        ensures names { map name self.new.entries.items ≡ map name self.old.entries.items }
-        ensures counted { IsCounted (counts (rows self.old.entries.items)) (rows self.new.entries.items) self.new.visited }
-        ensures whole { IsWhole self.new }
-        ensures alike { IsAlike self.old self.new }
-        ensures room { HasSameRoom (seen self.old) (seen self.new) }
-    {
-        self.visited = ask_all(&mut self.entries, self.reading, &mut self.orders);
-        self.all_stay = self.visited as usize == self.entries.len();
-        remake(
-            &mut self.index.timers,
-            &mut self.index.places,
-            &self.entries,
-            self.reading,
-        );
     }
 }
 

@@ -17,6 +17,7 @@ mod after;
 mod changing;
 mod entry;
 mod events;
+mod find;
 mod index;
 mod jobs;
 mod loading;
@@ -30,6 +31,7 @@ mod scan;
 mod settings;
 mod texts;
 mod visit;
+mod wanted;
 
 use calendar_due::Zone;
 pub use changing::NewSetting;
@@ -38,7 +40,7 @@ pub use job_core::JobEvent;
 use job_defs::Def;
 use jobs::Jobs;
 pub use loading::Ready;
-use scan::{all_left, place_of_number};
+use scan::all_left;
 use std::alloc::Global;
 use std::marker::Model;
 
@@ -67,36 +69,30 @@ pub struct Step<'a> {
     pub orders: &'a [Order],
     /// How many jobs were asked for their order.
     pub visited: u32,
-    jobs: &'a Jobs,
+    table: &'a JobTable,
 }
 
 impl<'a> Step<'a> {
-    ghost use Rattle.std.specs.Prelude.{map, is_some};
+    ghost use Rattle.std.specs.Prelude.{is_some};
     ghost use Rattle.job_table.specs.Rows.{label_of, definition_of_number};
-    ghost use Rattle.job_table.specs.Entries.{name};
+    ghost use Rattle.job_table.specs.Ends.{names_in};
 
     /// The label of the job with this number, also of one that just left; the empty text for a number that no job has.
     pub fn label(&self, job: JobNo) -> &'a str
-        ensures { result.now ≡ label_of (map name self.now.jobs.now.entries.items) job }
+        ensures { result.now ≡ label_of (names_in self.now) job }
     {
-        let jobs = self.jobs;
-        match place_of_number(&jobs.entries, job) {
-            Some(place) => jobs.entries[place].def.label(),
-            None => "",
-        }
+        let table = self.table;
+        table.jobs.label(job)
     }
 
     /// The definition of the job with this number, also of one that just left. The caller's condition: the number is that of
     /// a job that is loaded or just left, as in each order of the step.
     pub fn def(&self, job: JobNo) -> &'a Def
-        requires { is_some (definition_of_number (map name self.now.jobs.now.entries.items) job) ≡ true }
-        ensures { definition_of_number (map name self.now.jobs.now.entries.items) job ≡ Some result.now }
+        requires { is_some (definition_of_number (names_in self.now) job) ≡ true }
+        ensures { definition_of_number (names_in self.now) job ≡ Some result.now }
     {
-        let jobs = self.jobs;
-        match place_of_number(&jobs.entries, job) {
-            Some(place) => &jobs.entries[place].def,
-            None => unreachable!(),
-        }
+        let table = self.table;
+        table.jobs.def(job)
     }
 }
 
@@ -148,7 +144,7 @@ impl JobTable {
         Step {
             orders: &self.jobs.orders,
             visited: self.jobs.visited,
-            jobs: &self.jobs,
+            table: self,
         }
     }
 

@@ -1,6 +1,6 @@
 //! How many jobs one event asks for their order. A reading asks those whose next moment it reaches and those with a calendar
-//! entry of a crossed minute, a sight those that list its path, an event of one job that job, a shutdown and a load each job.
-//! One that leaves is not asked, and a refused event asks none.
+//! entry of a crossed minute, a sight those that list its path, an event of one job that job, a load the loaded job, a setting
+//! the job that it unloads, a shutdown each job. One that leaves is not asked, and a refused event asks none.
 
 use crate::steps::{at, empty_table, load};
 use crate::visits::Event::*;
@@ -18,6 +18,8 @@ enum Event {
     Spawned(&'static str, u64),
     Ended0(&'static str, u64),
     Unload(&'static str),
+    Disable(&'static str),
+    Remove(&'static str),
     Shutdown,
 }
 
@@ -55,8 +57,8 @@ const HALF_PAST: &str = r#"{"Label":"m","Program":"/bin/x","StartCalendarInterva
 /// Two jobs have the same moments. One leaves, and its number goes to the next load. The minute 22:14 is no job's.
 static FEW: &[Row] = &[
     (Load(B), Some((1, 0))),
-    (Load(A), Some((2, 0))),
-    (Load(HALF_PAST), Some((3, 0))),
+    (Load(A), Some((1, 0))),
+    (Load(HALF_PAST), Some((1, 0))),
     (Load(A), None),
     (Clock(29_999), Some((0, 0))),
     (Clock(30_000), Some((2, 2))),
@@ -66,7 +68,7 @@ static FEW: &[Row] = &[
     (Ended0("b", 1), Some((1, 0))),
     (Unload("b"), Some((0, 1))),
     (Clock(60_000), Some((1, 0))),
-    (Load(B), Some((3, 0))),
+    (Load(B), Some((1, 0))),
     (Clock(89_999), Some((0, 0))),
     (Clock(90_000), Some((2, 1))),
     (Clock(999_999), Some((2, 0))),
@@ -79,8 +81,8 @@ const LAST_TO_WATCH: &str = r#"{"Label":"y","Program":"/bin/x","WatchPaths":["/u
 
 /// Two of the many jobs list the path, and one of them another too.
 static WATCHED: &[Row] = &[
-    (Load(FIRST_TO_WATCH), Some((101, 0))),
-    (Load(LAST_TO_WATCH), Some((102, 0))),
+    (Load(FIRST_TO_WATCH), Some((1, 0))),
+    (Load(LAST_TO_WATCH), Some((1, 0))),
     (Saw("/v"), Some((0, 0))),
     (Saw("/w"), Some((2, 0))),
     (Saw("/u"), Some((1, 0))),
@@ -90,8 +92,76 @@ static WATCHED: &[Row] = &[
     (Saw("/w"), Some((0, 0))),
 ];
 
+/// A setting asks no job, but with an unload the job that it stops. One that leaves is not asked.
+static SETTINGS: &[Row] = &[
+    (Load(A), Some((1, 0))),
+    (Load(B), Some((1, 0))),
+    (Disable("x"), Some((0, 0))),
+    (Clock(30_000), Some((2, 2))),
+    (Spawned("a", 1), Some((1, 0))),
+    (Spawned("b", 1), Some((1, 0))),
+    (Disable("a"), Some((0, 0))),
+    (Remove("a"), Some((1, 1))),
+    (Remove("a"), None),
+    (Disable("b"), Some((0, 0))),
+    (Ended0("a", 1), Some((0, 1))),
+    (Ended0("b", 1), Some((1, 0))),
+    (Remove("b"), Some((0, 1))),
+    (Remove("b"), None),
+    (Load(B), None),
+    (Load(HALF_PAST), Some((1, 0))),
+    (Disable("b"), Some((0, 0))),
+];
+
+const QUARTERS: &str =
+    r#"{"Label":"q","Program":"/bin/x","ThrottleInterval":0,"StartCalendarInterval":[{"Minute":15},{"Minute":45}]}"#;
+
+/// Its entry has no minute.
+const LATE: &str =
+    r#"{"Label":"e","Program":"/bin/x","ThrottleInterval":0,"StartCalendarInterval":{"Hour":23}}"#;
+
+const IDLE: &str = r#"{"Label":"i","Program":"/bin/x"}"#;
+
+/// A minute of no job, then those of each job's entries. What has no minute is asked at each one. The job of 22:30 has a throttle,
+/// which ends before 22:45.
+static MINUTES: &[Row] = &[
+    (Load(QUARTERS), Some((1, 0))),
+    (Load(HALF_PAST), Some((1, 0))),
+    (Clock(39_999), Some((0, 0))),
+    (Clock(40_000), Some((0, 0))),
+    (Clock(100_000), Some((1, 1))),
+    (Clock(160_000), Some((0, 0))),
+    (Clock(1_000_000), Some((1, 1))),
+    (Clock(1_900_000), Some((2, 0))),
+    (Load(LATE), Some((1, 0))),
+    (Clock(1_960_000), Some((1, 0))),
+    (Clock(2_020_000), Some((1, 0))),
+    (Unload("e"), Some((0, 1))),
+    (Clock(2_080_000), Some((0, 0))),
+    (Load(LATE), Some((1, 0))),
+    (Clock(2_800_000), Some((1, 1))),
+    (Clock(2_800_001), Some((0, 0))),
+];
+
+/// A reading over an hour crosses the minutes of each calendar.
+static HOUR: &[Row] = &[
+    (Load(QUARTERS), Some((1, 0))),
+    (Load(HALF_PAST), Some((1, 0))),
+    (Load(IDLE), Some((1, 0))),
+    (Load(LATE), Some((1, 0))),
+    (Clock(3_600_000), Some((3, 3))),
+];
+
 fn told(given: Result<Step<'_>, Refusal>) -> Option<(u32, usize)> {
     let given = given.ok()?;
+    Some((given.visited, given.orders.len()))
+}
+
+/// Disables the label, and with `unload` removes its job.
+fn set(alloc: Global, table: &mut JobTable, label: &str, unload: bool) -> Option<(u32, usize)> {
+    let ready = table.prepare_set(alloc, label, true, unload).ok()?;
+    table.commit_set(ready);
+    let given = table.given();
     Some((given.visited, given.orders.len()))
 }
 
@@ -113,6 +183,8 @@ fn happens(alloc: Global, table: &mut JobTable, event: Event) -> Option<(u32, us
         Spawned(label, run) => told(table.spawned(label, run, 812)),
         Ended0(label, run) => told(table.ended(label, run, Ended::Code(0))),
         Unload(label) => told(table.unload(label)),
+        Disable(label) => set(alloc, table, label, false),
+        Remove(label) => set(alloc, table, label, true),
         Shutdown => told(table.shutdown()),
     }
 }
@@ -125,21 +197,21 @@ fn definition(alloc: Global, number: u32) -> Result<String, AllocError> {
 
 const OFTEN: &str = r#"{"Label":"x","Program":"/bin/x","StartInterval":30}"#;
 
-/// Loads one job, and says whether so many jobs are then asked.
-fn is_loaded(alloc: Global, table: &mut JobTable, definition: &str, asked: u32) -> bool {
+/// Loads one job, and says whether one job is then asked.
+fn is_loaded(alloc: Global, table: &mut JobTable, definition: &str) -> bool {
     let is_there = load(alloc, table, definition).is_ok();
-    is_there && table.given().visited == asked
+    is_there && table.given().visited == 1
 }
 
 /// Loads the hundred jobs.
 fn are_loaded(alloc: Global, table: &mut JobTable) -> Result<bool, AllocError> {
     for number in 0..99u32 {
         let text = definition(alloc, number)?;
-        if !is_loaded(alloc, table, text.as_str(), number + 1) {
+        if !is_loaded(alloc, table, text.as_str()) {
             return Ok(false);
         }
     }
-    Ok(is_loaded(alloc, table, OFTEN, 100))
+    Ok(is_loaded(alloc, table, OFTEN))
 }
 
 /// The position of the first row that goes another way than it says.
@@ -176,4 +248,19 @@ fn equal_moments_and_numbers_given_anew(rt: HostRuntime) {
 #[test]
 fn a_sight_asks_the_jobs_that_list_its_path(rt: HostRuntime) {
     assert_eq!(rt; fault_from_new(rt.alloc(), true, WATCHED), None);
+}
+
+#[test]
+fn a_setting_asks_the_job_that_it_unloads(rt: HostRuntime) {
+    assert_eq!(rt; fault_from_new(rt.alloc(), false, SETTINGS), None);
+}
+
+#[test]
+fn a_minute_asks_the_jobs_with_an_entry_of_it(rt: HostRuntime) {
+    assert_eq!(rt; fault_from_new(rt.alloc(), false, MINUTES), None);
+}
+
+#[test]
+fn an_hour_asks_each_job_with_a_calendar(rt: HostRuntime) {
+    assert_eq!(rt; fault_from_new(rt.alloc(), false, HOUR), None);
 }

@@ -1,9 +1,9 @@
-use Rattle.std.proofs.Common.{◌≡◌, map, take}
+use Rattle.std.proofs.Common.{◌≡◌, take}
 use Rattle.ctl_protocol.specs.Outcomes.{orders_of}
-use Rattle.job_table.specs.Entries.{name}
+use Rattle.job_table.specs.Ends.{names_in}
 use Rattle.job_table.specs.Kept.{labelled}
 use Rattle.jobd.proofs.lines.labelled_orders.Given as goal
 
 -- the orders before are told
 abbrev pub invariant-loop-order : goal.invariant-loop-order
-invariant-loop-order l = orders_of l.orders.items ≡ labelled (map name l.step.jobs.now.entries.items) (take l.order-index l.step.orders.now)
+invariant-loop-order l = orders_of l.orders.items ≡ labelled (names_in l.step) (take l.order-index l.step.orders.now)

@@ -17,6 +17,7 @@ use Rattle.history_model.specs.Step.{told, stays}
 use Rattle.job_table.specs.Rows.{IsOnce, is_known}
 use Rattle.job_table.specs.Kept.{KeepsJobs, KeepsState, numbered_all}
 use Rattle.job_table.specs.Counts.{counts, count_in, IsCounted}
+use Rattle.job_table.specs.Wanted.{AreWanted}
 use Rattle.job_table.specs.Entries.{name, rows, AllStay, is_named}
 use Rattle.job_table.specs.Index.{AreTimed, AreAlone, HaveRoom, place_in}
 use Rattle.job_table.specs.Marking.{HavePlaces}
@@ -37,6 +38,8 @@ use Rattle.job_table.proofs.Advancing.{have-places, is-spare, spare-timed, alone
 use Rattle.job_table.proofs.Numbering.{names-begun}
 use Rattle.job_table.proofs.Growing.{named-of}
 use Rattle.job_table.proofs.Touching.{spared-count, marks-touch}
+use Rattle.history_model.specs.WholeLaws.{AreInOrder}
+use Rattle.job_table.specs.Rows.{labels_in}
 use Rattle.job_table.proofs.jobs.Jobs.advance.Goals as goal
 
 or-first : (a b : Bool) → (a || b) ≡ false → a ≡ false
@@ -154,6 +157,8 @@ returns-clause-sound c =
       room = omega arith;
       named = named-of _ _ _ (returns-clause-indexed c);
       calendars = c.requires.sound.calendars ∙ ap some_calendar (sym names);
+      wanted = subst (AreWanted c.args.self.now.wanted) (sym names) c.requires.sound.wanted;
+      order = subst (λ ns. AreInOrder (labels_in ns)) (sym names) c.requires.sound.order;
     }
 
 pub returns-clause-names : goal.returns-clause-names

@@ -6,6 +6,7 @@ use Rattle.history_model.specs.Step.{told, stays}
 use Rattle.job_table.specs.Rows.{IsOnce, is_known}
 use Rattle.job_table.specs.Kept.{KeepsJobs, numbered_all}
 use Rattle.job_table.specs.Counts.{counts, count_in, IsCounted}
+use Rattle.job_table.specs.Wanted.{AreWanted}
 use Rattle.job_table.specs.Entries.{name, rows, AllStay, is_named}
 use Rattle.job_table.specs.Index.{IsIndexOf, AreTimed, AreAlone, HaveRoom, place_in}
 use Rattle.job_table.specs.Minutes.{some_calendar}
@@ -23,6 +24,8 @@ use Rattle.job_table.proofs.Holding.{held-names}
 use Rattle.job_table.proofs.Advancing.{told-labelled, visits-counted, name-get}
 use Rattle.job_table.proofs.Growing.{named-of, length-names}
 use Rattle.job_table.proofs.Touched.{spared-all, rest-all, spared-count, not-true, marked-at}
+use Rattle.history_model.specs.WholeLaws.{AreInOrder}
+use Rattle.job_table.specs.Rows.{labels_in}
 use Rattle.job_table.proofs.jobs.Jobs.ask_touched.Goals as goal
 
 pub visit_ready-visited-requires-clause-spared : goal.visit_ready-visited-requires-clause-spared
@@ -128,6 +131,8 @@ returns-clause-whole c =
         room = let room = c.requires.sound.room in let more = c.visit_ready-visited.ensures.capacity in omega (arith, room, more);
         named = named-of index old.reading.up (with_items old.entries after).items indexed;
         calendars = c.requires.sound.calendars ∙ ap some_calendar (sym names);
+        wanted = subst (AreWanted c.args.self.now.wanted) (sym names) c.requires.sound.wanted;
+        order = subst (λ ns. AreInOrder (labels_in ns)) (sym names) c.requires.sound.order;
       };
       indexed = indexed;
       stay = λ all. subst AllStay (sym whole) (c.visit_ready-visited.ensures.stay all);

@@ -1,0 +1,9 @@
+-- The others stand in byte order of labels.
+use Rattle.std.proofs.Common.{map, sym, subst}
+use Rattle.history_model.specs.WholeLaws.{AreInOrder}
+use Rattle.job_table.specs.Rows.{labels_in}
+use Rattle.job_table.specs.Entries.{name}
+use Rattle.job_table.proofs.jobs.Jobs.enter.Goals as goal
+
+pub place_before-place-requires : goal.place_before-place-requires
+place_before-place-requires c = subst (λ es. AreInOrder (labels_in (map name es))) (sym c.deref.ensures.value) c.requires.order
