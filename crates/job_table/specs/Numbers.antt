@@ -3,6 +3,7 @@ use Rattle.std.specs.Prelude.{◌≡◌, List, map, Some, Result, Ok, Err}
 use Rattle.std.specs.List.{AllByRecursion}
 use Rattle.history_model.specs.declared.Refusal.{Refusal}
 use Rattle.job_table.specs.Rows.{Row, Name, Table, IsOnce, definition_of_number}
+use Rattle.job_table.specs.Loads.{described_in, number_in}
 use Rattle.job_table.specs.declared.loading.Ready.{Ready}
 
 abbrev pub name_of : Row → Name
@@ -25,4 +26,4 @@ KeepsNames (Err refusal) old new = Unit {0}
 pub record IsNamedBeside (ready : Ready) (old new : Table) : Type 0 where
   pub numbered : IsNumbered new
   pub others : AllByRecursion (λ row. definition_of_number new.names row.number ≡ Some row.described) old.rows
-  pub own : definition_of_number new.names ready.entry.number ≡ Some ready.entry.def
+  pub own : definition_of_number new.names (number_in ready) ≡ Some (described_in ready)

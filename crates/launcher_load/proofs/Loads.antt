@@ -16,7 +16,7 @@ use Rattle.job_defs.specs.Definitions.{given, has_sockets}
 use Rattle.job_defs.specs.Table.{def_of}
 use Rattle.job_table.specs.Rows.{Table}
 use Rattle.job_table.specs.Kept.{KeepsState}
-use Rattle.job_table.specs.Loads.{IsAdmitted, load_of, given_in, refusal_outside}
+use Rattle.job_table.specs.Loads.{IsAdmitted, load_of, given_in, refusal_outside, described_in, number_in, setting_in}
 use Rattle.job_table.specs.Outcomes.{IsSameFor, Tells as TellsRefusal}
 use Rattle.job_table.specs.declared.loading.Ready.{Ready}
 use Rattle.child_edge.specs.Calls.{Tells}
@@ -105,16 +105,16 @@ never_asked s bytes w force r new a t k n is noted keeps led = record {
 }
 
 module _ (s : State) (bytes : List ℕ) (w force : Bool) (asked : Asked) (old mid new : Table) (ready : Ready) (a c : Option (List Entry)) (t u : Option (List StoreCall)) (k n : Kept)
-    (admitted : IsAdmitted old bytes w force ready.entry.def) (setting : is_some ready.setting ≡ w) (same : IsSameFor old mid) (led : IsLed s) (keeps : KeepsState old s) where
-  as_read : Load (Ok (given ready.entry.def)) (is_some ready.setting) force asked.bind asked.store ≡ load_of bytes w force asked.bind asked.store
+    (admitted : IsAdmitted old bytes w force (described_in ready)) (setting : is_some (setting_in ready) ≡ w) (same : IsSameFor old mid) (led : IsLed s) (keeps : KeepsState old s) where
+  as_read : Load (Ok (given (described_in ready))) (is_some (setting_in ready)) force asked.bind asked.store ≡ load_of bytes w force asked.bind asked.store
   as_read = λ i. Load (given_in (sym admitted.read i)) (setting i) force asked.bind asked.store
 
-  asks_for : (middle : Option (List Entry)) → Asks ready.entry.number ready.entry.def w mid.reading.wall asked a middle t u →
-      AsksFor (refusal_in s (load_of bytes w force true true)) (def_of bytes) ready.entry.number w s.reading.wall asked a middle t u
+  asks_for : (middle : Option (List Entry)) → Asks (number_in ready) (described_in ready) w mid.reading.wall asked a middle t u →
+      AsksFor (refusal_in s (load_of bytes w force true true)) (def_of bytes) (number_in ready) w s.reading.wall asked a middle t u
   asks_for middle asks =
-      subst (λ o. AsksFor o (def_of bytes) ready.entry.number w s.reading.wall asked a middle t u) (sym (admitted.left s true true keeps ∙ well_answered ready.entry.def w))
-      (subst (λ d. AsksFor None d ready.entry.number w s.reading.wall asked a middle t u) (sym admitted.read)
-      (subst (λ n. Asks ready.entry.number ready.entry.def w n asked a middle t u) (ap (λ r. r.wall) (same s keeps).reading) asks))
+      subst (λ o. AsksFor o (def_of bytes) (number_in ready) w s.reading.wall asked a middle t u) (sym (admitted.left s true true keeps ∙ well_answered (described_in ready) w))
+      (subst (λ d. AsksFor None d (number_in ready) w s.reading.wall asked a middle t u) (sym admitted.read)
+      (subst (λ n. Asks (number_in ready) (described_in ready) w n asked a middle t u) (ap (λ r. r.wall) (same s keeps).reading) asks))
 
   -- a load that the outside was asked about
   pub load_ended : (refusal : Option Refusal) → EndsLoad ready w mid.reading.wall asked refusal (load_line bytes w force asked) mid new a c t u k n →
@@ -122,19 +122,19 @@ module _ (s : State) (bytes : List ℕ) (w force : Bool) (asked : Asked) (old mi
   load_ended None ends =
       let none : refusal_in s (load_of bytes w force asked.bind asked.store) ≡ None = admitted.left s asked.bind asked.store keeps ∙ sym ends.answer in
       let first = ends.made refl s force asked.bind asked.store led (same s keeps) (ap (refusal_in s) as_read ∙ none) in
-      let made = subst (λ (x : Event). Makes s x (load_line bytes w force asked) ready.entry.number ready.entry.def new ends.mid c k n) as_read first in
+      let made = subst (λ (x : Event). Makes s x (load_line bytes w force asked) (number_in ready) (described_in ready) new ends.mid c k n) as_read first in
       record {
-        job = ready.entry.number;
+        job = number_in ready;
         mid = ends.mid;
         asks = asks_for ends.mid ends.asks;
         turn = made.turn;
-        own = λ is d read. let both : Ok ready.entry.def ≡ Ok d = sym admitted.read ∙ read in made.own ∙ (cc);
+        own = λ is d read. let both : Ok (described_in ready) ≡ Ok d = sym admitted.read ∙ read in made.own ∙ (cc);
       }
   load_ended (Some r) ends =
       let refused : refusal_in s (load_of bytes w force asked.bind asked.store) ≡ Some r = admitted.left s asked.bind asked.store keeps ∙ sym ends.answer in
       let left = ends.refused r refl in
       record {
-        job = ready.entry.number;
+        job = number_in ready;
         mid = ends.mid;
         asks = asks_for ends.mid ends.asks;
         turn = subst (λ x. TurnsOf s (load_of bytes w force asked.bind asked.store) (load_line bytes w force asked) (Some r) new ends.mid x k n) (sym left.1)

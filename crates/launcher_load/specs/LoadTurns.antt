@@ -12,7 +12,7 @@ use Rattle.job_defs.specs.Definitions.{given}
 use Rattle.job_defs.specs.Table.{def_of}
 use Rattle.job_table.specs.Rows.{Table, Name, definition_of_number}
 use Rattle.job_table.specs.Kept.{KeepsState, acts_in}
-use Rattle.job_table.specs.Loads.{load_of, refusal_outside}
+use Rattle.job_table.specs.Loads.{load_of, refusal_outside, described_in, number_in, setting_in}
 use Rattle.job_table.specs.declared.loading.Ready.{Ready}
 use Rattle.job_table.specs.Changes.{set_of}
 use Rattle.job_table.specs.Outcomes.{IsSameFor}
@@ -102,9 +102,9 @@ pub record Makes (s : State) (e : Event) (line : List ℕ) (job : ℕ) (d : Desc
 pub record EndsLoad (ready : Ready) (w : Bool) (wall : ℕ) (asked : Asked) (refusal : Option Refusal) (line : List ℕ) (old new : Table)
     (told told' : Option (List Entry)) (stored stored' : Option (List StoreCall)) (written written' : Kept) : Type 0 where
   pub mid : Option (List Entry)
-  pub asks : Asks ready.entry.number ready.entry.def w wall asked told mid stored stored'
-  pub answer : refusal ≡ refusal_outside ready.entry.def w asked.bind asked.store
+  pub asks : Asks (number_in ready) (described_in ready) w wall asked told mid stored stored'
+  pub answer : refusal ≡ refusal_outside (described_in ready) w asked.bind asked.store
   pub refused : (r : Refusal) → refusal ≡ Some r → (new ≡ old) × (told' ≡ mid) × Grows written written' line
   pub made : refusal ≡ None → (s : State) (force bind store : Bool) → IsLed s → KeepsState old s
-      → refusal_in s (Load (Ok (given ready.entry.def)) (is_some ready.setting) force bind store) ≡ None
-      → Makes s (Load (Ok (given ready.entry.def)) (is_some ready.setting) force bind store) line ready.entry.number ready.entry.def new mid told' written written'
+      → refusal_in s (Load (Ok (given (described_in ready))) (is_some (setting_in ready)) force bind store) ≡ None
+      → Makes s (Load (Ok (given (described_in ready))) (is_some (setting_in ready)) force bind store) line (number_in ready) (described_in ready) new mid told' written written'

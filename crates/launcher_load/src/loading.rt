@@ -10,7 +10,7 @@ ghost use Rattle.history_model.specs.Machine.{State, Load};
 ghost use Rattle.history_model.specs.Step.{outcome, set_if};
 ghost use Rattle.job_defs.specs.Definitions.{given};
 ghost use Rattle.job_table.specs.Kept.{KeepsState};
-ghost use Rattle.job_table.specs.Loads.{load_of, refusal_outside, IsReady};
+ghost use Rattle.job_table.specs.Loads.{load_of, refusal_outside, IsReady, described_in, number_in, setting_in};
 ghost use Rattle.event_journal.specs.Journals.{Kept, Grows};
 ghost use Rattle.launcher_turn.specs.Turns.{IsLed, refusal_told};
 ghost use Rattle.launcher_load.specs.Lines.{load_line};
@@ -71,11 +71,11 @@ fn make<E: ChildEdge + SocketEdge, W: Write>(
     ready: Ready,
 )
     requires ready { IsReady table.old ready }
-    requires label { is_label ready.entry.def.label ≡ true }
+    requires label { is_label (described_in ready).label ≡ true }
     requires empty { room.old.answers ≡ [] }
     ensures { (s : State) (force bind store : Bool) (line : List ℕ) (written : Kept) → Grows written journal.old line → IsLed s → KeepsState table.old s
-        → refusal_in s (Load (Ok (given ready.entry.def)) (is_some ready.setting) force bind store) ≡ None
-        → Makes s (Load (Ok (given ready.entry.def)) (is_some ready.setting) force bind store) line ready.entry.number ready.entry.def table.new (E.told edge.old) (E.told edge.new) written journal.new }
+        → refusal_in s (Load (Ok (given (described_in ready))) (is_some (setting_in ready)) force bind store) ≡ None
+        → Makes s (Load (Ok (given (described_in ready))) (is_some (setting_in ready)) force bind store) line (number_in ready) (described_in ready) table.new (E.told edge.old) (E.told edge.new) written journal.new }
 {
     table.commit_load(ready);
     finish(table, edge, journal, alloc, room);
@@ -95,10 +95,10 @@ fn ask_and_make<E: ChildEdge + SocketEdge, T: SettingStore, W: Write>(
     force: bool,
 ) -> Answered
     requires ready { IsReady table.old ready }
-    requires label { is_label ready.entry.def.label ≡ true }
+    requires label { is_label (described_in ready).label ≡ true }
     requires empty { room.old.answers ≡ [] }
     ensures ends { EndsLoad ready w table.old.reading.wall result.asked result.refusal (load_line def.now w force result.asked) table.old table.new (E.told edge.old) (E.told edge.new) (T.told store.old) (T.told store.new) journal.old journal.new }
-    ensures stored { (settings : List Held) → T.holds store.old settings → T.holds store.new (set_if (w && (result.asked.bind && result.asked.store)) ready.entry.def.label false settings) }
+    ensures stored { (settings : List Held) → T.holds store.old settings → T.holds store.new (set_if (w && (result.asked.bind && result.asked.store)) (described_in ready).label false settings) }
 {
     let changed = table.reading().wall;
     let asked = ask_outside(edge, store, ready.job(), ready.def(), w, changed);

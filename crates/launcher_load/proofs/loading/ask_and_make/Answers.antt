@@ -1,6 +1,6 @@
 -- The load was made, after the outside answered well and its line was written.
 use Rattle.std.proofs.Common.{ap, subst, ◌∙◌}
-use Rattle.job_table.specs.Loads.{refusal_outside}
+use Rattle.job_table.specs.Loads.{refusal_outside, described_in}
 use Rattle.load_asking.specs.Asking.{Asks}
 use Rattle.launcher_load.specs.Lines.{load_line}
 use Rattle.launcher_load.proofs.Loads.{clash}
@@ -16,7 +16,7 @@ returns-in-None-clause-ends g c =
     let stored' = g.T.SettingStore.told c.ask_outside-asked.new.store in
     record {
       mid = mid;
-      asks = subst (λ j. Asks j ready.entry.def c.args.w c.args.table.now.reading.wall asked told mid stored stored') c.job.ensures
+      asks = subst (λ j. Asks j (described_in ready) c.args.w c.args.table.now.reading.wall asked told mid stored stored') c.job.ensures
           (subst (λ d. Asks c.job.result d c.args.w c.args.table.now.reading.wall asked told mid stored stored') c.def.ensures
           (subst (λ n. Asks c.job.result c.def.result.now c.args.w n asked told mid stored stored') (ap (λ r. r.wall) c.reading-changed.ensures.last) c.ask_outside-asked.ensures.asked));
       answer = c.refused_outside-refusal.ensures ∙ ap (λ d. refusal_outside d c.args.w asked.bind asked.store) c.def-2.ensures;

@@ -5,7 +5,7 @@ use Rattle.std.proofs.lemmas.Bool.{false≢true}
 use Rattle.history_model.specs.Machine.{State}
 use Rattle.history_model.specs.Acceptance.{refusal_in}
 use Rattle.job_table.specs.Kept.{KeepsState}
-use Rattle.job_table.specs.Loads.{IsAdmitted, load_of}
+use Rattle.job_table.specs.Loads.{IsAdmitted, load_of, described_in}
 use Rattle.load_asking.specs.Asking.{is_done}
 use Rattle.launcher_turn.specs.Turns.{refusal_told}
 use Rattle.launcher_load.specs.declared.loading.Loaded.{Loaded}
@@ -15,11 +15,11 @@ use Rattle.job_defs.proofs.Labels.{label_read}
 use Rattle.launcher_load.proofs.loading.load.Goals as goal
 
 pub ask_and_make-ended-requires-clause-label : goal.ask_and_make-ended-requires-clause-label
-ask_and_make-ended-requires-clause-label g c = label_read c.as_bytes.result.now c.in-Ok.ready.entry.def c.in-Ok.ensures.admitted.read
+ask_and_make-ended-requires-clause-label g c = label_read c.as_bytes.result.now (described_in c.in-Ok.ready) c.in-Ok.ensures.admitted.read
 
 pub returns-in-Ok-loaded-clause-turn : goal.returns-in-Ok-loaded-clause-turn
 returns-in-Ok-loaded-clause-turn g c = λ other s led keeps.
-    let admitted = subst (λ b. IsAdmitted c.args.table.now b c.args.w c.args.force c.in-Ok.ready.entry.def) c.as_bytes.ensures.value c.in-Ok.ensures.admitted in
+    let admitted = subst (λ b. IsAdmitted c.args.table.now b c.args.w c.args.force (described_in c.in-Ok.ready)) c.as_bytes.ensures.value c.in-Ok.ensures.admitted in
     let asked = c.ask_and_make-ended.result.asked in
     let told = g.E.Edge.told c.args.edge.now in
     let told' = g.E.Edge.told c.ask_and_make-ended.new.edge in
@@ -35,11 +35,11 @@ returns-in-Ok-loaded-clause-turn g c = λ other s led keeps.
 
 pub returns-in-Ok-loaded-clause-stored : goal.returns-in-Ok-loaded-clause-stored
 returns-in-Ok-loaded-clause-stored g c = λ s keeps holds.
-    let admitted = subst (λ b. IsAdmitted c.args.table.now b c.args.w c.args.force c.in-Ok.ready.entry.def) c.as_bytes.ensures.value c.in-Ok.ensures.admitted in
+    let admitted = subst (λ b. IsAdmitted c.args.table.now b c.args.w c.args.force (described_in c.in-Ok.ready)) c.as_bytes.ensures.value c.in-Ok.ensures.admitted in
     let asked = c.ask_and_make-ended.result.asked in
     let ends = c.ask_and_make-ended.ensures.ends in
     let store = c.ask_and_make-ended.new.store in
-    let sets = load_sets s c.args.def.now c.args.w c.args.force asked c.args.table.now c.in-Ok.ready.entry.def c.ask_and_make-ended.result.refusal admitted keeps ends.answer
+    let sets = load_sets s c.args.def.now c.args.w c.args.force asked c.args.table.now (described_in c.in-Ok.ready) c.ask_and_make-ended.result.refusal admitted keeps ends.answer
     (λ none. ends.asks.bind ∙ ap (λ h. if h then is_done ends.asks.bound else true) none) ends.asks.store in
     let kept = subst (g.T.SettingStore.holds store) (sym sets) (c.ask_and_make-ended.ensures.stored s.settings holds) in
     subst (λ a. g.T.SettingStore.holds store (settings_after (refusal_told c.reply_to.result.reply) s (load_of c.args.def.now c.args.w c.args.force a.bind a.store))) (sym c.reply_to.ensures.asked)
@@ -62,7 +62,7 @@ returns-in-Err-clause-turn g c = λ other s led keeps.
 pub returns-in-Ok-loaded-clause-silent : goal.returns-in-Ok-loaded-clause-silent
 returns-in-Ok-loaded-clause-silent g c = λ memory.
     let asked = c.ask_and_make-ended.result.asked in
-    let told = ap is_memory c.reply_to.ensures.reply ∙ ap is_memory c.ask_and_make-ended.ensures.ends.answer ∙ not_memory c.in-Ok.ready.entry.def c.args.w asked.bind asked.store in
+    let told = ap is_memory c.reply_to.ensures.reply ∙ ap is_memory c.ask_and_make-ended.ensures.ends.answer ∙ not_memory (described_in c.in-Ok.ready) c.args.w asked.bind asked.store in
     absurd (false≢true (sym told ∙ memory))
 
 pub returns-in-Err-clause-silent : goal.returns-in-Err-clause-silent

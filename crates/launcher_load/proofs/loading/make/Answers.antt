@@ -4,15 +4,16 @@ use Rattle.std.specs.Prelude.{Ok, is_some}
 use Rattle.history_model.specs.Machine.{Load}
 use Rattle.job_defs.specs.Definitions.{given}
 use Rattle.job_table.specs.Rows.{definition_of_number}
+use Rattle.job_table.specs.Loads.{described_in, number_in, setting_in}
 use Rattle.launcher_load.proofs.Loads.{label-short}
 use Rattle.launcher_load.proofs.loading.make.Goals as goal
 
 pub returns : goal.returns
 returns g c = λ s force bind store line written noted led keeps none.
     let is = c.commit_load.ensures.loads s force bind store keeps none in
-    let done = c.finish.ensures c.args.table.now s (Load (Ok (given c.args.ready.entry.def)) (is_some c.args.ready.setting) force bind store) line written noted (label-short c.args.ready.entry.def.label c.requires.label) led keeps
+    let done = c.finish.ensures c.args.table.now s (Load (Ok (given (described_in c.args.ready))) (is_some (setting_in c.args.ready)) force bind store) line written noted (label-short (described_in c.args.ready).label c.requires.label) led keeps
     (record { kept = is.kept; accepted = ap (λ o. o.refusal) is.outcome; orders = ap (λ o. o.orders) is.outcome }) in
     record {
       turn = done.turn;
-      own = subst (λ ns. definition_of_number ns c.args.ready.entry.number ≡ Some c.args.ready.entry.def) (sym done.names_are) c.commit_load.ensures.names.own;
+      own = subst (λ ns. definition_of_number ns (number_in c.args.ready) ≡ Some (described_in c.args.ready)) (sym done.names_are) c.commit_load.ensures.names.own;
     }
