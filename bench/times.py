@@ -29,7 +29,7 @@ COLUMNS = ("proof", "tests", "edits", "runs")
 
 def load_rt():
     sys.dont_write_bytecode = True
-    path = shutil.which("rt") or sys.exit("times.py: rt is not on the PATH")
+    path = shutil.which("rt") or sys.exit("rt is not on the PATH")
     loader = importlib.machinery.SourceFileLoader("rt_main", os.path.realpath(path))
     module = importlib.util.module_from_spec(importlib.util.spec_from_loader("rt_main", loader))
     loader.exec_module(module)

@@ -23,28 +23,20 @@ import concurrent.futures
 import copy
 import fcntl
 import hashlib
-import importlib.machinery
-import importlib.util
 import json
 import os
-import shutil
 import sys
 import tempfile
 import time
 
+sys.dont_write_bytecode = True
 TOP = os.path.dirname(os.path.dirname(os.path.realpath(__file__)))
+sys.path.append(f"{TOP}/bench")
+from times import load_rt
+
 LEDGER = f"{TOP}/.git/gate-parts.json"
 STOP = f"{TOP}/.git/gate-parts.stop"
 KINDS = ("proof", "tests", "edits", "runs")
-
-
-def load_rt():
-    sys.dont_write_bytecode = True
-    path = shutil.which("rt") or sys.exit("gate_parts.py: rt is not on the PATH")
-    loader = importlib.machinery.SourceFileLoader("rt_main", os.path.realpath(path))
-    module = importlib.util.module_from_spec(importlib.util.spec_from_loader("rt_main", loader))
-    loader.exec_module(module)
-    return module
 
 
 def set_up(rt):
