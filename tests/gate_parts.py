@@ -150,7 +150,7 @@ def prove(rt, crate):
     if rt.rtlib.fmt(crate.folder, "--check", crate.out):
         return False
     is_well = not crate.ci(["--jobs", "1"], False)
-    if is_well and crate.makes_rlib:
+    if is_well and crate.makes_rlib():
         with open(f"{crate.folder}/out/rlib/stamp", "w") as file:
             file.write(sum_before)
     return is_well
