@@ -1,14 +1,19 @@
-//! Makes calls that take memory where none is left, and then with more and more, until each is made. The program runs
-//! itself once more for that, with its memory limited by the shell: `try_scarce_calls`, and within `try_scarce_calls short`.
+//! Makes calls of one job, of the store and of a launcher where no memory is left, and then with more and more, until each
+//! is made. The program runs itself once more for that, with its memory limited by the shell: `try_scarce_calls`, and within
+//! `try_scarce_calls short`. It writes a line for each call.
 #![tactic(auto)]
 
 mod job;
+mod launching;
 mod opening;
 mod store;
+mod turning;
 
 use crate::job::{DEFINITION, Making, Part};
+use crate::launching::Launching;
 use crate::opening::{Opening, OwnFile, Place, State};
 use crate::store::{Call, Using};
+use crate::turning::{TURNS, Turning};
 use anyhow::{Result, bail};
 use job_defs::read_def;
 use scarce_memory::{Hoard, run_with_little, tell};
@@ -61,11 +66,24 @@ fn open_stores(rt: &impl Print, alloc: Global, hoard: &mut Hoard) -> Result<()> 
     Ok(())
 }
 
+fn launchers(rt: &impl Print, alloc: Global, hoard: &mut Hoard) -> Result<()> {
+    let mut trial = Launching {
+        parts: None,
+        host: None,
+    };
+    tell(rt, alloc, hoard, "Host::new", &mut trial)?;
+    for turn in TURNS {
+        tell(rt, alloc, hoard, turn.name, &mut Turning::new(turn))?;
+    }
+    Ok(())
+}
+
 fn short(rt: &HostRuntime) -> Result<()> {
     let mut hoard = Hoard::new(rt.alloc())?;
     parts(rt, rt.alloc(), &mut hoard)?;
     openings(rt, &mut hoard)?;
-    open_stores(rt, rt.alloc(), &mut hoard)
+    open_stores(rt, rt.alloc(), &mut hoard)?;
+    launchers(rt, rt.alloc(), &mut hoard)
 }
 
 fn main(rt: HostRuntime) -> Result<()> {

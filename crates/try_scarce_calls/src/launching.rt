@@ -17,7 +17,7 @@ const LINES: usize = 100;
 
 /// `Host::new` over a store that has one setting. What it refuses is gone, so all is made anew for each call.
 #[derive(Drop)]
-pub struct Opening {
+pub struct Launching {
     pub parts: Option<Parts>,
     pub host: Option<Stage>,
 }
@@ -50,7 +50,7 @@ fn refuses_a(alloc: Global, host: &mut Stage) -> bool {
     }
 }
 
-impl Trial for Opening {
+impl Trial for Launching {
     fn prepare(&mut self, alloc: Global) -> bool {
         self.host = None;
         self.parts = parts(alloc);
