@@ -1,97 +1,16 @@
 //! Writes the lines of outcomes and of replies.
 
 ghost use Rattle.std.specs.Prelude.{◌≡◌, IfOk};
-ghost use Rattle.serde_json.specs.Data.{array, string};
-ghost use Rattle.serde_json.specs.View.{view};
-ghost use Rattle.serde_json.specs.Written.{compact_text};
 ghost use Rattle.ctl_protocol.specs.Outcomes.{parts};
-ghost use Rattle.ctl_protocol.specs.Objects.{line_of, plain_object};
-ghost use Rattle.ctl_protocol.specs.Outcomes.{answered, order_members, orders_data, orders_of, outcome_object, outcome_text, reply_object, reply_text};
+ghost use Rattle.ctl_protocol.specs.Objects.{line_of};
+ghost use Rattle.ctl_protocol.specs.Outcomes.{answered, orders_of, outcome_object, outcome_text, reply_object, reply_text};
 
 use crate::object::{Cell, line_from, object_of};
+use crate::orders::{orders_text, string_text};
 use crate::texts::refusal_text;
 use history_model::{Act, Reply};
 use itoa::Buffer;
-use serde_json::Value;
 use std::alloc::{AllocError, Global};
-
-fn order_value(alloc: Global, job: &str, act: Act) -> Result<Value, AllocError>
-    ensures { IfOk result (λ v. view v ≡ plain_object (order_members (job.now, act))) }
-{
-    let job = ("job", Cell::Text(job));
-    match act {
-        Act::Spawn { run, conn: None } => object_of(
-            alloc,
-            &[
-                job,
-                ("order", Cell::Text("spawn")),
-                ("run", Cell::Count(run)),
-            ],
-        ),
-        Act::Spawn {
-            run,
-            conn: Some(conn),
-        } => object_of(
-            alloc,
-            &[
-                ("conn", Cell::Count(conn)),
-                job,
-                ("order", Cell::Text("spawn")),
-                ("run", Cell::Count(run)),
-            ],
-        ),
-        Act::Term { run } => object_of(
-            alloc,
-            &[
-                job,
-                ("order", Cell::Text("term")),
-                ("run", Cell::Count(run)),
-            ],
-        ),
-        Act::Kill { run } => object_of(
-            alloc,
-            &[
-                job,
-                ("order", Cell::Text("kill")),
-                ("run", Cell::Count(run)),
-            ],
-        ),
-        Act::Close { conn } => object_of(
-            alloc,
-            &[
-                ("conn", Cell::Count(conn)),
-                job,
-                ("order", Cell::Text("close")),
-            ],
-        ),
-        Act::Gone => object_of(alloc, &[job, ("order", Cell::Text("gone"))]),
-    }
-}
-
-fn orders_value(alloc: Global, orders: &[(&str, Act)]) -> Result<Value, AllocError>
-    ensures { IfOk result (λ v. view v ≡ array (orders_data (orders_of orders.now))) }
-{
-    let mut values = Vec::new(alloc);
-    for (job, act) in orders {
-        values.push(order_value(alloc, job, *act)?)?;
-    }
-    Ok(Value::Array(values))
-}
-
-#[tactic(auto, using(crate::proofs::Objects::orders_no_float))]
-fn orders_text(alloc: Global, orders: &[(&str, Act)]) -> Result<Vec<u8>, AllocError>
-    ensures { IfOk result (λ t. t.items ≡ compact_text (array (orders_data (orders_of orders.now)))) }
-{
-    let list = orders_value(alloc, orders)?;
-    list.to_vec(alloc)
-}
-
-fn said_text(alloc: Global, said: &str) -> Result<Vec<u8>, AllocError>
-    ensures { IfOk result (λ t. t.items ≡ compact_text (string said.now)) }
-{
-    let value = Value::String(String::from_str(alloc, said)?);
-    value.to_vec(alloc)
-}
 
 /// The line of an outcome of these parts.
 fn joined(alloc: Global, code: &[u8], orders: &[u8], said: &[u8]) -> Result<Vec<u8>, AllocError>
@@ -122,7 +41,7 @@ fn outcome_from(
         return joined(alloc, number, b"[]", b"\"\"");
     }
     let list = orders_text(alloc, orders)?;
-    let said = said_text(alloc, text)?;
+    let said = string_text(alloc, text)?;
     joined(alloc, number, list.as_slice(), said.as_slice())
 }
 
