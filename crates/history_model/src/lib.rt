@@ -1,5 +1,5 @@
-// The words that every layer speaks: readings, orders, answers, ends, refusals and events. What they mean is said by the
-// definitions in specs/, which are read in the order of docs/DEFINITIONS.md; module `laws` states what follows from them.
+//! The words that every layer speaks: readings, orders, answers, ends, refusals and events. What they mean is said by the
+//! definitions in specs/, which are read in the order of docs/DEFINITIONS.md; module `laws` states what follows from them.
 #![tactic(auto)]
 
 ghost use Rattle.std.specs.Prelude.{◌≡◌};
@@ -214,6 +214,37 @@ impl Refusal {
             Refusal::ShuttingDown => 15,
         }
     }
+}
+
+/// What a job is doing, the first that applies.
+#[derive(Clone, Copy)]
+pub enum JobState {
+    /// An unload or a shutdown was asked.
+    Removing,
+    /// The answer to a spawn is awaited.
+    Spawning,
+    /// A child runs that is being stopped, or that a kickstart asked to end.
+    Stopping,
+    /// A child runs.
+    Running,
+    /// There is no child, and none is awaited.
+    Idle,
+}
+
+/// What `print` and `list` of launchctl(1) show of a job.
+#[derive(Clone, Copy)]
+pub struct JobRow {
+    pub state: JobState,
+    /// The child's.
+    pub pid: Option<u32>,
+    /// How many spawns were ordered since the load, refused ones too.
+    pub runs: u64,
+    /// How the last run ended, if one did since the load.
+    pub last_end: Option<Ended>,
+    /// Whether a one-shot demand is pending.
+    pub demand: bool,
+    /// How many connections wait.
+    pub connections: usize,
 }
 
 /// What an event is answered: a refusal, or none and a text. The text is empty at a refusal; the writers of lines put the

@@ -14,9 +14,9 @@ mod orders;
 
 use crate::calendar::Calendar;
 use crate::paths::{Queues, Watches};
-use crate::{JobEvent, JobRow, JobState};
+use crate::JobEvent;
 use conditions::Conditions;
-use history_model::{Act, Answer, Ask, Ended, MAX_UP, MAX_WALL, Obs, Reading, Refusal};
+use history_model::{Act, Answer, Ask, Ended, JobRow, JobState, MAX_UP, MAX_WALL, Obs, Reading, Refusal};
 use job_defs::Def;
 use pace::{Ending, Interval, Signal, Throttle};
 use socket_demand::Waiting;
@@ -52,7 +52,7 @@ pub struct Job {
 impl Job {
     ghost use Rattle.job_core.specs.Events.{item_of};
     ghost use Rattle.job_defs.specs.Definitions.{definition};
-    ghost use Rattle.job_core.specs.Rows.{row_by, state_by};
+    ghost use Rattle.history_model.specs.Shown.{row_by, state_by};
     ghost use Rattle.job_core.specs.Fields.{facts, is_spawn_awaited};
     ghost use Rattle.history_model.specs.Facts.{facts_of};
 

@@ -17,41 +17,11 @@ mod calendar;
 mod job;
 mod paths;
 
-use history_model::{Act, Answer, Ask, Ended, MAX_UP, Obs, Reading, Refusal};
+use history_model::{Act, Answer, Ask, Ended, JobRow, MAX_UP, Obs, Reading, Refusal};
 use job::Job;
 use job_defs::Def;
 use std::alloc::{AllocError, Global};
 use std::marker::Model;
-
-/// What a job is doing, the first that applies.
-#[derive(Clone, Copy, PartialEq, Eq)]
-pub enum JobState {
-    /// An unload or a shutdown was asked.
-    Removing,
-    /// The answer to a spawn is awaited.
-    Spawning,
-    /// A child runs that is being stopped, or that a kickstart asked to end.
-    Stopping,
-    /// A child runs.
-    Running,
-    Idle,
-}
-
-/// What `print` and `list` of launchctl(1) show of a job.
-#[derive(Clone, Copy, PartialEq, Eq)]
-pub struct JobRow {
-    pub state: JobState,
-    /// The child's.
-    pub pid: Option<u32>,
-    /// How many spawns were ordered since the load, refused ones too.
-    pub runs: u64,
-    /// How the last run ended, if one did since the load.
-    pub last_end: Option<Ended>,
-    /// Whether a one-shot demand is pending.
-    pub demand: bool,
-    /// How many connections wait.
-    pub connections: usize,
-}
 
 /// What happens to a job.
 #[derive(Clone, Copy)]
@@ -92,7 +62,7 @@ impl Model for JobCore {
 
 impl JobCore {
     ghost use Rattle.job_core.specs.Events.{item_of};
-    ghost use Rattle.job_core.specs.Rows.{row_of};
+    ghost use Rattle.history_model.specs.Shown.{row_of};
     ghost use Rattle.job_core.specs.Memory.{NeedsNoMemory};
     ghost use Rattle.job_defs.specs.Definitions.{definition};
 
