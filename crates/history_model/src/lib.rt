@@ -175,11 +175,11 @@ pub enum Refusal {
     BadDefinition(Reason, KeyName),
     /// The setting could not be stored.
     StoreRefused,
-    /// 1,024 jobs are loaded.
+    /// `MAX_JOBS` jobs are loaded.
     TooManyJobs,
     /// A socket of the job could not be bound.
     SocketRefused,
-    /// 64 connections of the job wait.
+    /// `MAX_CONNECTIONS` connections of the job wait.
     TooManyConnections,
     /// The event comes out of turn: an answer that is not awaited, an end of a run that is not the child, a connection that does
     /// not wait, or whose number was used.
@@ -260,3 +260,9 @@ pub const MAX_UP: u64 = 9_000_000_000_000_000;
 
 /// The greatest `wall` of a reading, in seconds of Unix time.
 pub const MAX_WALL: u64 = 250_000_000_000;
+
+/// How many jobs may be loaded.
+pub const MAX_JOBS: usize = 1024;
+
+/// How many connections of one job may wait.
+pub const MAX_CONNECTIONS: usize = 64;
