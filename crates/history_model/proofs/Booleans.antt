@@ -29,6 +29,9 @@ false-or a b e f = rw (e, f) refl
 pub false-and : (a b : Bool) → a ≡ false → (a && b) ≡ false
 false-and a b e = rw e refl
 
+pub true-and : (a b : Bool) → a ≡ true → b ≡ true → (a && b) ≡ true
+true-and a b e f = rw (e, f) refl
+
 -- ---- the whole is known
 
 pub and-left : (a b : Bool) → (a && b) ≡ true → a ≡ true

@@ -9,7 +9,7 @@ use Rattle.std.specs.List.{filter, list_any}
 use Rattle.history_model.specs.Items.{History}
 use Rattle.history_model.specs.Clock.{now, load_of, definition_of, periods}
 use Rattle.history_model.specs.Moments.{waits, next_period, least, next_moment, IsPeriod, IsMoment}
-use Rattle.history_model.proofs.Booleans.{and-both, or-second}
+use Rattle.history_model.proofs.Booleans.{and-both, or-second, true-and}
 use Rattle.history_model.proofs.Lawful.{eqb-self}
 use Rattle.history_model.proofs.Lifted.{any-filter}
 
@@ -75,9 +75,6 @@ or-false : (b : Bool) → (b || false) ≡ true → b ≡ true
 or-false true h = refl
 or-false false h = cc
 
-and-both : (a b : Bool) → a ≡ true → b ≡ true → (a && b) ≡ true
-and-both a b ea eb = rw (ea, eb) refl
-
 -- the interval's next moment
 module _ (seconds load up : ℕ) (positive : 0 < seconds) where
   some : 0 < 1000 * seconds
@@ -133,7 +130,7 @@ module _ (t : History) (positive : ForSome (definition_of t).start_interval (λ 
   right k there above =
       rw (in-++ k (next_period (definition_of t).start_interval (load_of t).1.up (now t).up) (filter (nat_lt (now t).up) (waits t)))
       (or-second (is_in k (next_period (definition_of t).start_interval (load_of t).1.up (now t).up)) (is_in k (filter (nat_lt (now t).up) (waits t)))
-      (in-waits k ∙ and-both (is_in k (waits t)) (nat_lt (now t).up k) there (grind (arith, nat_tests, above))))
+      (in-waits k ∙ true-and (is_in k (waits t)) (nat_lt (now t).up k) there (grind (arith, nat_tests, above))))
 
   whole : (m : ℕ) → next_moment t ≡ Some m → IsLeast (next_period (definition_of t).start_interval (load_of t).1.up (now t).up ++ filter (nat_lt (now t).up) (waits t)) m
   whole m e = go (next_period (definition_of t).start_interval (load_of t).1.up (now t).up ++ filter (nat_lt (now t).up) (waits t)) e where

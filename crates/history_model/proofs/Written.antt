@@ -31,11 +31,6 @@ write_step f xs s i x y lt same is made =
     let old : x ≡ get_or xs i x = is ∙ ap (λ l. get_or l i x) same ∙ at_written f xs i x lt in
     (λ j. set (same j) i ((made ∙ ap f old) j)) ∙ write_more f xs i x lt
 
--- or it was right already
-pub keep_step : {X : Type 0} (f : X → X) (xs s : List X) (i : ℕ) (x : X) → i < length xs → s ≡ written f i xs → x ≡ get_or s i x → x ≡ f x → s ≡ written f (i + 1) xs
-keep_step f xs s i x lt same is made =
-    sym (set-get_or s i x) ∙ ap (λ y. set s i y) (sym is) ∙ write_step f xs s i x x lt same is made
-
 -- the newer sight where there is one
 pub newer : (b : Bool) (obs : Obs) (before : Option Obs) → cond b (Some obs) before ≡ or_else (cond b (Some obs) None) before
 newer true obs before = refl
