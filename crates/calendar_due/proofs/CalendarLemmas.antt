@@ -6,6 +6,7 @@ use Rattle.history_model.specs.declared.Entry.{Entry}
 use Rattle.history_model.specs.declared.CivilMinute.{CivilMinute}
 use Rattle.history_model.specs.Calendar.{Zone, IsCrossed, matches, crossed, calendar_fires}
 use Rattle.calendar_due.specs.Offsets.{Offsets, shown_by}
+use Rattle.history_model.proofs.Booleans.{or-true}
 use Rattle.history_model.proofs.Crossed.{members}
 
 -- no entry matches some of the minutes
@@ -27,15 +28,12 @@ found-calendar_fires zone entries previous now minutes found are is =
     is ∙ ap (list_any (λ minute. list_any (λ entry. matches entry minute) entries)) are
     ∙ list_any-map (λ minute. list_any (λ entry. matches entry minute) entries) zone (crossed previous now)
 
-or_true : (b : Bool) → (b || true) ≡ true
-or_true b = elim (cases_Bool b) [ inl passes ↦ rw passes refl | inr fails ↦ rw fails refl ]
-
 -- a search finds a number that is there
 any_of : (p : ℕ → Bool) (xs : List ℕ) (m : ℕ) → list_any (λ c. c == m) xs ≡ true → p m ≡ true → list_any p xs ≡ true
 any_of p [] m found passes = cc
 any_of p (x ∷ xs) m found passes = elim (cases_Bool (x == m)) [
   | inl same ↦ ap (λ z. p z || list_any p xs) (eqb-true x m same) ∙ ap (λ b. b || list_any p xs) passes
-  | inr other ↦ ap (λ b. p x || b) (any_of p xs m (ap (λ b. b || list_any (λ c. c == m) xs) (sym other) ∙ found) passes) ∙ or_true (p x)
+  | inr other ↦ ap (λ b. p x || b) (any_of p xs m (ap (λ b. b || list_any (λ c. c == m) xs) (sym other) ∙ found) passes) ∙ or-true (p x)
 ]
 
 -- what stands in a list that a function made is made of an element

@@ -1,4 +1,4 @@
--- The counted minutes, one more at a time.
+-- The minutes that a step of the clock crosses, counted one more at a time.
 use Rattle.std.proofs.Common.{◌≡◌, ℕ, zero, suc, ◌+◌, ◌*◌, List, [], ◌∷◌, ◌++◌, map, sym, ap, ◌∙◌, arith}
 use Rattle.std.proofs.lemmas.List.{map-append}
 use Rattle.history_model.specs.Calendar.{minutes_above}

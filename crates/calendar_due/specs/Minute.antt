@@ -8,13 +8,15 @@ use Rattle.history_model.specs.declared.CivilMinute.{CivilMinute}
 -- the most months, at most n, that fit in that many days of the year
 unfoldable pub months_within : ℤ → ℕ → ℕ → ℕ
 months_within y zero days = 0
-months_within y (suc n) days = if nat_le (days_of_months y (suc n)) days then suc n else months_within y n days
+months_within y (suc n) days =
+    if nat_le (days_of_months y (suc n)) days then suc n else months_within y n days
 
 -- the place of a day in its year, from 0
 abbrev pub place_in_year : ℤ → ℕ
 place_in_year day = unsigned_abs (day -ℤ days_from_civil (year_of_day day) 1 1)
 
--- the minute in a year, by the place of its day from 0, the whole months before it, the weekday and the second of the day
+-- the minute in a year, by the place of its day from 0, the whole months before it, the weekday and
+-- the second of the day
 abbrev pub minute_in_year : ℤ → ℕ → ℕ → ℕ → ℕ → CivilMinute
 minute_in_year y place months weekday second = record {
   year = y;
@@ -25,16 +27,23 @@ minute_in_year y place months weekday second = record {
   weekday = weekday;
 }
 
--- the minute of a day, by the second of the day. Day 0 is 1970-01-01, and weekdays count from Sunday as 0
+-- the minute of a day, by the second of the day. Day 0 is 1970-01-01, and weekdays count from
+-- Sunday as 0
 abbrev pub minute_of_day : ℤ → ℕ → CivilMinute
 minute_of_day day second =
-    minute_in_year (year_of_day day) (place_in_year day) (months_within (year_of_day day) 11 (place_in_year day)) ((weekday_number day + 1) % 7) second
+    minute_in_year (year_of_day day) (place_in_year day)
+    (months_within (year_of_day day) 11 (place_in_year day))
+    ((weekday_number day + 1) % 7) second
 
--- what a clock shows, seconds dropped, that many of its seconds after it showed 1970-01-01T00:00:00. Its days have 86,400 seconds
+-- what a clock shows, seconds dropped, that many of its seconds after it showed
+-- 1970-01-01T00:00:00. Its days have 86,400 seconds
 abbrev pub shown_minute : ℤ → CivilMinute
-shown_minute seconds = minute_of_day (int_div_euclid seconds (pos 86400)) (unsigned_abs (int_rem_euclid seconds (pos 86400)))
+shown_minute seconds =
+    minute_of_day (int_div_euclid seconds (pos 86400))
+    (unsigned_abs (int_rem_euclid seconds (pos 86400)))
 
--- a minute of the calendar: a month of the year, a day of that month, an hour and a minute of the day, and a weekday
+-- a minute of the calendar: a month of the year, a day of that month, an hour and a minute of the
+-- day, and a weekday
 pub record IsCivil (at : CivilMinute) : Type 0 where
   pub month : (1 ≤ at.month) × (at.month ≤ 12)
   pub day : (1 ≤ at.day) × (at.day ≤ days_in_month at.year at.month)

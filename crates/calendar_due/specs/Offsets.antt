@@ -7,7 +7,8 @@ use Rattle.calendar_due.specs.Minute.{shown_minute}
 abbrev pub Offsets : Type 0
 Offsets = ℕ → ℤ
 
--- what a clock counts at a second of Unix time: the seconds since it showed 1970-01-01T00:00:00, had it never been changed
+-- what a clock counts at a second of Unix time: the seconds since it showed 1970-01-01T00:00:00,
+-- had it never been changed
 abbrev pub clock_seconds : Offsets → ℕ → ℤ
 clock_seconds ahead second = pos second +ℤ ahead second
 

@@ -36,6 +36,7 @@ pub record IsUnreadable (bytes : List ℕ) : Type 0 where
   pub fault : TzifFault
   pub is_fault : read_tzif bytes ≡ Err fault
 
--- a zone file that is refused: it is too long, no zone file, or its footer does not agree with its last row
+-- a zone file that is refused: it is too long, no zone file, or its footer does not agree with its
+-- last row
 abbrev pub IsBadFile : List ℕ → Type 0
 IsBadFile bytes = (65_536 < length bytes) ⊎ (IsUnreadable bytes ⊎ HasBadRule (read_tzif bytes))

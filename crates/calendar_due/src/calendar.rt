@@ -19,8 +19,10 @@ impl Calendar {
 
     /// Some entry matches some of the minutes. The search ends at the first minute that is matched. Takes no memory.
     pub fn fires(entries: &[Entry], minutes: &[CivilMinute]) -> bool
-        ensures any { result ≡ list_any (λ minute. list_any (λ entry. entry_matches entry minute) entries.now) minutes.now }
-        ensures fires { (zone : Zone) (previous now : ℕ) → minutes.now ≡ map zone (crossed previous now) →
+        ensures any { result ≡ list_any
+            (λ minute. list_any (λ entry. entry_matches entry minute) entries.now) minutes.now }
+        ensures fires { (zone : Zone) (previous now : ℕ) →
+            minutes.now ≡ map zone (crossed previous now) →
             result ≡ calendar_fires zone entries.now previous now }
     {
         !entries.is_empty() && is_any_matched(entries, minutes)
@@ -29,7 +31,8 @@ impl Calendar {
 
 // Some entry matches some of the minutes.
 fn is_any_matched(entries: &[Entry], minutes: &[CivilMinute]) -> bool
-    ensures { result ≡ list_any (λ minute. list_any (λ entry. entry_matches entry minute) entries.now) minutes.now }
+    ensures { result ≡ list_any
+        (λ minute. list_any (λ entry. entry_matches entry minute) entries.now) minutes.now }
 {
     minutes
         .iter()

@@ -12,7 +12,7 @@ ghost use Rattle.calendar_due.specs.Offsets.{always, clock_seconds};
 ghost use Rattle.calendar_due.specs.Rules.{offsets, minute_at};
 ghost use Rattle.calendar_due.specs.Zone.{IsOfRule, IsOfTable, IsUnreadable, IsBadFile};
 
-use history_model::CivilMinute;
+use history_model::{CivilMinute, MAX_WALL};
 use jiff::civil::DateTime;
 use jiff::tz::{Offset, TimeZone, Tzif};
 use jiff::{Error, Timestamp};
@@ -101,7 +101,7 @@ impl Zone {
 
     // What a clock in this zone shows at a second of Unix time.
     fn shown_at(&self, seconds: u64) -> DateTime
-        requires { seconds ≤ 250_000_000_000 }
+        requires { seconds ≤ MAX_WALL }
         ensures { civil_seconds result ≡ clock_seconds (offsets self.now) seconds }
     {
         let Ok(instant) = Timestamp::from_second(seconds as i64) else {
@@ -117,7 +117,7 @@ impl Zone {
     /// condition: at most 250,000,000,000 seconds, in the year 9892. Takes no memory.
     #[tactic(auto, unfolding(crate::specs::Rules::minute_at, crate::specs::Offsets::shown_by))]
     pub fn civil_minute(&self, seconds: u64) -> CivilMinute
-        requires { seconds ≤ 250_000_000_000 }
+        requires { seconds ≤ MAX_WALL }
         ensures { result ≡ minute_at self.now seconds }
     {
         minute_of(self.shown_at(seconds))
@@ -132,8 +132,9 @@ impl Zone {
         previous: u64,
         now: u64,
     ) -> Result<Vec<CivilMinute>, AllocError>
-        requires { now ≤ 250_000_000_000 }
-        ensures { IfOk result (λ minutes. minutes.items ≡ map (minute_at self.now) (crossed previous now)) }
+        requires { now ≤ MAX_WALL }
+        ensures { IfOk result (λ minutes. minutes.items
+            ≡ map (minute_at self.now) (crossed previous now)) }
     {
         let last_before = minute_before(previous, now);
         let count = (now / 60).saturating_sub(last_before);
@@ -146,8 +147,9 @@ impl Zone {
 
     // What a clock in this zone shows at the second, as the last of the list.
     fn add_minute(&self, minutes: &mut Vec<CivilMinute>, second: u64) -> Result<(), AllocError>
-        requires { second ≤ 250_000_000_000 }
-        ensures { OnOk result (minutes.new.items ≡ minutes.old.items ++ minute_at self.now second ∷ []) }
+        requires { second ≤ MAX_WALL }
+        ensures { OnOk result (minutes.new.items
+            ≡ minutes.old.items ++ minute_at self.now second ∷ []) }
     {
         minutes.push(self.civil_minute(second))?;
         Ok(())

@@ -9,13 +9,12 @@ use Rattle.job_defs.specs.declared.parts.PathState.{PathState}
 use Rattle.job_defs.specs.Definitions.{path_wish}
 use Rattle.history_model.specs.Clock.{definition_of}
 use Rattle.history_model.specs.Demands.{is_same_path, last_seen}
-use Rattle.history_model.specs.Levels.{presence_holds, end_holds, last_end}
-use Rattle.history_model.specs.Facts.{crash_of}
+use Rattle.history_model.specs.Levels.{presence_holds}
 use Rattle.history_model.specs.ByFacts.{any_seen, seen_after}
 use Rattle.history_model.proofs.Seen.{any-seen}
 use Rattle.history_model.proofs.Written.{newer}
 use Rattle.history_model.proofs.Connections.{seen-more}
-use Rattle.conditions.specs.Kept.{kept_of, conditions_hold, end_holds_of, holds_by}
+use Rattle.conditions.specs.Kept.{kept_of, conditions_hold, holds_by}
 use Rattle.conditions.specs.States.{wanted_of, sight_of, after_sight}
 use Rattle.conditions.specs.declared.levels.State.{State}
 
@@ -32,16 +31,9 @@ pub wanted-after : (path : List ℕ) (obs : Obs) (ss : List State) → map wante
 wanted-after path obs [] = refl
 wanted-after path obs (s ∷ ss) = ap (λ l. wanted_of s ∷ l) (wanted-after path obs ss)
 
-end-holds-of : (d : Definition) (t : History) (o : Option (ℕ × Ended)) → end_holds d t o ≡ end_holds_of d.successful_exit d.crashed (crash_of t o) o
-end-holds-of d t None = refl
-end-holds-of d t (Some end) = refl
-
 pub holds-by : (t : History) → conditions_hold t ≡ holds_by (kept_of t)
 holds-by t =
-    rw (
-      end-holds-of (definition_of t) t (last_end t),
-      any-seen (λ (state : List ℕ × Bool). presence_holds state.1) (λ state. last_seen state.0 t) (definition_of t).path_state,
-    ) refl
+    rw any-seen (λ (state : List ℕ × Bool). presence_holds state.1) (λ state. last_seen state.0 t) (definition_of t).path_state refl
 
 pub kept-Saw : (t : History) (path : List ℕ) (obs : Obs) →
     kept_of (Saw path obs ∷ t) ≡ record (kept_of t) { seen = seen_after (λ (state : List ℕ × Bool). state.0) (kept_of t).path_state path obs (kept_of t).seen }

@@ -4,9 +4,11 @@ use Rattle.history_model.specs.declared.Obs.{Obs}
 use Rattle.history_model.specs.Demands.{is_same_path}
 use Rattle.conditions.specs.declared.levels.State.{State}
 
+-- the path, and whether it is to be there
 abbrev pub wanted_of : State → List ℕ × Bool
 wanted_of s = (s.path, s.present)
 
+-- what was seen there last
 abbrev pub sight_of : State → Option Obs
 sight_of s = s.last
 

@@ -6,7 +6,7 @@ ghost use Rattle.history_model.specs.Items.{History, Loaded, Saw, RunEnded};
 ghost use Rattle.history_model.specs.Runs.{is_stopping_order};
 ghost use Rattle.history_model.specs.Levels.{is_crash_end, is_success, agrees, presence_holds};
 ghost use Rattle.history_model.specs.ByFacts.{any_seen, seen_after};
-ghost use Rattle.conditions.specs.Kept.{end_holds_of};
+ghost use Rattle.history_model.specs.Levels.{end_holds_of};
 ghost use Rattle.conditions.specs.States.{wanted_of, sight_of, after_sight};
 ghost use Rattle.job_defs.specs.Definitions.{definition, path_wish};
 
@@ -59,7 +59,8 @@ impl Conditions {
 
     /// The conditions of a definition, before any end and any sight. The one refusal is of memory.
     pub fn new(alloc: Global, def: &Def) -> Result<Conditions, AllocError>
-        ensures { IfOk result (λ c. (at : Reading) → c ≡ kept_of (Loaded (definition def.now) at ∷ [])) }
+        ensures { IfOk result (λ c. (at : Reading) →
+            c ≡ kept_of (Loaded (definition def.now) at ∷ [])) }
     {
         Ok(Conditions {
             keep_alive: def.keep_alive(),
@@ -73,8 +74,10 @@ impl Conditions {
 
     /// Takes in what was seen at a path; nothing changes where no condition looks at it.
     pub fn saw(&mut self, path: &str, obs: Obs)
-        ensures step { self.new ≡ record self.old { seen = seen_after (λ s. s.0) self.old.path_state path.now obs self.old.seen } }
-        ensures past { (past : History) → self.old ≡ kept_of past → self.new ≡ kept_of (Saw path.now obs ∷ past) }
+        ensures step { self.new ≡ record self.old
+            { seen = seen_after (λ s. s.0) self.old.path_state path.now obs self.old.seen } }
+        ensures past { (past : History) → self.old ≡ kept_of past →
+            self.new ≡ kept_of (Saw path.now obs ∷ past) }
     {
         see(&mut self.states, path, obs);
     }
@@ -82,8 +85,10 @@ impl Conditions {
     /// Takes in how a run ended, and whether TERM or KILL was ordered for it. An end by signal 3 to 8, 11 or 31 is a crash,
     /// and one by an unknown signal where neither was ordered.
     pub fn ended(&mut self, run: u64, how: Ended, is_told: bool)
-        ensures step { self.new ≡ record self.old { ended = Some (run, how); has_crashed = is_crash_end is_told how } }
-        ensures past { (past : History) → self.old ≡ kept_of past → is_told ≡ list_any (is_stopping_order run) past →
+        ensures step { self.new ≡ record self.old
+            { ended = Some (run, how); has_crashed = is_crash_end is_told how } }
+        ensures past { (past : History) → self.old ≡ kept_of past →
+            is_told ≡ list_any (is_stopping_order run) past →
             self.new ≡ kept_of (RunEnded run how ∷ past) }
     {
         self.last_end = Some((run, how));
@@ -111,7 +116,8 @@ impl Conditions {
 
     /// Whether a path was last seen as its condition wants it.
     fn path_holds(&self) -> bool
-        ensures { result ≡ any_seen (λ state. presence_holds state.1) self.now.path_state self.now.seen }
+        ensures { result ≡ any_seen
+            (λ state. presence_holds state.1) self.now.path_state self.now.seen }
     {
         any_holds(self.states.as_slice())
     }

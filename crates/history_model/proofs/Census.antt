@@ -22,10 +22,10 @@ use Rattle.history_model.specs.Acceptance.{is_told, refusal_at, refusal_in}
 use Rattle.history_model.specs.Step.{with_item, told, told_one, lists, sight_of, taken, stays, asked, step_by, step, run}
 use Rattle.history_model.specs.WholeLaws.{living_in, concerns, only}
 use Rattle.history_model.specs.Census.{is_start_of, is_finish_of, is_taken_as, count_taken}
+use Rattle.history_model.proofs.Booleans.{and-both, not-false}
 use Rattle.history_model.proofs.Lawful.{Answers-from, IsChild-from}
 use Rattle.history_model.proofs.Runs.{sound, spawned-awaited, spawned-living, child-present, ended-living}
-use Rattle.history_model.proofs.Standing.{Rests, IsGood, good-step, refused-None, not-false}
-use Rattle.history_model.proofs.Spaced.{and-true}
+use Rattle.history_model.proofs.Standing.{Rests, IsGood, good-step, refused-None}
 use Rattle.history_model.proofs.Lifted.{gone-living}
 use Rattle.history_model.proofs.Only.{filter-idem, absent, taken-only, asked-only, step-other, resting-only}
 use Rattle.history_model.proofs.Few.{IsFew, few-step}
@@ -164,7 +164,7 @@ balance l s (Tick at) good few named accepted =
 balance l s (Sight path obs) good few named accepted = rw (alive-told (sight_of path (Saw path obs)) (living-sight path obs) (filter (is_of l) s.jobs)) refl
 balance l s (OfJob m x) good few named accepted =
     let allowed = refused-None (not (is_label m && is_told x)) BadRequest (refusal_at (past_of s m) x) accepted in
-    let told = and-true (is_label m) (is_told x) (not-false (is_label m && is_told x) allowed.0) in
+    let told = and-both (is_label m) (is_told x) (not-false (is_label m && is_told x) allowed.0) in
     let known : refusal_at (past_in (first (filter (is_of l) s.jobs))) x ≡ None = rw (same_text l m (sym named)) allowed.1 in
     let one = told-one l x s.reading (filter (is_of l) s.jobs) (filter-idem (is_of l) s.jobs) few (resting-only l s good) told.1 known in
     let same : l ≡ m = same_text l m (sym named) in

@@ -16,9 +16,9 @@ use Rattle.history_model.specs.Facts.{facts_of}
 use Rattle.history_model.specs.ByFacts.{settle}
 use Rattle.history_model.specs.Moments.{later_by, timeouts, child_moments, waits, next_period, least_of, least, next_moment}
 use Rattle.history_model.specs.Coming.{sooner, coming, coming_after, coming_period, coming_end, next_by}
-use Rattle.history_model.proofs.Lists.{or-false}
 use Rattle.history_model.specs.Demands.{waiting}
-use Rattle.history_model.proofs.Lawful.{Answers-from, due-Spawn, due-Kill-may, due_shape, not-true}
+use Rattle.history_model.proofs.Booleans.{and-left, and-right, not-true, or-false}
+use Rattle.history_model.proofs.Lawful.{Answers-from, due-Spawn, due-Kill-may, due_shape}
 use Rattle.history_model.proofs.Runs.{kept_awaited, unless_settled-more, answered-settles, child-present, sound, refused-awaited}
 use Rattle.history_model.proofs.Times.{now-grows}
 
@@ -205,14 +205,6 @@ spawn_kind = record {
   asked (WaitRefused run) t lawful e = cc
 
 -- ---- TERM and KILL, and their refusals
-
-and-left : (a b : Bool) → (a && b) ≡ true → a ≡ true
-and-left true b e = refl
-and-left false b e = cc
-
-and-right : (a b : Bool) → (a && b) ≡ true → b ≡ true
-and-right true b e = e
-and-right false b e = cc
 
 due-Term-may : (t : History) (run : ℕ) → due t ≡ Some (Term run) → may_term run t ≡ true
 due-Term-may t run e = go (awaited t) (child t) e where

@@ -9,8 +9,8 @@ use Rattle.std.specs.List.{filter, list_any}
 use Rattle.history_model.specs.Items.{History}
 use Rattle.history_model.specs.Clock.{now, load_of, definition_of, periods}
 use Rattle.history_model.specs.Moments.{waits, next_period, least, next_moment, IsPeriod, IsMoment}
+use Rattle.history_model.proofs.Booleans.{and-both, or-second, true-and}
 use Rattle.history_model.proofs.Lawful.{eqb-self}
-use Rattle.history_model.proofs.Spaced.{and-true}
 use Rattle.history_model.proofs.Lifted.{any-filter}
 
 -- the number is in the list
@@ -24,10 +24,6 @@ IsLeast ms m = (is_in m ms ≡ true) × ((k : ℕ) → is_in k ms ≡ true → m
 in-or : (a b : Bool) → (a || b) ≡ true → (a ≡ true) ⊎ (b ≡ true)
 in-or true b e = inl refl
 in-or false b e = inr e
-
-or-in : (a b : Bool) → b ≡ true → (a || b) ≡ true
-or-in true b e = refl
-or-in false b e = e
 
 min-in : (m k : ℕ) → (min m k ≡ m) ⊎ (min m k ≡ k)
 min-in m k = go (nat_lt m k) refl where
@@ -48,11 +44,11 @@ least-is m (n ∷ ms) x e =
       λ k there. below k (in-or (m == k) ((n == k) || is_in k ms) there) rest.1,
     ) where
       here : ((min m n == x) ≡ true) ⊎ (is_in x ms ≡ true) → is_in x (m ∷ n ∷ ms) ≡ true
-      here (inr later) = or-in (m == x) ((n == x) || is_in x ms) (or-in (n == x) (is_in x ms) later)
+      here (inr later) = or-second (m == x) ((n == x) || is_in x ms) (or-second (n == x) (is_in x ms) later)
       here (inl now_here) = pick (min-in m n) (eqb-true (min m n) x now_here) where
         pick : (min m n ≡ m) ⊎ (min m n ≡ n) → min m n ≡ x → is_in x (m ∷ n ∷ ms) ≡ true
         pick (inl is_m) same = let equal : m ≡ x = omega (arith, is_m, same) in rw (equal, eqb-self x) refl
-        pick (inr is_n) same = let equal : n ≡ x = omega (arith, is_n, same) in or-in (m == x) ((n == x) || is_in x ms) (rw (equal, eqb-self x) refl)
+        pick (inr is_n) same = let equal : n ≡ x = omega (arith, is_n, same) in or-second (m == x) ((n == x) || is_in x ms) (rw (equal, eqb-self x) refl)
 
       from : (k : ℕ) → min m n ≤ k → ((j : ℕ) → is_in j (min m n ∷ ms) ≡ true → x ≤ j) → x ≤ k
       from k above all = let lowest : x ≤ min m n = all (min m n) (rw (eqb-self (min m n)) refl) in omega (arith, lowest, above)
@@ -62,7 +58,7 @@ least-is m (n ∷ ms) x e =
       below k (inr later) all = last_two (in-or (n == k) (is_in k ms) later) where
         last_two : ((n == k) ≡ true) ⊎ (is_in k ms ≡ true) → x ≤ k
         last_two (inl is_n) = let same : n ≡ k = eqb-true n k is_n in from k (omega (arith, same)) all
-        last_two (inr deeper) = all k (or-in (min m n == k) (is_in k ms) deeper)
+        last_two (inr deeper) = all k (or-second (min m n == k) (is_in k ms) deeper)
 
 least-None : (ms : List ℕ) → least ms ≡ None → ms ≡ []
 least-None [] e = refl
@@ -78,9 +74,6 @@ in-++ k (x ∷ xs) ys = rw (in-++ k xs ys) (go (x == k)) where
 or-false : (b : Bool) → (b || false) ≡ true → b ≡ true
 or-false true h = refl
 or-false false h = cc
-
-and-both : (a b : Bool) → a ≡ true → b ≡ true → (a && b) ≡ true
-and-both a b ea eb = rw (ea, eb) refl
 
 -- the interval's next moment
 module _ (seconds load up : ℕ) (positive : 0 < seconds) where
@@ -136,8 +129,8 @@ module _ (t : History) (positive : ForSome (definition_of t).start_interval (λ 
       is_in k (next_period (definition_of t).start_interval (load_of t).1.up (now t).up ++ filter (nat_lt (now t).up) (waits t)) ≡ true
   right k there above =
       rw (in-++ k (next_period (definition_of t).start_interval (load_of t).1.up (now t).up) (filter (nat_lt (now t).up) (waits t)))
-      (or-in (is_in k (next_period (definition_of t).start_interval (load_of t).1.up (now t).up)) (is_in k (filter (nat_lt (now t).up) (waits t)))
-      (in-waits k ∙ and-both (is_in k (waits t)) (nat_lt (now t).up k) there (grind (arith, nat_tests, above))))
+      (or-second (is_in k (next_period (definition_of t).start_interval (load_of t).1.up (now t).up)) (is_in k (filter (nat_lt (now t).up) (waits t)))
+      (in-waits k ∙ true-and (is_in k (waits t)) (nat_lt (now t).up k) there (grind (arith, nat_tests, above))))
 
   whole : (m : ℕ) → next_moment t ≡ Some m → IsLeast (next_period (definition_of t).start_interval (load_of t).1.up (now t).up ++ filter (nat_lt (now t).up) (waits t)) m
   whole m e = go (next_period (definition_of t).start_interval (load_of t).1.up (now t).up ++ filter (nat_lt (now t).up) (waits t)) e where
@@ -152,7 +145,7 @@ module _ (t : History) (positive : ForSome (definition_of t).start_interval (λ 
         go : (is_in m (next_period (definition_of t).start_interval (load_of t).1.up (now t).up) ≡ true) ⊎ (is_in m (filter (nat_lt (now t).up) (waits t)) ≡ true) → ((now t).up < m) × IsMoment t m
         go (inl there) = let fact = period-in (definition_of t).start_interval (load_of t).1.up (now t).up m positive there in (fact.0, inl fact.1)
         go (inr there) =
-            let both = and-true (is_in m (waits t)) (nat_lt (now t).up m) (sym (in-waits m) ∙ there) in
+            let both = and-both (is_in m (waits t)) (nat_lt (now t).up m) (sym (in-waits m) ∙ there) in
             let later : nat_lt (now t).up m ≡ true = both.1 in
             (grind (arith, nat_tests, later), inr both.0)
 

@@ -18,10 +18,11 @@ use Rattle.history_model.specs.Machine.{State, Job, Header, Event, Unreadable, L
 use Rattle.history_model.specs.Acceptance.{refusal_in, refusal_there, refusal_of_load}
 use Rattle.history_model.specs.Step.{with_job, sight_of, acts_of, orders_of, taken, step, step_by, outcome, outcome_by, run}
 use Rattle.history_model.specs.WholeLaws.{AreInOrder, labels_of}
-use Rattle.history_model.proofs.Standing.{IsGood, good-step, good-run, good-opened, refused-None, or_else-None, not-false}
+use Rattle.history_model.proofs.Standing.{IsGood, good-step, good-run, good-opened, refused-None, or_else-None}
 use Rattle.history_model.proofs.InOrder.{order-run, order-taken}
 use Rattle.history_model.specs.Turns.{Given, wanting, AreAnswers, still_waiting}
 use Rattle.history_model.specs.Waits.{weight, weigh_given}
+use Rattle.history_model.proofs.Booleans.{not-false}
 use Rattle.history_model.proofs.Few.{length-told, length-told_one, length-stays}
 use Rattle.history_model.proofs.Weights.{weigh, weigh_one, weigh-acts}
 use Rattle.history_model.proofs.FreshOrders.{fresh-asked}

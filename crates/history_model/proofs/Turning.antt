@@ -1,4 +1,4 @@
--- One more answer of a turn.
+-- One more answer of a turn: the orders that wait stay fresh, and weigh less.
 use Rattle.std.proofs.Common.{◌≡◌, ◌+◌, ◌<◌, ◌≤◌, Bool, true, false, not, ◌&&◌, cond, Option, Some, None, List, [], ◌∷◌, ◌++◌, map, refl, sym, ap, subst, ◌∙◌, arith}
 use Rattle.std.specs.List.{filter, filter_map, flat_map, AllByRecursion}
 use Rattle.std.specs.Cmp.Lexicographic.{same_text}
@@ -25,6 +25,7 @@ use Rattle.history_model.proofs.Only.{filter-stays, taken-other, rest-stays, res
 use Rattle.history_model.proofs.InOrder.{order-run, order-taken}
 use Rattle.history_model.specs.Turns.{Given, wanting}
 use Rattle.history_model.specs.Waits.{IsFresh, AreFresh, weight, weigh_given}
+use Rattle.history_model.proofs.Booleans.{and-both}
 use Rattle.history_model.proofs.Weights.{weigh, lighter}
 use Rattle.history_model.proofs.FreshOrders.{all-append, fresh-asked, fresh-same, fresh-append, differ-sym}
 
@@ -125,10 +126,6 @@ heavy (SpawnRefused run) Gone e = cc
 heavy (Termed run ok) Gone e = cc
 heavy (Killed run ok) Gone e = cc
 
-and-parts : (a b : Bool) → (a && b) ≡ true → (a ≡ true) × (b ≡ true)
-and-parts true b e = (refl, e)
-and-parts false b e = cc
-
 -- the jobs of other labels are as they were
 others-same : (s : State) (m : Label) (x : Item) (waits : List Given) → AllByRecursion (Rests s.reading) s.jobs → AllByRecursion (λ (given : Given). is_same m given.0 ≡ false) waits →
     AllByRecursion (λ (one : Given). filter (is_of one.0) (filter_map stays (told_one m x s.jobs)) ≡ filter (is_of one.0) s.jobs) waits
@@ -154,7 +151,7 @@ pub turning-step : (s : State) (given : Given) (waits : List Given) (e : Event) 
     IsTurning (step s e) (waits ++ wanting (outcome s e).orders) × (weigh_given (wanting (outcome s e).orders) < weight given.1)
 turning-step s given waits (OfJob m (Answered a)) turning fits = go (refusal_in s (OfJob m (Answered a))) refl where
   parts : (is_same given.0 m ≡ true) × (is_answer_to a given.1 ≡ true)
-  parts = and-parts (is_same given.0 m) (is_answer_to a given.1) fits
+  parts = and-both (is_same given.0 m) (is_answer_to a given.1) fits
 
   same : given.0 ≡ m
   same = same_text given.0 m (sym parts.0)

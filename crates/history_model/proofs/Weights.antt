@@ -17,6 +17,7 @@ use Rattle.history_model.specs.ByFacts.{due_by, due_beside_by, may_spawn_by, may
 use Rattle.history_model.specs.Step.{acts_of, listed}
 use Rattle.history_model.specs.Waits.{weight}
 use Rattle.history_model.specs.declared.Refusal.TheVariants.{Stale}
+use Rattle.history_model.proofs.Booleans.{and-false}
 use Rattle.history_model.proofs.Lawful.{unless-None}
 use Rattle.history_model.proofs.ByFacts.{due-by, facts-after}
 
@@ -46,14 +47,6 @@ lt-later a n h = grind (arith, nat_tests)
 
 within-now : (up : ℕ) → is_newest_within 1000 up (Some up) ≡ true
 within-now up = lt-later up 1000 (omega arith)
-
-and-false : (b : Bool) → (b && false) ≡ false
-and-false true = refl
-and-false false = refl
-
-or-true : (b : Bool) → (b || true) ≡ true
-or-true true = refl
-or-true false = refl
 
 -- beside a child no spawn is due
 beside-child : (f : Facts) (up : ℕ) (c : ℕ × ℕ) → f.living_child ≡ Some c → weigh_one (due_by f up) ≤ 2

@@ -1,4 +1,4 @@
--- A loop that writes each element, and one that sees a path.
+-- A loop that writes each element of a list writes what a map gives, also where it sees a path.
 use Rattle.std.proofs.Common.{◌≡◌, ℕ, ◌+◌, ◌<◌, Bool, true, false, cond, Option, Some, None, List, [], ◌∷◌, ◌++◌, map, length, take, drop, get_or, set, refl, sym, ap, ◌∙◌, arith, append_assoc}
 use Rattle.std.proofs.lemmas.List.{drop_more, map_more, set_at, length-map, length-take-le, get_or_at, set-get_or}
 use Rattle.history_model.specs.declared.Obs.{Obs}
@@ -30,11 +30,6 @@ pub write_step : {X : Type 0} (f : X → X) (xs s : List X) (i : ℕ) (x y : X) 
 write_step f xs s i x y lt same is made =
     let old : x ≡ get_or xs i x = is ∙ ap (λ l. get_or l i x) same ∙ at_written f xs i x lt in
     (λ j. set (same j) i ((made ∙ ap f old) j)) ∙ write_more f xs i x lt
-
--- or it was right already
-pub keep_step : {X : Type 0} (f : X → X) (xs s : List X) (i : ℕ) (x : X) → i < length xs → s ≡ written f i xs → x ≡ get_or s i x → x ≡ f x → s ≡ written f (i + 1) xs
-keep_step f xs s i x lt same is made =
-    sym (set-get_or s i x) ∙ ap (λ y. set s i y) (sym is) ∙ write_step f xs s i x x lt same is made
 
 -- the newer sight where there is one
 pub newer : (b : Bool) (obs : Obs) (before : Option Obs) → cond b (Some obs) before ≡ or_else (cond b (Some obs) None) before

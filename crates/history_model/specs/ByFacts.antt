@@ -1,6 +1,7 @@
--- No definition but a tie: the facts of a past with one more item, computed from the facts before it. proofs/Steps shows that
--- on every lawful past they are those of specs/Facts, which searches the past. Of public clauses only `step` of
--- `conditions::Conditions::saw` cites it (`seen_after`), beside `past`, which speaks of the past.
+-- No definition but a tie: the facts of a past with one more item, computed from the facts before
+-- it. proofs/Steps shows that on every lawful past they are those of specs/Facts, which searches
+-- the past. Of public clauses only `step` of `conditions::Conditions::saw` cites it (`seen_after`),
+-- beside `past`, which speaks of the past.
 use Rattle.std.specs.Prelude.{◌≡◌, OnOk, Result, ℕ, ◌==◌, Bool, true, false, not, ◌&&◌, ◌||◌, cond, List, [], ◌∷◌, ◌++◌, Option, Some, None, if◌then◌else◌}
 use Rattle.std.specs.List.{filter}
 use Rattle.history_model.specs.declared.Reading.{Reading}
@@ -45,29 +46,36 @@ conn_of (Some (Spawn run conn)) = conn
 conn_of _ = None
 
 -- what was seen last of each path, after one more sight
-abbrev pub seen_after : {A : Type 0} → (A → List ℕ) → List A → List ℕ → Obs → List (Option Obs) → List (Option Obs)
+abbrev pub seen_after : {A : Type 0} → (A → List ℕ) → List A → List ℕ → Obs → List (Option Obs) →
+    List (Option Obs)
 seen_after path_in [] path obs seen = []
 seen_after path_in (x ∷ xs) path obs [] = []
 seen_after path_in (x ∷ xs) path obs (before ∷ seen) =
-    or_else (cond (is_same_path (path_in x) path) (Some obs) None) before ∷ seen_after path_in xs path obs seen
+    or_else (cond (is_same_path (path_in x) path) (Some obs) None) before
+    ∷ seen_after path_in xs path obs seen
 
 -- `watch_fires`
 abbrev pub watch_fires_by : List ℕ → Obs → Facts → Bool
 watch_fires_by path obs f =
-    any_seen (λ watched before. is_same_path watched path && differs obs before) f.definition.watch_paths f.seen_watched
+    any_seen (λ watched before. is_same_path watched path && differs obs before)
+    f.definition.watch_paths f.seen_watched
 
 -- the facts after a demand, where there is one
 abbrev pub fired_by : Bool → Facts → Facts
-fired_by fires f = record f { has_demand = fires || f.has_demand; has_new_demand = fires || f.has_new_demand }
+fired_by fires f =
+    record f { has_demand = fires || f.has_demand; has_new_demand = fires || f.has_new_demand }
 
 -- `facts_of` the past with one more item, at the present milliseconds
 abbrev pub facts_after : Item → ℕ → Facts → Facts
-facts_after (Read at calendar) up f = fired_by (calendar || crosses_interval f.definition.start_interval f.load_up up at.up) f
+facts_after (Read at calendar) up f =
+    fired_by (calendar || crosses_interval f.definition.start_interval f.load_up up at.up) f
 facts_after (Asked Start) up f = fired_by (not (is_busy_by f) || f.stops) f
 facts_after (Asked Stop) up f = record f { stops = is_busy_by f }
 facts_after (Asked Unload) up f = record f { stops = is_busy_by f; removes = true }
 facts_after (Asked Shutdown) up f = record f { stops = is_busy_by f; removes = true }
-facts_after (Asked (Kickstart strikes)) up f = record (fired_by (strikes || (not (is_busy_by f) || f.stops)) f) { strikes = is_busy_by f && strikes || f.strikes }
+facts_after (Asked (Kickstart strikes)) up f =
+    record (fired_by (strikes || (not (is_busy_by f) || f.stops)) f)
+    { strikes = is_busy_by f && strikes || f.strikes }
 facts_after (Ordered (Spawn run conn)) up f = record f {
   run_count = run;
   awaited_act = Some (Spawn run conn);
@@ -82,8 +90,14 @@ facts_after (Ordered (Spawn run conn)) up f = record f {
   stops = false;
   strikes = false;
 }
-facts_after (Ordered (Term run)) up f = record f { awaited_act = Some (Term run); term_ordered = or_else f.term_ordered (Some up); is_told_to_end = true }
-facts_after (Ordered (Kill run)) up f = record f { awaited_act = Some (Kill run); is_told_to_end = true }
+facts_after (Ordered (Term run)) up f =
+    record f {
+      awaited_act = Some (Term run);
+      term_ordered = or_else f.term_ordered (Some up);
+      is_told_to_end = true;
+    }
+facts_after (Ordered (Kill run)) up f =
+    record f { awaited_act = Some (Kill run); is_told_to_end = true }
 facts_after (Ordered (Close conn)) up f = f
 facts_after (Ordered Gone) up f = f
 facts_after (Answered (Spawned run pid)) up f = record f {
@@ -93,9 +107,20 @@ facts_after (Answered (Spawned run pid)) up f = record f {
   spawned_before = true;
   queue = filter (λ c. not (carries c (conn_of f.awaited_act))) f.queue;
 }
-facts_after (Answered (SpawnRefused run)) up f = record f { awaited_act = None; spawn_refused = Some up; stops = false; strikes = false }
-facts_after (Answered (Termed run ok)) up f = record f { awaited_act = None; is_term_done = ok || f.is_term_done; term_refused = if ok then f.term_refused else Some up }
-facts_after (Answered (Killed run ok)) up f = record f { awaited_act = None; is_kill_done = ok || f.is_kill_done; kill_refused = if ok then f.kill_refused else Some up }
+facts_after (Answered (SpawnRefused run)) up f =
+    record f { awaited_act = None; spawn_refused = Some up; stops = false; strikes = false }
+facts_after (Answered (Termed run ok)) up f =
+    record f {
+      awaited_act = None;
+      is_term_done = ok || f.is_term_done;
+      term_refused = if ok then f.term_refused else Some up;
+    }
+facts_after (Answered (Killed run ok)) up f =
+    record f {
+      awaited_act = None;
+      is_kill_done = ok || f.is_kill_done;
+      kill_refused = if ok then f.kill_refused else Some up;
+    }
 facts_after (RunEnded run how) up f = record f {
   living_child = None;
   awaited_act = settle (RunEnded run how) f.awaited_act;
@@ -121,6 +146,7 @@ facts_after_order None up f = f
 facts_after_order (Some act) up f = facts_after (Ordered act) up f
 
 -- the item is taken in, or refused, as the facts say
-pub record Follows (old : Facts) (item : Item) (now : Reading) (result : Result (Unit {0}) Refusal) (new : Facts) : Type 0 where
+pub record Follows (old : Facts) (item : Item) (now : Reading) (result : Result (Unit {0}) Refusal)
+    (new : Facts) : Type 0 where
   pub refused : result ≡ reply (refusal_by item now old)
   pub taken : OnOk result (new ≡ facts_after item now.up old)

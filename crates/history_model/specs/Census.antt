@@ -24,4 +24,5 @@ is_taken_as passes s e = not (is_some (refusal_in s e)) && passes e
 -- how many of the events pass, refused ones left out
 abbrev pub count_taken : (Event → Bool) → List Event → State → ℕ
 count_taken passes [] s = 0
-count_taken passes (e ∷ es) s = (if is_taken_as passes s e then 1 else 0) + count_taken passes es (step s e)
+count_taken passes (e ∷ es) s =
+    (if is_taken_as passes s e then 1 else 0) + count_taken passes es (step s e)

@@ -1,5 +1,5 @@
--- The next moment of a job, read off the newest moment of each kind. proofs/Coming shows that on each lawful past this is
--- next_moment of Moments, which searches every moment of the past.
+-- The next moment of a job, read off the newest moment of each kind. proofs/Coming shows that on
+-- each lawful past this is next_moment of Moments, which searches every moment of the past.
 use Rattle.std.specs.Prelude.{ℕ, ◌+◌, ◌*◌, Bool, false, nat_lt, nat_le, min, Option, Some, None, is_some, if◌then◌else◌}
 use Rattle.history_model.specs.Search.{first}
 use Rattle.history_model.specs.Moments.{next_period}
@@ -29,15 +29,18 @@ abbrev pub is_from : Option ℕ → ℕ → Bool
 is_from None up = false
 is_from (Some moment) up = nat_le moment up
 
--- the next moment of a run's end: the time after the first TERM, and a second after a refused TERM or KILL
+-- the next moment of a run's end: the time after the first TERM, and a second after a refused TERM
+-- or KILL
 abbrev pub coming_end : Facts → ℕ → Option ℕ
 coming_end f up =
-    sooner (if nat_lt 0 f.definition.exit_timeout then coming_after up (1000 * f.definition.exit_timeout) f.term_ordered else None)
+    sooner (if nat_lt 0 f.definition.exit_timeout
+    then coming_after up (1000 * f.definition.exit_timeout) f.term_ordered else None)
     (sooner (coming_after up 1000 f.term_refused) (coming_after up 1000 f.kill_refused))
 
 -- the next moment of a job
 abbrev pub next_by : Facts → ℕ → Option ℕ
 next_by f up =
     sooner (coming_period f.definition.start_interval f.load_up up)
-    (sooner (sooner (coming_after up (1000 * f.definition.throttle_interval) f.spawn_ordered) (coming_after up 1000 f.spawn_refused))
+    (sooner (sooner (coming_after up (1000 * f.definition.throttle_interval) f.spawn_ordered)
+    (coming_after up 1000 f.spawn_refused))
     (if is_some f.living_child then coming_end f up else None))

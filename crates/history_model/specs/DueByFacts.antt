@@ -1,9 +1,11 @@
--- No definition but a tie: what `due` and `refusal_of` (specs/Due, specs/Refusals) search out of a past, computed from its
--- facts alone. proofs/ByFacts shows that on every lawful past the two agree. Of public clauses only `step` of
--- `pace::Throttle::free_at` and of `pace::Ending::{term_at, kill_at}` (`is_newest_within`) and `step` of
--- `conditions::Conditions::holds` (`any_seen`) cite it, each beside `past`, which speaks of the past.
+-- No definition but a tie: what `due` and `refusal_of` (specs/Due, specs/Refusals) search out of a
+-- past, computed from its facts alone. proofs/ByFacts shows that on every lawful past the two
+-- agree. Of public clauses only `step` of `pace::Throttle::free_at` and of `pace::Ending::{term_at,
+-- kill_at}` (`is_newest_within`) and `step` of `conditions::Conditions::holds` (`any_seen`) cite
+-- it, each beside `past`, which speaks of the past.
 use Rattle.std.specs.Prelude.{ℕ, ◌+◌, ◌*◌, ◌^◌, Bool, false, not, ◌&&◌, ◌||◌, nat_lt, List, [], ◌∷◌, length, Option, Some, None, is_some, if◌then◌else◌, ◌==◌}
 use Rattle.std.specs.List.{list_any}
+use Rattle.history_model.specs.declared.TheConstants.{MAX_CONNECTIONS}
 use Rattle.history_model.specs.declared.Reading.{Reading}
 use Rattle.history_model.specs.declared.Obs.{Obs}
 use Rattle.history_model.specs.declared.Ended.{Ended}
@@ -15,7 +17,7 @@ use Rattle.history_model.specs.declared.Refusal.TheVariants.{Removing, NotRunnin
 use Rattle.history_model.specs.Items.{Definition, Item, Loaded, Read, Saw, Asked, Came, Left, Ordered, Answered, RunEnded, WaitRefused}
 use Rattle.history_model.specs.Search.{first}
 use Rattle.history_model.specs.Runs.{is_some_spawn}
-use Rattle.history_model.specs.Levels.{agrees, is_success, presence_holds, queue_holds}
+use Rattle.history_model.specs.Levels.{end_holds_of, presence_holds, queue_holds}
 use Rattle.history_model.specs.Due.{is_within, is_over}
 use Rattle.history_model.specs.Refusals.{unless, is_clock_refused, is_awaited_answer, is_child, is_number_used}
 use Rattle.history_model.specs.Facts.{Facts}
@@ -31,7 +33,9 @@ is_newest_within wait up (Some moment) = is_within wait up moment
 
 -- `is_throttled`: of moments that rise the newest decides
 abbrev pub is_throttled_by : Facts → ℕ → Bool
-is_throttled_by f up = is_newest_within (1000 * f.definition.throttle_interval) up f.spawn_ordered || is_newest_within 1000 up f.spawn_refused
+is_throttled_by f up =
+    is_newest_within (1000 * f.definition.throttle_interval) up f.spawn_ordered
+    || is_newest_within 1000 up f.spawn_refused
 
 -- it holds of some of the conditions, and of what was seen last of its path
 abbrev pub any_seen : {A : Type 0} → (A → Option Obs → Bool) → List A → List (Option Obs) → Bool
@@ -39,10 +43,9 @@ any_seen holds [] seen = false
 any_seen holds (x ∷ xs) [] = false
 any_seen holds (x ∷ xs) (obs ∷ seen) = holds x obs || any_seen holds xs seen
 
--- `end_holds`
+-- `end_holds`: a condition of the definition holds of the last end
 abbrev pub end_holds_by : Definition → Bool → Option (ℕ × Ended) → Bool
-end_holds_by d crashed None = false
-end_holds_by d crashed (Some end) = agrees d.successful_exit (is_success end.1) || agrees d.crashed crashed
+end_holds_by d has_crashed end = end_holds_of d.successful_exit d.crashed has_crashed end
 
 -- `level_holds`
 abbrev pub level_by : Facts → Bool
@@ -71,12 +74,16 @@ may_kill_by f up =
 
 -- `may_term`, of the present run
 abbrev pub may_term_by : Facts → ℕ → Bool
-may_term_by f up = not f.strikes && f.stops && not f.is_kill_done && (not f.is_term_done && not (is_newest_within 1000 up f.term_refused))
+may_term_by f up =
+    not f.strikes && f.stops && not f.is_kill_done
+    && (not f.is_term_done && not (is_newest_within 1000 up f.term_refused))
 
 -- `due_beside`
 abbrev pub due_beside_by : Option (ℕ × ℕ) → Facts → ℕ → Option Act
-due_beside_by None f up = if may_spawn_by f up then Some (Spawn (f.run_count + 1) (first f.queue)) else None
-due_beside_by (Some c) f up = if may_kill_by f up then Some (Kill c.0) else if may_term_by f up then Some (Term c.0) else None
+due_beside_by None f up =
+    if may_spawn_by f up then Some (Spawn (f.run_count + 1) (first f.queue)) else None
+due_beside_by (Some c) f up =
+    if may_kill_by f up then Some (Kill c.0) else if may_term_by f up then Some (Term c.0) else None
 
 -- `due`
 abbrev pub due_by : Facts → ℕ → Option Act
@@ -88,14 +95,15 @@ refusal_by (Loaded d at) now f = None
 refusal_by (Read at calendar) now f = unless (not (is_clock_refused now at)) ClockRefused
 refusal_by (Saw path obs) now f = None
 refusal_by (Asked Start) now f = unless (not f.removes) Removing
-refusal_by (Asked Stop) now f = if f.removes then Some Removing else unless (is_busy_by f) NotRunning
+refusal_by (Asked Stop) now f =
+    if f.removes then Some Removing else unless (is_busy_by f) NotRunning
 refusal_by (Asked Unload) now f = unless (not f.removes) Removing
 refusal_by (Asked Shutdown) now f = None
 refusal_by (Asked (Kickstart strikes)) now f = unless (not f.removes) Removing
 refusal_by (Came conn) now f =
     if f.removes then Some Removing
     else if not f.definition.has_sockets || is_number_used f.last_number conn then Some Stale
-    else unless (nat_lt (length f.queue) 64) TooManyConnections
+    else unless (nat_lt (length f.queue) MAX_CONNECTIONS) TooManyConnections
 refusal_by (Left conn) now f = unless (list_any (λ c. c == conn) f.queue) Stale
 refusal_by (Ordered act) now f = None
 refusal_by (Answered answer) now f = unless (is_awaited_answer f.awaited_act answer) Stale

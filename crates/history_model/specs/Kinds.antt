@@ -1,4 +1,5 @@
--- What an item is: tests on one item, an order, an answer (launchctl(1): stop, unload, kickstart -k; launchd(8)).
+-- What an item is: tests on one item, an order, an answer (launchctl(1): stop, unload, kickstart
+-- -k; launchd(8)).
 use Rattle.std.specs.Prelude.{ℕ, ◌==◌, Bool, true, false, not, ◌&&◌, cond, Option, Some, None}
 use Rattle.history_model.specs.declared.Act.{Act}
 use Rattle.history_model.specs.declared.Act.TheVariants.{Spawn, Term, Kill}

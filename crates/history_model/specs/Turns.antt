@@ -1,5 +1,5 @@
--- The events of a turn: one event, and then the answers to the orders that it gave, and to theirs (launchd(8); the order is
--- this project's own).
+-- The events of a turn: one event, and then the answers to the orders that it gave, and to theirs
+-- (launchd(8); the order is this project's own).
 use Rattle.std.specs.Prelude.{◌≡◌, true, List, [], ◌∷◌, ◌++◌}
 use Rattle.std.specs.List.{filter}
 use Rattle.history_model.specs.declared.Act.{Act}
@@ -16,14 +16,17 @@ Given = Label × Act
 abbrev pub wanting : List Given → List Given
 wanting orders = filter wants_answer orders
 
--- the events answer the orders that wait, first in first out; the orders that they give go to the back
+-- the events answer the orders that wait, first in first out; the orders that they give go to the
+-- back
 abbrev pub AreAnswers : State → List Given → List Event → Type 0
 AreAnswers s waits [] = Unit {0}
 AreAnswers s [] (e ∷ es) = ⊥
-AreAnswers s (given ∷ waits) (e ∷ es) = (is_answer given e ≡ true) × AreAnswers (step s e) (waits ++ wanting (outcome s e).orders) es
+AreAnswers s (given ∷ waits) (e ∷ es) =
+    (is_answer given e ≡ true) × AreAnswers (step s e) (waits ++ wanting (outcome s e).orders) es
 
 -- the orders that then wait
 abbrev pub still_waiting : State → List Given → List Event → List Given
 still_waiting s waits [] = waits
 still_waiting s [] (e ∷ es) = []
-still_waiting s (given ∷ waits) (e ∷ es) = still_waiting (step s e) (waits ++ wanting (outcome s e).orders) es
+still_waiting s (given ∷ waits) (e ∷ es) =
+    still_waiting (step s e) (waits ++ wanting (outcome s e).orders) es

@@ -9,7 +9,8 @@ use Rattle.history_model.specs.Labels.{is_same}
 use Rattle.history_model.specs.Machine.{Job, is_of, past_in}
 use Rattle.history_model.specs.Turns.{Given}
 
--- how many answers may still come of an order, its own counted: of a spawn also a KILL and a TERM, of a KILL that is refused a TERM
+-- how many answers may still come of an order, its own counted: of a spawn also a KILL and a TERM,
+-- of a KILL that is refused a TERM
 abbrev pub weight : Act → ℕ
 weight (Spawn run conn) = 3
 weight (Kill run) = 2
@@ -17,15 +18,19 @@ weight (Term run) = 1
 weight (Close conn) = 0
 weight Gone = 0
 
+-- the weights of the orders that wait, added up
 abbrev pub weigh_given : List Given → ℕ
 weigh_given [] = 0
 weigh_given (given ∷ rest) = weight given.1 + weigh_given rest
 
 -- the order is the last thing that happened to the label's job
 abbrev pub IsFresh : List Job → Given → Type 0
-IsFresh jobs given = (t : History) × (past_in (first (filter (is_of given.0) jobs)) ≡ Some (Ordered given.1 ∷ t))
+IsFresh jobs given =
+    (t : History) × (past_in (first (filter (is_of given.0) jobs)) ≡ Some (Ordered given.1 ∷ t))
 
 -- and so each, of labels that differ
 abbrev pub AreFresh : List Job → List Given → Type 0
 AreFresh jobs [] = Unit {0}
-AreFresh jobs (given ∷ rest) = IsFresh jobs given × AllByRecursion (λ other. is_same given.0 other.0 ≡ false) rest × AreFresh jobs rest
+AreFresh jobs (given ∷ rest) =
+    IsFresh jobs given × AllByRecursion (λ other. is_same given.0 other.0 ≡ false) rest
+    × AreFresh jobs rest

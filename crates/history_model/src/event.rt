@@ -1,4 +1,4 @@
-// What happens to the launcher: the events of a journal, with what the outside answered.
+//! What happens to the launcher: the events of a journal, with what the outside answered.
 use crate::text::Text;
 use crate::{Ended, Obs, Reading};
 

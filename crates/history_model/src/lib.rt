@@ -1,5 +1,5 @@
-// The words that every layer speaks: readings, orders, answers, ends, refusals and events. What they mean is said by the
-// definitions in specs/, which are read in the order of docs/DEFINITIONS.md; module `laws` states what follows from them.
+//! The words that every layer speaks: readings, orders, answers, ends, refusals and events. What they mean is said by the
+//! definitions in specs/, which are read in the order of docs/DEFINITIONS.md; module `laws` states what follows from them.
 #![tactic(auto)]
 
 ghost use Rattle.std.specs.Prelude.{◌≡◌};
@@ -175,11 +175,11 @@ pub enum Refusal {
     BadDefinition(Reason, KeyName),
     /// The setting could not be stored.
     StoreRefused,
-    /// 1,024 jobs are loaded.
+    /// `MAX_JOBS` jobs are loaded.
     TooManyJobs,
     /// A socket of the job could not be bound.
     SocketRefused,
-    /// 64 connections of the job wait.
+    /// `MAX_CONNECTIONS` connections of the job wait.
     TooManyConnections,
     /// The event comes out of turn: an answer that is not awaited, an end of a run that is not the child, a connection that does
     /// not wait, or whose number was used.
@@ -216,6 +216,37 @@ impl Refusal {
     }
 }
 
+/// What a job is doing, the first that applies.
+#[derive(Clone, Copy)]
+pub enum JobState {
+    /// An unload or a shutdown was asked.
+    Removing,
+    /// The answer to a spawn is awaited.
+    Spawning,
+    /// A child runs that is being stopped, or that a kickstart asked to end.
+    Stopping,
+    /// A child runs.
+    Running,
+    /// There is no child, and none is awaited.
+    Idle,
+}
+
+/// What `print` and `list` of launchctl(1) show of a job.
+#[derive(Clone, Copy)]
+pub struct JobRow {
+    pub state: JobState,
+    /// The child's.
+    pub pid: Option<u32>,
+    /// How many spawns were ordered since the load, refused ones too.
+    pub runs: u64,
+    /// How the last run ended, if one did since the load.
+    pub last_end: Option<Ended>,
+    /// Whether a one-shot demand is pending.
+    pub demand: bool,
+    /// How many connections wait.
+    pub connections: usize,
+}
+
 /// What an event is answered: a refusal, or none and a text. The text is empty at a refusal; the writers of lines put the
 /// refusal's own text there.
 #[derive(Drop)]
@@ -229,3 +260,9 @@ pub const MAX_UP: u64 = 9_000_000_000_000_000;
 
 /// The greatest `wall` of a reading, in seconds of Unix time.
 pub const MAX_WALL: u64 = 250_000_000_000;
+
+/// How many jobs may be loaded.
+pub const MAX_JOBS: usize = 1024;
+
+/// How many connections of one job may wait.
+pub const MAX_CONNECTIONS: usize = 64;

@@ -1,4 +1,4 @@
-// A text that stands inside another value: contracts see its bytes.
+//! A text that stands inside another value: contracts see its bytes.
 ghost use Rattle.std.specs.Prelude.{◌≡◌, ℕ, List, IfOk};
 ghost use Rattle.std.specs.String.{string_bytes};
 

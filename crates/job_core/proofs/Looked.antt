@@ -1,4 +1,4 @@
--- The listed paths with what was seen there last.
+-- The watched paths and queue directories of a job, with what was seen there last: searches and sights.
 use Rattle.std.proofs.Common.{◌≡◌, ℕ, ◌+◌, ◌<◌, Bool, true, false, ◌||◌, ◌&&◌, Option, List, [], ◌∷◌, ◌++◌, map, take, get_or, length, refl, ap, ◌∙◌}
 use Rattle.std.specs.List.{list_any, filter}
 use Rattle.std.proofs.lemmas.List.{take_more}
@@ -10,6 +10,7 @@ use Rattle.history_model.proofs.Written.{newer}
 use Rattle.job_core.specs.declared.paths.Watched.{Watched}
 use Rattle.job_core.specs.declared.paths.QueueDirectory.{QueueDirectory}
 use Rattle.job_core.specs.Listed.{watched_path, watched_sight, after_sight, queue_path, queue_sight, queue_after}
+use Rattle.history_model.proofs.Booleans.{or-false-right, or-assoc}
 
 -- the watched path makes a demand
 abbrev pub fires_at : List ℕ → Obs → Watched → Bool
@@ -46,16 +47,8 @@ pub filter-all : (xs : List ℕ) → xs ≡ filter (λ _. true) xs
 filter-all [] = refl
 filter-all (x ∷ xs) = ap (λ l. x ∷ l) (filter-all xs)
 
-pub or-false : (b : Bool) → (b || false) ≡ b
-or-false true = refl
-or-false false = refl
-
-or-assoc : (a b c : Bool) → (a || (b || c)) ≡ ((a || b) || c)
-or-assoc true b c = refl
-or-assoc false b c = refl
-
 list_any_push : {X : Type 0} (p : X → Bool) (xs : List X) (x : X) → list_any p (xs ++ x ∷ []) ≡ (list_any p xs || p x)
-list_any_push p [] x = or-false (p x)
+list_any_push p [] x = or-false-right (p x)
 list_any_push p (y ∷ ys) x = ap (λ b. p y || b) (list_any_push p ys x) ∙ or-assoc (p y) (list_any p ys) (p x)
 
 -- one more element is tested

@@ -1,4 +1,4 @@
--- The facts that a job's fields and parts keep.
+-- The facts of a past, as the fields and the parts of a job's core keep them.
 use Rattle.std.specs.Prelude.{ℕ, ◌==◌, Bool, false, Option, Some}
 use Rattle.history_model.specs.declared.Act.{Act}
 use Rattle.history_model.specs.declared.Act.TheVariants.{Spawn}
@@ -6,6 +6,7 @@ use Rattle.history_model.specs.Facts.{Facts}
 use Rattle.history_model.specs.Items.{Definition}
 use Rattle.job_core.specs.declared.job.Job.{Job}
 
+-- the definition that the fields keep
 abbrev pub definition_of : Job → Definition
 definition_of c = record {
   run_at_load = c.run_at_load;
@@ -24,6 +25,7 @@ definition_of c = record {
   disabled = c.disabled;
 }
 
+-- the facts that the fields keep
 abbrev pub facts : Job → Facts
 facts c = record {
   definition = definition_of c;
@@ -54,6 +56,7 @@ facts c = record {
   removes = c.removes;
 }
 
+-- the run's spawn is the order whose answer is awaited
 abbrev pub is_spawn_awaited : Option Act → ℕ → Bool
 is_spawn_awaited (Some (Spawn run conn)) r = run == r
 is_spawn_awaited _ r = false

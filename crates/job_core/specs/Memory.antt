@@ -1,4 +1,4 @@
--- Answers that are no want of memory.
+-- The answers of a call that never wants memory.
 use Rattle.std.specs.Prelude.{Result, Ok, Err}
 use Rattle.history_model.specs.declared.Refusal.{Refusal}
 use Rattle.history_model.specs.declared.Refusal.TheVariants.{NoMemory}

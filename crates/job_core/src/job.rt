@@ -12,11 +12,13 @@ ghost use Rattle.history_model.specs.Coming.{sooner, is_from, next_by};
 mod events;
 mod orders;
 
+use crate::JobEvent;
 use crate::calendar::Calendar;
 use crate::paths::{Queues, Watches};
-use crate::{JobEvent, JobRow, JobState};
 use conditions::Conditions;
-use history_model::{Act, Answer, Ask, Ended, MAX_UP, MAX_WALL, Obs, Reading, Refusal};
+use history_model::{
+    Act, Answer, Ask, Ended, JobRow, JobState, MAX_UP, MAX_WALL, Obs, Reading, Refusal,
+};
 use job_defs::Def;
 use pace::{Ending, Interval, Signal, Throttle};
 use socket_demand::Waiting;
@@ -52,7 +54,7 @@ pub struct Job {
 impl Job {
     ghost use Rattle.job_core.specs.Events.{item_of};
     ghost use Rattle.job_defs.specs.Definitions.{definition};
-    ghost use Rattle.job_core.specs.Rows.{row_by, state_by};
+    ghost use Rattle.history_model.specs.Shown.{row_by, state_by};
     ghost use Rattle.job_core.specs.Fields.{facts, is_spawn_awaited};
     ghost use Rattle.history_model.specs.Facts.{facts_of};
 
@@ -99,7 +101,8 @@ impl Job {
     /// Takes in what happened. `now` is the reading before it.
     pub fn apply(&mut self, event: JobEvent<'_>, now: Reading) -> Result<(), Refusal>
         requires { now.up ≤ MAX_UP }
-        ensures follows { Follows (facts self.old) (item_of event.entry) now result (facts self.new) }
+        ensures follows { Follows (facts self.old) (item_of event.entry) now result
+            (facts self.new) }
         ensures unchanged { OnErr result (self.new ≡ self.old) }
     {
         match event {

@@ -17,41 +17,11 @@ mod calendar;
 mod job;
 mod paths;
 
-use history_model::{Act, Answer, Ask, Ended, MAX_UP, Obs, Reading, Refusal};
+use history_model::{Act, Answer, Ask, Ended, JobRow, MAX_UP, Obs, Reading, Refusal};
 use job::Job;
 use job_defs::Def;
 use std::alloc::{AllocError, Global};
 use std::marker::Model;
-
-/// What a job is doing, the first that applies.
-#[derive(Clone, Copy, PartialEq, Eq)]
-pub enum JobState {
-    /// An unload or a shutdown was asked.
-    Removing,
-    /// The answer to a spawn is awaited.
-    Spawning,
-    /// A child runs that is being stopped, or that a kickstart asked to end.
-    Stopping,
-    /// A child runs.
-    Running,
-    Idle,
-}
-
-/// What `print` and `list` of launchctl(1) show of a job.
-#[derive(Clone, Copy, PartialEq, Eq)]
-pub struct JobRow {
-    pub state: JobState,
-    /// The child's.
-    pub pid: Option<u32>,
-    /// How many spawns were ordered since the load, refused ones too.
-    pub runs: u64,
-    /// How the last run ended, if one did since the load.
-    pub last_end: Option<Ended>,
-    /// Whether a one-shot demand is pending.
-    pub demand: bool,
-    /// How many connections wait.
-    pub connections: usize,
-}
 
 /// What happens to a job.
 #[derive(Clone, Copy)]
@@ -92,14 +62,15 @@ impl Model for JobCore {
 
 impl JobCore {
     ghost use Rattle.job_core.specs.Events.{item_of};
-    ghost use Rattle.job_core.specs.Rows.{row_of};
+    ghost use Rattle.history_model.specs.Shown.{row_of};
     ghost use Rattle.job_core.specs.Memory.{NeedsNoMemory};
     ghost use Rattle.job_defs.specs.Definitions.{definition};
 
     /// A job that was loaded at this reading. It takes all memory that the job ever needs, and its one refusal is of memory.
     pub fn new(alloc: Global, def: &Def, at: Reading) -> Result<JobCore, AllocError>
         requires { at.up ≤ MAX_UP }
-        ensures kept { IfOk result (λ core. Keeps core.facts (Loaded (definition def.now) at ∷ [])) }
+        ensures kept { IfOk result
+            (λ core. Keeps core.facts (Loaded (definition def.now) at ∷ [])) }
         ensures decided { IfOk result (λ core. core.decided ≡ 0) }
     {
         Ok(JobCore {
@@ -128,7 +99,8 @@ impl JobCore {
         ensures unchanged { OnErr result (self.new ≡ self.old) }
         ensures decided { self.new.decided ≡ self.old.decided }
         ensures memory { NeedsNoMemory result }
-        ensures in_range { OnOk result ((clock.present_after (item_of event.entry) now).up ≤ MAX_UP) }
+        ensures in_range { OnOk result
+            ((clock.present_after (item_of event.entry) now).up ≤ MAX_UP) }
     {
         self.job.apply(event, now)
     }
@@ -142,7 +114,8 @@ impl JobCore {
     /// KILL and TERM are not given again after an ok, and after a refusal not within a second.
     pub fn decide(&mut self, now: Reading) -> Option<Act>
         requires { now.up ≤ MAX_UP }
-        ensures due { (past : History) → Keeps self.old.facts past → now ≡ clock.now past → result ≡ due past }
+        ensures due { (past : History) → Keeps self.old.facts past → now ≡ clock.now past →
+            result ≡ due past }
         ensures kept { (past : History) → Keeps self.old.facts past → now ≡ clock.now past →
             Keeps self.new.facts (ordered result past) }
         ensures decided { self.new.decided ≡ (self.old.decided + 1) % 2 ^ 64 }
@@ -162,7 +135,8 @@ impl JobCore {
     /// refused order; those of the calendar are left aside.
     pub fn next_moment(&self, now: Reading) -> Option<u64>
         requires { now.up ≤ MAX_UP }
-        ensures next { (past : History) → Keeps self.now.facts past → now ≡ clock.now past → result ≡ moments.next_moment past }
+        ensures next { (past : History) → Keeps self.now.facts past → now ≡ clock.now past →
+            result ≡ moments.next_moment past }
         // By what is kept of the job, so that an index of moments need name no past.
         ensures known { result ≡ next_by self.now.facts now.up }
     {
@@ -192,7 +166,8 @@ impl JobCore {
 
     /// The waiting connection at a position, counted from 0. There are at most 64.
     pub fn connection(&self, position: usize) -> Option<u64>
-        ensures value { (past : History) → Keeps self.now.facts past → result ≡ slice_get (waiting past) position }
+        ensures value { (past : History) → Keeps self.now.facts past →
+            result ≡ slice_get (waiting past) position }
         ensures few { 64 ≤ position → result ≡ None }
     {
         self.job.connection(position)

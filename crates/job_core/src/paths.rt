@@ -32,7 +32,8 @@ impl Model for Watches {
     ghost use Rattle.std.specs.Prelude.{map};
     ghost use Rattle.job_core.specs.Listed.{watched_path, watched_sight};
 
-    ghost view = { λ w. record { paths = map watched_path w.listed.items; seen = map watched_sight w.listed.items } };
+    ghost view = { λ w. record
+        { paths = map watched_path w.listed.items; seen = map watched_sight w.listed.items } };
 }
 
 impl Watches {
@@ -48,8 +49,11 @@ impl Watches {
 
     /// Takes in what was seen at a path, and tells whether that makes a demand.
     pub fn saw(&mut self, path: &str, obs: Obs) -> bool
-        ensures fires { result ≡ any_seen (λ watched before. is_same_path watched path.now && differs obs before) self.old.paths self.old.seen }
-        ensures seen { self.new ≡ record self.old { seen = seen_after (λ p. p) self.old.paths path.now obs self.old.seen } }
+        ensures fires { result ≡ any_seen
+            (λ watched before. is_same_path watched path.now && differs obs before) self.old.paths
+            self.old.seen }
+        ensures seen { self.new ≡ record self.old
+            { seen = seen_after (λ p. p) self.old.paths path.now obs self.old.seen } }
     {
         watch(&mut self.listed, path, obs)
     }
@@ -70,7 +74,8 @@ fn watches_of(alloc: Global, paths: &[Text]) -> Result<Vec<Watched>, AllocError>
 }
 
 fn watch(listed: &mut Vec<Watched>, path: &str, obs: Obs) -> bool
-    ensures fires { result ≡ list_any (λ w. is_same_path w.path path.now && differs obs w.watch) listed.old.items }
+    ensures fires { result ≡ list_any
+        (λ w. is_same_path w.path path.now && differs obs w.watch) listed.old.items }
     ensures seen { listed.new.items ≡ map (after_sight path.now obs) listed.old.items }
 {
     let mut fires = false;
@@ -103,7 +108,8 @@ impl Model for Queues {
     ghost use Rattle.std.specs.Prelude.{map};
     ghost use Rattle.job_core.specs.Listed.{queue_path, queue_sight};
 
-    ghost view = { λ q. record { paths = map queue_path q.listed.items; seen = map queue_sight q.listed.items } };
+    ghost view = { λ q. record
+        { paths = map queue_path q.listed.items; seen = map queue_sight q.listed.items } };
 }
 
 impl Queues {
@@ -118,7 +124,8 @@ impl Queues {
     }
 
     pub fn saw(&mut self, path: &str, obs: Obs)
-        ensures { self.new ≡ record self.old { seen = seen_after (λ p. p) self.old.paths path.now obs self.old.seen } }
+        ensures { self.new ≡ record self.old
+            { seen = seen_after (λ p. p) self.old.paths path.now obs self.old.seen } }
     {
         see(&mut self.listed, path, obs);
     }

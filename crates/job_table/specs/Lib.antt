@@ -14,7 +14,6 @@ pub mod Telling
 pub mod Opening
 pub mod Loads
 pub mod Changes
-pub mod Shown
 pub mod Listed
 pub mod Nearest
 pub mod Moments

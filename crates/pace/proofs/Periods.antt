@@ -1,9 +1,10 @@
--- The ends of an interval's periods.
+-- The ends of an interval's periods: which of them lie between two moments, and which is next.
 use Rattle.std.proofs.Common.{◌≡◌, ℕ, ◌+◌, ◌-◌, ◌*◌, ◌/◌, ◌<◌, ◌≤◌, ◌↔◌, Bool, true, IsTrue, Option, Some, refl, subst, arith, nat_lt}
 use Rattle.std.proofs.lemmas.Bool.Decides.{nat_tests}
 use Rattle.std.proofs.Math.Nat.{div-lt_iff_lt-mul, le-div_iff_mul-le, div-mul-le_self, mul-le-mul_right}
 use Rattle.history_model.specs.Clock.{periods, crosses_interval}
-use Rattle.pace.specs.Next.{IsPeriodEndOf, IsNext}
+use Rattle.history_model.specs.Moments.{IsPeriod}
+use Rattle.pace.specs.Next.{IsNext}
 
 -- a multiple of a period is not 0
 some-periods : (seconds k : ℕ) → 0 < seconds → 1 ≤ k → 0 < k * (1000 * seconds)
@@ -15,7 +16,7 @@ module _ (seconds load : ℕ) (some : 0 < seconds) where
   period-some = omega (arith, some)
 
   crossed-at : (previous up : ℕ) → nat_lt (periods seconds (previous - load)) (periods seconds (up - load)) ≡ true →
-      (m : ℕ) × IsPeriodEndOf (Some seconds) load m × (previous < m) × (m ≤ up)
+      (m : ℕ) × IsPeriod (Some seconds) load m × (previous < m) × (m ≤ up)
   crossed-at previous up e =
       let less : (previous - load) / (1000 * seconds) < (up - load) / (1000 * seconds) = grind (arith, nat_tests, e) in
       let above : previous - load < (up - load) / (1000 * seconds) * (1000 * seconds) = (div-lt_iff_lt-mul period-some).0 less in
@@ -26,7 +27,7 @@ module _ (seconds load : ℕ) (some : 0 < seconds) where
         omega (arith, above, below),
       )
 
-  found-at : (previous up : ℕ) → (m : ℕ) × IsPeriodEndOf (Some seconds) load m × (previous < m) × (m ≤ up) →
+  found-at : (previous up : ℕ) → (m : ℕ) × IsPeriod (Some seconds) load m × (previous < m) × (m ≤ up) →
       nat_lt (periods seconds (previous - load)) (periods seconds (up - load)) ≡ true
   found-at previous up (m, (k, one, is), above, below) =
       let there = some-periods seconds k some one in
@@ -38,22 +39,22 @@ module _ (seconds load : ℕ) (some : 0 < seconds) where
 
   -- an interval is crossed exactly where an end of a period lies between the two moments
   pub crossed-period : (previous up : ℕ) (s : Option ℕ) → Some seconds ≡ s → (l : ℕ) → load ≡ l → (b : Bool) → crosses_interval (Some seconds) load previous up ≡ b →
-      IsTrue b ↔ ((m : ℕ) × IsPeriodEndOf s l m × (previous < m) × (m ≤ up))
+      IsTrue b ↔ ((m : ℕ) × IsPeriod s l m × (previous < m) × (m ≤ up))
   crossed-period previous up s at l from b is =
-      subst (λ s'. IsTrue b ↔ ((m : ℕ) × IsPeriodEndOf s' l m × (previous < m) × (m ≤ up))) at
-      (subst (λ l'. IsTrue b ↔ ((m : ℕ) × IsPeriodEndOf (Some seconds) l' m × (previous < m) × (m ≤ up))) from
-      (subst (λ b'. IsTrue b' ↔ ((m : ℕ) × IsPeriodEndOf (Some seconds) load m × (previous < m) × (m ≤ up))) is
+      subst (λ s'. IsTrue b ↔ ((m : ℕ) × IsPeriod s' l m × (previous < m) × (m ≤ up))) at
+      (subst (λ l'. IsTrue b ↔ ((m : ℕ) × IsPeriod (Some seconds) l' m × (previous < m) × (m ≤ up))) from
+      (subst (λ b'. IsTrue b' ↔ ((m : ℕ) × IsPeriod (Some seconds) load m × (previous < m) × (m ≤ up))) is
       (crossed-at previous up, found-at previous up)))
 
   -- the end of the period that runs is the next one
   pub next-period : (up r : ℕ) → r ≡ 1000 * seconds * ((up - load) / (1000 * seconds) + 1) → up - load < r →
       ((k : ℕ) → up - load < 1000 * seconds * k → r ≤ 1000 * seconds * k) →
-      (s : Option ℕ) → Some seconds ≡ s → (l : ℕ) → load ≡ l → IsNext (IsPeriodEndOf s l) up (Some (load + r))
+      (s : Option ℕ) → Some seconds ≡ s → (l : ℕ) → load ≡ l → IsNext (IsPeriod s l) up (Some (load + r))
   next-period up r is later least s at l from =
-      subst (λ s'. IsNext (IsPeriodEndOf s' l) up (Some (load + r))) at
-      (subst (λ l'. IsNext (IsPeriodEndOf (Some seconds) l') up (Some (load + r))) from
+      subst (λ s'. IsNext (IsPeriod s' l) up (Some (load + r))) at
+      (subst (λ l'. IsNext (IsPeriod (Some seconds) l') up (Some (load + r))) from
       (((up - load) / (1000 * seconds) + 1, omega arith, omega (arith, is)), omega (arith, later), nearest)) where
-        nearest : (n : ℕ) → IsPeriodEndOf (Some seconds) load n → up < n → load + r ≤ n
+        nearest : (n : ℕ) → IsPeriod (Some seconds) load n → up < n → load + r ≤ n
         nearest n (k, one, same) after =
             let there = some-periods seconds k some one in
             let near : up - load < 1000 * seconds * k = omega (arith, same, after, there) in

@@ -1,15 +1,11 @@
 -- The moments of a job's pace, and which of them is next.
 use Rattle.std.specs.Prelude.{◌≡◌, ℕ, ◌+◌, ◌*◌, ◌<◌, ◌≤◌, ◌⊎◌, Option, Some, None}
+use Rattle.history_model.specs.Moments.{IsPeriod}
 use Rattle.pace.specs.Paces.{Every, Spacing, Ends}
-
--- a whole number of periods after the load, one at least
-abbrev pub IsPeriodEndOf : Option ℕ → ℕ → ℕ → Type 0
-IsPeriodEndOf None load m = ⊥
-IsPeriodEndOf (Some seconds) load m = (k : ℕ) × (1 ≤ k) × (m ≡ load + 1000 * k * seconds)
 
 -- an end of a period of the interval
 abbrev pub IsPeriodEnd : Every → ℕ → Type 0
-IsPeriodEnd e m = IsPeriodEndOf e.seconds e.load_up m
+IsPeriodEnd e m = IsPeriod e.seconds e.load_up m
 
 -- so many milliseconds after the moment, if there is one
 abbrev pub IsAfter : ℕ → Option ℕ → ℕ → Type 0
@@ -23,7 +19,8 @@ IsSpawnMoment s m = IsAfter (1000 * s.seconds) s.order m ⊎ IsAfter 1000 s.refu
 -- the timeout, if it is one, after the first TERM, or a second after the last refused TERM or KILL
 abbrev pub IsEndMoment : Ends → ℕ → Type 0
 IsEndMoment e m =
-    ((0 < e.timeout) × IsAfter (1000 * e.timeout) e.term_ordered m) ⊎ (IsAfter 1000 e.term_refused m ⊎ IsAfter 1000 e.kill_refused m)
+    ((0 < e.timeout) × IsAfter (1000 * e.timeout) e.term_ordered m)
+    ⊎ (IsAfter 1000 e.term_refused m ⊎ IsAfter 1000 e.kill_refused m)
 
 -- the least of these moments that is after the present one; none where none is
 abbrev pub IsNext : (ℕ → Type 0) → ℕ → Option ℕ → Type 0

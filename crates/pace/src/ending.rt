@@ -52,13 +52,15 @@ impl Model for Ending {
       strikes = e.is_struck;
     } };
 
-    ghost invariant = { λ e. ForSome e.first_term (λ u. u ≤ MAX_UP) × ForSome e.term_refusal (λ u. u ≤ MAX_UP) × ForSome e.kill_refusal (λ u. u ≤ MAX_UP) };
+    ghost invariant = { λ e. ForSome e.first_term (λ u. u ≤ MAX_UP)
+        × ForSome e.term_refusal (λ u. u ≤ MAX_UP) × ForSome e.kill_refusal (λ u. u ≤ MAX_UP) };
 }
 
 impl Ending {
     ghost use Rattle.pace.specs.Paces.{Ends, no_ends};
     ghost use Rattle.pace.specs.Told.{done_after};
     ghost use Rattle.pace.specs.Next.{IsEndMoment};
+    ghost use Rattle.pace.specs.Free.{may_term_of, may_kill_of, next_end_of};
     ghost use Rattle.pace.specs.OfPast.{ends_of, may_term_at, may_kill_at, end_moments, least_after};
 
     /// The end of a run for which nothing was ordered. The timeout is in seconds from TERM to KILL; 0 means no KILL.
@@ -86,7 +88,8 @@ impl Ending {
     /// A TERM was ordered. The timeout counts from the first one.
     pub fn termed_at(&mut self, up: u64)
         requires { up ≤ MAX_UP }
-        ensures { self.new ≡ record self.old { term_ordered = or_else self.old.term_ordered (Some up) } }
+        ensures { self.new ≡ record self.old
+            { term_ordered = or_else self.old.term_ordered (Some up) } }
     {
         self.first_term = self.first_term.or(Some(up));
     }
@@ -141,17 +144,16 @@ impl Ending {
     /// The least moment from which TERM may be ordered for a run that is being stopped; none where it was answered ok,
     /// or KILL was, or a kickstart asks for KILL. That KILL may be due too is left aside.
     pub fn term_at(&self) -> Option<u64>
-        ensures step { (up : ℕ) → is_from result up
-            ≡ (not self.now.strikes && not self.now.is_kill_done && (not self.now.is_term_done && not (is_newest_within RETRY up self.now.term_refused))) }
-        ensures past { (past : History) → IsLawful past → self.now ≡ ends_of past → (up : ℕ) → is_from result up ≡ may_term_at up past }
+        ensures step { (up : ℕ) → is_from result up ≡ may_term_of self.now up }
+        ensures past { (past : History) → IsLawful past → self.now ≡ ends_of past → (up : ℕ) →
+            is_from result up ≡ may_term_at up past }
     {
         self.term_from()
     }
 
     /// That moment, by what is kept.
     fn term_from(&self) -> Option<u64>
-        ensures { (up : ℕ) → is_from result up
-            ≡ (not self.now.strikes && not self.now.is_kill_done && (not self.now.is_term_done && not (is_newest_within RETRY up self.now.term_refused))) }
+        ensures { (up : ℕ) → is_from result up ≡ may_term_of self.now up }
     {
         if self.is_struck || self.is_term_done || self.is_kill_done {
             return None;
@@ -162,19 +164,16 @@ impl Ending {
     /// The least moment from which KILL may be ordered for a run that is being stopped, or that a kickstart struck; none
     /// where it was answered ok, or where no time to end runs.
     pub fn kill_at(&self) -> Option<u64>
-        ensures step { (up : ℕ) → is_from result up
-            ≡ ((self.now.strikes || (nat_lt 0 self.now.timeout && is_over (1000 * self.now.timeout) up self.now.term_ordered))
-            && (not self.now.is_kill_done && not (is_newest_within RETRY up self.now.kill_refused))) }
-        ensures past { (past : History) → IsLawful past → self.now ≡ ends_of past → (up : ℕ) → is_from result up ≡ may_kill_at up past }
+        ensures step { (up : ℕ) → is_from result up ≡ may_kill_of self.now up }
+        ensures past { (past : History) → IsLawful past → self.now ≡ ends_of past → (up : ℕ) →
+            is_from result up ≡ may_kill_at up past }
     {
         self.kill_from()
     }
 
     /// That moment, by what is kept.
     fn kill_from(&self) -> Option<u64>
-        ensures { (up : ℕ) → is_from result up
-            ≡ ((self.now.strikes || (nat_lt 0 self.now.timeout && is_over (1000 * self.now.timeout) up self.now.term_ordered))
-            && (not self.now.is_kill_done && not (is_newest_within RETRY up self.now.kill_refused))) }
+        ensures { (up : ℕ) → is_from result up ≡ may_kill_of self.now up }
     {
         if self.is_kill_done {
             return None;
@@ -195,18 +194,17 @@ impl Ending {
     /// The next moment at which the time to end is over, or a refused TERM or KILL stops being too near. After the
     /// present reading no other refusal has such a moment.
     pub fn next_moment(&self, up: u64) -> Option<u64>
-        ensures value { result ≡ sooner (if nat_lt 0 self.now.timeout then coming_after up (1000 * self.now.timeout) self.now.term_ordered else None)
-            (sooner (coming_after up RETRY self.now.term_refused) (coming_after up RETRY self.now.kill_refused)) }
+        ensures value { result ≡ next_end_of self.now up }
         ensures next { IsNext (IsEndMoment self.now) up result }
-        ensures past { (past : History) → IsLawful past → self.now ≡ ends_of past → (clock.now past).up ≤ up → result ≡ least_after up (end_moments past) }
+        ensures past { (past : History) → IsLawful past → self.now ≡ ends_of past →
+            (clock.now past).up ≤ up → result ≡ least_after up (end_moments past) }
     {
         self.next_from(up)
     }
 
     /// That moment, by what is kept.
     fn next_from(&self, up: u64) -> Option<u64>
-        ensures value { result ≡ sooner (if nat_lt 0 self.now.timeout then coming_after up (1000 * self.now.timeout) self.now.term_ordered else None)
-            (sooner (coming_after up RETRY self.now.term_refused) (coming_after up RETRY self.now.kill_refused)) }
+        ensures value { result ≡ next_end_of self.now up }
         ensures next { IsNext (IsEndMoment self.now) up result }
     {
         let over = if self.timeout > 0 {

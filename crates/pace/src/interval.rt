@@ -1,4 +1,4 @@
-//! Demands that come again and again: `StartInterval` of launchd.plist(5).
+//! The demands of a job that come again and again: `StartInterval` of launchd.plist(5).
 
 ghost use Rattle.std.specs.Prelude.{◌≡◌, ◌<◌, ◌≤◌, ◌↔◌, ℕ, ◌+◌, ◌*◌, ◌/◌, ◌^◌, IsTrue};
 ghost use Rattle.std.specs.Option.{ForSome};
@@ -50,9 +50,11 @@ impl Interval {
     /// However many lie there, as after a sleep, they are one demand.
     pub fn crossed(&self, previous: u64, up: u64) -> bool
         ensures value { result ≡ crosses_interval self.now.seconds self.now.load_up previous up }
-        ensures past { (past : History) (at : Reading) → self.now ≡ every_of past → previous ≡ (clock.now past).up → up ≡ at.up →
+        ensures past { (past : History) (at : Reading) → self.now ≡ every_of past →
+            previous ≡ (clock.now past).up → up ≡ at.up →
             result ≡ interval_fires past at }
-        ensures period { IsTrue result ↔ ((m : ℕ) × IsPeriodEnd self.now m × (previous < m) × (m ≤ up)) }
+        ensures period { IsTrue result
+            ↔ ((m : ℕ) × IsPeriodEnd self.now m × (previous < m) × (m ≤ up)) }
     {
         match self.seconds {
             None => false,

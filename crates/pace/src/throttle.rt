@@ -28,14 +28,19 @@ impl Model for Throttle {
 
     ghost Value = { Spacing };
 
-    ghost view = { λ t. record { seconds = t.seconds; order = t.last_order; refusal = t.last_refusal } };
+    ghost view = { λ t. record
+        { seconds = t.seconds; order = t.last_order; refusal = t.last_refusal } };
 
-    ghost invariant = { λ t. ForSome t.last_order (λ u. u ≤ MAX_UP) × ForSome t.last_refusal (λ u. u ≤ MAX_UP) };
+    ghost invariant = { λ t. ForSome t.last_order (λ u. u ≤ MAX_UP)
+        × ForSome t.last_refusal (λ u. u ≤ MAX_UP) };
 }
 
 impl Throttle {
     ghost use Rattle.pace.specs.Next.{IsSpawnMoment};
-    ghost use Rattle.pace.specs.OfPast.{spacing_of, is_throttled_at, spawn_moments, least_after};
+    ghost use Rattle.pace.specs.Free.{is_throttled_of, next_spawn_of};
+    ghost use Rattle.history_model.specs.Due.{is_throttled_at};
+    ghost use Rattle.history_model.specs.Moments.{spawn_moments};
+    ghost use Rattle.pace.specs.OfPast.{spacing_of, least_after};
 
     /// The throttle of a job of which no spawn was ordered.
     pub fn new(seconds: u32) -> Throttle
@@ -66,17 +71,16 @@ impl Throttle {
 
     /// The least moment from which no spawn order lies less than the throttle back, and no refusal less than a second.
     pub fn free_at(&self) -> u64
-        ensures step { (up : ℕ) → nat_lt up result
-            ≡ (is_newest_within (1000 * self.now.seconds) up self.now.order || is_newest_within RETRY up self.now.refusal) }
-        ensures past { (past : History) → IsLawful past → self.now ≡ spacing_of past → (up : ℕ) → nat_lt up result ≡ is_throttled_at up past }
+        ensures step { (up : ℕ) → nat_lt up result ≡ is_throttled_of self.now up }
+        ensures past { (past : History) → IsLawful past → self.now ≡ spacing_of past → (up : ℕ) →
+            nat_lt up result ≡ is_throttled_at up past }
     {
         self.free_from()
     }
 
     /// That moment, by what is kept.
     fn free_from(&self) -> u64
-        ensures { (up : ℕ) → nat_lt up result
-            ≡ (is_newest_within (1000 * self.now.seconds) up self.now.order || is_newest_within RETRY up self.now.refusal) }
+        ensures { (up : ℕ) → nat_lt up result ≡ is_throttled_of self.now up }
     {
         let of_order = match self.last_order {
             None => 0,
@@ -92,16 +96,17 @@ impl Throttle {
     /// The next moment at which the last order or the last refusal stops being too near. After the present reading no other
     /// order and no other refusal has such a moment.
     pub fn next_moment(&self, up: u64) -> Option<u64>
-        ensures value { result ≡ sooner (coming_after up (1000 * self.now.seconds) self.now.order) (coming_after up RETRY self.now.refusal) }
+        ensures value { result ≡ next_spawn_of self.now up }
         ensures next { IsNext (IsSpawnMoment self.now) up result }
-        ensures past { (past : History) → IsLawful past → self.now ≡ spacing_of past → (clock.now past).up ≤ up → result ≡ least_after up (spawn_moments past) }
+        ensures past { (past : History) → IsLawful past → self.now ≡ spacing_of past →
+            (clock.now past).up ≤ up → result ≡ least_after up (spawn_moments past) }
     {
         self.next_from(up)
     }
 
     /// That moment, by what is kept.
     fn next_from(&self, up: u64) -> Option<u64>
-        ensures value { result ≡ sooner (coming_after up (1000 * self.now.seconds) self.now.order) (coming_after up RETRY self.now.refusal) }
+        ensures value { result ≡ next_spawn_of self.now up }
         ensures next { IsNext (IsSpawnMoment self.now) up result }
     {
         sooner(

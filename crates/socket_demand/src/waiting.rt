@@ -1,14 +1,12 @@
-//! The connections that wait for a run.
+//! The connections at a job's sockets that wait for a run.
 
 ghost use Rattle.std.specs.Prelude.{◌≡◌, ◌==◌, ◌<◌, ◌≤◌, ◌↔◌, ℕ, [], ◌∷◌, ◌++◌, drop, filter, length, not, nat_lt, IfOk, IfErr, OnOk, OnErr, IsOk, IsTrue, slice_get, None};
 ghost use Rattle.std.specs.List.{list_any};
 ghost use Rattle.history_model.specs.Search.{first};
 
+use history_model::MAX_CONNECTIONS;
 use std::alloc::{AllocError, Global};
 use std::marker::Model;
-
-/// How many connections wait at most.
-pub const MAX_WAITING: usize = 64;
 
 /// The queue has no room for one more.
 #[derive(Clone, Copy, PartialEq, Eq)]
@@ -27,7 +25,10 @@ impl Model for Waiting {
 
     ghost view = { λ w. w.conns.items };
 
-    ghost invariant = { λ w. (vec_capacity w.conns ≡ 64) × (length w.conns.items ≤ 64) };
+    ghost use Rattle.history_model.specs.declared.TheConstants.{MAX_CONNECTIONS};
+
+    ghost invariant = { λ w. (vec_capacity w.conns ≡ MAX_CONNECTIONS)
+        × (length w.conns.items ≤ MAX_CONNECTIONS) };
 }
 
 impl Waiting {
@@ -35,18 +36,18 @@ impl Waiting {
     pub fn new(alloc: Global) -> Result<Waiting, AllocError>
         ensures { IfOk result (λ w. w ≡ []) }
     {
-        let conns = Vec::with_capacity(alloc, MAX_WAITING)?;
+        let conns = Vec::with_capacity(alloc, MAX_CONNECTIONS)?;
         Ok(Waiting { conns })
     }
 
-    /// Adds a connection behind the others. Refused where 64 wait already, which it then leaves as they are.
+    /// Adds a connection behind the others. Refused where `MAX_CONNECTIONS` wait already, which it then leaves as they are.
     #[tactic(auto, using(std::proofs::lemmas::List::Edits::insert_end))]
     pub fn came(&mut self, conn: u64) -> Result<(), Full>
-        ensures room { IsOk result ↔ (length self.old < MAX_WAITING) }
+        ensures room { IsOk result ↔ (length self.old < MAX_CONNECTIONS) }
         ensures ok { OnOk result (self.new ≡ self.old ++ conn ∷ []) }
         ensures err { OnErr result (self.new ≡ self.old) }
     {
-        if self.conns.len() >= MAX_WAITING {
+        if self.conns.len() >= MAX_CONNECTIONS {
             return Err(Full);
         }
         // The room is there since `new`, and stays as it is: of `push` std says only that it does not shrink.
@@ -95,7 +96,7 @@ impl Waiting {
     /// The connection at a position, counted from 0.
     pub fn get(&self, position: usize) -> Option<u64>
         ensures value { result ≡ slice_get self.now position }
-        ensures few { MAX_WAITING ≤ position → result ≡ None }
+        ensures few { MAX_CONNECTIONS ≤ position → result ≡ None }
     {
         self.conns.get(position).copied()
     }
@@ -103,7 +104,7 @@ impl Waiting {
     /// How many connections wait.
     pub fn len(&self) -> usize
         ensures count { result ≡ length self.now }
-        ensures bound { result ≤ MAX_WAITING }
+        ensures bound { result ≤ MAX_CONNECTIONS }
     {
         self.conns.len()
     }

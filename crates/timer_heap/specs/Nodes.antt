@@ -1,13 +1,16 @@
--- The tree of matches.
+-- The tree of matches in which the heap keeps the timers of jobs: each node has the sooner of the
+-- two below it.
 use Rattle.std.specs.Prelude.{◌≡◌, ◌≢◌, ℕ, ◌+◌, ◌*◌, ◌<◌, ◌≤◌, ◌==◌, nat_lt, Bool, ◌&&◌, ◌||◌, List, length, map, drop, Option, Some, None, slice_index_or, if◌then◌else◌}
 use Rattle.std.specs.Option.{ForSome, option_map}
 use Rattle.timer_heap.specs.Timers.{Timers}
 use Rattle.timer_heap.specs.declared.tree.Timer.{Timer}
 use Rattle.timer_heap.specs.declared.tree.Tree.{Tree}
 
--- by moments, and equal ones by job numbers
+-- the timer is before the other: by moments, and equal ones by job numbers
 abbrev pub is_before : Timer → Timer → Bool
-is_before timer other = nat_lt timer.moment other.moment || ((timer.moment == other.moment) && nat_lt timer.job other.job)
+is_before timer other =
+    nat_lt timer.moment other.moment
+    || ((timer.moment == other.moment) && nat_lt timer.job other.job)
 
 -- the winner of a match
 abbrev pub sooner : Option Timer → Option Timer → Option Timer
@@ -23,6 +26,7 @@ node nodes place = slice_index_or nodes place None
 abbrev pub leaf : Tree → ℕ → Option Timer
 leaf tree job = node tree.nodes.items (tree.leaves + job)
 
+-- the timer's moment, if there is one
 abbrev pub moment_of : Option Timer → Option ℕ
 moment_of timer = option_map (λ (some : Timer). some.moment) timer
 
@@ -30,16 +34,20 @@ moment_of timer = option_map (λ (some : Timer). some.moment) timer
 abbrev pub timers_of : Tree → Timers
 timers_of tree = record { moments = map moment_of (drop tree.leaves tree.nodes.items) }
 
--- each node above two others has the winner of their match, but for the node at the gap; and each leaf has its own job's timer
+-- each node above two others has the winner of their match, but for the node at the gap; and each
+-- leaf has its own job's timer
 pub record IsTreeBut (nodes : List (Option Timer)) (leaves gap : ℕ) : Type 0 where
   pub size : length nodes ≡ leaves + leaves
-  pub played : (place : ℕ) → 1 ≤ place → place < leaves → place ≢ gap → node nodes place ≡ sooner (node nodes (2 * place)) (node nodes (2 * place + 1))
-  pub own : (job : ℕ) → job < leaves → ForSome (node nodes (leaves + job)) (λ timer. timer.job ≡ job)
+  pub played : (place : ℕ) → 1 ≤ place → place < leaves → place ≢ gap →
+      node nodes place ≡ sooner (node nodes (2 * place)) (node nodes (2 * place + 1))
+  pub own : (job : ℕ) → job < leaves →
+      ForSome (node nodes (leaves + job)) (λ timer. timer.job ≡ job)
 
 -- the node at 0 is not used, so all matches are played
 abbrev pub IsTree : Tree → Type 0
 IsTree tree = IsTreeBut tree.nodes.items tree.leaves 0
 
+-- no job has a timer
 abbrev pub HasNoTimer : Tree → Type 0
 HasNoTimer tree = (job : ℕ) → leaf tree job ≡ None
 

@@ -1,4 +1,5 @@
--- What a contract sees of the moments of jobs: a finite map from job numbers to moments, and a room.
+-- What a contract sees of the moments of jobs: a finite map from job numbers to moments, and a
+-- room.
 use Rattle.std.specs.Prelude.{◌≡◌, ◌≢◌, ◌⊎◌, ℕ, ◌<◌, ◌≤◌, List, length, Option, Some, None, is_some, count_by, slice_index_or}
 
 -- at each number below the room the job's moment, if it has one
@@ -30,7 +31,8 @@ pub record KeepsMoments (old new : Timers) : Type 0 where
 
 -- moments come by time, and equal ones by job number
 abbrev pub IsNoLater : ℕ → ℕ → ℕ → ℕ → Type 0
-IsNoLater moment job other_moment other_job = (moment < other_moment) ⊎ ((moment ≡ other_moment) × (job ≤ other_job))
+IsNoLater moment job other_moment other_job =
+    (moment < other_moment) ⊎ ((moment ≡ other_moment) × (job ≤ other_job))
 
 -- the job has the moment, and no job has one that comes before it; or no job has a moment
 abbrev pub IsLeast : Timers → Option (ℕ × ℕ) → Type 0
@@ -39,7 +41,10 @@ IsLeast timers (Some least) =
     (moment_in timers least.0 ≡ Some least.1)
     × ((job moment : ℕ) → moment_in timers job ≡ Some moment → IsNoLater least.1 least.0 moment job)
 
--- the least moment was due, and its job has none any more; or no moment was due, and all is as it was
+-- the least moment was due, and its job has none any more; or no moment was due, and all is as it
+-- was
 abbrev pub IsPopped : ℕ → Timers → Option ℕ → Timers → Type 0
-IsPopped now old None new = (new ≡ old) × ((job moment : ℕ) → moment_in old job ≡ Some moment → now < moment)
-IsPopped now old (Some job) new = (moment : ℕ) × (moment ≤ now) × IsLeast old (Some (job, moment)) × Updates old new job None
+IsPopped now old None new =
+    (new ≡ old) × ((job moment : ℕ) → moment_in old job ≡ Some moment → now < moment)
+IsPopped now old (Some job) new =
+    (moment : ℕ) × (moment ≤ now) × IsLeast old (Some (job, moment)) × Updates old new job None

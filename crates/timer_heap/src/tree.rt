@@ -1,4 +1,4 @@
-//! The tree of matches, as a list of nodes.
+//! The tree of matches that finds the job with the soonest moment, as a list of nodes.
 
 ghost use Rattle.std.specs.Prelude.{◌≡◌, ◌<◌, ◌≤◌, ◌+◌, ◌*◌, ◌^◌, Some, None, IsOk, IfOk, OnOk, OnErr};
 ghost use Rattle.std.specs.Option.{ForSome};
@@ -54,7 +54,8 @@ impl Tree {
         requires bound { numbers < 2 ^ 32 }
         ensures room { OnOk result (numbers ≤ room (timers_of self.new)) }
         ensures kept { KeepsMoments (timers_of self.old) (timers_of self.new) }
-        ensures enough { numbers ≤ room (timers_of self.old) → (IsOk result) × (self.new ≡ self.old) }
+        ensures enough { numbers ≤ room (timers_of self.old) →
+            (IsOk result) × (self.new ≡ self.old) }
         ensures bounded { room (timers_of self.new) ≤ room (timers_of self.old) + 2 * numbers }
         ensures refused { OnErr result (self.new ≡ self.old) }
         ensures sound { IsTree self.new }

@@ -112,7 +112,9 @@ impl Job {
 
     /// A start was asked. It makes a demand, unless a run that nobody stops stands already; with the flag then too.
     fn started(&mut self, again: bool)
-        ensures { facts self.new ≡ fired_by (again || (not (is_busy_by (facts self.old)) || (facts self.old).stops)) (facts self.old) }
+        ensures { facts self.new
+            ≡ fired_by (again || (not (is_busy_by (facts self.old)) || (facts self.old).stops))
+            (facts self.old) }
     {
         if again || !self.is_busy() || self.stops {
             self.has_demand = true;
@@ -122,7 +124,8 @@ impl Job {
 
     pub(super) fn termed(&mut self, run: u64, ok: bool, now: Reading) -> Result<(), Refusal>
         requires { now.up ≤ MAX_UP }
-        ensures follows { Follows (facts self.old) (Answered (TermAnswer run ok)) now result (facts self.new) }
+        ensures follows { Follows (facts self.old) (Answered (TermAnswer run ok)) now result
+            (facts self.new) }
         ensures unchanged { OnErr result (self.new ≡ self.old) }
     {
         match self.awaited {
@@ -140,7 +143,8 @@ impl Job {
 
     pub(super) fn killed(&mut self, run: u64, ok: bool, now: Reading) -> Result<(), Refusal>
         requires { now.up ≤ MAX_UP }
-        ensures follows { Follows (facts self.old) (Answered (KillAnswer run ok)) now result (facts self.new) }
+        ensures follows { Follows (facts self.old) (Answered (KillAnswer run ok)) now result
+            (facts self.new) }
         ensures unchanged { OnErr result (self.new ≡ self.old) }
     {
         match self.awaited {
@@ -186,7 +190,8 @@ impl Job {
     }
 
     pub(super) fn spawned(&mut self, run: u64, pid: u32, now: Reading) -> Result<(), Refusal>
-        ensures follows { Follows (facts self.old) (Answered (SpawnOk run pid)) now result (facts self.new) }
+        ensures follows { Follows (facts self.old) (Answered (SpawnOk run pid)) now result
+            (facts self.new) }
         ensures unchanged { OnErr result (self.new ≡ self.old) }
     {
         if !self.awaits_spawn(run) {
@@ -203,7 +208,8 @@ impl Job {
 
     pub(super) fn spawn_refused(&mut self, run: u64, now: Reading) -> Result<(), Refusal>
         requires { now.up ≤ MAX_UP }
-        ensures follows { Follows (facts self.old) (Answered (SpawnNo run)) now result (facts self.new) }
+        ensures follows { Follows (facts self.old) (Answered (SpawnNo run)) now result
+            (facts self.new) }
         ensures unchanged { OnErr result (self.new ≡ self.old) }
     {
         if !self.awaits_spawn(run) {

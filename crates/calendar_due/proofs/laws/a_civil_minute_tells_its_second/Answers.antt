@@ -1,3 +1,4 @@
+-- The goals of `laws::a_civil_minute_tells_its_second` that the prover leaves open.
 use Rattle.calendar_due.proofs.DateLemmas.{start_of-shown_minute, shown_minute-civil}
 use Rattle.calendar_due.proofs.laws.a_civil_minute_tells_its_second.Goals as goal
 

@@ -1,3 +1,4 @@
+-- The goals of `laws::a_file_has_one_clock` that the prover leaves open.
 use Rattle.calendar_due.proofs.TableLemmas.{one_file_clock}
 use Rattle.calendar_due.proofs.laws.a_file_has_one_clock.Goals as goal
 

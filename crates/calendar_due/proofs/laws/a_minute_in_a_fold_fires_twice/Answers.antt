@@ -1,3 +1,4 @@
+-- The goals of `laws::a_minute_in_a_fold_fires_twice` that the prover leaves open.
 use Rattle.calendar_due.proofs.ChangeLemmas.{two_showings, only_showings}
 use Rattle.calendar_due.proofs.CalendarLemmas.{showing_fires}
 use Rattle.calendar_due.proofs.laws.a_minute_in_a_fold_fires_twice.Goals as goal

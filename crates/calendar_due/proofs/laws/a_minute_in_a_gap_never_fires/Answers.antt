@@ -1,3 +1,4 @@
+-- The goals of `laws::a_minute_in_a_gap_never_fires` that the prover leaves open.
 use Rattle.calendar_due.proofs.ChangeLemmas.{skipped}
 use Rattle.calendar_due.proofs.CalendarLemmas.{mapped_from}
 use Rattle.history_model.specs.Calendar.{crossed}

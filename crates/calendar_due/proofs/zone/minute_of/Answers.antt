@@ -1,3 +1,4 @@
+-- The goals of `zone::minute_of` that the prover leaves open.
 use Rattle.std.proofs.Common.{◌∙◌, ap, sym, arith, ℤ, ℕ, w8, w16, unsigned_abs, ◌+◌, ◌%◌, to_z, of_z}
 use Rattle.jiff_tz.proofs.YearLemmas.{back_year}
 use Rattle.calendar_due.proofs.MinuteLemmas.{shown_minute-civil_seconds, same_fields, sunday_zero-monday_zero, small_back}

@@ -1,3 +1,4 @@
+-- The goals of `levels::see` that the prover leaves open.
 use Rattle.std.proofs.Common.{◌≡◌, ◌<◌, length, true, false, cond, Some, get_or, ap, ◌∙◌, arith}
 use Rattle.history_model.specs.Demands.{is_same_path}
 use Rattle.conditions.specs.States.{after_sight}

@@ -1,3 +1,4 @@
+-- What holds at each turn of the loops of `levels::see`, and why each ends.
 use Rattle.std.proofs.Common.{◌≡◌}
 use Rattle.conditions.specs.States.{after_sight}
 use Rattle.history_model.proofs.Written.{written}

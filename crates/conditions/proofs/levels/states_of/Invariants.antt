@@ -1,3 +1,4 @@
+-- What holds at each turn of the loops of `levels::states_of`, and why each ends.
 use Rattle.std.proofs.Common.{◌≡◌, map, take, None}
 use Rattle.conditions.specs.States.{wanted_of, sight_of}
 use Rattle.job_defs.specs.Definitions.{path_wish}

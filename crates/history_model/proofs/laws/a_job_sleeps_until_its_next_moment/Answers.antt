@@ -1,3 +1,4 @@
+-- The goals of `laws::a_job_sleeps_until_its_next_moment` that the prover leaves open.
 use Rattle.history_model.specs.Clock.{now, definition_of}
 use Rattle.history_model.specs.Calendar.{crossed}
 use Rattle.history_model.proofs.Untouched.{none_at}

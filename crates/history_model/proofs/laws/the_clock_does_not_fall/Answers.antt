@@ -1,3 +1,4 @@
+-- The goals of `laws::the_clock_does_not_fall` that the prover leaves open.
 use Rattle.history_model.specs.Machine.{opened}
 use Rattle.history_model.proofs.Standing.{good-opened, good-run}
 use Rattle.history_model.proofs.Rising.{rising}

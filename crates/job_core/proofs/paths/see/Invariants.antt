@@ -1,3 +1,4 @@
+-- What holds at each turn of the loops of `paths::see`, and why each ends.
 use Rattle.std.proofs.Common.{◌≡◌}
 use Rattle.history_model.proofs.Written.{written}
 use Rattle.job_core.specs.Listed.{queue_after}

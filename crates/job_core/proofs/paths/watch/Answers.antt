@@ -1,8 +1,10 @@
+-- The goals of `paths::watch` that the prover leaves open.
 use Rattle.std.proofs.Common.{◌≡◌, ◌+◌, ◌<◌, length, true, false, ◌||◌, ◌&&◌, cond, Some, get_or, take, ap, sym, ◌∙◌, arith}
 use Rattle.std.specs.List.{list_any}
 use Rattle.history_model.specs.Demands.{is_same_path, differs}
 use Rattle.job_core.specs.Listed.{after_sight}
-use Rattle.job_core.proofs.Looked.{fires_at, any_more, or-false}
+use Rattle.history_model.proofs.Booleans.{or-false-right}
+use Rattle.job_core.proofs.Looked.{fires_at, any_more}
 use Rattle.history_model.proofs.Written.{at_written, write_step}
 use Rattle.job_core.proofs.paths.watch.Goals as goal
 use Rattle.job_core.proofs.paths.watch.Goals.{then-eq+then-fires, then-eq+else-fires, else-eq}
@@ -42,7 +44,7 @@ loop-watched-preserved c =
       | else-eq w ↦
           let e : false ≡ is_same_path here.path path = cc in
           let one : (c.loop-watched.fires || fires_at path obs here) ≡ c.loop-watched.fires =
-          ap (λ b. c.loop-watched.fires || (b && differs obs here.watch)) (sym e) ∙ or-false c.loop-watched.fires in
+          ap (λ b. c.loop-watched.fires || (b && differs obs here.watch)) (sym e) ∙ or-false-right c.loop-watched.fires in
           record {
             seen = w.watched-items-is ∙ write_step (after_sight path obs) start items index here here lt c.loop-watched.invariant.seen is
                 (λ i. record here { watch = cond (e i) (Some obs) here.watch });

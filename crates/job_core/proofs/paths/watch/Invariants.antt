@@ -1,3 +1,4 @@
+-- What holds at each turn of the loops of `paths::watch`, and why each ends.
 use Rattle.std.proofs.Common.{◌≡◌, take}
 use Rattle.std.specs.List.{list_any}
 use Rattle.history_model.proofs.Written.{written}

@@ -1,3 +1,4 @@
+-- What holds at each turn of the loops of `exchange::append`, and why each ends.
 use Rattle.std.proofs.Common.{◌≡◌, ◌+◌, ◌++◌, take}
 use Rattle.std.specs.Prelude.{vec_len, vec_capacity}
 use Rattle.socket_demand.proofs.exchange.append.Given as goal

@@ -1,3 +1,4 @@
+-- The goals of `Calendar::fires` that the prover leaves open.
 use Rattle.std.proofs.Common.{◌≡◌, ◌∙◌, length, sym, ap, not}
 use Rattle.std.proofs.lemmas.Bool.Decides.{Decides-eqb}
 use Rattle.calendar_due.proofs.CalendarLemmas.{nothing_matches, found-calendar_fires}

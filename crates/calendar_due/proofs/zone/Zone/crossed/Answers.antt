@@ -1,3 +1,4 @@
+-- The goals of `Zone::crossed` that the prover leaves open.
 use Rattle.std.proofs.Common.{arith, ◌≡◌, ◌∙◌, ◌+◌, ◌-◌, ◌*◌, ap, map, ◌/◌}
 use Rattle.history_model.specs.Calendar.{minutes_above, last_before}
 use Rattle.calendar_due.specs.Rules.{minute_at}

@@ -1,3 +1,4 @@
+-- What holds at each turn of the loops of `Zone::crossed`, and why each ends.
 use Rattle.std.proofs.Common.{◌≡◌, ◌-◌, ◌≤◌, max, map}
 use Rattle.history_model.specs.Calendar.{minutes_above}
 use Rattle.calendar_due.specs.Rules.{minute_at}

@@ -1,3 +1,4 @@
+-- The goals of `Zone::fixed` that the prover leaves open.
 use Rattle.std.proofs.lemmas.Int.{to_z-of_z}
 use Rattle.std.proofs.Common.{FitsSigned, w32, to_z, of_z, ◌≡◌, ℤ, pos, ◌∙◌, ap, sym, refl, inl, inr}
 use Rattle.std.proofs.Math.Path.{fun_ext}

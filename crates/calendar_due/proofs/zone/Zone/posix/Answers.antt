@@ -1,3 +1,4 @@
+-- The goals of `Zone::posix` that the prover leaves open.
 use Rattle.std.proofs.Common.{List, ℕ, refl}
 use Rattle.jiff.specs.Placed.{IsPosixZone}
 use Rattle.jiff_tz.specs.declared.timezone.TimeZone.{TimeZone}

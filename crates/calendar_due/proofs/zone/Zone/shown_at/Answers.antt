@@ -1,3 +1,4 @@
+-- The goals of `Zone::shown_at` that the prover leaves open.
 use Rattle.std.proofs.Common.{◌≡◌, ◌∙◌, ◌≤◌, ap, sym, arith, ℕ, pos, ℤ, ◌+ℤ◌, ◌*ℤ◌, w64, to_z, of_z}
 use Rattle.std.proofs.lemmas.Int.{to_z_pos}
 use Rattle.jiff_core.specs.DateTime.{civil_seconds, civil_nanos}

@@ -1,3 +1,4 @@
+-- The goals of `Zone::tzif` that the prover leaves open.
 use Rattle.std.proofs.Common.{refl}
 use Rattle.calendar_due.specs.Rules.{offsets}
 use Rattle.calendar_due.proofs.RuleLemmas.{agrees-not-bad}

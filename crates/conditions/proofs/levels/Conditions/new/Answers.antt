@@ -1,3 +1,4 @@
+-- The goals of `Conditions::new` that the prover leaves open.
 use Rattle.std.proofs.Common.{◌∙◌, ap, map, None}
 use Rattle.job_defs.specs.Definitions.{definition, path_wish}
 use Rattle.conditions.specs.Kept.{kept_of}

@@ -2,7 +2,7 @@
 use Rattle.std.proofs.Common.{◌≡◌, ◌∙◌, ap, sym, false, ◌||◌, None, is_some}
 use Rattle.job_core.specs.Sights.{unseen}
 use Rattle.job_core.specs.Fields.{facts}
-use Rattle.job_core.proofs.Looked.{or-false}
+use Rattle.history_model.proofs.Booleans.{or-false-right}
 use Rattle.pace.specs.Paces.{no_ends}
 use Rattle.job_core.proofs.job.Job.new.Goals as goal
 
@@ -10,7 +10,7 @@ pub returns : goal.returns
 returns c =
     let run = c.args.def.now.run_at_load in
     let exit = is_some c.args.def.now.successful_exit in
-    let fires : c.fires_at_load-fires.result ≡ ((run || exit) || false) = c.fires_at_load-fires.ensures ∙ sym (or-false (run || exit)) in
+    let fires : c.fires_at_load-fires.result ≡ ((run || exit) || false) = c.fires_at_load-fires.ensures ∙ sym (or-false-right (run || exit)) in
     λ i. facts (record {
       run_at_load = c.run_at_load.ensures i;
       launch_only_once = c.launch_only_once.ensures i;

@@ -1,3 +1,4 @@
+-- The goals of `Queues::new` that the prover leaves open.
 use Rattle.job_core.proofs.paths.Queues.new.Goals as goal
 
 pub returns : goal.returns

@@ -1,3 +1,4 @@
+-- The goals of `Watches::new` that the prover leaves open.
 use Rattle.job_core.proofs.paths.Watches.new.Goals as goal
 
 pub returns : goal.returns

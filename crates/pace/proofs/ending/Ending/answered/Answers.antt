@@ -1,3 +1,4 @@
+-- The goals of `Ending::answered` that the prover leaves open.
 use Rattle.std.proofs.Common.{rules}
 use Rattle.pace.proofs.ending.Ending.answered.Goals as goal
 

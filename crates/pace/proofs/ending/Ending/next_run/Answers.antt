@@ -1,3 +1,4 @@
+-- The goals of `Ending::next_run` that the prover leaves open.
 use Rattle.std.proofs.Common.{rules}
 use Rattle.pace.proofs.ending.Ending.next_run.Goals as goal
 

@@ -1,3 +1,4 @@
+-- The goals of `Interval::crossed` that the prover leaves open.
 use Rattle.std.proofs.Common.{◌≡◌, ◌<◌, ◌*◌, ◌/◌, Some, sym, ap, ◌∙◌, nat_lt, rules}
 use Rattle.history_model.specs.Clock.{crosses_interval}
 use Rattle.pace.specs.Paces.{Every}

@@ -1,3 +1,4 @@
+-- The goals of `Interval::next_moment` that the prover leaves open.
 use Rattle.std.proofs.Common.{ℕ, ◌+◌, ◌*◌, ◌/◌, ◌-◌, ◌<◌, ◌≤◌, sym, ap, subst, ◌∙◌, rules}
 use Rattle.pace.specs.Paces.{Every}
 use Rattle.pace.proofs.Periods.{next-period}

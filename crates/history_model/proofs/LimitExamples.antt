@@ -7,7 +7,7 @@ use Rattle.history_model.specs.Labels.{Label}
 use Rattle.history_model.specs.Machine.{State, Job}
 use Rattle.history_model.specs.Acceptance.{refusal_in}
 use Rattle.history_model.specs.Step.{step}
-use Rattle.history_model.specs.Scenes.{read_at, start, load}
+use Rattle.history_model.proofs.ExampleWords.{read_at, start, load}
 
 -- a label of two letters, another one for each number below 1,024, in byte order
 abbrev pub numbered : ℕ → Label

@@ -8,7 +8,7 @@ use Rattle.history_model.specs.declared.Ask.TheVariants.{Start}
 use Rattle.history_model.specs.declared.Refusal.TheVariants.{Stale}
 use Rattle.history_model.specs.Items.{Asked, Came, Left, Answered}
 use Rattle.history_model.specs.Clock.{no_definition}
-use Rattle.history_model.specs.Rows.{play, none, gives, refused, load, read, spawned, ended, saw}
+use Rattle.history_model.proofs.ThrottleExamples.{play, none, gives, refused, load, read, spawned, ended, saw}
 
 -- ---- levels and paths
 

@@ -8,8 +8,8 @@ use Rattle.history_model.specs.Items.{Definition}
 use Rattle.history_model.specs.Clock.{no_definition}
 use Rattle.history_model.specs.Machine.{Sight}
 use Rattle.history_model.specs.Step.{outcomes, run}
-use Rattle.history_model.specs.Rows.{play, none, gives, load, read, spawned, ended, saw}
-use Rattle.history_model.specs.Scenes as scene
+use Rattle.history_model.proofs.ThrottleExamples.{play, none, gives, load, read, spawned, ended, saw}
+use Rattle.history_model.proofs.ExampleWords as scene
 
 -- two paths, of which the one is the beginning of the other
 abbrev pub p : List ℕ

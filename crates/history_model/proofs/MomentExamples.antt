@@ -13,8 +13,8 @@ use Rattle.history_model.specs.Clock.{no_definition}
 use Rattle.history_model.specs.Machine.{Event, Tick, OfJob, past_of}
 use Rattle.history_model.specs.Moments.{timeouts, next_moment, touches}
 use Rattle.history_model.specs.Step.{run, outcomes}
-use Rattle.history_model.specs.Rows as rows
-use Rattle.history_model.specs.Scenes.{utc_that_day, read_at, start, read, load, ask, spawned, spawn_refused, termed, killed, ended, a, at_load, none, gives, refuses}
+use Rattle.history_model.proofs.ThrottleExamples as rows
+use Rattle.history_model.proofs.ExampleWords.{utc_that_day, read_at, start, read, load, ask, spawned, spawn_refused, termed, killed, ended, a, at_load, none, gives, refuses}
 
 -- ---- readings
 

@@ -1,4 +1,4 @@
--- Words of the worked examples of the whole machine.
+-- Words in which the worked examples of the whole machine are written: readings, events, jobs and outcomes.
 use Rattle.std.specs.Prelude.{ℕ, zero, suc, ◌+◌, ◌/◌, ◌%◌, pos, Bool, true, false, List, [], ◌∷◌, Some, None, Ok, codes}
 use Rattle.history_model.specs.declared.Reading.{Reading}
 use Rattle.history_model.specs.declared.CivilMinute.{CivilMinute}
@@ -12,8 +12,7 @@ use Rattle.history_model.specs.Items.{Definition, Asked, Came, Answered, RunEnde
 use Rattle.history_model.specs.Clock.{no_definition}
 use Rattle.history_model.specs.Labels.{Label}
 use Rattle.history_model.specs.Machine.{State, Event, Load, Tick, OfJob, opened}
-use Rattle.history_model.specs.Texts.{refusal_text}
-use Rattle.history_model.specs.Step.{Outcome}
+use Rattle.history_model.specs.Step.{Outcome, refused}
 
 -- ---- the opening
 
@@ -121,4 +120,4 @@ says text = record { refusal = None; orders = []; text = text }
 
 -- refused
 abbrev pub refuses : Refusal → Outcome
-refuses refusal = record { refusal = Some refusal; orders = []; text = refusal_text refusal }
+refuses refusal = refused refusal

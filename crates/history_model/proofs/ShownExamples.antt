@@ -9,7 +9,7 @@ use Rattle.std.specs.Prelude.{None}
 use Rattle.history_model.specs.Clock.{no_definition}
 use Rattle.history_model.specs.Machine.{UnloadJob, ListJobs, PrintJob, ShutDown}
 use Rattle.history_model.specs.Step.{outcomes}
-use Rattle.history_model.specs.Scenes.{start, read, load, ask, spawned, spawn_refused, ended, a, b, at_load, none, gives, says}
+use Rattle.history_model.proofs.ExampleWords.{start, read, load, ask, spawned, spawn_refused, ended, a, b, at_load, none, gives, says}
 
 -- idle before any run
 pub idle : outcomes (load a no_definition ∷ ListJobs ∷ PrintJob a ∷ []) start

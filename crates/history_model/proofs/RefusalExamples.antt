@@ -15,8 +15,8 @@ use Rattle.history_model.specs.Machine.{State, Event, Load, UnloadJob, Set, List
 use Rattle.history_model.specs.Acceptance.{refusal_in}
 use Rattle.history_model.specs.Step.{outcomes}
 use Rattle.history_model.specs.RefusalTexts.{reason_text, key_text, refusal_text, refusal_code}
-use Rattle.history_model.specs.LimitRows.{crowded}
-use Rattle.history_model.specs.Scenes.{start, start_with, load_as, load, ask, spawned, spawn_refused, termed, ended, read, a, b, s, at_load, socket_job, none, gives, refuses}
+use Rattle.history_model.proofs.LimitExamples.{crowded}
+use Rattle.history_model.proofs.ExampleWords.{start, start_with, load_as, load, ask, spawned, spawn_refused, termed, ended, read, a, b, s, at_load, socket_job, none, gives, refuses}
 
 -- ---- labels
 

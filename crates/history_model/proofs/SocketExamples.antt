@@ -8,7 +8,7 @@ use Rattle.history_model.specs.declared.Refusal.TheVariants.{NoSuchJob, Removing
 use Rattle.history_model.specs.Items.{Came, Left}
 use Rattle.history_model.specs.Machine.{UnloadJob, PrintJob, OfJob}
 use Rattle.history_model.specs.Step.{outcomes}
-use Rattle.history_model.specs.Scenes.{start, read, load_as, load, ask, spawned, spawn_refused, termed, ended, cames, s, socket_job, none, gives, says, refuses}
+use Rattle.history_model.proofs.ExampleWords.{start, read, load_as, load, ask, spawned, spawn_refused, termed, ended, cames, s, socket_job, none, gives, says, refuses}
 
 -- connections are carried in order of arrival, and closed where the job leaves
 pub socket_row : outcomes (

@@ -4,7 +4,7 @@ use Rattle.std.specs.Prelude.{◌≡◌, ℕ, pos, Bool, true, false, List, [], 
 use Rattle.history_model.specs.declared.Entry.{Entry}
 use Rattle.history_model.specs.declared.CivilMinute.{CivilMinute}
 use Rattle.history_model.specs.Calendar.{matches, last_before, crossed, calendar_fires}
-use Rattle.history_model.specs.Scenes.{utc_that_day}
+use Rattle.history_model.proofs.ExampleWords.{utc_that_day}
 
 -- Tuesday 14 November 2023, 22:13
 abbrev pub tuesday : CivilMinute

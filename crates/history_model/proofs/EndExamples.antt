@@ -9,7 +9,7 @@ use Rattle.history_model.specs.declared.Refusal.{Refusal}
 use Rattle.history_model.specs.Items.{Definition, Ordered}
 use Rattle.history_model.specs.Clock.{no_definition}
 use Rattle.history_model.specs.Levels.{is_crash}
-use Rattle.history_model.specs.Rows.{play, none, gives, load, read, spawned, ended}
+use Rattle.history_model.proofs.ThrottleExamples.{play, none, gives, load, read, spawned, ended}
 
 -- the answers of a job whose first run ends so, up to the end of its throttle
 abbrev pub after : Definition → Ended → List (Result (Option Act) Refusal)

@@ -10,8 +10,8 @@ use Rattle.history_model.specs.Items.{Definition, Asked, Answered, Came, Left, W
 use Rattle.history_model.specs.Clock.{no_definition}
 use Rattle.history_model.specs.Facts.{facts_of}
 use Rattle.history_model.specs.ByFacts.{due_by}
-use Rattle.history_model.specs.Rows.{play, none, gives, refused, load, read, spawned, ended}
-use Rattle.history_model.specs.StopRows.{unthrottled}
+use Rattle.history_model.proofs.ThrottleExamples.{play, none, gives, refused, load, read, spawned, ended}
+use Rattle.history_model.proofs.StopExamples.{unthrottled}
 
 -- ---- start
 

@@ -8,7 +8,7 @@ use Rattle.history_model.specs.Items.{Definition}
 use Rattle.history_model.specs.Clock.{no_definition}
 use Rattle.history_model.specs.Machine.{Unreadable, UnloadJob, Set, ListJobs, PrintJob}
 use Rattle.history_model.specs.Step.{outcomes}
-use Rattle.history_model.specs.Scenes.{start_with, start, load_as, load, a, none, gives, says, refuses}
+use Rattle.history_model.proofs.ExampleWords.{start_with, start, load_as, load, a, none, gives, says, refuses}
 
 -- a disabled label is not loaded, but for -F, which leaves the setting; an event that can't be read is refused
 pub disabled_and_forced : outcomes (

@@ -8,7 +8,7 @@ use Rattle.history_model.specs.declared.Answer.TheVariants.{Termed, Killed}
 use Rattle.history_model.specs.declared.Refusal.TheVariants.{Removing, Stale}
 use Rattle.history_model.specs.Items.{Definition, Asked, Answered}
 use Rattle.history_model.specs.Clock.{no_definition}
-use Rattle.history_model.specs.Rows.{play, none, gives, refused, load, read, spawned, ended}
+use Rattle.history_model.proofs.ThrottleExamples.{play, none, gives, refused, load, read, spawned, ended}
 
 -- a job that starts when it is loaded, with no throttle
 abbrev pub unthrottled : Definition
