@@ -23,7 +23,8 @@ fn row_value(
     row: &[(&str, Cell<'_>)],
     answers: &[(&str, bool)],
 ) -> Result<Value, AllocError>
-    ensures { IfOk result (λ v. view v ≡ row_object form name.now (plains_of row.now) (flags_of answers.now)) }
+    ensures { IfOk result (λ v. view v
+        ≡ row_object form name.now (plains_of row.now) (flags_of answers.now)) }
 {
     let mut map = Map::new(alloc);
     put_all(&mut map, alloc, &[(form.tag(), Cell::Text(name))])?;
@@ -56,7 +57,8 @@ fn setting_value(
     job: &Text,
     store: bool,
 ) -> Result<Value, AllocError>
-    ensures { IfOk result (λ v. view v ≡ row_object form name.now (of_job job.now ∷ []) ((codes "store", flag store) ∷ [])) }
+    ensures { IfOk result (λ v. view v
+        ≡ row_object form name.now (of_job job.now ∷ []) ((codes "store", flag store) ∷ [])) }
 {
     let row = [("job", Cell::Text(job.as_str()))];
     row_value(alloc, form, name, &row, &[("store", store)])

@@ -64,7 +64,8 @@ fn put_plain(
     at: Reading,
     zone: &ZoneText,
 ) -> Result<(), AllocError>
-    ensures { OnOk result (members_view map.new.entries ≡ with_members (members_view map.old.entries)
+    ensures { OnOk result (members_view map.new.entries
+        ≡ with_members (members_view map.old.entries)
         (lines.clock_members at ++ lines.zone_member zone.now ∷ [])) }
 {
     put_all(

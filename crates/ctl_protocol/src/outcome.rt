@@ -80,7 +80,8 @@ fn orders_value(alloc: Global, orders: &[(&str, Act)]) -> Result<Value, AllocErr
 
 #[tactic(auto, using(crate::proofs::Objects::orders_no_float))]
 fn orders_text(alloc: Global, orders: &[(&str, Act)]) -> Result<Vec<u8>, AllocError>
-    ensures { IfOk result (λ t. t.items ≡ compact_text (array (orders_data (orders_of orders.now)))) }
+    ensures { IfOk result (λ t. t.items
+        ≡ compact_text (array (orders_data (orders_of orders.now)))) }
 {
     let list = orders_value(alloc, orders)?;
     list.to_vec(alloc)
@@ -114,7 +115,8 @@ fn outcome_from(
     text: &str,
     orders: &[(&str, Act)],
 ) -> Result<Vec<u8>, AllocError>
-    ensures { IfOk result (λ line. line.items ≡ line_of (outcome_object code text.now (orders_of orders.now))) }
+    ensures { IfOk result (λ line. line.items
+        ≡ line_of (outcome_object code text.now (orders_of orders.now))) }
 {
     let mut buffer = Buffer::new();
     let number = buffer.format(code).as_bytes();
@@ -133,7 +135,8 @@ pub fn outcome_line(
     reply: &Reply,
     orders: &[(&str, Act)],
 ) -> Result<Vec<u8>, AllocError>
-    ensures { IfOk result (λ line. line.items ≡ outcome_text (answered reply.now (orders_of orders.now))) }
+    ensures { IfOk result (λ line. line.items
+        ≡ outcome_text (answered reply.now (orders_of orders.now))) }
 {
     match reply.refusal {
         None => outcome_from(alloc, 0, reply.text.as_str(), orders),

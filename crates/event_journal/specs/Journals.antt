@@ -4,7 +4,8 @@ use Rattle.std.specs.Io.KnownBytes.{Appends}
 use Rattle.event_journal.specs.declared.journal.Phase.{Phase}
 use Rattle.event_journal.specs.declared.journal.Phase.TheVariants.{Open, Closed, Told}
 
--- whether there is a writer, the bytes that it holds where they are known, and how the journal stands
+-- whether there is a writer, the bytes that it holds where they are known, and how the journal
+-- stands
 pub record Kept : Type 0 where
   pub given : Bool
   pub bytes : Option (List ℕ)
@@ -40,7 +41,8 @@ abbrev pub Wrote : Bool → Option (List ℕ) → Option (List ℕ) → List ℕ
 Wrote true old new text = Appends old new text
 Wrote false old new text = AppendsFront old new text
 
--- A journal that was shut stays as it was. An open one grew by all of the text, or it is closed and grew by a front of it.
+-- A journal that was shut stays as it was. An open one grew by all of the text, or it is closed and
+-- grew by a front of it.
 abbrev pub GrowsIn : Phase → Phase → Kept → Kept → List ℕ → Type 0
 GrowsIn Open Open old new text = Appends old.bytes new.bytes text
 GrowsIn Open Closed old new text = AppendsFront old.bytes new.bytes text

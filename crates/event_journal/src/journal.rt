@@ -37,7 +37,8 @@ impl<W: Write> Model for Journal<W> {
 
     ghost Value = { Kept };
 
-    ghost view = { λ j. record { given = is_some j.writer; bytes = held W.contents j.writer; phase = j.phase } };
+    ghost view = { λ j. record { given = is_some j.writer; bytes = held W.contents j.writer;
+        phase = j.phase } };
 }
 
 impl<W: Write> Journal<W> {

@@ -60,7 +60,8 @@ impl<'a> Line<'a> {
 
     /// The text under a key.
     pub(crate) fn text(&self, key: &str) -> Option<&'a str>
-        ensures { option_map (λ s. s.now) result ≡ option_and_then as_str (get key.now (seen self.now)) }
+        ensures { option_map (λ s. s.now) result
+            ≡ option_and_then as_str (get key.now (seen self.now)) }
     {
         match self.tree.get(key) {
             Some(found) => found.as_str(),
@@ -70,7 +71,8 @@ impl<'a> Line<'a> {
 
     /// The integer under a key, from 0 on.
     pub(crate) fn number(&self, key: &str) -> Option<u64>
-        ensures { result ≡ option_and_then as_u64 (option_and_then as_number (get key.now (seen self.now))) }
+        ensures { result ≡ option_and_then as_u64
+            (option_and_then as_number (get key.now (seen self.now))) }
     {
         match self.tree.get(key) {
             Some(found) => integer_in(found),
@@ -100,7 +102,8 @@ impl<'a> Line<'a> {
 
     /// The members, in order, of a line that is an object.
     pub(crate) fn members(&self) -> Option<&Vec<(&'a str, Value<'a>)>>
-        ensures { option_map (λ m. members_view m.now.items) result ≡ as_object (value_view self.now.tree) }
+        ensures { option_map (λ m. members_view m.now.items) result
+            ≡ as_object (value_view self.now.tree) }
     {
         match &self.tree {
             Value::Object(members) => Some(members),

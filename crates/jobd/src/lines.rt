@@ -40,7 +40,8 @@ pub(crate) fn accepted_line(
 /// The line of an event that was refused.
 pub(crate) fn refused_line(alloc: Global, refusal: Refusal) -> Result<Vec<u8>, AllocError>
     ensures { IfOk result (λ line. line.items
-        ≡ outcome_text (record { refusal = Some refusal; orders = []; text = refusal_text refusal })) }
+        ≡ outcome_text (record { refusal = Some refusal; orders = [];
+        text = refusal_text refusal })) }
 {
     let reply = Reply {
         refusal: Some(refusal),

@@ -1,8 +1,9 @@
 -- Values by kind, length, range and form, in the order in which they are checked. The key is the
 -- one that a fault names.
-use Rattle.std.specs.Prelude.{ℕ, List, [], ◌∷◌, ◌++◌, length, Bool, ◌&&◌, ◌==◌, nat_lt, nat_le, Result, Ok, Err, Option, Some, None, if◌then◌else◌, ⊤}
+use Rattle.std.specs.Prelude.{ℕ, List, [], ◌∷◌, ◌++◌, length, map, Bool, ◌&&◌, ◌==◌, nat_lt, nat_le, Result, Ok, Err, Option, Some, None, if◌then◌else◌, ⊤}
 use Rattle.std.specs.List.{list_any}
 use Rattle.std.specs.Str.{bytes_eq}
+use Rattle.std.specs.Borrow.{Bor}
 use Rattle.serde_json.specs.Data.{Num, unsigned, negative, float, Data, Items, no_items, item, Members, no_members, member}
 use Rattle.serde_json.specs.Find.{get, as_str, as_bool, as_number, as_array, as_object}
 use Rattle.history_model.specs.declared.Reason.TheVariants.{Missing, WrongKind, OutOfRange, TooLong, Unsupported}
@@ -80,6 +81,10 @@ path_limit = 1024
 -- a path
 abbrev pub path_at : KeyName → Data → Result (List ℕ) Fault
 path_at key d = filled_at path_limit key d
+
+-- texts without where they lie in memory
+abbrev pub texts_in : List (Bor (List ℕ)) → List (List ℕ)
+texts_in texts = map (λ text. text.now) texts
 
 -- the text is one of them
 abbrev pub is_among : List (List ℕ) → List ℕ → Bool

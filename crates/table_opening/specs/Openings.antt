@@ -53,7 +53,8 @@ IsZoneOf text (Some zone) = Describes text (offsets zone)
 pub record OpensBy (header : Header) (s : State) : Type 0 where
   pub ahead : Offsets
   pub describes : Describes header.zone ahead
-  pub state : s ≡ opened (record { reading = header.reading; zone = shown_by ahead; overrides = header.overrides })
+  pub state : s ≡ opened (record { reading = header.reading; zone = shown_by ahead;
+      overrides = header.overrides })
 
 -- a machine that the header opens, for which the table stands
 pub record StandsOpened (header : Header) (table : Table) : Type 0 where
@@ -67,5 +68,6 @@ abbrev pub OpensAs : Header → Result Table OpeningFault → Type 0
 OpensAs header (Ok table) = StandsOpened header table
 OpensAs header (Err NoMemory) = Unit {0}
 OpensAs header (Err BadZone) = IsNoZone header.zone
-OpensAs header (Err BadLabel) = list_all (λ setting. is_label setting.label) header.overrides ≡ false
+OpensAs header (Err BadLabel) =
+    list_all (λ setting. is_label setting.label) header.overrides ≡ false
 OpensAs header (Err BadReading) = is_clock_refused header.reading header.reading ≡ true

@@ -16,7 +16,8 @@ pub record Opens (line : List ℕ) (s : State) : Type 0 where
   pub read : header_at line ≡ Some header
   pub ahead : Offsets
   pub describes : Describes header.zone ahead
-  pub state : s ≡ opened (record { reading = header.reading; zone = shown_by ahead; overrides = header.overrides })
+  pub state : s ≡ opened (record { reading = header.reading; zone = shown_by ahead;
+      overrides = header.overrides })
 
 -- a line that is read as a header, whose zone is none
 pub record HasNoZone (line : List ℕ) : Type 0 where
