@@ -4,10 +4,10 @@ ghost use Rattle.std.specs.Prelude.{◌≡◌, IfOk, OnOk, Some, codes, ◌∷�
 ghost use Rattle.history_model.specs.declared.event.Event.TheVariants as events;
 ghost use Rattle.serde_json.specs.View.{view};
 ghost use Rattle.serde_json.specs.Written.{compact_text};
-ghost use Rattle.event_reader.specs.Rows.{event_at, request_at};
+ghost use Rattle.event_reader.specs.EventLines.{event_at, request_at};
 ghost use Rattle.event_reader.specs.declared.members.Form.TheVariants as forms;
 ghost use Rattle.ctl_protocol.specs.Objects.{flag, flags_of, plains_of, plain_of};
-ghost use Rattle.ctl_protocol.specs.Journal.{end_member, event_object, event_text, of_answer, of_connection, of_job, of_run, is_request, is_tellable, request_text, row_object};
+ghost use Rattle.ctl_protocol.specs.EventWriter.{end_member, event_object, event_text, of_answer, of_connection, of_job, of_run, is_request, is_tellable, request_text, row_object};
 
 use crate::object::{Cell, line_from, put_all, put_flags};
 use event_reader::Form;

@@ -1,7 +1,7 @@
 //! A journal and its lines.
 
 ghost use Rattle.std.specs.Prelude.{◌≡◌, ◌↔◌, IfOk, IsTrue, List, OnErr, ℕ, None, true, false, [], is_some};
-ghost use Rattle.ctl_protocol.specs.Journal.{event_text};
+ghost use Rattle.ctl_protocol.specs.EventWriter.{event_text};
 ghost use Rattle.ctl_protocol.specs.HeaderLines.{header_text};
 ghost use Rattle.event_journal.specs.Journals.{Grows, fresh, told, held, is_writing};
 

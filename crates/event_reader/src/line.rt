@@ -37,7 +37,7 @@ impl<'a> Line<'a> {
     ghost use Rattle.event_reader.specs.Members.{Gives, flag_or};
     ghost use Rattle.json.specs.Find.{as_object};
     ghost use Rattle.json.specs.Value.{members_view};
-    ghost use Rattle.event_reader.specs.Seen.{seen};
+    ghost use Rattle.event_reader.specs.Line.{seen};
 
     /// Reads a line. BadRequest where the bytes are no JSON text.
     #[tactic(auto, using(crate::proofs::Trees::line_read, crate::proofs::Trees::line_refused, crate::proofs::Trees::line_missing))]

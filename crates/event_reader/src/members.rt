@@ -4,7 +4,7 @@ ghost use Rattle.std.specs.Prelude.{◌≡◌};
 ghost use Rattle.json.specs.Value.{members_view};
 ghost use Rattle.event_reader.specs.Members.{Gives, Reads, text_key, number_key, flag_key, flag_or, label_key, target_key, has_only, tag_of, is_key};
 ghost use Rattle.json_kinds.specs.Kinds.{texts_in};
-ghost use Rattle.event_reader.specs.Seen.{seen};
+ghost use Rattle.event_reader.specs.Line.{seen};
 ghost use Rattle.event_reader.specs.Trees.{keys_pass};
 ghost use Rattle.event_reader.specs.declared.members.ReadFault.TheVariants.{NoMemory};
 

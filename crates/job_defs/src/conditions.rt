@@ -6,7 +6,7 @@ ghost use Rattle.json_kinds.specs.Faults.{Gives};
 ghost use Rattle.json_kinds.specs.Kinds.{each_member};
 ghost use Rattle.job_defs.specs.Conditions.{path_state_in, path_state_at, conditions_at, keep_at, keep_row};
 ghost use Rattle.job_defs.specs.Paths.{list_limit};
-ghost use Rattle.job_defs.specs.Seen.{keep_of};
+ghost use Rattle.job_defs.specs.Parts.{keep_of};
 
 use crate::parts::{Keep, LIST_LIMIT, PathState};
 use history_model::{KeyName, Reason, Text};

@@ -6,7 +6,7 @@ ghost use Rattle.json_kinds.specs.Faults.{Gives};
 ghost use Rattle.json_kinds.specs.Kinds.{each_item, path_at};
 ghost use Rattle.job_defs.specs.Paths.{list_limit, paths_at, paths_row};
 ghost use Rattle.job_defs.specs.Table.{demand_at, pace_at};
-ghost use Rattle.job_defs.specs.Seen.{demand_of, pace_of};
+ghost use Rattle.job_defs.specs.Parts.{demand_of, pace_of};
 
 use crate::calendars::calendar_row_of;
 use crate::conditions::keep_row_of;

@@ -7,7 +7,7 @@ ghost use Rattle.serde_json.specs.View.{view, items_view, members_view};
 ghost use Rattle.serde_json.specs.Find.{as_object};
 ghost use Rattle.job_defs.specs.Ignored as ignored;
 ghost use Rattle.job_defs.specs.Ignored.{members_in};
-ghost use Rattle.job_defs.specs.Seen.{Gains, names_of};
+ghost use Rattle.job_defs.specs.Parts.{Gains, names_of};
 ghost use Rattle.json_kinds.specs.Kinds.{texts_in};
 
 use history_model::{KeyName, Text};

@@ -9,7 +9,7 @@ ghost use Rattle.json_kinds.specs.Faults.{Gives};
 ghost use Rattle.json_kinds.specs.Kinds.{each_member};
 ghost use Rattle.job_defs.specs.Variables.{is_equals, variable_in, variable_by, environment_at, environment_row};
 ghost use Rattle.job_defs.specs.Table.{surroundings_at};
-ghost use Rattle.job_defs.specs.Seen.{surroundings_of};
+ghost use Rattle.job_defs.specs.Parts.{surroundings_of};
 
 use crate::parts::{Surroundings, Variable};
 use history_model::{KeyName, Reason, Text};

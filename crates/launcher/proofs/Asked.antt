@@ -21,7 +21,7 @@ use Rattle.load_asking.specs.declared.asking.Asked.{Asked}
 use Rattle.load_asking.specs.Stores.{StoreCall}
 use Rattle.event_journal.specs.Journals.{Kept, Grows}
 use Rattle.event_journal.proofs.Growing.{grows_nothing}
-use Rattle.ctl_protocol.specs.Journal.{event_text}
+use Rattle.ctl_protocol.specs.EventWriter.{event_text}
 use Rattle.launcher_turn.specs.Turns.{IsLed, TurnsOf, refusal_told}
 use Rattle.launcher_load.specs.Lines.{told_set, load_line, set_line}
 use Rattle.launcher_load.specs.LoadTurns.{LoadTurnOf, SetTurnOf, IsUntouched, is_memory, settings_after}

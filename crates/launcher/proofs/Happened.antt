@@ -21,7 +21,7 @@ use Rattle.load_asking.specs.declared.asking.Asked.{Asked}
 use Rattle.load_asking.specs.Stores.{StoreCall}
 use Rattle.event_journal.specs.Journals.{Kept, Grows}
 use Rattle.event_journal.proofs.Growing.{grows_nothing}
-use Rattle.ctl_protocol.specs.Journal.{event_text}
+use Rattle.ctl_protocol.specs.EventWriter.{event_text}
 use Rattle.launcher_turn.specs.declared.happening.Happening.{Happening}
 use Rattle.launcher_turn.specs.declared.happening.Happening.TheVariants as happenings
 use Rattle.launcher_turn.specs.declared.happening.News.{News}

@@ -15,7 +15,7 @@ use Rattle.job_table.specs.Kept.{KeepsState}
 use Rattle.child_edge.specs.Calls.{Tells}
 use Rattle.order_edge.specs.Calls.{Entry, answers_in}
 use Rattle.load_asking.specs.Stores.{StoreCall, AreTold}
-use Rattle.ctl_protocol.specs.Journal.{event_text}
+use Rattle.ctl_protocol.specs.EventWriter.{event_text}
 use Rattle.event_journal.specs.Journals.{Kept, Grows}
 use Rattle.event_journal.proofs.Growing.{grows_append, grows_nothing}
 use Rattle.launcher_turn.specs.Turns.{IsLed, refusal_told}

@@ -12,7 +12,7 @@ use Rattle.history_model.specs.Step.{outcome, step}
 use Rattle.job_defs.specs.Described.{Described}
 use Rattle.job_defs.specs.Table.{def_of}
 use Rattle.ctl_protocol.specs.declared.header.Header.{Header}
-use Rattle.ctl_protocol.specs.Journal.{event_text}
+use Rattle.ctl_protocol.specs.EventWriter.{event_text}
 use Rattle.ctl_protocol.specs.HeaderLines.{header_text}
 use Rattle.job_table.specs.Rows.{Table, Name, definition_of_number}
 use Rattle.job_table.specs.Kept.{KeepsState}

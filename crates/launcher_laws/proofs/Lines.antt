@@ -10,7 +10,7 @@ use Rattle.line_feed.proofs.Cuts.{lines_none, rest_none}
 use Rattle.replay_loop.specs.Outcomes.{input_lines, last_line}
 use Rattle.ctl_protocol.specs.declared.header.Header.{Header}
 use Rattle.ctl_protocol.specs.Objects.{line_of}
-use Rattle.ctl_protocol.specs.Journal.{event_object, event_text}
+use Rattle.ctl_protocol.specs.EventWriter.{event_object, event_text}
 use Rattle.ctl_protocol.specs.HeaderLines.{header_object, header_text}
 use Rattle.launcher_laws.proofs.Free.{free_text, one_line, no_rest}
 

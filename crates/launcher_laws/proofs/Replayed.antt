@@ -9,7 +9,7 @@ use Rattle.history_model.specs.declared.event.Setting.{Setting}
 use Rattle.history_model.specs.Machine.{State}
 use Rattle.history_model.specs.Step.{Outcome, outcomes}
 use Rattle.ctl_protocol.specs.declared.header.Header.{Header}
-use Rattle.ctl_protocol.specs.Journal.{event_text}
+use Rattle.ctl_protocol.specs.EventWriter.{event_text}
 use Rattle.ctl_protocol.specs.HeaderLines.{header_text}
 use Rattle.ctl_protocol.specs.Outcomes.{outcome_text}
 use Rattle.replay_loop.specs.Outcomes.{input_lines}

@@ -17,7 +17,7 @@ use Rattle.job_table.specs.Rows.{Table, Name, label_of}
 use Rattle.job_table.specs.Kept.{KeepsState}
 use Rattle.order_edge.specs.declared.pending.Pending.{Pending}
 use Rattle.order_edge.specs.Calls.{answers_in}
-use Rattle.ctl_protocol.specs.Journal.{event_text}
+use Rattle.ctl_protocol.specs.EventWriter.{event_text}
 use Rattle.event_journal.specs.declared.journal.Phase.{Phase}
 use Rattle.event_journal.specs.declared.journal.Phase.TheVariants.{Open, Closed, Told}
 use Rattle.event_journal.specs.Journals.{Kept, Grows, GrowsIn, told}

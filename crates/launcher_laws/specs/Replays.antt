@@ -5,7 +5,7 @@ use Rattle.std.specs.Io.KnownBytes.{Appends}
 use Rattle.history_model.specs.declared.event.Event as journal
 use Rattle.history_model.specs.Step.{Outcome}
 use Rattle.ctl_protocol.specs.declared.header.Header.{Header}
-use Rattle.ctl_protocol.specs.Journal.{event_text}
+use Rattle.ctl_protocol.specs.EventWriter.{event_text}
 use Rattle.ctl_protocol.specs.HeaderLines.{header_text}
 use Rattle.ctl_protocol.specs.Outcomes.{outcome_text}
 use Rattle.replay_loop.specs.Outcomes.{input_lines}

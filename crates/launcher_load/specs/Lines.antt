@@ -3,7 +3,7 @@ use Rattle.std.specs.Prelude.{ℕ, Bool, true, List, if◌then◌else◌}
 use Rattle.history_model.specs.declared.event.Event as journal
 use Rattle.history_model.specs.declared.event.Event.TheVariants as told
 use Rattle.history_model.specs.Labels.{Label}
-use Rattle.ctl_protocol.specs.Journal.{event_text}
+use Rattle.ctl_protocol.specs.EventWriter.{event_text}
 use Rattle.load_asking.specs.declared.asking.Asked.{Asked}
 
 -- the journal's event of a load of a definition's bytes, with what the outside answered

@@ -2,7 +2,7 @@
 use Rattle.std.proofs.Common.{◌≡◌, ℕ, List, subst}
 use Rattle.std.specs.Prelude.{Result, Ok, Err, IfOk, OnErr}
 use Rattle.history_model.specs.declared.event.Event.{Event}
-use Rattle.ctl_protocol.specs.Journal.{event_text}
+use Rattle.ctl_protocol.specs.EventWriter.{event_text}
 use Rattle.event_journal.specs.Journals.{Kept, Grows}
 
 pub made-line : {E : Type 0} (e : Event) (made : Result Event E) (old new : Kept) → IfOk made (λ event. event ≡ e) →

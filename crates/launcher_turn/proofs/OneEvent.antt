@@ -30,7 +30,7 @@ use Rattle.history_model.proofs.InOrder.{told_one-labels, same_self, order-run}
 use Rattle.launcher_turn.proofs.Labels.{all-stays}
 use Rattle.launcher_turn.specs.Turns.{Carried, orders_given, refusal_told, IsUntouched, event_in, AreTheirs, IsOrderly, IsWaiting, HappensTo, Happens, Handled}
 use Rattle.job_core.specs.Memory.{NeedsNoMemory}
-use Rattle.ctl_protocol.specs.Journal.{event_text}
+use Rattle.ctl_protocol.specs.EventWriter.{event_text}
 use Rattle.event_journal.specs.Journals.{Kept, Grows}
 use Rattle.launcher_turn.specs.Lines.{told_answer}
 use Rattle.launcher_turn.proofs.CarryLemmas.{none-called}

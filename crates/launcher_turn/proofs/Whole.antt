@@ -29,7 +29,7 @@ use Rattle.launcher_turn.proofs.Labels.{all-stays, all-with}
 use Rattle.history_model.proofs.TurnBound.{turning-start, within-step, length-heavy}
 use Rattle.launcher_turn.specs.Turns.{event_in, events_in, AreTheirs, IsWaiting, Begins, Happens, Settled, IsShort, IsLed, TurnsOf, Turns, refusal_told}
 use Rattle.launcher_turn.specs.Events.{event_of}
-use Rattle.ctl_protocol.specs.Journal.{event_text}
+use Rattle.ctl_protocol.specs.EventWriter.{event_text}
 use Rattle.event_journal.specs.Journals.{Kept, Grows}
 use Rattle.event_journal.proofs.Growing.{grows_append}
 use Rattle.launcher_turn.specs.Lines.{told_by, answer_texts}

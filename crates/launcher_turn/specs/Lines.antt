@@ -6,7 +6,7 @@ use Rattle.history_model.specs.declared.Answer.TheVariants as answers
 use Rattle.history_model.specs.declared.event.Event as journal
 use Rattle.history_model.specs.declared.event.Event.TheVariants as told
 use Rattle.history_model.specs.Labels.{Label}
-use Rattle.ctl_protocol.specs.Journal.{event_text}
+use Rattle.ctl_protocol.specs.EventWriter.{event_text}
 use Rattle.job_table.specs.Rows.{Name, label_of}
 use Rattle.order_edge.specs.declared.pending.Pending.{Pending}
 use Rattle.launcher_turn.specs.declared.happening.News.{News}

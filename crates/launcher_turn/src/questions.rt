@@ -6,7 +6,7 @@ ghost use Rattle.history_model.specs.declared.Refusal.TheVariants.{NoMemory};
 ghost use Rattle.history_model.specs.declared.event.Event.TheVariants as told;
 ghost use Rattle.history_model.specs.Acceptance.{refusal_in};
 ghost use Rattle.history_model.specs.Machine.{State, ListJobs, PrintJob};
-ghost use Rattle.ctl_protocol.specs.Journal.{event_text};
+ghost use Rattle.ctl_protocol.specs.EventWriter.{event_text};
 ghost use Rattle.job_table.specs.Kept.{KeepsState};
 ghost use Rattle.job_table.specs.Outcomes.{UnlessMemory, IsToldText, Tells};
 ghost use Rattle.event_journal.specs.Journals.{Grows};

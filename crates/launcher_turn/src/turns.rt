@@ -3,7 +3,7 @@
 ghost use Rattle.std.specs.Prelude.{◌≡◌, Err, true};
 ghost use Rattle.history_model.specs.declared.Refusal.TheVariants.{NoMemory};
 ghost use Rattle.job_table.specs.Outcomes.{UnlessMemory};
-ghost use Rattle.ctl_protocol.specs.Journal.{event_text};
+ghost use Rattle.ctl_protocol.specs.EventWriter.{event_text};
 ghost use Rattle.launcher_turn.specs.Events.{event_of, is_clock};
 ghost use Rattle.launcher_turn.specs.Lines.{told_by};
 ghost use Rattle.launcher_turn.specs.Turns.{Turns, IsUntouched, refusal_told};

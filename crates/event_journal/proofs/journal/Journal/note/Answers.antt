@@ -1,4 +1,4 @@
-use Rattle.ctl_protocol.specs.Journal.{event_text}
+use Rattle.ctl_protocol.specs.EventWriter.{event_text}
 use Rattle.event_journal.proofs.journal.Journal.note.Goals as goal
 
 -- no memory for the line
