@@ -103,12 +103,12 @@ abbrev pub event_object : Form → Event → Data
 event_object form e = row_object form (name_of e) (row_members e) (answer_members e)
 
 -- the line of a journal that tells the event, with its newline
-abbrev pub event_text : Event → List ℕ
-event_text e = line_of (event_object forms.Event e)
+abbrev pub event_line : Event → List ℕ
+event_line e = line_of (event_object forms.Event e)
 
 -- the line by which a client asks for it, with its newline
-abbrev pub request_text : Event → List ℕ
-request_text e = line_of (event_object forms.Request e)
+abbrev pub request_line : Event → List ℕ
+request_line e = line_of (event_object forms.Request e)
 
 -- ---- which events a line can tell: the job is a label, and each number is one of its row
 

@@ -49,8 +49,8 @@ header_object h =
     (with_members no_members (plain_members h)))
 
 -- the line of a header, with its newline
-abbrev pub header_text : Header → List ℕ
-header_text h = line_of (header_object h)
+abbrev pub header_line : Header → List ℕ
+header_line h = line_of (header_object h)
 
 -- ---- which headers a line can tell
 

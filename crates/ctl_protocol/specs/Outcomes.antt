@@ -82,16 +82,16 @@ abbrev pub outcome_data : Outcome → Data
 outcome_data o = outcome_object (code_of o.refusal) o.text o.orders
 
 -- the line of an outcome, with its newline
-abbrev pub outcome_text : Outcome → List ℕ
-outcome_text o = line_of (outcome_data o)
+abbrev pub outcome_line : Outcome → List ℕ
+outcome_line o = line_of (outcome_data o)
 
 -- the object of a reply: its code and its text
 abbrev pub reply_object : ℕ → List ℕ → Data
 reply_object code said = plain_object ((codes "code", count code) ∷ (codes "text", text said) ∷ [])
 
 -- the line of a reply, with its newline
-abbrev pub reply_text : Reply → List ℕ
-reply_text reply = line_of (reply_object (code_of reply.refusal) (text_of reply))
+abbrev pub reply_line : Reply → List ℕ
+reply_line reply = line_of (reply_object (code_of reply.refusal) (text_of reply))
 
 -- the line as the texts of its values
 abbrev pub parts : List ℕ → List ℕ → List ℕ → List ℕ

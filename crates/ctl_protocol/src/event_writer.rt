@@ -7,7 +7,8 @@ ghost use Rattle.serde_json.specs.Written.{compact_text};
 ghost use Rattle.event_reader.specs.EventLines.{event_at, request_at};
 ghost use Rattle.event_reader.specs.declared.members.Form.TheVariants as forms;
 ghost use Rattle.ctl_protocol.specs.Objects.{flag, flags_of, plains_of, plain_of};
-ghost use Rattle.ctl_protocol.specs.EventWriter.{end_member, event_object, event_text, of_answer, of_connection, of_job, of_run, is_request, is_tellable, request_text, row_object};
+ghost use Rattle.ctl_protocol.specs.EventWriter as lines;
+ghost use Rattle.ctl_protocol.specs.EventWriter.{end_member, event_object, of_answer, of_connection, of_job, of_run, is_request, is_tellable, row_object};
 
 use crate::object::{Cell, line_from, put_all, put_flags};
 use event_reader::Form;
@@ -229,7 +230,7 @@ fn event_value(alloc: Global, form: Form, event: &Event) -> Result<Value, AllocE
 /// The line of a journal that tells an event, with its newline: an object of every key of the event's row, in byte
 /// order. `Err` says only that memory ran out.
 pub fn event_line(alloc: Global, event: &Event) -> Result<Vec<u8>, AllocError>
-    ensures text { IfOk result (λ line. line.items ≡ event_text event.now) }
+    ensures text { IfOk result (λ line. line.items ≡ lines.event_line event.now) }
     // The line, without its newline, is read as the event.
     ensures reads_back { OnOk result (is_tellable event.now ≡ true
         → event_at (compact_text (event_object forms.Event event.now)) ≡ Some event.now) }
@@ -241,7 +242,7 @@ pub fn event_line(alloc: Global, event: &Event) -> Result<Vec<u8>, AllocError>
 /// The line by which a control client asks for an event, with its newline: the event's row without the answers of the
 /// outside. `Err` says only that memory ran out.
 pub fn request_line(alloc: Global, event: &Event) -> Result<Vec<u8>, AllocError>
-    ensures text { IfOk result (λ line. line.items ≡ request_text event.now) }
+    ensures text { IfOk result (λ line. line.items ≡ lines.request_line event.now) }
     // The line, without its newline, is read as what was asked.
     ensures reads_back { OnOk result (is_request event.now ≡ true
         → request_at (compact_text (event_object forms.Request event.now)) ≡ Some event.now) }

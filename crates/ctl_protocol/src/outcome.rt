@@ -4,9 +4,10 @@ ghost use Rattle.std.specs.Prelude.{◌≡◌, IfOk};
 ghost use Rattle.serde_json.specs.Data.{array, string};
 ghost use Rattle.serde_json.specs.View.{view};
 ghost use Rattle.serde_json.specs.Written.{compact_text};
+ghost use Rattle.ctl_protocol.specs.Outcomes as outcomes;
 ghost use Rattle.ctl_protocol.specs.Outcomes.{parts};
 ghost use Rattle.ctl_protocol.specs.Objects.{line_of, plain_object};
-ghost use Rattle.ctl_protocol.specs.Outcomes.{answered, order_members, orders_data, orders_of, outcome_object, outcome_text, reply_object, reply_text};
+ghost use Rattle.ctl_protocol.specs.Outcomes.{answered, order_members, orders_data, orders_of, outcome_object, reply_object};
 
 use crate::object::{Cell, line_from, object_of};
 use crate::texts::refusal_text;
@@ -136,7 +137,7 @@ pub fn outcome_line(
     orders: &[(&str, Act)],
 ) -> Result<Vec<u8>, AllocError>
     ensures { IfOk result (λ line. line.items
-        ≡ outcome_text (answered reply.now (orders_of orders.now))) }
+        ≡ outcomes.outcome_line (answered reply.now (orders_of orders.now))) }
 {
     match reply.refusal {
         None => outcome_from(alloc, 0, reply.text.as_str(), orders),
@@ -162,7 +163,7 @@ fn reply_from(alloc: Global, code: u8, text: &str) -> Result<Vec<u8>, AllocError
 
 /// The line of a reply to a control client, with its newline. `Err` says only that memory ran out.
 pub fn reply_line(alloc: Global, reply: &Reply) -> Result<Vec<u8>, AllocError>
-    ensures { IfOk result (λ line. line.items ≡ reply_text reply.now) }
+    ensures { IfOk result (λ line. line.items ≡ outcomes.reply_line reply.now) }
 {
     match reply.refusal {
         None => reply_from(alloc, 0, reply.text.as_str()),

@@ -4,7 +4,7 @@ use Rattle.history_model.specs.Machine.{State, Event}
 use Rattle.history_model.specs.Step.{outcome, step}
 use Rattle.job_table.specs.Rows.{Table}
 use Rattle.job_table.specs.Kept.{KeepsState}
-use Rattle.ctl_protocol.specs.Outcomes.{outcome_text}
+use Rattle.ctl_protocol.specs.Outcomes.{outcome_line}
 use Rattle.ctl_protocol.specs.Headers.{header_at}
 use Rattle.ctl_protocol.specs.declared.header.Header.{Header}
 use Rattle.table_opening.specs.Output.{Opens, IsNoHeader, output_from}
@@ -13,7 +13,7 @@ use Rattle.table_opening.specs.Output.{Opens, IsNoHeader, output_from}
 -- its next state
 abbrev pub IsAnswered : Event → Table → Table → List ℕ → Type 0
 IsAnswered e old new line =
-    (s : State) → KeepsState old s → (line ≡ outcome_text (outcome s e)) × KeepsState new (step s e)
+    (s : State) → KeepsState old s → (line ≡ outcome_line (outcome s e)) × KeepsState new (step s e)
 
 -- ---- the opening
 

@@ -6,7 +6,7 @@ use Rattle.history_model.specs.Step.{outcomes}
 use Rattle.calendar_due.specs.Offsets.{Offsets, shown_by}
 use Rattle.ctl_protocol.specs.declared.header.Header.{Header}
 use Rattle.ctl_protocol.specs.Headers.{header_at}
-use Rattle.ctl_protocol.specs.Outcomes.{outcome_text}
+use Rattle.ctl_protocol.specs.Outcomes.{outcome_line}
 use Rattle.table_opening.specs.Openings.{Describes, IsNoZone}
 use Rattle.table_opening.specs.Events.{event_in}
 
@@ -31,7 +31,7 @@ IsNoHeader line = (header_at line ≡ None) ⊎ HasNoZone line
 
 -- the outcome lines of these event lines
 abbrev pub output_from : State → List (List ℕ) → List ℕ
-output_from s lines = flat_map outcome_text (outcomes (map event_in lines) s)
+output_from s lines = flat_map outcome_line (outcomes (map event_in lines) s)
 
 -- this is written for all lines of an input: the first is the header, and each later one an event
 abbrev pub IsOutput : List (List ℕ) → Option (List ℕ) → Type 0
