@@ -29,5 +29,5 @@ IsOpenedFrom header table = (line : List ℕ) → header_at line ≡ Some header
 -- the table will answer so
 abbrev pub WillWrite : Table → (List (List ℕ) → List ℕ) → Type 0
 WillWrite table future =
-    (s : State) × KeepsState table s × ((lines : List (List ℕ))
-    → future lines ≡ output_from s lines)
+    (s : State) × KeepsState table s
+    × ((lines : List (List ℕ)) → future lines ≡ output_from s lines)

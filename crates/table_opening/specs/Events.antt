@@ -32,6 +32,7 @@ event_of (told.Killed job run ok) = OfJob job (Answered (answers.Killed run ok))
 event_of (told.Ended job run how) = OfJob job (RunEnded run how)
 event_of (told.WaitRefused job run) = OfJob job (WaitRefused run)
 
+-- the event that was read, or one that is unreadable
 abbrev pub read_as : Option journal.Event → Event
 read_as None = Unreadable
 read_as (Some event) = event_of event
