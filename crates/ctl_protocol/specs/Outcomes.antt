@@ -66,10 +66,6 @@ text_of reply = told reply.refusal where
 abbrev pub answered : Reply → List (Label × Act) → Outcome
 answered reply orders = record { refusal = reply.refusal; orders = orders; text = text_of reply }
 
--- the key `code`
-abbrev pub code_member : ℕ → List ℕ × Plain
-code_member code = (codes "code", count code)
-
 -- the object of an outcome: its code, its orders and its text
 abbrev pub outcome_object : ℕ → List ℕ → List (Label × Act) → Data
 outcome_object code said orders =
