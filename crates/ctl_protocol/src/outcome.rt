@@ -79,7 +79,7 @@ fn orders_value(alloc: Global, orders: &[(&str, Act)]) -> Result<Value, AllocErr
     Ok(Value::Array(values))
 }
 
-#[tactic(auto, using(crate::proofs::Objects::orders_no_float))]
+#[tactic(auto, using(crate::proofs::ObjectsLemmas::orders_no_float))]
 fn orders_text(alloc: Global, orders: &[(&str, Act)]) -> Result<Vec<u8>, AllocError>
     ensures { IfOk result (λ t. t.items
         ≡ compact_text (array (orders_data (orders_of orders.now)))) }

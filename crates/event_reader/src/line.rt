@@ -40,7 +40,7 @@ impl<'a> Line<'a> {
     ghost use Rattle.event_reader.specs.Line.{seen};
 
     /// Reads a line. BadRequest where the bytes are no JSON text.
-    #[tactic(auto, using(crate::proofs::Trees::line_read, crate::proofs::Trees::line_refused, crate::proofs::Trees::line_missing))]
+    #[tactic(auto, using(crate::proofs::TreesLemmas::line_read, crate::proofs::TreesLemmas::line_refused, crate::proofs::TreesLemmas::line_missing))]
     pub(crate) fn read(
         alloc: Global,
         bytes: &'a [u8],

@@ -21,7 +21,7 @@ use std::alloc::{AllocError, Global};
 use std::collections::BTreeSet;
 
 /// The keys that nothing acts on, in byte order and each once.
-#[tactic(auto, using(crate::proofs::Gathered::with_both), unfolding(crate::specs::Ignored::not_acted_on))]
+#[tactic(auto, using(crate::proofs::IgnoredLemmas::with_both), unfolding(crate::specs::Ignored::not_acted_on))]
 pub(crate) fn not_acted_on_of(
     alloc: Global,
     has_sockets: bool,
@@ -102,7 +102,7 @@ fn add_unlisted(
 }
 
 /// The keys that are read only beside others, or only without them.
-#[tactic(auto, using(crate::proofs::Gathered::with_both), unfolding(crate::specs::Ignored::overruled))]
+#[tactic(auto, using(crate::proofs::IgnoredLemmas::with_both), unfolding(crate::specs::Ignored::overruled))]
 fn add_overruled(
     alloc: Global,
     names: &mut BTreeSet<String>,
@@ -155,7 +155,7 @@ const SOCKET_KEYS: [&str; 8] = [
     SERVICE_NAME,
 ];
 
-#[tactic(auto, using(crate::proofs::Gathered::with_both), unfolding(crate::specs::Ignored::inside))]
+#[tactic(auto, using(crate::proofs::IgnoredLemmas::with_both), unfolding(crate::specs::Ignored::inside))]
 fn add_inside(alloc: Global, names: &mut BTreeSet<String>, def: &Value) -> Result<(), AllocError>
     ensures { OnOk result (Gains names.old (ignored.inside (view def.now)) names.new) }
 {
@@ -216,7 +216,7 @@ fn add_others(
     Ok(())
 }
 
-#[tactic(auto, using(crate::proofs::Gathered::with_both))]
+#[tactic(auto, using(crate::proofs::IgnoredLemmas::with_both))]
 fn add_others_in_each(
     alloc: Global,
     names: &mut BTreeSet<String>,
@@ -249,7 +249,7 @@ fn add_others_in_sockets(
     }
 }
 
-#[tactic(auto, using(crate::proofs::Gathered::with_both))]
+#[tactic(auto, using(crate::proofs::IgnoredLemmas::with_both))]
 fn add_others_in_names(
     alloc: Global,
     names: &mut BTreeSet<String>,
