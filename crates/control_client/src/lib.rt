@@ -11,7 +11,8 @@ mod request;
 mod session;
 
 pub use connection::{REPLY, hear};
+pub use ctl_protocol::LINE_LIMIT;
 pub use fault::Fault;
 pub use program::{NO_MEMORY, USAGE, jobctl};
 pub use reply::Answered;
-pub use request::{LINE, request_of};
+pub use request::request_of;

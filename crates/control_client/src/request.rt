@@ -1,16 +1,13 @@
 //! What is asked of the launcher.
 
 use crate::fault::Fault;
-use ctl_protocol::request_line;
+use ctl_protocol::{LINE_LIMIT, request_line};
 use history_model::{Event, Text};
 use job_defs::{DefFault, read_def};
 use std::alloc::Global;
 use std::fs::{File, Files};
 use std::io;
 use std::io::Read;
-
-/// A request's line has at most as many bytes before its newline, and so has a file that is handed in.
-pub const LINE: usize = 262_144;
 
 /// The event that loads the file's definition. A fault of the file: it can't be read, is too long for a line, or is not
 /// UTF-8.
@@ -61,7 +58,7 @@ fn label_of(alloc: Global, text: &Text) -> Result<Text, Fault> {
 fn read_file<R: Files>(rt: &R, alloc: Global, path: &str) -> Result<Vec<u8>, Fault> {
     let mut bytes = Vec::new(alloc);
     match read_front(rt, path, &mut bytes) {
-        Ok(()) if bytes.len() <= LINE => Ok(bytes),
+        Ok(()) if bytes.len() <= LINE_LIMIT => Ok(bytes),
         Ok(()) => Err(Fault::TooLong),
         Err(error) => Err(Fault::of_file(error)),
     }
@@ -70,7 +67,7 @@ fn read_file<R: Files>(rt: &R, alloc: Global, path: &str) -> Result<Vec<u8>, Fau
 // Adds the file's bytes, as far as they can fit a line, and one more.
 fn read_front<R: Files>(rt: &R, path: &str, bytes: &mut Vec<u8>) -> io::Result<()> {
     let file = File::open(rt, path)?;
-    let _count = file.take(LINE as u64 + 1).read_to_end(bytes)?;
+    let _count = file.take(LINE_LIMIT as u64 + 1).read_to_end(bytes)?;
     Ok(())
 }
 
@@ -81,10 +78,10 @@ fn text_of(bytes: Vec<u8>) -> Result<Text, Fault> {
     }
 }
 
-/// The line that asks for the event, with its newline. TooLong: it has more than [`LINE`] bytes before it.
+/// The line that asks for the event, with its newline. TooLong: it has more than [`LINE_LIMIT`] bytes before it.
 pub fn request_of(alloc: Global, event: &Event) -> Result<Vec<u8>, Fault> {
     let line = request_line(alloc, event)?;
-    if line.len() <= LINE + 1 {
+    if line.len() <= LINE_LIMIT + 1 {
         Ok(line)
     } else {
         Err(Fault::TooLong)

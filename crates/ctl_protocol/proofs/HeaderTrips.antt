@@ -20,7 +20,7 @@ use Rattle.event_reader.specs.Members.{◌>>=◌, number_key}
 use Rattle.ctl_protocol.specs.Objects.{with_members}
 use Rattle.ctl_protocol.specs.Headers.{digit_of, byte_of, bytes_of_hex, up_to, zone_key, settings_of, overrides_key, has_header_keys, header_row, header_at}
 use Rattle.ctl_protocol.specs.HeaderLines.{hex_digit, hex_of, setting_members, header_object, is_zone, is_setting, IsHeader}
-use Rattle.ctl_protocol.proofs.Objects.{header_depth}
+use Rattle.ctl_protocol.proofs.ObjectsLemmas.{header_depth}
 use Rattle.ctl_protocol.proofs.RoundTrips.{IsRead, kept, left_of, right_of, read_at}
 
 -- ---- hexadecimal

@@ -13,9 +13,9 @@ use Rattle.history_model.specs.declared.event.Event.TheVariants as events
 use Rattle.event_reader.specs.declared.members.Form.TheVariants as forms
 use Rattle.event_reader.specs.Targets.{is_slash, behind_domain, label_named}
 use Rattle.event_reader.specs.Members.{◌>>=◌, text_key, number_key, flag_key, flag_or, label_key, target_key, has_only}
-use Rattle.event_reader.specs.Rows.{load_row, unload_row, job_row, target_row, setting_row, kickstart_row, bare_row, asked_row, clock_row, sight_keys, has_saw_keys, saw_row, connection_row, pid_key, spawned_row, run_row, answer_row, byte_key, end_key, ended_row, told_row, event_row, request_row, event_at, request_at}
-use Rattle.ctl_protocol.specs.Journal.{name_of, row_members, answer_members, event_object, is_tellable, is_request}
-use Rattle.ctl_protocol.proofs.Objects.{row_depth}
+use Rattle.event_reader.specs.EventLines.{load_row, unload_row, job_row, target_row, setting_row, kickstart_row, bare_row, asked_row, clock_row, sight_keys, has_saw_keys, saw_row, connection_row, pid_key, spawned_row, run_row, answer_row, byte_key, end_key, ended_row, told_row, event_row, request_row, event_at, request_at}
+use Rattle.ctl_protocol.specs.EventWriter.{name_of, row_members, answer_members, event_object, is_tellable, is_request}
+use Rattle.ctl_protocol.proofs.ObjectsLemmas.{row_depth}
 
 pub kept : {X : Type 0} (b : Bool) (x : X) → b ≡ true → (if b then Some x else None) ≡ Some x
 kept true x h = refl

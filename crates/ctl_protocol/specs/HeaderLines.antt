@@ -16,20 +16,25 @@ use Rattle.ctl_protocol.specs.Objects.{Plain, text, flag, count, whole, with_mem
 abbrev pub hex_digit : ℕ → ℕ
 hex_digit n = if nat_lt n 10 then 48 + n else 87 + n
 
+-- the two digits of a byte
 abbrev pub hex_pair : ℕ → List ℕ
 hex_pair byte = hex_digit (byte / 16) ∷ hex_digit (byte % 16) ∷ []
 
+-- the digits of bytes
 abbrev pub hex_of : List ℕ → List ℕ
 hex_of bytes = flat_map hex_pair bytes
 
+-- the key that tells the zone: a rule, an offset, or the bytes of a zone file
 abbrev pub zone_member : ZoneText → List ℕ × Plain
 zone_member (Posix rule) = (codes "zone", text rule)
 zone_member (Offset seconds) = (codes "offset", whole seconds)
 zone_member (File bytes) = (codes "zonefile", text (hex_of bytes))
 
+-- the keys that tell the clocks
 abbrev pub clock_members : Reading → List (List ℕ × Plain)
 clock_members at = (codes "up", count at.up) ∷ (codes "wall", count at.wall) ∷ []
 
+-- the keys of the clocks and of the zone
 abbrev pub plain_members : Header → List (List ℕ × Plain)
 plain_members h = clock_members h.reading ++ zone_member h.zone ∷ []
 
@@ -37,21 +42,26 @@ plain_members h = clock_members h.reading ++ zone_member h.zone ∷ []
 abbrev pub setting_members : List Setting → List (List ℕ × Plain)
 setting_members settings = map (λ s. (s.label, flag s.disabled)) settings
 
+-- the object that a header's line holds
 abbrev pub header_object : Header → Data
-header_object h = object (put (codes "overrides") (plain_object (setting_members h.overrides)) (with_members no_members (plain_members h)))
+header_object h =
+    object (put (codes "overrides") (plain_object (setting_members h.overrides))
+    (with_members no_members (plain_members h)))
 
 -- the line of a header, with its newline
-abbrev pub header_text : Header → List ℕ
-header_text h = line_of (header_object h)
+abbrev pub header_line : Header → List ℕ
+header_line h = line_of (header_object h)
 
 -- ---- which headers a line can tell
 
+-- the offset fits in 64 bits, and what is in a file is bytes
 abbrev pub is_zone : ZoneText → Bool
 is_zone (Posix rule) = true
 is_zone (Offset (pos n)) = nat_lt n (2 ^ 63)
 is_zone (Offset (negsuc n)) = true
 is_zone (File bytes) = list_all (λ byte. nat_lt byte 256) bytes
 
+-- the setting is that of a label
 abbrev pub is_setting : Setting → Bool
 is_setting s = is_label s.label
 

@@ -14,6 +14,7 @@ pub data Plain : Type 0 where
   count : ℕ → Plain
   whole : ℤ → Plain
 
+-- the value as data of JSON
 abbrev pub plain_data : Plain → Data
 plain_data (text s) = string s
 plain_data (flag b) = boolean b
@@ -25,6 +26,7 @@ abbrev pub with_members : Members → List (List ℕ × Plain) → Members
 with_members ms [] = ms
 with_members ms (m ∷ more) = with_members (put m.0 (plain_data m.1) ms) more
 
+-- the object with these members
 abbrev pub plain_object : List (List ℕ × Plain) → Data
 plain_object members = object (with_members no_members members)
 
@@ -39,8 +41,10 @@ plain_of (cells.Flag b) = flag b
 plain_of (cells.Count n) = count n
 plain_of (cells.Whole z) = whole z
 
+-- each key with its value, without where they lie in memory
 abbrev pub plains_of : List (Bor (List ℕ) × Cell) → List (List ℕ × Plain)
 plains_of members = map (λ m. (m.0.now, plain_of m.1)) members
 
+-- each key with its flag, without where the keys lie in memory
 abbrev pub flags_of : List (Bor (List ℕ) × Bool) → List (List ℕ × Plain)
 flags_of flags = map (λ f. (f.0.now, flag f.1)) flags

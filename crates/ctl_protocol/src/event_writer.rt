@@ -4,10 +4,11 @@ ghost use Rattle.std.specs.Prelude.{◌≡◌, IfOk, OnOk, Some, codes, ◌∷�
 ghost use Rattle.history_model.specs.declared.event.Event.TheVariants as events;
 ghost use Rattle.serde_json.specs.View.{view};
 ghost use Rattle.serde_json.specs.Written.{compact_text};
-ghost use Rattle.event_reader.specs.Rows.{event_at, request_at};
+ghost use Rattle.event_reader.specs.EventLines.{event_at, request_at};
 ghost use Rattle.event_reader.specs.declared.members.Form.TheVariants as forms;
 ghost use Rattle.ctl_protocol.specs.Objects.{flag, flags_of, plains_of, plain_of};
-ghost use Rattle.ctl_protocol.specs.Journal.{end_member, event_object, event_text, of_answer, of_connection, of_job, of_run, is_request, is_tellable, request_text, row_object};
+ghost use Rattle.ctl_protocol.specs.EventWriter as lines;
+ghost use Rattle.ctl_protocol.specs.EventWriter.{end_member, event_object, of_answer, of_connection, of_job, of_run, is_request, is_tellable, row_object};
 
 use crate::object::{Cell, line_from, put_all, put_flags};
 use event_reader::Form;
@@ -23,7 +24,8 @@ fn row_value(
     row: &[(&str, Cell<'_>)],
     answers: &[(&str, bool)],
 ) -> Result<Value, AllocError>
-    ensures { IfOk result (λ v. view v ≡ row_object form name.now (plains_of row.now) (flags_of answers.now)) }
+    ensures { IfOk result (λ v. view v
+        ≡ row_object form name.now (plains_of row.now) (flags_of answers.now)) }
 {
     let mut map = Map::new(alloc);
     put_all(&mut map, alloc, &[(form.tag(), Cell::Text(name))])?;
@@ -56,7 +58,8 @@ fn setting_value(
     job: &Text,
     store: bool,
 ) -> Result<Value, AllocError>
-    ensures { IfOk result (λ v. view v ≡ row_object form name.now (of_job job.now ∷ []) ((codes "store", flag store) ∷ [])) }
+    ensures { IfOk result (λ v. view v
+        ≡ row_object form name.now (of_job job.now ∷ []) ((codes "store", flag store) ∷ [])) }
 {
     let row = [("job", Cell::Text(job.as_str()))];
     row_value(alloc, form, name, &row, &[("store", store)])
@@ -227,7 +230,7 @@ fn event_value(alloc: Global, form: Form, event: &Event) -> Result<Value, AllocE
 /// The line of a journal that tells an event, with its newline: an object of every key of the event's row, in byte
 /// order. `Err` says only that memory ran out.
 pub fn event_line(alloc: Global, event: &Event) -> Result<Vec<u8>, AllocError>
-    ensures text { IfOk result (λ line. line.items ≡ event_text event.now) }
+    ensures text { IfOk result (λ line. line.items ≡ lines.event_line event.now) }
     // The line, without its newline, is read as the event.
     ensures reads_back { OnOk result (is_tellable event.now ≡ true
         → event_at (compact_text (event_object forms.Event event.now)) ≡ Some event.now) }
@@ -239,7 +242,7 @@ pub fn event_line(alloc: Global, event: &Event) -> Result<Vec<u8>, AllocError>
 /// The line by which a control client asks for an event, with its newline: the event's row without the answers of the
 /// outside. `Err` says only that memory ran out.
 pub fn request_line(alloc: Global, event: &Event) -> Result<Vec<u8>, AllocError>
-    ensures text { IfOk result (λ line. line.items ≡ request_text event.now) }
+    ensures text { IfOk result (λ line. line.items ≡ lines.request_line event.now) }
     // The line, without its newline, is read as what was asked.
     ensures reads_back { OnOk result (is_request event.now ≡ true
         → request_at (compact_text (event_object forms.Request event.now)) ≡ Some event.now) }

@@ -5,7 +5,8 @@ ghost use Rattle.json_kinds.specs.Json.{json_in};
 ghost use Rattle.serde_json.specs.View.{view, members_view};
 ghost use Rattle.ctl_protocol.specs.Headers as headers;
 ghost use Rattle.ctl_protocol.specs.Headers.{are_among, bytes_of_hex, digit_of, file_of, header_at, header_keys, header_row, offset_of, overrides_key, posix_of, reading_keys, setting_of, settings_of, up_to, zone_key};
-ghost use Rattle.event_reader.specs.Members.{Gives, Reads, names_of, number_key};
+ghost use Rattle.event_reader.specs.Members.{Gives, Reads, number_key};
+ghost use Rattle.json_kinds.specs.Kinds.{texts_in};
 
 use crate::header::{Header, Settings, ZoneFile, ZoneText};
 use event_reader::ReadFault;
@@ -181,7 +182,7 @@ fn overrides_in(alloc: Global, line: &Value) -> Result<Settings, ReadFault>
 }
 
 fn all_are_among(members: &Map<String, Value>, keys: &[&str]) -> bool
-    ensures { result ≡ are_among (names_of keys.now) (members_view members.now.entries) }
+    ensures { result ≡ are_among (texts_in keys.now) (members_view members.now.entries) }
 {
     for (key, _) in members.iter() {
         if !is_among(keys, key.as_str()) {

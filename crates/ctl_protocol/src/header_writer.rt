@@ -6,7 +6,7 @@ ghost use Rattle.serde_json.specs.View.{view};
 ghost use Rattle.serde_json.specs.Written.{compact_text};
 ghost use Rattle.ctl_protocol.specs.Headers.{header_at};
 ghost use Rattle.ctl_protocol.specs.HeaderLines as lines;
-ghost use Rattle.ctl_protocol.specs.HeaderLines.{IsHeader, header_object, header_text, hex_of, plain_members, setting_members};
+ghost use Rattle.ctl_protocol.specs.HeaderLines.{IsHeader, header_object, hex_of, plain_members, setting_members};
 ghost use Rattle.ctl_protocol.specs.Objects.{plain_object, with_members};
 ghost use Rattle.serde_json.specs.Data.{no_members};
 ghost use Rattle.serde_json.specs.View.{members_view};
@@ -64,7 +64,8 @@ fn put_plain(
     at: Reading,
     zone: &ZoneText,
 ) -> Result<(), AllocError>
-    ensures { OnOk result (members_view map.new.entries ≡ with_members (members_view map.old.entries)
+    ensures { OnOk result (members_view map.new.entries
+        ≡ with_members (members_view map.old.entries)
         (lines.clock_members at ++ lines.zone_member zone.now ∷ [])) }
 {
     put_all(
@@ -95,7 +96,7 @@ fn header_value(alloc: Global, header: &Header) -> Result<Value, AllocError>
 /// The line of a header, with its newline: `up`, `wall`, the key of its zone, and always `overrides`. `Err` says only
 /// that memory ran out.
 pub fn header_line(alloc: Global, header: &Header) -> Result<Vec<u8>, AllocError>
-    ensures text { IfOk result (λ line. line.items ≡ header_text header.now) }
+    ensures text { IfOk result (λ line. line.items ≡ lines.header_line header.now) }
     // The line, without its newline, is read as the header.
     ensures reads_back { OnOk result (IsHeader header.now
         → header_at (compact_text (header_object header.now)) ≡ Some header.now) }

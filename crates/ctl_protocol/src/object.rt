@@ -37,7 +37,8 @@ pub(crate) fn put_all(
     alloc: Global,
     members: &[(&str, Cell<'_>)],
 ) -> Result<(), AllocError>
-    ensures { OnOk result (members_view map.new.entries ≡ with_members (members_view map.old.entries) (plains_of members.now)) }
+    ensures { OnOk result (members_view map.new.entries
+        ≡ with_members (members_view map.old.entries) (plains_of members.now)) }
 {
     for (key, cell) in members {
         let value = cell_value(alloc, *cell)?;
@@ -52,7 +53,8 @@ pub(crate) fn put_flags(
     alloc: Global,
     flags: &[(&str, bool)],
 ) -> Result<(), AllocError>
-    ensures { OnOk result (members_view map.new.entries ≡ with_members (members_view map.old.entries) (flags_of flags.now)) }
+    ensures { OnOk result (members_view map.new.entries
+        ≡ with_members (members_view map.old.entries) (flags_of flags.now)) }
 {
     for (key, set) in flags {
         put(map, alloc, key, Value::Bool(*set))?;

@@ -1,9 +1,10 @@
 //! Writes the lines of outcomes and of replies.
 
 ghost use Rattle.std.specs.Prelude.{◌≡◌, IfOk};
+ghost use Rattle.ctl_protocol.specs.Outcomes as outcomes;
 ghost use Rattle.ctl_protocol.specs.Outcomes.{parts};
 ghost use Rattle.ctl_protocol.specs.Objects.{line_of};
-ghost use Rattle.ctl_protocol.specs.Outcomes.{answered, orders_of, outcome_object, outcome_text, reply_object, reply_text};
+ghost use Rattle.ctl_protocol.specs.Outcomes.{answered, orders_of, outcome_object, reply_object};
 
 use crate::object::{Cell, line_from, object_of};
 use crate::orders::{orders_text, string_text};
@@ -33,7 +34,8 @@ fn outcome_from(
     text: &str,
     orders: &[(&str, Act)],
 ) -> Result<Vec<u8>, AllocError>
-    ensures { IfOk result (λ line. line.items ≡ line_of (outcome_object code text.now (orders_of orders.now))) }
+    ensures { IfOk result (λ line. line.items
+        ≡ line_of (outcome_object code text.now (orders_of orders.now))) }
 {
     let mut buffer = Buffer::new();
     let number = buffer.format(code).as_bytes();
@@ -52,7 +54,8 @@ pub fn outcome_line(
     reply: &Reply,
     orders: &[(&str, Act)],
 ) -> Result<Vec<u8>, AllocError>
-    ensures { IfOk result (λ line. line.items ≡ outcome_text (answered reply.now (orders_of orders.now))) }
+    ensures { IfOk result (λ line. line.items
+        ≡ outcomes.outcome_line (answered reply.now (orders_of orders.now))) }
 {
     match reply.refusal {
         None => outcome_from(alloc, 0, reply.text.as_str(), orders),
@@ -78,7 +81,7 @@ fn reply_from(alloc: Global, code: u8, text: &str) -> Result<Vec<u8>, AllocError
 
 /// The line of a reply to a control client, with its newline. `Err` says only that memory ran out.
 pub fn reply_line(alloc: Global, reply: &Reply) -> Result<Vec<u8>, AllocError>
-    ensures { IfOk result (λ line. line.items ≡ reply_text reply.now) }
+    ensures { IfOk result (λ line. line.items ≡ outcomes.reply_line reply.now) }
 {
     match reply.refusal {
         None => reply_from(alloc, 0, reply.text.as_str()),

@@ -10,7 +10,8 @@ use json_kinds::{key_name, reason_name};
 use std::alloc::{AllocError, Global};
 
 fn fault_text(alloc: Global, reason: Reason, key: KeyName) -> Result<String, AllocError>
-    ensures { IfOk result (λ text. string_bytes text ≡ texts.refusal_text (BadDefinition reason key)) }
+    ensures { IfOk result (λ text. string_bytes text
+        ≡ texts.refusal_text (BadDefinition reason key)) }
 {
     let mut text = String::from_str(alloc, "bad definition: ")?;
     text.push_str(reason_name(reason))?;

@@ -4,7 +4,7 @@ use Rattle.std.specs.Io.KnownBytes.{Appends}
 use Rattle.event_journal.specs.declared.journal.Phase.{Phase}
 use Rattle.event_journal.specs.declared.journal.Phase.TheVariants.{Open, Closed, Told}
 
--- whether there is a writer, the bytes that it holds where they are known, and how the journal stands
+-- whether there is a writer, the bytes that it holds if they are known, and how the journal stands
 pub record Kept : Type 0 where
   pub given : Bool
   pub bytes : Option (List ℕ)
@@ -19,6 +19,7 @@ abbrev pub held : {W : Type 0} → (W → Option (List ℕ)) → Option W → Op
 held contents None = None
 held contents (Some writer) = contents writer
 
+-- lines are still written, by how the journal stands and whether there is a writer
 abbrev writes_in : Phase → Bool → Bool
 writes_in Open given = given
 writes_in Closed given = false
@@ -40,7 +41,8 @@ abbrev pub Wrote : Bool → Option (List ℕ) → Option (List ℕ) → List ℕ
 Wrote true old new text = Appends old new text
 Wrote false old new text = AppendsFront old new text
 
--- A journal that was shut stays as it was. An open one grew by all of the text, or it is closed and grew by a front of it.
+-- a journal that was shut stays as it was; an open one grew by all of the text, or it is closed and
+-- grew by a front of it
 abbrev pub GrowsIn : Phase → Phase → Kept → Kept → List ℕ → Type 0
 GrowsIn Open Open old new text = Appends old.bytes new.bytes text
 GrowsIn Open Closed old new text = AppendsFront old.bytes new.bytes text
@@ -52,10 +54,12 @@ GrowsIn Told Open old new text = ⊥
 GrowsIn Told Closed old new text = ⊥
 GrowsIn Told Told old new text = new ≡ old
 
+-- a journal over the same writer that grew so
 pub record Grows (old new : Kept) (text : List ℕ) : Type 0 where
   pub given : new.given ≡ old.given
   pub grew : GrowsIn old.phase new.phase old new text
 
+-- how it stands after its closing was told
 abbrev told_phase : Phase → Phase
 told_phase Open = Open
 told_phase Closed = Told

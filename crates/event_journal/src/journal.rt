@@ -1,8 +1,8 @@
 //! A journal and its lines.
 
 ghost use Rattle.std.specs.Prelude.{◌≡◌, ◌↔◌, IfOk, IsTrue, List, OnErr, ℕ, None, true, false, [], is_some};
-ghost use Rattle.ctl_protocol.specs.Journal.{event_text};
-ghost use Rattle.ctl_protocol.specs.HeaderLines.{header_text};
+ghost use Rattle.ctl_protocol.specs.EventWriter as events;
+ghost use Rattle.ctl_protocol.specs.HeaderLines as headers;
 ghost use Rattle.event_journal.specs.Journals.{Grows, fresh, told, held, is_writing};
 
 use crate::writing::write_text;
@@ -37,7 +37,11 @@ impl<W: Write> Model for Journal<W> {
 
     ghost Value = { Kept };
 
-    ghost view = { λ j. record { given = is_some j.writer; bytes = held W.contents j.writer; phase = j.phase } };
+    ghost view = { λ j. record {
+      given = is_some j.writer;
+      bytes = held W.contents j.writer;
+      phase = j.phase;
+    } };
 }
 
 impl<W: Write> Journal<W> {
@@ -53,7 +57,7 @@ impl<W: Write> Journal<W> {
 
     /// A journal that begins with the header's line.
     pub fn begin(alloc: Global, writer: W, header: &Header) -> Journal<W>
-        ensures { Grows (fresh (W.contents writer) true) result (header_text header.now) }
+        ensures { Grows (fresh (W.contents writer) true) result (headers.header_line header.now) }
     {
         let mut journal = Journal {
             writer: Some(writer),
@@ -106,7 +110,7 @@ impl<W: Write> Journal<W> {
 
     /// Writes the event's line.
     pub fn note(&mut self, alloc: Global, event: &Event)
-        ensures { Grows self.old self.new (event_text event.now) }
+        ensures { Grows self.old self.new (events.event_line event.now) }
     {
         if !self.is_writing() {
             return;
@@ -119,7 +123,7 @@ impl<W: Write> Journal<W> {
 
     /// Writes the line of an event that was just made; want of memory for the event closes the journal.
     pub fn note_made(&mut self, alloc: Global, made: Result<Event, AllocError>)
-        ensures ok { IfOk made (λ event. Grows self.old self.new (event_text event)) }
+        ensures ok { IfOk made (λ event. Grows self.old self.new (events.event_line event)) }
         ensures err { OnErr made ((text : List ℕ) → Grows self.old self.new text) }
     {
         match made {

@@ -1,2 +1,2 @@
-pub mod Slashes
-pub mod Trees
+pub mod TargetsLemmas
+pub mod TreesLemmas

@@ -1,6 +1,6 @@
 pub use Rattle.json_kinds.specs.Json
 pub mod Members
-pub mod Rows
+pub mod EventLines
 pub mod Targets
-pub mod Seen
+pub mod Line
 pub mod Trees

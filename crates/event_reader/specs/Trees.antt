@@ -1,5 +1,5 @@
--- A line's JSON text as a tree, in which numbers stand as they are written and a key may come twice, and the data that the tree
--- stands for: what `serde_json` reads of the same text.
+-- A line's JSON text as a tree, in which numbers stand as they are written and a key may come
+-- twice, and the data that the tree stands for: what `serde_json` reads of the same text.
 use Rattle.std.specs.Prelude.{ℕ, List, Bool, true, false, ◌&&◌, Option, Some, None, is_some, unwrap_or, option_and_then, if◌then◌else◌}
 use Rattle.std.specs.Str.{is_utf8}
 use Rattle.json.specs.Json.{Json, Items, Members, if_last, value}
@@ -12,7 +12,9 @@ use Rattle.serde_json.specs.Read.{of_json, max_depth, number_of}
 
 -- the tree of a JSON text
 abbrev pub tree_in : List ℕ → Option Json
-tree_in bytes = if is_utf8 bytes then option_and_then (λ p. if_last p.0 p.1) (value max_depth (tokens bytes)) else None
+tree_in bytes =
+    if is_utf8 bytes then option_and_then (λ p. if_last p.0 p.1) (value max_depth (tokens bytes))
+    else None
 
 -- each number has a value: none is too large for a float
 abbrev mutual

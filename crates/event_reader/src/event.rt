@@ -4,8 +4,8 @@ ghost use Rattle.std.specs.Prelude.{◌≡◌};
 ghost use Rattle.history_model.specs.declared.event.Event.TheVariants as events;
 ghost use Rattle.event_reader.specs.declared.members.Form.TheVariants as forms;
 ghost use Rattle.event_reader.specs.Members.{Reads};
-ghost use Rattle.event_reader.specs.Seen.{seen};
-ghost use Rattle.event_reader.specs.Rows.{event_at, event_row, request_at, request_row, asked_row, told_row, load_row, unload_row, job_row, target_row, setting_row, kickstart_row, bare_row, clock_row, saw_row, sight_keys, has_saw_keys as saw_keys, connection_row, pid_key, spawned_row, run_row, answer_row, byte_key, end_key, ended_row};
+ghost use Rattle.event_reader.specs.Line.{seen};
+ghost use Rattle.event_reader.specs.EventLines.{event_at, event_row, request_at, request_row, asked_row, told_row, load_row, unload_row, job_row, target_row, setting_row, kickstart_row, bare_row, clock_row, saw_row, sight_keys, has_saw_keys as saw_keys, connection_row, pid_key, spawned_row, run_row, answer_row, byte_key, end_key, ended_row};
 
 use crate::line::Line;
 use crate::members::{
@@ -15,7 +15,7 @@ use history_model::{Ended, Event, Obs, Reading, Text};
 use json::Scratch;
 use std::alloc::{AllocError, Global};
 
-#[tactic(auto, unfolding(crate::specs::Rows::load_row))]
+#[tactic(auto, unfolding(crate::specs::EventLines::load_row))]
 fn load_in(alloc: Global, form: Form, line: &Line<'_>) -> Result<Event, ReadFault>
     ensures { Reads result (load_row form (seen line.now)) }
 {
@@ -37,7 +37,7 @@ fn load_in(alloc: Global, form: Form, line: &Line<'_>) -> Result<Event, ReadFaul
     })
 }
 
-#[tactic(auto, unfolding(crate::specs::Rows::unload_row))]
+#[tactic(auto, unfolding(crate::specs::EventLines::unload_row))]
 fn unload_in(alloc: Global, form: Form, line: &Line<'_>) -> Result<Event, ReadFault>
     ensures { Reads result (unload_row form (seen line.now)) }
 {
@@ -50,7 +50,7 @@ fn unload_in(alloc: Global, form: Form, line: &Line<'_>) -> Result<Event, ReadFa
     Ok(Event::Unload { job, w, store })
 }
 
-#[tactic(auto, unfolding(crate::specs::Rows::job_row))]
+#[tactic(auto, unfolding(crate::specs::EventLines::job_row))]
 fn job_in(alloc: Global, form: Form, line: &Line<'_>) -> Result<Text, ReadFault>
     ensures { Reads result (job_row form (seen line.now)) }
 {
@@ -60,7 +60,7 @@ fn job_in(alloc: Global, form: Form, line: &Line<'_>) -> Result<Text, ReadFault>
     label_in(alloc, line, "job")
 }
 
-#[tactic(auto, unfolding(crate::specs::Rows::target_row))]
+#[tactic(auto, unfolding(crate::specs::EventLines::target_row))]
 fn lone_target_in(alloc: Global, form: Form, line: &Line<'_>) -> Result<Text, ReadFault>
     ensures { Reads result (target_row form (seen line.now)) }
 {
@@ -70,7 +70,7 @@ fn lone_target_in(alloc: Global, form: Form, line: &Line<'_>) -> Result<Text, Re
     target_in(alloc, line, "job")
 }
 
-#[tactic(auto, unfolding(crate::specs::Rows::setting_row))]
+#[tactic(auto, unfolding(crate::specs::EventLines::setting_row))]
 fn setting_in(alloc: Global, form: Form, line: &Line<'_>) -> Result<(Text, bool), ReadFault>
     ensures { Reads result (setting_row form (seen line.now)) }
 {
@@ -82,7 +82,7 @@ fn setting_in(alloc: Global, form: Form, line: &Line<'_>) -> Result<(Text, bool)
     Ok((job, store))
 }
 
-#[tactic(auto, unfolding(crate::specs::Rows::kickstart_row))]
+#[tactic(auto, unfolding(crate::specs::EventLines::kickstart_row))]
 fn kickstart_in(alloc: Global, form: Form, line: &Line<'_>) -> Result<Event, ReadFault>
     ensures { Reads result (kickstart_row form (seen line.now)) }
 {
@@ -94,7 +94,7 @@ fn kickstart_in(alloc: Global, form: Form, line: &Line<'_>) -> Result<Event, Rea
     Ok(Event::Kickstart { job, k })
 }
 
-#[tactic(auto, unfolding(crate::specs::Rows::bare_row))]
+#[tactic(auto, unfolding(crate::specs::EventLines::bare_row))]
 fn bare_in(event: Event, form: Form, line: &Line<'_>) -> Result<Event, ReadFault>
     ensures { Reads result (bare_row event form (seen line.now)) }
 {
@@ -105,7 +105,7 @@ fn bare_in(event: Event, form: Form, line: &Line<'_>) -> Result<Event, ReadFault
 }
 
 /// The row of what a client asks, of either form.
-#[tactic(auto, unfolding(crate::specs::Rows::asked_row))]
+#[tactic(auto, unfolding(crate::specs::EventLines::asked_row))]
 fn asked_in(alloc: Global, name: &str, form: Form, line: &Line<'_>) -> Result<Event, ReadFault>
     ensures { Reads result (asked_row name.now form (seen line.now)) }
 {
@@ -139,7 +139,7 @@ fn asked_in(alloc: Global, name: &str, form: Form, line: &Line<'_>) -> Result<Ev
     }
 }
 
-#[tactic(auto, unfolding(crate::specs::Rows::clock_row))]
+#[tactic(auto, unfolding(crate::specs::EventLines::clock_row))]
 fn clock_in(line: &Line<'_>) -> Result<Event, ReadFault>
     ensures { Reads result (clock_row (seen line.now)) }
 {
@@ -151,7 +151,7 @@ fn clock_in(line: &Line<'_>) -> Result<Event, ReadFault>
     Ok(Event::Clock(Reading { up, wall }))
 }
 
-#[tactic(auto, unfolding(crate::specs::Rows::sight_keys))]
+#[tactic(auto, unfolding(crate::specs::EventLines::sight_keys))]
 fn sight_in(line: &Line<'_>) -> Result<Obs, ReadFault>
     ensures { Reads result (sight_keys (seen line.now)) }
 {
@@ -165,7 +165,7 @@ fn sight_in(line: &Line<'_>) -> Result<Obs, ReadFault>
     })
 }
 
-#[tactic(auto, unfolding(crate::specs::Rows::has_saw_keys))]
+#[tactic(auto, unfolding(crate::specs::EventLines::has_saw_keys))]
 fn has_saw_keys(line: &Line<'_>) -> bool
     ensures { result ≡ saw_keys (seen line.now) }
 {
@@ -177,7 +177,7 @@ fn has_saw_keys(line: &Line<'_>) -> bool
     )
 }
 
-#[tactic(auto, unfolding(crate::specs::Rows::saw_row))]
+#[tactic(auto, unfolding(crate::specs::EventLines::saw_row))]
 fn saw_in(alloc: Global, line: &Line<'_>) -> Result<Event, ReadFault>
     ensures { Reads result (saw_row (seen line.now)) }
 {
@@ -192,7 +192,7 @@ fn saw_in(alloc: Global, line: &Line<'_>) -> Result<Event, ReadFault>
     })
 }
 
-#[tactic(auto, unfolding(crate::specs::Rows::connection_row))]
+#[tactic(auto, unfolding(crate::specs::EventLines::connection_row))]
 fn connection_in(alloc: Global, line: &Line<'_>) -> Result<(Text, u64), ReadFault>
     ensures { Reads result (connection_row (seen line.now)) }
 {
@@ -204,7 +204,7 @@ fn connection_in(alloc: Global, line: &Line<'_>) -> Result<(Text, u64), ReadFaul
     Ok((job, conn))
 }
 
-#[tactic(auto, unfolding(crate::specs::Rows::pid_key))]
+#[tactic(auto, unfolding(crate::specs::EventLines::pid_key))]
 fn pid_in(line: &Line<'_>) -> Result<u32, ReadFault>
     ensures { Reads result (pid_key (seen line.now)) }
 {
@@ -214,7 +214,7 @@ fn pid_in(line: &Line<'_>) -> Result<u32, ReadFault>
     }
 }
 
-#[tactic(auto, unfolding(crate::specs::Rows::spawned_row))]
+#[tactic(auto, unfolding(crate::specs::EventLines::spawned_row))]
 fn spawned_in(alloc: Global, line: &Line<'_>) -> Result<Event, ReadFault>
     ensures { Reads result (spawned_row (seen line.now)) }
 {
@@ -227,7 +227,7 @@ fn spawned_in(alloc: Global, line: &Line<'_>) -> Result<Event, ReadFault>
     Ok(Event::Spawned { job, run, pid })
 }
 
-#[tactic(auto, unfolding(crate::specs::Rows::run_row))]
+#[tactic(auto, unfolding(crate::specs::EventLines::run_row))]
 fn run_in(alloc: Global, line: &Line<'_>) -> Result<(Text, u64), ReadFault>
     ensures { Reads result (run_row (seen line.now)) }
 {
@@ -239,7 +239,7 @@ fn run_in(alloc: Global, line: &Line<'_>) -> Result<(Text, u64), ReadFault>
     Ok((job, run))
 }
 
-#[tactic(auto, unfolding(crate::specs::Rows::answer_row))]
+#[tactic(auto, unfolding(crate::specs::EventLines::answer_row))]
 fn answer_in(alloc: Global, line: &Line<'_>) -> Result<(Text, u64, bool), ReadFault>
     ensures { Reads result (answer_row (seen line.now)) }
 {
@@ -252,7 +252,7 @@ fn answer_in(alloc: Global, line: &Line<'_>) -> Result<(Text, u64, bool), ReadFa
     Ok((job, run, ok))
 }
 
-#[tactic(auto, unfolding(crate::specs::Rows::byte_key))]
+#[tactic(auto, unfolding(crate::specs::EventLines::byte_key))]
 fn byte_in(line: &Line<'_>, key: &str) -> Result<u8, ReadFault>
     ensures { Reads result (byte_key key.now (seen line.now)) }
 {
@@ -263,7 +263,7 @@ fn byte_in(line: &Line<'_>, key: &str) -> Result<u8, ReadFault>
 }
 
 /// Exactly one of `code` and `signal`.
-#[tactic(auto, unfolding(crate::specs::Rows::end_key))]
+#[tactic(auto, unfolding(crate::specs::EventLines::end_key))]
 fn end_in(line: &Line<'_>) -> Result<Ended, ReadFault>
     ensures { Reads result (end_key (seen line.now)) }
 {
@@ -280,7 +280,7 @@ fn end_in(line: &Line<'_>) -> Result<Ended, ReadFault>
     }
 }
 
-#[tactic(auto, unfolding(crate::specs::Rows::ended_row))]
+#[tactic(auto, unfolding(crate::specs::EventLines::ended_row))]
 fn ended_in(alloc: Global, line: &Line<'_>) -> Result<Event, ReadFault>
     ensures { Reads result (ended_row (seen line.now)) }
 {
@@ -294,7 +294,7 @@ fn ended_in(alloc: Global, line: &Line<'_>) -> Result<Event, ReadFault>
 }
 
 /// The row of any event.
-#[tactic(auto, unfolding(crate::specs::Rows::told_row, crate::specs::Rows::asked_row))]
+#[tactic(auto, unfolding(crate::specs::EventLines::told_row, crate::specs::EventLines::asked_row))]
 fn told_in(alloc: Global, name: &str, line: &Line<'_>) -> Result<Event, ReadFault>
     ensures { Reads result (told_row name.now (seen line.now)) }
 {
@@ -331,7 +331,7 @@ fn told_in(alloc: Global, name: &str, line: &Line<'_>) -> Result<Event, ReadFaul
     }
 }
 
-#[tactic(auto, unfolding(crate::specs::Rows::event_row))]
+#[tactic(auto, unfolding(crate::specs::EventLines::event_row))]
 fn event_in(alloc: Global, line: &Line<'_>) -> Result<Event, ReadFault>
     ensures { Reads result (event_row (seen line.now)) }
 {
@@ -339,7 +339,7 @@ fn event_in(alloc: Global, line: &Line<'_>) -> Result<Event, ReadFault>
     told_in(alloc, name, line)
 }
 
-#[tactic(auto, unfolding(crate::specs::Rows::request_row))]
+#[tactic(auto, unfolding(crate::specs::EventLines::request_row))]
 fn request_in(alloc: Global, line: &Line<'_>) -> Result<Event, ReadFault>
     ensures { Reads result (request_row (seen line.now)) }
 {
@@ -362,7 +362,7 @@ impl LineReader {
     }
 
     /// As [`read_event`].
-    #[tactic(auto, unfolding(crate::specs::Rows::event_at))]
+    #[tactic(auto, unfolding(crate::specs::EventLines::event_at))]
     pub fn event(&mut self, alloc: Global, line: &[u8]) -> Result<Event, ReadFault>
         ensures { Reads result (event_at line.now) }
     {
@@ -371,7 +371,7 @@ impl LineReader {
     }
 
     /// As [`read_request`].
-    #[tactic(auto, unfolding(crate::specs::Rows::request_at))]
+    #[tactic(auto, unfolding(crate::specs::EventLines::request_at))]
     pub fn request(&mut self, alloc: Global, line: &[u8]) -> Result<Event, ReadFault>
         ensures { Reads result (request_at line.now) }
     {

@@ -37,10 +37,10 @@ impl<'a> Line<'a> {
     ghost use Rattle.event_reader.specs.Members.{Gives, flag_or};
     ghost use Rattle.json.specs.Find.{as_object};
     ghost use Rattle.json.specs.Value.{members_view};
-    ghost use Rattle.event_reader.specs.Seen.{seen};
+    ghost use Rattle.event_reader.specs.Line.{seen};
 
     /// Reads a line. BadRequest where the bytes are no JSON text.
-    #[tactic(auto, using(crate::proofs::Trees::line_read, crate::proofs::Trees::line_refused, crate::proofs::Trees::line_missing))]
+    #[tactic(auto, using(crate::proofs::TreesLemmas::line_read, crate::proofs::TreesLemmas::line_refused, crate::proofs::TreesLemmas::line_missing))]
     pub(crate) fn read(
         alloc: Global,
         bytes: &'a [u8],
@@ -60,7 +60,8 @@ impl<'a> Line<'a> {
 
     /// The text under a key.
     pub(crate) fn text(&self, key: &str) -> Option<&'a str>
-        ensures { option_map (λ s. s.now) result ≡ option_and_then as_str (get key.now (seen self.now)) }
+        ensures { option_map (λ s. s.now) result
+            ≡ option_and_then as_str (get key.now (seen self.now)) }
     {
         match self.tree.get(key) {
             Some(found) => found.as_str(),
@@ -70,7 +71,8 @@ impl<'a> Line<'a> {
 
     /// The integer under a key, from 0 on.
     pub(crate) fn number(&self, key: &str) -> Option<u64>
-        ensures { result ≡ option_and_then as_u64 (option_and_then as_number (get key.now (seen self.now))) }
+        ensures { result ≡ option_and_then as_u64
+            (option_and_then as_number (get key.now (seen self.now))) }
     {
         match self.tree.get(key) {
             Some(found) => integer_in(found),
@@ -100,7 +102,8 @@ impl<'a> Line<'a> {
 
     /// The members, in order, of a line that is an object.
     pub(crate) fn members(&self) -> Option<&Vec<(&'a str, Value<'a>)>>
-        ensures { option_map (λ m. members_view m.now.items) result ≡ as_object (value_view self.now.tree) }
+        ensures { option_map (λ m. members_view m.now.items) result
+            ≡ as_object (value_view self.now.tree) }
     {
         match &self.tree {
             Value::Object(members) => Some(members),

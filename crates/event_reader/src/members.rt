@@ -2,8 +2,9 @@
 
 ghost use Rattle.std.specs.Prelude.{◌≡◌};
 ghost use Rattle.json.specs.Value.{members_view};
-ghost use Rattle.event_reader.specs.Members.{Gives, Reads, text_key, number_key, flag_key, flag_or, label_key, target_key, has_only, names_of, tag_of, is_key};
-ghost use Rattle.event_reader.specs.Seen.{seen};
+ghost use Rattle.event_reader.specs.Members.{Gives, Reads, text_key, number_key, flag_key, flag_or, label_key, target_key, has_only, tag_of, is_key};
+ghost use Rattle.json_kinds.specs.Kinds.{texts_in};
+ghost use Rattle.event_reader.specs.Line.{seen};
 ghost use Rattle.event_reader.specs.Trees.{keys_pass};
 ghost use Rattle.event_reader.specs.declared.members.ReadFault.TheVariants.{NoMemory};
 
@@ -131,7 +132,7 @@ pub(crate) fn target_in(alloc: Global, line: &Line<'_>, key: &str) -> Result<Tex
 
 /// Whether the line is an object with no key but its tag, those of its row and, in a journal, the answers.
 pub(crate) fn has_only_keys(form: Form, line: &Line<'_>, keys: &[&str], answers: &[&str]) -> bool
-    ensures { result ≡ has_only form (names_of keys.now) (names_of answers.now) (seen line.now) }
+    ensures { result ≡ has_only form (texts_in keys.now) (texts_in answers.now) (seen line.now) }
 {
     match line.members() {
         Some(members) => all_are_keys(form, members, keys, answers),
@@ -145,7 +146,8 @@ fn all_are_keys(
     keys: &[&str],
     answers: &[&str],
 ) -> bool
-    ensures { result ≡ keys_pass (is_key form (names_of keys.now) (names_of answers.now)) (members_view members.now.items) }
+    ensures { result ≡ keys_pass (is_key form (texts_in keys.now) (texts_in answers.now))
+        (members_view members.now.items) }
 {
     for member in members {
         let name = member.0;

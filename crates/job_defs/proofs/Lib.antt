@@ -1,2 +1,2 @@
-pub mod Gathered
+pub mod IgnoredLemmas
 pub mod Labels

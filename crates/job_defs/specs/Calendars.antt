@@ -1,5 +1,6 @@
--- `StartCalendarInterval` of launchd.plist(5): an entry, or an array of entries. The keys of an entry are gone through in
--- byte order; one that is absent matches everything, as `*` in crontab(5).
+-- `StartCalendarInterval` of launchd.plist(5): an entry, or an array of entries. The keys of an
+-- entry are gone through in byte order; one that is absent matches everything, as `*` in
+-- crontab(5).
 use Rattle.std.specs.Prelude.{ℕ, List, [], nat_lt, Result, Ok, Err, Option, if◌then◌else◌}
 use Rattle.serde_json.specs.Data.{Data}
 use Rattle.serde_json.specs.Events.{items_len}
@@ -10,6 +11,7 @@ use Rattle.history_model.specs.declared.KeyName.TheVariants.{StartCalendarInterv
 use Rattle.history_model.specs.Machine.{Fault}
 use Rattle.history_model.specs.Texts.{key_text}
 use Rattle.json_kinds.specs.Faults.{bad, ◌>>=◌}
+use Rattle.job_defs.specs.Paths.{list_limit}
 use Rattle.json_kinds.specs.Names.{Key, day, hour, minute, month, weekday}
 use Rattle.json_kinds.specs.Kinds.{object_at, integer_at, each_item, members_or_one, where_given, optional}
 
@@ -26,12 +28,19 @@ entry_at d = do
   at_minute ← part 0 59 minute d
   in_month ← part 1 12 month d
   on_weekday ← part 0 7 weekday d
-  Ok (record { minute = at_minute; hour = at_hour; day = on_day; weekday = on_weekday; month = in_month })
+  Ok (record {
+    minute = at_minute;
+    hour = at_hour;
+    day = on_day;
+    weekday = on_weekday;
+    month = in_month;
+  })
 
--- at most 64 entries
+-- at most so many entries
 unfoldable pub calendar_at : Data → Result (List Entry) Fault
 calendar_at d =
-    if nat_lt 64 (items_len (members_or_one d)) then Err (bad TooLong StartCalendarInterval) else each_item entry_at (members_or_one d)
+    if nat_lt list_limit (items_len (members_or_one d)) then Err (bad TooLong StartCalendarInterval)
+    else each_item entry_at (members_or_one d)
 
 -- without the key there is no calendar
 unfoldable pub calendar_row : Data → Result (List Entry) Fault

@@ -44,7 +44,8 @@ command_in None (item first rest) = do
 unfoldable pub command_at : Option (List ℕ) → Data → Result Command Fault
 command_at program d = do
   words ← array_at ProgramArguments d
-  if nat_lt 256 (items_len words) then Err (bad TooLong ProgramArguments) else command_in program words
+  if nat_lt 256 (items_len words) then Err (bad TooLong ProgramArguments)
+      else command_in program words
 
 -- one of `Program` and `ProgramArguments` has to stand
 unfoldable pub command_row : Option (List ℕ) → Data → Result Command Fault

@@ -1,5 +1,5 @@
--- `KeepAlive` of launchd.plist(5): a boolean, or a dictionary of conditions. The conditions are gone through in byte
--- order. One that is not here never holds and is no fault.
+-- `KeepAlive` of launchd.plist(5): a boolean, or a dictionary of conditions. The conditions are
+-- gone through in byte order. One that is not here never holds and is no fault.
 use Rattle.std.specs.Prelude.{List, [], ◌∷◌, Bool, false, not, nat_lt, Result, Ok, Err, Option, Some, None, if◌then◌else◌}
 use Rattle.serde_json.specs.Data.{Data}
 use Rattle.serde_json.specs.Events.{members_len}
@@ -9,9 +9,10 @@ use Rattle.history_model.specs.declared.KeyName.TheVariants.{KeepAlive}
 use Rattle.history_model.specs.Machine.{Fault}
 use Rattle.history_model.specs.Texts.{key_text}
 use Rattle.job_defs.specs.declared.parts.PathState.{PathState}
+use Rattle.job_defs.specs.Paths.{list_limit}
 use Rattle.json_kinds.specs.Faults.{bad, ◌>>=◌}
 use Rattle.json_kinds.specs.Names.{Key, crashed, path_state, successful_exit}
-use Rattle.json_kinds.specs.Kinds.{bool_at, object_at, filled, each_member, where_given, optional}
+use Rattle.json_kinds.specs.Kinds.{bool_at, object_at, filled, each_member, where_given, optional, path_limit}
 
 -- what `KeepAlive` says
 pub record Keep : Type 0 where
@@ -22,20 +23,26 @@ pub record Keep : Type 0 where
 
 -- a boolean has no conditions
 abbrev pub unconditional : Bool → Keep
-unconditional always = record { always = always; successful_exit = None; crashed = None; path_state = [] }
+unconditional always = record {
+  always = always;
+  successful_exit = None;
+  crashed = None;
+  path_state = [];
+}
 
 -- a path, and whether something is to be there
 unfoldable pub path_state_in : Key → Data → Result (List PathState) Fault
 path_state_in name d = do
-  path ← filled 1024 KeepAlive name
+  path ← filled path_limit KeepAlive name
   present ← bool_at KeepAlive d
   Ok (record { path = path; present = present } ∷ [])
 
--- at most 64 paths
+-- at most so many paths
 unfoldable pub path_state_at : Data → Result (List PathState) Fault
 path_state_at d = do
   paths ← object_at KeepAlive d
-  if nat_lt 64 (members_len paths) then Err (bad TooLong KeepAlive) else each_member path_state_in paths
+  if nat_lt list_limit (members_len paths) then Err (bad TooLong KeepAlive)
+      else each_member path_state_in paths
 
 -- the conditions that can hold
 unfoldable pub conditions_at : Data → Result Keep Fault
@@ -44,7 +51,12 @@ conditions_at d = do
   after_crash ← optional (bool_at KeepAlive) (get crashed d)
   paths ← where_given path_state_at [] (get path_state d)
   after_success ← optional (bool_at KeepAlive) (get successful_exit d)
-  Ok (record { always = false; successful_exit = after_success; crashed = after_crash; path_state = paths })
+  Ok (record {
+    always = false;
+    successful_exit = after_success;
+    crashed = after_crash;
+    path_state = paths;
+  })
 
 -- a boolean, or conditions
 unfoldable pub keep_at : Data → Result Keep Fault
@@ -55,4 +67,5 @@ keep_at d = keep_by (as_bool d) d where
 
 -- without `KeepAlive`, an `OnDemand` of false keeps the job alive
 unfoldable pub keep_row : Bool → Data → Result Keep Fault
-keep_row on_demand d = where_given keep_at (unconditional (not on_demand)) (get (key_text KeepAlive) d)
+keep_row on_demand d =
+    where_given keep_at (unconditional (not on_demand)) (get (key_text KeepAlive) d)

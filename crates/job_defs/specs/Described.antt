@@ -1,4 +1,5 @@
--- What a job's definition says, key by key, as launchd.plist(5) names them. A text or a path is its bytes.
+-- What a job's definition says, key by key, as launchd.plist(5) names them. A text or a path is its
+-- bytes.
 use Rattle.std.specs.Prelude.{ℕ, Bool, List, Option}
 use Rattle.history_model.specs.declared.Entry.{Entry}
 use Rattle.job_defs.specs.declared.parts.PathState.{PathState}

@@ -17,7 +17,12 @@ use Rattle.json_kinds.specs.Kinds.{is_among, members_or_one}
 
 -- of a definition
 abbrev pub all_keys : List KeyName
-all_keys = Label ∷ Program ∷ ProgramArguments ∷ RunAtLoad ∷ LaunchOnlyOnce ∷ DisabledKey ∷ OnDemand ∷ KeepAlive ∷ WatchPaths ∷ QueueDirectories ∷ StartInterval ∷ StartCalendarInterval ∷ ThrottleInterval ∷ ExitTimeOut ∷ EnvironmentVariables ∷ WorkingDirectory ∷ StandardInPath ∷ StandardOutPath ∷ StandardErrorPath ∷ Sockets ∷ InetdCompatibility ∷ UserName ∷ GroupName ∷ RootDirectory ∷ []
+all_keys =
+    Label ∷ Program ∷ ProgramArguments ∷ RunAtLoad ∷ LaunchOnlyOnce ∷ DisabledKey ∷ OnDemand
+    ∷ KeepAlive ∷ WatchPaths ∷ QueueDirectories ∷ StartInterval ∷ StartCalendarInterval
+    ∷ ThrottleInterval ∷ ExitTimeOut ∷ EnvironmentVariables ∷ WorkingDirectory ∷ StandardInPath
+    ∷ StandardOutPath ∷ StandardErrorPath ∷ Sockets ∷ InetdCompatibility ∷ UserName ∷ GroupName
+    ∷ RootDirectory ∷ []
 
 -- a definition's key is read under this name
 unfoldable pub is_key : Key → Bool
@@ -33,7 +38,9 @@ parts = day ∷ hour ∷ minute ∷ month ∷ weekday ∷ []
 
 -- of a socket
 abbrev pub socket_keys : List Key
-socket_keys = secure_key ∷ socket_type ∷ passive ∷ family ∷ protocol ∷ path_name ∷ node_name ∷ service_name ∷ []
+socket_keys =
+    secure_key ∷ socket_type ∷ passive ∷ family ∷ protocol ∷ path_name ∷ node_name ∷ service_name
+    ∷ []
 
 -- ---- the other keys
 
@@ -45,7 +52,8 @@ unlisted (member k d ms) = if is_key k then unlisted ms else k ∷ unlisted ms
 -- the keys of a dictionary that are not read, each behind the prefix
 abbrev pub others : Key → List Key → Members → List Key
 others prefix known no_members = []
-others prefix known (member k d ms) = if is_among known k then others prefix known ms else (prefix ++ k) ∷ others prefix known ms
+others prefix known (member k d ms) =
+    if is_among known k then others prefix known ms else (prefix ++ k) ∷ others prefix known ms
 
 -- the members, if the value is a dictionary
 abbrev pub members_in : Option Members → Members
@@ -61,9 +69,14 @@ abbrev pub others_in_each : Key → List Key → Items → List Key
 others_in_each prefix known no_items = []
 others_in_each prefix known (item d ds) = others_in prefix known d ++ others_in_each prefix known ds
 
+-- the same of the calendar's entries
+abbrev pub others_in_calendar : Data → List Key
+others_in_calendar d = others_in_each (codes "StartCalendarInterval.") parts (members_or_one d)
+
 -- the same of the sockets under one name
 unfoldable pub others_under : Key → Data → List Key
-others_under name d = others_in_each (codes "Sockets." ++ name ++ codes ".") socket_keys (members_or_one d)
+others_under name d =
+    others_in_each (codes "Sockets." ++ name ++ codes ".") socket_keys (members_or_one d)
 
 -- the same of all sockets
 abbrev pub others_in_sockets : Members → List Key
@@ -85,15 +98,19 @@ named_if holds key = if holds then key_text key ∷ [] else []
 
 -- `KeepAlive` decides over `OnDemand`, and `inetdCompatibility` is for sockets alone
 unfoldable pub overruled : Bool → Data → List Key
-overruled has_sockets d = named_if (has OnDemand d && has KeepAlive d) OnDemand ++ named_if (has InetdCompatibility d && not has_sockets) InetdCompatibility
+overruled has_sockets d =
+    named_if (has OnDemand d && has KeepAlive d) OnDemand
+    ++ named_if (has InetdCompatibility d && not has_sockets) InetdCompatibility
 
 -- the keys of the dictionaries inside a definition
 unfoldable pub inside : Data → List Key
 inside d =
     where_found (others_in (codes "KeepAlive.") conditions) (get (key_text KeepAlive) d)
-    ++ where_found (λ found. others_in_each (codes "StartCalendarInterval.") parts (members_or_one found)) (get (key_text StartCalendarInterval) d)
-    ++ where_found (λ found. others_in_sockets (members_in (as_object found))) (get (key_text Sockets) d)
-    ++ where_found (others_in (codes "inetdCompatibility.") (wait ∷ [])) (get (key_text InetdCompatibility) d)
+    ++ where_found others_in_calendar (get (key_text StartCalendarInterval) d)
+    ++ where_found (λ found. others_in_sockets (members_in (as_object found)))
+    (get (key_text Sockets) d)
+    ++ where_found (others_in (codes "inetdCompatibility.") (wait ∷ []))
+    (get (key_text InetdCompatibility) d)
 
 -- names, and more of them: in byte order, each once
 abbrev pub with_names : List Key → List Key → List Key
@@ -101,4 +118,5 @@ with_names names more = fold (insert_key (slice_cmp nat_cmp)) names more
 
 -- all of them
 unfoldable pub not_acted_on : Bool → Data → List Key
-not_acted_on has_sockets d = with_names [] (unlisted (members_in (as_object d)) ++ overruled has_sockets d ++ inside d)
+not_acted_on has_sockets d =
+    with_names [] (unlisted (members_in (as_object d)) ++ overruled has_sockets d ++ inside d)

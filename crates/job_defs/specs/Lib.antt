@@ -12,4 +12,4 @@ pub mod Calendars
 pub mod Variables
 pub mod Ignored
 pub mod Table
-pub mod Seen
+pub mod Parts

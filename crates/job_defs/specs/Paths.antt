@@ -10,11 +10,16 @@ use Rattle.history_model.specs.Texts.{key_text}
 use Rattle.json_kinds.specs.Faults.{bad, ◌>>=◌}
 use Rattle.json_kinds.specs.Kinds.{array_at, path_at, each_item, where_given}
 
--- at most 64 paths in a definition, of which so many were counted before
+-- the most paths of a definition, paths of `KeepAlive`, and calendar entries
+abbrev pub list_limit : ℕ
+list_limit = 64
+
+-- at most so many paths in a definition, of which some were counted before
 unfoldable pub paths_at : ℕ → KeyName → Data → Result (List (List ℕ)) Fault
 paths_at before key d = do
   paths ← array_at key d
-  if nat_lt 64 (before + items_len paths) then Err (bad TooLong key) else each_item (path_at key) paths
+  if nat_lt list_limit (before + items_len paths) then Err (bad TooLong key)
+      else each_item (path_at key) paths
 
 -- without the key there are none
 unfoldable pub paths_row : ℕ → KeyName → Data → Result (List (List ℕ)) Fault

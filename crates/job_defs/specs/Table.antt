@@ -1,5 +1,5 @@
--- The keys of a definition, row by row, in the order in which they are checked. They are those of launchd.plist(5); the
--- first row with a fault is the answer.
+-- The keys of a definition, row by row, in the order in which they are checked. They are those of
+-- launchd.plist(5); the first row with a fault is the answer.
 use Rattle.std.specs.Prelude.{ℕ, ◌+◌, List, length, Bool, true, false, Result, Ok, Option, ⊤}
 use Rattle.serde_json.specs.Data.{Data}
 use Rattle.serde_json.specs.Find.{as_object}
@@ -24,6 +24,7 @@ use Rattle.job_defs.specs.Ignored.{not_acted_on}
 
 -- ---- what is run
 
+-- the rows from `Label` to `Disabled`
 pub record Launch : Type 0 where
   pub label : List ℕ
   pub command : Command
@@ -40,10 +41,17 @@ launch_at d = do
   run ← bool_row false RunAtLoad d
   once ← bool_row false LaunchOnlyOnce d
   disabled ← bool_row false DisabledKey d
-  Ok (record { label = label; command = command; run_at_load = run; launch_only_once = once; disabled = disabled })
+  Ok (record {
+    label = label;
+    command = command;
+    run_at_load = run;
+    launch_only_once = once;
+    disabled = disabled;
+  })
 
 -- ---- when it runs
 
+-- the rows from `OnDemand` to `StartCalendarInterval`
 pub record Demand : Type 0 where
   pub keep : Keep
   pub watch_paths : List (List ℕ)
@@ -60,10 +68,17 @@ demand_at d = do
   queue ← paths_row (length keep.path_state + length watch) QueueDirectories d
   interval ← optional_integer 1 31536000 StartInterval d
   calendar ← calendar_row d
-  Ok (record { keep = keep; watch_paths = watch; queue_directories = queue; start_interval = interval; calendar = calendar })
+  Ok (record {
+    keep = keep;
+    watch_paths = watch;
+    queue_directories = queue;
+    start_interval = interval;
+    calendar = calendar;
+  })
 
 -- ---- how fast
 
+-- the rows `ThrottleInterval` and `ExitTimeOut`
 pub record Pace : Type 0 where
   pub throttle_interval : ℕ
   pub exit_time_out : ℕ
@@ -77,6 +92,7 @@ pace_at d = do
 
 -- ---- what is around it
 
+-- the rows from `EnvironmentVariables` to `StandardErrorPath`
 pub record Surroundings : Type 0 where
   pub environment : List Variable
   pub working_directory : Option (List ℕ)
@@ -92,7 +108,13 @@ surroundings_at d = do
   input ← optional_path StandardInPath d
   output ← optional_path StandardOutPath d
   error ← optional_path StandardErrorPath d
-  Ok (record { environment = environment; working_directory = directory; standard_in_path = input; standard_out_path = output; standard_error_path = error })
+  Ok (record {
+    environment = environment;
+    working_directory = directory;
+    standard_in_path = input;
+    standard_out_path = output;
+    standard_error_path = error;
+  })
 
 -- ---- what is not supported
 

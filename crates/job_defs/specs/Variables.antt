@@ -28,13 +28,15 @@ variable_by name (Some text) = do
 unfoldable pub variable_in : Key → Data → Result (List Variable) Fault
 variable_in key d = do
   name ← filled 255 EnvironmentVariables key
-  if list_any is_equals name then Err (bad OutOfRange EnvironmentVariables) else variable_by name (as_str d)
+  if list_any is_equals name then Err (bad OutOfRange EnvironmentVariables)
+      else variable_by name (as_str d)
 
 -- at most 128 variables
 unfoldable pub environment_at : Data → Result (List Variable) Fault
 environment_at d = do
   variables ← object_at EnvironmentVariables d
-  if nat_lt 128 (members_len variables) then Err (bad TooLong EnvironmentVariables) else each_member variable_in variables
+  if nat_lt 128 (members_len variables) then Err (bad TooLong EnvironmentVariables)
+      else each_member variable_in variables
 
 -- without the key there are none
 unfoldable pub environment_row : Data → Result (List Variable) Fault

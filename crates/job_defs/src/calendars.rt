@@ -6,6 +6,7 @@ ghost use Rattle.json_kinds.specs.Faults.{Gives};
 ghost use Rattle.json_kinds.specs.Kinds.{each_item};
 ghost use Rattle.job_defs.specs.Calendars.{part, entry_at, calendar_at, calendar_row};
 
+use crate::parts::LIST_LIMIT;
 use history_model::{Entry, KeyName, Reason};
 use json_kinds::DefFault;
 use json_kinds::kinds::{integer_of, members_or_one_of, object_of};
@@ -28,7 +29,7 @@ fn calendar_of(alloc: Global, found: &Value) -> Result<Vec<Entry>, DefFault>
     ensures { Gives (λ calendar. calendar.items) result (calendar_at (view found.now)) }
 {
     let entries = members_or_one_of(found);
-    if entries.len() > 64 {
+    if entries.len() > LIST_LIMIT {
         return Err(DefFault::Bad {
             reason: Reason::TooLong,
             key: KeyName::StartCalendarInterval,
@@ -38,7 +39,8 @@ fn calendar_of(alloc: Global, found: &Value) -> Result<Vec<Entry>, DefFault>
 }
 
 fn each_entry(alloc: Global, items: &[Value]) -> Result<Vec<Entry>, DefFault>
-    ensures { Gives (λ calendar. calendar.items) result (each_item entry_at (items_view items.now)) }
+    ensures { Gives (λ calendar. calendar.items) result
+        (each_item entry_at (items_view items.now)) }
 {
     let mut calendar = Vec::new(alloc);
     for item in items {

@@ -5,9 +5,10 @@ ghost use Rattle.serde_json.specs.View.{view, members_view};
 ghost use Rattle.json_kinds.specs.Faults.{Gives};
 ghost use Rattle.json_kinds.specs.Kinds.{each_member};
 ghost use Rattle.job_defs.specs.Conditions.{path_state_in, path_state_at, conditions_at, keep_at, keep_row};
-ghost use Rattle.job_defs.specs.Seen.{keep_of};
+ghost use Rattle.job_defs.specs.Paths.{list_limit};
+ghost use Rattle.job_defs.specs.Parts.{keep_of};
 
-use crate::parts::{Keep, PathState};
+use crate::parts::{Keep, LIST_LIMIT, PathState};
 use history_model::{KeyName, Reason, Text};
 use json_kinds::DefFault;
 use json_kinds::kinds::{bool_of, filled_text, object_of};
@@ -20,7 +21,7 @@ use std::alloc::Global;
 #[tactic(auto, unfolding(crate::specs::Conditions::keep_row))]
 pub(crate) fn keep_row_of(alloc: Global, on_demand: bool, def: &Value) -> Result<Keep, DefFault>
     ensures value { Gives keep_of result (keep_row on_demand (view def.now)) }
-    ensures count { IfOk result (λ keep. vec_len keep.path_state ≤ 64) }
+    ensures count { IfOk result (λ keep. vec_len keep.path_state ≤ list_limit) }
 {
     match def.get(key_name(KeyName::KeepAlive)) {
         Some(found) => keep_of(alloc, found),
@@ -43,7 +44,7 @@ fn unconditional(alloc: Global, always: bool) -> Keep
 #[tactic(auto, unfolding(crate::specs::Conditions::keep_at))]
 fn keep_of(alloc: Global, found: &Value) -> Result<Keep, DefFault>
     ensures value { Gives keep_of result (keep_at (view found.now)) }
-    ensures count { IfOk result (λ keep. vec_len keep.path_state ≤ 64) }
+    ensures count { IfOk result (λ keep. vec_len keep.path_state ≤ list_limit) }
 {
     match found.as_bool() {
         Some(always) => Ok(unconditional(alloc, always)),
@@ -54,7 +55,7 @@ fn keep_of(alloc: Global, found: &Value) -> Result<Keep, DefFault>
 #[tactic(auto, unfolding(crate::specs::Conditions::conditions_at))]
 fn conditions_of(alloc: Global, found: &Value) -> Result<Keep, DefFault>
     ensures value { Gives keep_of result (conditions_at (view found.now)) }
-    ensures count { IfOk result (λ keep. vec_len keep.path_state ≤ 64) }
+    ensures count { IfOk result (λ keep. vec_len keep.path_state ≤ list_limit) }
 {
     object_of(found, KeyName::KeepAlive)?;
     let crashed = optional_bool_of(found, CRASHED, KeyName::KeepAlive)?;
@@ -74,10 +75,10 @@ fn conditions_of(alloc: Global, found: &Value) -> Result<Keep, DefFault>
 #[tactic(auto, using(json_kinds::proofs::Counts::members_count), unfolding(crate::specs::Conditions::path_state_at))]
 fn path_state_of(alloc: Global, found: &Value) -> Result<Vec<PathState>, DefFault>
     ensures value { Gives (λ paths. paths.items) result (path_state_at (view found.now)) }
-    ensures count { IfOk result (λ paths. vec_len paths ≤ 64) }
+    ensures count { IfOk result (λ paths. vec_len paths ≤ list_limit) }
 {
     let members = object_of(found, KeyName::KeepAlive)?;
-    if members.len() > 64 {
+    if members.len() > LIST_LIMIT {
         return Err(DefFault::Bad {
             reason: Reason::TooLong,
             key: KeyName::KeepAlive,
@@ -87,7 +88,8 @@ fn path_state_of(alloc: Global, found: &Value) -> Result<Vec<PathState>, DefFaul
 }
 
 fn each_path_state(alloc: Global, members: &Map<String, Value>) -> Result<Vec<PathState>, DefFault>
-    ensures value { Gives (λ paths. paths.items) result (each_member path_state_in (members_view members.now.entries)) }
+    ensures value { Gives (λ paths. paths.items) result
+        (each_member path_state_in (members_view members.now.entries)) }
     ensures count { IfOk result (λ paths. vec_len paths ≤ length members.now.entries) }
 {
     let mut paths = Vec::new(alloc);
@@ -99,7 +101,8 @@ fn each_path_state(alloc: Global, members: &Map<String, Value>) -> Result<Vec<Pa
 
 #[tactic(auto, unfolding(crate::specs::Conditions::path_state_in))]
 fn path_state(alloc: Global, path: &str, present: &Value) -> Result<PathState, DefFault>
-    ensures { Gives (λ condition. condition ∷ []) result (path_state_in path.now (view present.now)) }
+    ensures { Gives (λ condition. condition ∷ []) result
+        (path_state_in path.now (view present.now)) }
 {
     let path = filled_text(path, KeyName::KeepAlive, PATH_LIMIT)?;
     let present = bool_of(present, KeyName::KeepAlive)?;

@@ -52,7 +52,8 @@ impl Model for Def {
       not_acted_on = d.not_acted_on.items;
     } };
 
-    ghost invariant = { λ d. IfSome d.demand.start_interval (λ seconds. (1 ≤ seconds) × (seconds ≤ 31536000))
+    ghost invariant = { λ d. IfSome d.demand.start_interval (λ seconds. (1 ≤ seconds)
+        × (seconds ≤ 31536000))
         × (d.pace.throttle_interval ≤ 86400) × (d.pace.exit_time_out ≤ 86400) };
 }
 
@@ -150,7 +151,8 @@ impl Def {
     /// 31,536,000. Absent: never.
     pub fn start_interval(&self) -> Option<u32>
         ensures value { result ≡ self.now.start_interval }
-        ensures range { IfSome self.now.start_interval (λ seconds. (1 ≤ seconds) × (seconds ≤ 31536000)) }
+        ensures range { IfSome self.now.start_interval (λ seconds. (1 ≤ seconds)
+            × (seconds ≤ 31536000)) }
     {
         self.demand.start_interval
     }

@@ -4,13 +4,13 @@ ghost use Rattle.std.specs.Prelude.{◌≡◌, ◌≤◌, ◌+◌, length, vec_l
 ghost use Rattle.serde_json.specs.View.{view, items_view};
 ghost use Rattle.json_kinds.specs.Faults.{Gives};
 ghost use Rattle.json_kinds.specs.Kinds.{each_item, path_at};
-ghost use Rattle.job_defs.specs.Paths.{paths_at, paths_row};
+ghost use Rattle.job_defs.specs.Paths.{list_limit, paths_at, paths_row};
 ghost use Rattle.job_defs.specs.Table.{demand_at, pace_at};
-ghost use Rattle.job_defs.specs.Seen.{demand_of, pace_of};
+ghost use Rattle.job_defs.specs.Parts.{demand_of, pace_of};
 
 use crate::calendars::calendar_row_of;
 use crate::conditions::keep_row_of;
-use crate::parts::{Demand, Pace};
+use crate::parts::{Demand, LIST_LIMIT, Pace};
 use history_model::{KeyName, Reason, Text};
 use json_kinds::DefFault;
 use json_kinds::kinds::{array_of, filled_of};
@@ -22,7 +22,8 @@ use std::alloc::Global;
 #[tactic(auto, unfolding(crate::specs::Table::demand_at))]
 pub(crate) fn demand_row(alloc: Global, def: &Value) -> Result<Demand, DefFault>
     ensures value { Gives demand_of result (demand_at (view def.now)) }
-    ensures range { IfOk result (λ demand. IfSome demand.start_interval (λ seconds. (1 ≤ seconds) × (seconds ≤ 31536000))) }
+    ensures range { IfOk result (λ demand. IfSome demand.start_interval (λ seconds. (1 ≤ seconds)
+        × (seconds ≤ 31536000))) }
 {
     let on_demand = bool_row_of(def, KeyName::OnDemand, true)?;
     let keep = keep_row_of(alloc, on_demand, def)?;
@@ -44,7 +45,8 @@ pub(crate) fn demand_row(alloc: Global, def: &Value) -> Result<Demand, DefFault>
 #[tactic(auto, unfolding(crate::specs::Table::pace_at))]
 pub(crate) fn pace_row(def: &Value) -> Result<Pace, DefFault>
     ensures value { Gives pace_of result (pace_at (view def.now)) }
-    ensures range { IfOk result (λ pace. (pace.throttle_interval ≤ 86400) × (pace.exit_time_out ≤ 86400)) }
+    ensures range { IfOk result (λ pace. (pace.throttle_interval ≤ 86400)
+        × (pace.exit_time_out ≤ 86400)) }
 {
     let throttle_interval = integer_row_of(def, KeyName::ThrottleInterval, 0, 86_400, 10)?;
     let exit_time_out = integer_row_of(def, KeyName::ExitTimeOut, 0, 86_400, 20)?;
@@ -62,9 +64,9 @@ fn paths_row_of(
     def: &Value,
     key: KeyName,
 ) -> Result<Vec<Text>, DefFault>
-    requires { before ≤ 64 }
+    requires { before ≤ list_limit }
     ensures value { Gives (λ paths. paths.items) result (paths_row before key (view def.now)) }
-    ensures count { IfOk result (λ paths. before + vec_len paths ≤ 64) }
+    ensures count { IfOk result (λ paths. before + vec_len paths ≤ list_limit) }
 {
     match def.get(key_name(key)) {
         Some(found) => paths_of(alloc, before, found, key),
@@ -79,12 +81,12 @@ fn paths_of(
     found: &Value,
     key: KeyName,
 ) -> Result<Vec<Text>, DefFault>
-    requires { before ≤ 64 }
+    requires { before ≤ list_limit }
     ensures value { Gives (λ paths. paths.items) result (paths_at before key (view found.now)) }
-    ensures count { IfOk result (λ paths. before + vec_len paths ≤ 64) }
+    ensures count { IfOk result (λ paths. before + vec_len paths ≤ list_limit) }
 {
     let items = array_of(found, key)?;
-    if items.len() > 64 - before {
+    if items.len() > LIST_LIMIT - before {
         return Err(DefFault::Bad {
             reason: Reason::TooLong,
             key,
@@ -94,7 +96,8 @@ fn paths_of(
 }
 
 fn each_path(alloc: Global, items: &[Value], key: KeyName) -> Result<Vec<Text>, DefFault>
-    ensures value { Gives (λ paths. paths.items) result (each_item (path_at key) (items_view items.now)) }
+    ensures value { Gives (λ paths. paths.items) result
+        (each_item (path_at key) (items_view items.now)) }
     ensures count { IfOk result (λ paths. vec_len paths ≡ length items.now) }
 {
     let mut paths = Vec::new(alloc);

@@ -1,12 +1,14 @@
 //! The keys of a definition that nothing acts on.
 
-ghost use Rattle.std.specs.Prelude.{◌≡◌, [], ◌∷◌, ◌++◌, codes, string_bytes, map, IfOk, OnOk};
+ghost use Rattle.std.specs.Prelude.{◌≡◌, [], ◌∷◌, ◌++◌, codes, string_bytes, IfOk, OnOk};
 ghost use Rattle.std.specs.List.{list_any};
 ghost use Rattle.std.specs.Str.{bytes_eq};
 ghost use Rattle.serde_json.specs.View.{view, items_view, members_view};
 ghost use Rattle.serde_json.specs.Find.{as_object};
 ghost use Rattle.job_defs.specs.Ignored as ignored;
-ghost use Rattle.job_defs.specs.Seen.{names_of};
+ghost use Rattle.job_defs.specs.Ignored.{members_in};
+ghost use Rattle.job_defs.specs.Parts.{Gains, names_of};
+ghost use Rattle.json_kinds.specs.Kinds.{texts_in};
 
 use history_model::{KeyName, Text};
 use json_kinds::kinds::{is_among, members_or_one_of};
@@ -19,7 +21,7 @@ use std::alloc::{AllocError, Global};
 use std::collections::BTreeSet;
 
 /// The keys that nothing acts on, in byte order and each once.
-#[tactic(auto, using(crate::proofs::Gathered::with_both), unfolding(crate::specs::Ignored::not_acted_on))]
+#[tactic(auto, using(crate::proofs::IgnoredLemmas::with_both), unfolding(crate::specs::Ignored::not_acted_on))]
 pub(crate) fn not_acted_on_of(
     alloc: Global,
     has_sockets: bool,
@@ -51,7 +53,7 @@ fn add(
     prefix: &str,
     key: &str,
 ) -> Result<(), AllocError>
-    ensures { OnOk result (names_of names.new ≡ ignored.with_names (names_of names.old) ((prefix.now ++ key.now) ∷ [])) }
+    ensures { OnOk result (Gains names.old ((prefix.now ++ key.now) ∷ []) names.new) }
 {
     let mut name = String::new(alloc);
     name.push_str(prefix)?;
@@ -74,7 +76,8 @@ fn add_unlisted_in(
     names: &mut BTreeSet<String>,
     def: &Value,
 ) -> Result<(), AllocError>
-    ensures { OnOk result (names_of names.new ≡ ignored.with_names (names_of names.old) (ignored.unlisted (ignored.members_in (as_object (view def.now))))) }
+    ensures { OnOk result
+        (Gains names.old (ignored.unlisted (members_in (as_object (view def.now)))) names.new) }
 {
     match def.as_object() {
         Some(members) => add_unlisted(alloc, names, members),
@@ -87,7 +90,8 @@ fn add_unlisted(
     names: &mut BTreeSet<String>,
     members: &Map<String, Value>,
 ) -> Result<(), AllocError>
-    ensures { OnOk result (names_of names.new ≡ ignored.with_names (names_of names.old) (ignored.unlisted (members_view members.now.entries))) }
+    ensures { OnOk result
+        (Gains names.old (ignored.unlisted (members_view members.now.entries)) names.new) }
 {
     for (name, _) in members.iter() {
         if !is_key(name.as_str()) {
@@ -98,14 +102,15 @@ fn add_unlisted(
 }
 
 /// The keys that are read only beside others, or only without them.
-#[tactic(auto, using(crate::proofs::Gathered::with_both), unfolding(crate::specs::Ignored::overruled))]
+#[tactic(auto, using(crate::proofs::IgnoredLemmas::with_both), unfolding(crate::specs::Ignored::overruled))]
 fn add_overruled(
     alloc: Global,
     names: &mut BTreeSet<String>,
     has_sockets: bool,
     def: &Value,
 ) -> Result<(), AllocError>
-    ensures { OnOk result (names_of names.new ≡ ignored.with_names (names_of names.old) (ignored.overruled has_sockets (view def.now))) }
+    ensures { OnOk result
+        (Gains names.old (ignored.overruled has_sockets (view def.now)) names.new) }
 {
     let on_demand = has(def, KeyName::OnDemand) && has(def, KeyName::KeepAlive);
     add_if(alloc, names, on_demand, KeyName::OnDemand)?;
@@ -125,7 +130,7 @@ fn add_if(
     holds: bool,
     key: KeyName,
 ) -> Result<(), AllocError>
-    ensures { OnOk result (names_of names.new ≡ ignored.with_names (names_of names.old) (ignored.named_if holds key)) }
+    ensures { OnOk result (Gains names.old (ignored.named_if holds key) names.new) }
 {
     if holds {
         return add(alloc, names, "", key_name(key));
@@ -150,9 +155,9 @@ const SOCKET_KEYS: [&str; 8] = [
     SERVICE_NAME,
 ];
 
-#[tactic(auto, using(crate::proofs::Gathered::with_both), unfolding(crate::specs::Ignored::inside))]
+#[tactic(auto, using(crate::proofs::IgnoredLemmas::with_both), unfolding(crate::specs::Ignored::inside))]
 fn add_inside(alloc: Global, names: &mut BTreeSet<String>, def: &Value) -> Result<(), AllocError>
-    ensures { OnOk result (names_of names.new ≡ ignored.with_names (names_of names.old) (ignored.inside (view def.now))) }
+    ensures { OnOk result (Gains names.old (ignored.inside (view def.now)) names.new) }
 {
     if let Some(found) = def.get(key_name(KeyName::KeepAlive)) {
         add_others_in(alloc, names, "KeepAlive.", &CONDITIONS, found)?;
@@ -182,7 +187,9 @@ fn add_others_in(
     known: &[&str],
     found: &Value,
 ) -> Result<(), AllocError>
-    ensures { OnOk result (names_of names.new ≡ ignored.with_names (names_of names.old) (ignored.others_in prefix.now (map (λ key. key.now) known.now) (view found.now))) }
+    ensures { OnOk result (Gains names.old
+        (ignored.others_in prefix.now (texts_in known.now) (view found.now))
+        names.new) }
 {
     match found.as_object() {
         Some(members) => add_others(alloc, names, prefix, known, members),
@@ -197,7 +204,9 @@ fn add_others(
     known: &[&str],
     members: &Map<String, Value>,
 ) -> Result<(), AllocError>
-    ensures { OnOk result (names_of names.new ≡ ignored.with_names (names_of names.old) (ignored.others prefix.now (map (λ key. key.now) known.now) (members_view members.now.entries))) }
+    ensures { OnOk result (Gains names.old
+        (ignored.others prefix.now (texts_in known.now) (members_view members.now.entries))
+        names.new) }
 {
     for (name, _) in members.iter() {
         if !is_among(known, name.as_str()) {
@@ -207,7 +216,7 @@ fn add_others(
     Ok(())
 }
 
-#[tactic(auto, using(crate::proofs::Gathered::with_both))]
+#[tactic(auto, using(crate::proofs::IgnoredLemmas::with_both))]
 fn add_others_in_each(
     alloc: Global,
     names: &mut BTreeSet<String>,
@@ -215,7 +224,9 @@ fn add_others_in_each(
     known: &[&str],
     items: &[Value],
 ) -> Result<(), AllocError>
-    ensures { OnOk result (names_of names.new ≡ ignored.with_names (names_of names.old) (ignored.others_in_each prefix.now (map (λ key. key.now) known.now) (items_view items.now))) }
+    ensures { OnOk result (Gains names.old
+        (ignored.others_in_each prefix.now (texts_in known.now) (items_view items.now))
+        names.new) }
 {
     for item in items {
         add_others_in(alloc, names, prefix, known, item)?;
@@ -228,7 +239,9 @@ fn add_others_in_sockets(
     names: &mut BTreeSet<String>,
     found: &Value,
 ) -> Result<(), AllocError>
-    ensures { OnOk result (names_of names.new ≡ ignored.with_names (names_of names.old) (ignored.others_in_sockets (ignored.members_in (as_object (view found.now))))) }
+    ensures { OnOk result (Gains names.old
+        (ignored.others_in_sockets (members_in (as_object (view found.now))))
+        names.new) }
 {
     match found.as_object() {
         Some(members) => add_others_in_names(alloc, names, members),
@@ -236,13 +249,14 @@ fn add_others_in_sockets(
     }
 }
 
-#[tactic(auto, using(crate::proofs::Gathered::with_both))]
+#[tactic(auto, using(crate::proofs::IgnoredLemmas::with_both))]
 fn add_others_in_names(
     alloc: Global,
     names: &mut BTreeSet<String>,
     members: &Map<String, Value>,
 ) -> Result<(), AllocError>
-    ensures { OnOk result (names_of names.new ≡ ignored.with_names (names_of names.old) (ignored.others_in_sockets (members_view members.now.entries))) }
+    ensures { OnOk result
+        (Gains names.old (ignored.others_in_sockets (members_view members.now.entries)) names.new) }
 {
     for (name, found) in members.iter() {
         add_others_under(alloc, names, name.as_str(), found)?;
@@ -257,7 +271,8 @@ fn add_others_under(
     name: &str,
     found: &Value,
 ) -> Result<(), AllocError>
-    ensures { OnOk result (names_of names.new ≡ ignored.with_names (names_of names.old) (ignored.others_under name.now (view found.now))) }
+    ensures { OnOk result
+        (Gains names.old (ignored.others_under name.now (view found.now)) names.new) }
 {
     let prefix = prefix_of(alloc, name)?;
     let items = members_or_one_of(found);
@@ -266,7 +281,8 @@ fn add_others_under(
 
 /// What stands before a key of the sockets under this name.
 fn prefix_of(alloc: Global, name: &str) -> Result<String, AllocError>
-    ensures { IfOk result (λ prefix. string_bytes prefix ≡ codes "Sockets." ++ name.now ++ codes ".") }
+    ensures { IfOk result (λ prefix. string_bytes prefix
+        ≡ codes "Sockets." ++ name.now ++ codes ".") }
 {
     let mut prefix = String::new(alloc);
     prefix.push_str("Sockets.")?;

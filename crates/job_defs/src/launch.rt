@@ -6,7 +6,7 @@ ghost use Rattle.json_kinds.specs.Faults.{Gives};
 ghost use Rattle.json_kinds.specs.Kinds.{each_item};
 ghost use Rattle.job_defs.specs.Commands.{label_row, word_at, command_in, command_at, command_row};
 ghost use Rattle.job_defs.specs.Table.{launch_at};
-ghost use Rattle.job_defs.specs.Seen.{command_of, launch_of};
+ghost use Rattle.job_defs.specs.Parts.{command_of, launch_of};
 
 use crate::parts::{Command, Launch};
 use history_model::{KeyName, Reason, Text};

@@ -8,5 +8,6 @@ ghost use Rattle.job_defs.specs.Table.{def_of};
 /// The label of a definition that is read is one: 1 to 255 bytes, none of them forbidden.
 #[tactic(auto, using(crate::proofs::Labels::label_read))]
 pub fn a_definition_has_a_label()
-    ensures { (bytes : List ℕ) (described : Described) → def_of bytes ≡ Ok described → is_label described.label ≡ true }
+    ensures { (bytes : List ℕ) (described : Described) → def_of bytes ≡ Ok described
+        → is_label described.label ≡ true }
 {}

@@ -9,7 +9,7 @@ ghost use Rattle.json_kinds.specs.Faults.{Gives};
 ghost use Rattle.json_kinds.specs.Kinds.{each_member};
 ghost use Rattle.job_defs.specs.Variables.{is_equals, variable_in, variable_by, environment_at, environment_row};
 ghost use Rattle.job_defs.specs.Table.{surroundings_at};
-ghost use Rattle.job_defs.specs.Seen.{surroundings_of};
+ghost use Rattle.job_defs.specs.Parts.{surroundings_of};
 
 use crate::parts::{Surroundings, Variable};
 use history_model::{KeyName, Reason, Text};
@@ -63,7 +63,8 @@ fn environment_of(alloc: Global, found: &Value) -> Result<Vec<Variable>, DefFaul
 }
 
 fn each_variable(alloc: Global, members: &Map<String, Value>) -> Result<Vec<Variable>, DefFault>
-    ensures { Gives (λ variables. variables.items) result (each_member variable_in (members_view members.now.entries)) }
+    ensures { Gives (λ variables. variables.items) result
+        (each_member variable_in (members_view members.now.entries)) }
 {
     let mut variables = Vec::new(alloc);
     for (name, value) in members.iter() {
@@ -77,7 +78,8 @@ fn each_variable(alloc: Global, members: &Map<String, Value>) -> Result<Vec<Vari
 /// A variable; None where its value is no string.
 #[tactic(auto, unfolding(crate::specs::Variables::variable_in))]
 fn variable_of(alloc: Global, name: &str, value: &Value) -> Result<Option<Variable>, DefFault>
-    ensures { Gives (λ variable. option_to_list variable) result (variable_in name.now (view value.now)) }
+    ensures { Gives (λ variable. option_to_list variable) result
+        (variable_in name.now (view value.now)) }
 {
     let name = filled_text(name, KeyName::EnvironmentVariables, 255)?;
     if has_equals(name) {
@@ -91,7 +93,8 @@ fn variable_of(alloc: Global, name: &str, value: &Value) -> Result<Option<Variab
 
 #[tactic(auto, unfolding(crate::specs::Variables::variable_by))]
 fn valued(alloc: Global, name: &str, value: &Value) -> Result<Option<Variable>, DefFault>
-    ensures { Gives (λ variable. option_to_list variable) result (variable_by name.now (as_str (view value.now))) }
+    ensures { Gives (λ variable. option_to_list variable) result
+        (variable_by name.now (as_str (view value.now))) }
 {
     let Some(value) = value.as_str() else {
         return Ok(None);

@@ -32,7 +32,8 @@ fn named(alloc: Global, first: &str, others: &[Text]) -> Result<String, AllocErr
 }
 
 fn push_others(text: &mut String, others: &[Text]) -> Result<(), AllocError>
-    ensures { OnOk result (string_bytes text.new ≡ string_bytes text.old ++ flat_map (λ name. codes ", " ++ name) others.now) }
+    ensures { OnOk result (string_bytes text.new
+        ≡ string_bytes text.old ++ flat_map (λ name. codes ", " ++ name) others.now) }
 {
     for name in others {
         text.push_str(", ")?;

@@ -11,7 +11,7 @@ use Rattle.job_table.specs.Kept.{KeepsState, acts_in}
 use Rattle.job_table.specs.Outcomes.{IsSameFor}
 use Rattle.job_table.specs.Changes.{set_of, IsChanged, Changes}
 use Rattle.job_table.specs.declared.changing.NewSetting.{NewSetting}
-use Rattle.ctl_protocol.specs.Outcomes.{outcome_text}
+use Rattle.ctl_protocol.specs.Outcomes.{outcome_line}
 use Rattle.jobd.specs.Answers.{IsAnswered}
 
 set_same : (label : Label) (disabled unload store : Bool) → set_of label (disabled || unload) unload store ≡ set_of label disabled unload store
@@ -28,17 +28,17 @@ ready_set ready label disabled unload store named set withdrawn =
 pub changed : (before old new : Table) (ready : NewSetting) (label : Label) (disabled unload store : Bool) (acts : List (Label × Act)) (line : List ℕ)
     → ready.setting.label ≡ label → ready.setting.disabled ≡ (disabled || unload) → ready.unload ≡ unload
     → ((s : State) (store : Bool) → KeepsState before s → refusal_in s (set_of label disabled unload store) ≡ refusal_stored true store) → store ≡ true → IsSameFor before old
-    → Changes old ready new → acts ≡ acts_in new → line ≡ outcome_text (record { refusal = None; orders = acts; text = [] }) → IsAnswered (set_of label disabled unload store) before new line
+    → Changes old ready new → acts ≡ acts_in new → line ≡ outcome_line (record { refusal = None; orders = acts; text = [] }) → IsAnswered (set_of label disabled unload store) before new line
 changed before old new ready label disabled unload store acts line named set withdrawn admitted stored same changes lent told = λ s keeps.
     let as_asked = ready_set ready label disabled unload store named set withdrawn in
     let none : refusal_in s (set_of label disabled unload store) ≡ None = admitted s store keeps ∙ ap (refusal_stored true) stored in
     let is : IsChanged new s (set_of label disabled unload store) = subst (IsChanged new s) as_asked (changes s store (same s keeps) (ap (refusal_in s) as_asked ∙ none)) in
-    (told ∙ ap (λ a. outcome_text (record { refusal = None; orders = a; text = [] })) lent ∙ ap outcome_text (sym is.outcome), is.kept)
+    (told ∙ ap (λ a. outcome_line (record { refusal = None; orders = a; text = [] })) lent ∙ ap outcome_line (sym is.outcome), is.kept)
 
 pub changed_line : {X E : Type 0} (result : Result X E) (items : X → List ℕ) (before old new : Table) (ready : NewSetting) (label : Label) (disabled unload store : Bool) (acts : List (Label × Act))
     → ready.setting.label ≡ label → ready.setting.disabled ≡ (disabled || unload) → ready.unload ≡ unload
     → ((s : State) (store : Bool) → KeepsState before s → refusal_in s (set_of label disabled unload store) ≡ refusal_stored true store) → store ≡ true → IsSameFor before old
-    → Changes old ready new → acts ≡ acts_in new → IfOk result (λ line. items line ≡ outcome_text (record { refusal = None; orders = acts; text = [] }))
+    → Changes old ready new → acts ≡ acts_in new → IfOk result (λ line. items line ≡ outcome_line (record { refusal = None; orders = acts; text = [] }))
     → IfOk result (λ line. IsAnswered (set_of label disabled unload store) before new (items line))
 changed_line result items before old new ready label disabled unload store acts named set withdrawn admitted stored same changes lent told =
     IfOk-weaker _ _ _ (λ line t. changed before old new ready label disabled unload store acts (items line) named set withdrawn admitted stored same changes lent t) told

@@ -4,14 +4,16 @@ use Rattle.history_model.specs.Machine.{State, Event}
 use Rattle.history_model.specs.Step.{outcome, step}
 use Rattle.job_table.specs.Rows.{Table}
 use Rattle.job_table.specs.Kept.{KeepsState}
-use Rattle.ctl_protocol.specs.Outcomes.{outcome_text}
+use Rattle.ctl_protocol.specs.Outcomes.{outcome_line}
 use Rattle.ctl_protocol.specs.Headers.{header_at}
 use Rattle.ctl_protocol.specs.declared.header.Header.{Header}
 use Rattle.table_opening.specs.Output.{Opens, IsNoHeader, output_from}
 
--- whatever machine the table stands for: the line is its outcome's, and then the table stands for its next state
+-- whatever machine the table stands for: the line is its outcome's, and then the table stands for
+-- its next state
 abbrev pub IsAnswered : Event → Table → Table → List ℕ → Type 0
-IsAnswered e old new line = (s : State) → KeepsState old s → (line ≡ outcome_text (outcome s e)) × KeepsState new (step s e)
+IsAnswered e old new line =
+    (s : State) → KeepsState old s → (line ≡ outcome_line (outcome s e)) × KeepsState new (step s e)
 
 -- ---- the opening
 
@@ -26,4 +28,6 @@ IsOpenedFrom header table = (line : List ℕ) → header_at line ≡ Some header
 
 -- the table will answer so
 abbrev pub WillWrite : Table → (List (List ℕ) → List ℕ) → Type 0
-WillWrite table future = (s : State) × KeepsState table s × ((lines : List (List ℕ)) → future lines ≡ output_from s lines)
+WillWrite table future =
+    (s : State) × KeepsState table s
+    × ((lines : List (List ℕ)) → future lines ≡ output_from s lines)

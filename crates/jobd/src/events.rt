@@ -17,7 +17,8 @@ pub(crate) fn happened(
     event: JobEvent<'_>,
 ) -> Result<Vec<u8>, AllocError>
     requires silent { reading_in (item_of event) ≡ None }
-    ensures { IfOk result (λ line. IsAnswered (OfJob job.now (item_of event.entry)) table.old table.new line.items) }
+    ensures { IfOk result (λ line. IsAnswered (OfJob job.now (item_of event.entry))
+        table.old table.new line.items) }
 {
     answer_line(alloc, table.tell(job, event))
 }

@@ -11,6 +11,6 @@ mod replaying;
 mod status;
 mod whole;
 
-pub use replay_loop::{LIMIT, ReplayFault};
+pub use replay_loop::{LINE_LIMIT, ReplayFault};
 pub use replaying::{replay, replay_within};
 pub use status::status_of;

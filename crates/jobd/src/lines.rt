@@ -1,7 +1,9 @@
 //! The line that tells what the table answered.
+
 ghost use Rattle.std.specs.Prelude.{◌≡◌, IfOk, Some, None, [], string_bytes};
 ghost use Rattle.history_model.specs.Texts.{refusal_text};
-ghost use Rattle.ctl_protocol.specs.Outcomes.{orders_of, outcome_text};
+ghost use Rattle.ctl_protocol.specs.Outcomes as outcomes;
+ghost use Rattle.ctl_protocol.specs.Outcomes.{orders_of};
 ghost use Rattle.job_table.specs.Ends.{acts_of, answered};
 
 use ctl_protocol::outcome_line;
@@ -27,7 +29,11 @@ pub(crate) fn accepted_line(
     text: Text,
 ) -> Result<Vec<u8>, AllocError>
     ensures { IfOk result (λ line. line.items
-        ≡ outcome_text (record { refusal = None; orders = acts_of step.now; text = text })) }
+        ≡ outcomes.outcome_line (record {
+          refusal = None;
+          orders = acts_of step.now;
+          text = text;
+        })) }
 {
     let orders = labelled_orders(alloc, step)?;
     let reply = Reply {
@@ -40,7 +46,11 @@ pub(crate) fn accepted_line(
 /// The line of an event that was refused.
 pub(crate) fn refused_line(alloc: Global, refusal: Refusal) -> Result<Vec<u8>, AllocError>
     ensures { IfOk result (λ line. line.items
-        ≡ outcome_text (record { refusal = Some refusal; orders = []; text = refusal_text refusal })) }
+        ≡ outcomes.outcome_line (record {
+          refusal = Some refusal;
+          orders = [];
+          text = refusal_text refusal;
+        })) }
 {
     let reply = Reply {
         refusal: Some(refusal),
@@ -54,7 +64,7 @@ pub(crate) fn answer_line(
     alloc: Global,
     answer: Result<Step<'_>, Refusal>,
 ) -> Result<Vec<u8>, AllocError>
-    ensures { IfOk result (λ line. line.items ≡ outcome_text (answered answer.entry)) }
+    ensures { IfOk result (λ line. line.items ≡ outcomes.outcome_line (answered answer.entry)) }
 {
     match answer {
         Ok(step) => accepted_line(alloc, &step, Text::new(String::new(alloc))),
@@ -65,7 +75,11 @@ pub(crate) fn answer_line(
 /// The line of a question that was answered by a text.
 pub(crate) fn told_line(alloc: Global, text: String) -> Result<Vec<u8>, AllocError>
     ensures { IfOk result (λ line. line.items
-        ≡ outcome_text (record { refusal = None; orders = []; text = string_bytes text })) }
+        ≡ outcomes.outcome_line (record {
+          refusal = None;
+          orders = [];
+          text = string_bytes text;
+        })) }
 {
     let reply = Reply {
         refusal: None,

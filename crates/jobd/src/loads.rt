@@ -32,7 +32,9 @@ pub(crate) fn load(
     def: &str,
     words: LoadWords,
 ) -> Result<Vec<u8>, AllocError>
-    ensures { IfOk result (λ line. IsAnswered (load_of def.now words.w words.force words.bind words.store) table.old table.new line.items) }
+    ensures { IfOk result (λ line. IsAnswered
+        (load_of def.now words.w words.force words.bind words.store)
+        table.old table.new line.items) }
 {
     match table.prepare_load(alloc, def.as_bytes(), words.w, words.force) {
         Ok(ready) => {
@@ -66,7 +68,8 @@ fn set(
     unload: bool,
     store: bool,
 ) -> Result<Vec<u8>, AllocError>
-    ensures { IfOk result (λ line. IsAnswered (set_of job.now disabled unload store) table.old table.new line.items) }
+    ensures { IfOk result (λ line. IsAnswered (set_of job.now disabled unload store)
+        table.old table.new line.items) }
 {
     match table.prepare_set(alloc, job, disabled, unload) {
         Ok(ready) => {
@@ -89,7 +92,8 @@ pub(crate) fn set_disabled(
     disabled: bool,
     store: bool,
 ) -> Result<Vec<u8>, AllocError>
-    ensures { IfOk result (λ line. IsAnswered (Set job.now disabled store) table.old table.new line.items) }
+    ensures { IfOk result (λ line. IsAnswered (Set job.now disabled store)
+        table.old table.new line.items) }
 {
     set(alloc, table, job, disabled, false, store)
 }
@@ -102,7 +106,8 @@ pub(crate) fn unload(
     w: bool,
     store: bool,
 ) -> Result<Vec<u8>, AllocError>
-    ensures { IfOk result (λ line. IsAnswered (UnloadJob job.now w store) table.old table.new line.items) }
+    ensures { IfOk result (λ line. IsAnswered (UnloadJob job.now w store)
+        table.old table.new line.items) }
 {
     if w {
         set(alloc, table, job, true, true, store)

@@ -17,8 +17,8 @@ pub fn replay_within<R: Read, W: Write>(
 ) -> Result<(), ReplayFault>
     ensures ok { OnOk result (Answered IsOutput (R.remaining reader.old) (R.remaining reader.new)
         (W.contents writer.old) (W.contents writer.new)) }
-    ensures err { IfErr result (λ e. Failed IsOutput reads (R.remaining reader.old) (R.remaining reader.new)
-        (W.contents writer.old) (W.contents writer.new) e) }
+    ensures err { IfErr result (λ e. Failed IsOutput reads (R.remaining reader.old)
+        (R.remaining reader.new) (W.contents writer.old) (W.contents writer.new) e) }
 {
     match run_within::<Launcher, R, W>(alloc, reader, writer, reads) {
         Ok(()) => Ok(()),
@@ -35,8 +35,8 @@ pub fn replay<R: Read, W: Write>(
 ) -> Result<(), ReplayFault>
     ensures ok { OnOk result (Answered IsOutput (R.remaining reader.old) (R.remaining reader.new)
         (W.contents writer.old) (W.contents writer.new)) }
-    ensures err { IfErr result (λ e. Failed IsOutput (2 ^ 32) (R.remaining reader.old) (R.remaining reader.new)
-        (W.contents writer.old) (W.contents writer.new) e) }
+    ensures err { IfErr result (λ e. Failed IsOutput (2 ^ 32) (R.remaining reader.old)
+        (R.remaining reader.new) (W.contents writer.old) (W.contents writer.new) e) }
 {
     match replay_within(alloc, reader, writer, 1 << 32) {
         Ok(()) => Ok(()),

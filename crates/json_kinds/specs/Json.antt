@@ -1,4 +1,5 @@
--- Bytes that are a JSON text, as RFC 8259 says and `serde_json` reads: UTF-8, nested at most 127 deep.
+-- Bytes that are a JSON text, as RFC 8259 says and `serde_json` reads: UTF-8, nested at most 127
+-- deep.
 use Rattle.std.specs.Prelude.{ℕ, List, Option, None, if◌then◌else◌}
 use Rattle.std.specs.Str.{is_utf8}
 use Rattle.serde_json.specs.Data.{Data}

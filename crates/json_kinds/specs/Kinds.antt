@@ -1,7 +1,9 @@
--- Values by kind, length, range and form, in the order in which they are checked. The key is the one that a fault names.
-use Rattle.std.specs.Prelude.{ℕ, List, [], ◌∷◌, ◌++◌, length, Bool, ◌&&◌, ◌==◌, nat_lt, nat_le, Result, Ok, Err, Option, Some, None, if◌then◌else◌, ⊤}
+-- Values by kind, length, range and form, in the order in which they are checked. The key is the
+-- one that a fault names.
+use Rattle.std.specs.Prelude.{ℕ, List, [], ◌∷◌, ◌++◌, length, map, Bool, ◌&&◌, ◌==◌, nat_lt, nat_le, Result, Ok, Err, Option, Some, None, if◌then◌else◌, ⊤}
 use Rattle.std.specs.List.{list_any}
 use Rattle.std.specs.Str.{bytes_eq}
+use Rattle.std.specs.Borrow.{Bor}
 use Rattle.serde_json.specs.Data.{Num, unsigned, negative, float, Data, Items, no_items, item, Members, no_members, member}
 use Rattle.serde_json.specs.Find.{get, as_str, as_bool, as_number, as_array, as_object}
 use Rattle.history_model.specs.declared.Reason.TheVariants.{Missing, WrongKind, OutOfRange, TooLong, Unsupported}
@@ -31,7 +33,8 @@ object_at key d = or_fault (as_object d) (bad WrongKind key)
 
 -- from low to high; a number with a fraction or an exponent is no integer
 abbrev pub in_range : ℕ → ℕ → KeyName → Num → Result ℕ Fault
-in_range low high key (unsigned n) = if nat_le low n && nat_le n high then Ok n else Err (bad OutOfRange key)
+in_range low high key (unsigned n) =
+    if nat_le low n && nat_le n high then Ok n else Err (bad OutOfRange key)
 in_range low high key (negative z) = Err (bad OutOfRange key)
 in_range low high key (float x) = Err (bad WrongKind key)
 
@@ -49,7 +52,9 @@ is_zero b = b == 0
 
 -- at most so many bytes, and none of them 0
 unfoldable pub plain : ℕ → KeyName → List ℕ → Result (List ℕ) Fault
-plain limit key text = if nat_lt limit (length text) then Err (bad TooLong key) else (if list_any is_zero text then Err (bad OutOfRange key) else Ok text)
+plain limit key text =
+    if nat_lt limit (length text) then Err (bad TooLong key)
+    else (if list_any is_zero text then Err (bad OutOfRange key) else Ok text)
 
 -- and at least one
 unfoldable pub filled : ℕ → KeyName → List ℕ → Result (List ℕ) Fault
@@ -69,9 +74,17 @@ filled_at limit key d = do
   text ← text_at key d
   filled limit key text
 
+-- the most bytes of a path
+abbrev pub path_limit : ℕ
+path_limit = 1024
+
 -- a path
 abbrev pub path_at : KeyName → Data → Result (List ℕ) Fault
-path_at key d = filled_at 1024 key d
+path_at key d = filled_at path_limit key d
+
+-- texts without where they lie in memory
+abbrev pub texts_in : List (Bor (List ℕ)) → List (List ℕ)
+texts_in texts = map (λ text. text.now) texts
 
 -- the text is one of them
 abbrev pub is_among : List (List ℕ) → List ℕ → Bool
@@ -88,7 +101,8 @@ each_item row (item d ds) = do
   Ok (first ∷ rest)
 
 -- each member of a dictionary by this row, which may give none of it
-abbrev pub each_member : {A : Type 0} → (Key → Data → Result (List A) Fault) → Members → Result (List A) Fault
+abbrev pub each_member : {A : Type 0} → (Key → Data → Result (List A) Fault)
+    → Members → Result (List A) Fault
 each_member row no_members = Ok []
 each_member row (member k d ms) = do
   first ← row k d
@@ -133,7 +147,8 @@ bool_row absent key d = where_given (bool_at key) absent (get (key_text key) d)
 
 -- an integer from low to high
 unfoldable pub integer_row : ℕ → ℕ → ℕ → KeyName → Data → Result ℕ Fault
-integer_row low high absent key d = where_given (integer_at low high key) absent (get (key_text key) d)
+integer_row low high absent key d =
+    where_given (integer_at low high key) absent (get (key_text key) d)
 
 -- the same, where absence means none
 unfoldable pub optional_integer : ℕ → ℕ → KeyName → Data → Result (Option ℕ) Fault

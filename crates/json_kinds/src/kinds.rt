@@ -1,11 +1,11 @@
 //! Values by kind, length, range and form. `key` is the key that a fault names.
 
-ghost use Rattle.std.specs.Prelude.{◌≡◌, ◌≤◌, map, IfOk};
+ghost use Rattle.std.specs.Prelude.{◌≡◌, ◌≤◌, IfOk};
 ghost use Rattle.std.specs.List.{list_any};
 ghost use Rattle.serde_json.specs.View.{view, number_view, items_view, members_view};
 ghost use Rattle.json_kinds.specs.Faults.{Gives};
 ghost use Rattle.json_kinds.specs.Kinds as kinds;
-ghost use Rattle.json_kinds.specs.Kinds.{text_at, bool_at, array_at, object_at, in_range, integer_at, is_zero, plain, filled, plain_at, filled_at, members_or_one};
+ghost use Rattle.json_kinds.specs.Kinds.{text_at, bool_at, array_at, object_at, in_range, integer_at, is_zero, plain, filled, plain_at, filled_at, members_or_one, texts_in};
 
 use crate::fault::DefFault;
 use history_model::{KeyName, Reason};
@@ -165,7 +165,7 @@ pub fn filled_of(found: &Value, key: KeyName, limit: usize) -> Result<&str, DefF
 
 /// Whether the text is one of these.
 pub fn is_among(texts: &[&str], text: &str) -> bool
-    ensures { result ≡ kinds.is_among (map (λ known. known.now) texts.now) text.now }
+    ensures { result ≡ kinds.is_among (texts_in texts.now) text.now }
 {
     for known in texts {
         if *known == text {

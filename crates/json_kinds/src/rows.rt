@@ -43,7 +43,8 @@ pub fn bool_row_of(def: &Value, key: KeyName, absent: bool) -> Result<bool, DefF
 
 /// The boolean of a dictionary inside the definition, if it stands. WrongKind as [`bool_of`].
 pub fn optional_bool_of(part: &Value, name: &str, key: KeyName) -> Result<Option<bool>, DefFault>
-    ensures { Gives (λ holds. holds) result (optional (bool_at key) (get name.now (view part.now))) }
+    ensures { Gives (λ holds. holds) result
+        (optional (bool_at key) (get name.now (view part.now))) }
 {
     match part.get(name) {
         Some(found) => Ok(Some(bool_of(found, key)?)),

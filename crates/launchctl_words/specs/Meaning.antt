@@ -16,6 +16,10 @@ is_text a b = pointwise nat_eq a b
 abbrev pub is_set : Text → List Row → Bool
 is_set id rows = option_map_or (λ t. is_text t (codes "true")) (first_of id rows) false
 
+-- the values that were found, row by row
+abbrev pub rows_in : ArgMatches → List Row
+rows_in m = rows_of (found_of m)
+
 -- the command with a subcommand asked for
 abbrev pub asked : App → App
 asked = on_top (λ s. record s { subcommand_required = true })
@@ -34,5 +38,5 @@ Says (Err NoMemory) given = Unit {0}
 -- clap finds no fault in the words, and these matches in them
 pub record IsFound (app : App) (words : List Text) (m : ArgMatches) : Type 0 where
   pub none : is_none_left (fault_of app words) ≡ true
-  pub rows : rows_of (found_of m) ≡ matches_of app words
+  pub rows : rows_in m ≡ matches_of app words
   pub subcommand : subcommand_rows_of m ≡ subcommand_of app words

@@ -10,7 +10,8 @@ flag_rule id letter = record (new_rule id) { short = Some letter; action = Some 
 
 -- an option with a value, as --socket PATH
 abbrev pub option_rule : Text → Bool → Rule
-option_rule id required = record (new_rule id) { long = Some id; required = required; value_names = 1 }
+option_rule id required =
+    record (new_rule id) { long = Some id; required = required; value_names = 1 }
 
 -- a word that must stand, as LABEL
 abbrev pub word_rule : Text → Rule

@@ -1,8 +1,8 @@
 //! The forms of arguments of which both programs' words are made, and how their values are read.
 ghost use Rattle.std.specs.Prelude.{◌≡◌, IfOk, IfErr, Some, None, true, false, string_bytes, option_map, map};
-ghost use Rattle.clap.specs.Words.{app_of, rule_of, rows_of, found_of, first_of, all_of, with_rule, with_subcommand, new_app, App, Rule};
+ghost use Rattle.clap.specs.Words.{app_of, rule_of, first_of, all_of, with_rule, with_subcommand, new_app, App, Rule};
 ghost use Rattle.launchctl_words.specs.Rules.{HasWords, Makes, flag_rule, option_rule, word_rule, words_rule};
-ghost use Rattle.launchctl_words.specs.Meaning.{is_set};
+ghost use Rattle.launchctl_words.specs.Meaning.{is_set, rows_in};
 
 use crate::command::Paths;
 use clap::{Arg, ArgAction, ArgMatches};
@@ -78,7 +78,8 @@ pub fn add_arg<'a>(
     arg: Arg<'a>,
 ) -> Result<clap::Command<'a>, AllocError>
     requires local { arg.global ≡ false }
-    ensures { (a : App) (r : Rule) → Makes command.entry a → rule_of arg.entry ≡ r → Makes result (with_rule a r) }
+    ensures { (a : App) (r : Rule) → Makes command.entry a → rule_of arg.entry ≡ r
+        → Makes result (with_rule a r) }
 {
     match command {
         Ok(command) => command.arg(arg),
@@ -91,7 +92,8 @@ pub fn add_subcommand<'a>(
     command: Result<clap::Command<'a>, AllocError>,
     subcommand: Result<clap::Command<'a>, AllocError>,
 ) -> Result<clap::Command<'a>, AllocError>
-    ensures { (a s : App) → Makes command.entry a → Makes subcommand.entry s → Makes result (with_subcommand a s.top) }
+    ensures { (a s : App) → Makes command.entry a → Makes subcommand.entry s
+        → Makes result (with_subcommand a s.top) }
 {
     match command {
         Ok(command) => match subcommand {
@@ -104,7 +106,7 @@ pub fn add_subcommand<'a>(
 
 /// Whether a flag was given.
 pub fn is_set(found: &ArgMatches<'_>, id: &str) -> bool
-    ensures { result ≡ is_set id.now (rows_of (found_of found.now)) }
+    ensures { result ≡ is_set id.now (rows_in found.now) }
 {
     match found.get_str(id) {
         Some(text) => text == "true",
@@ -114,7 +116,7 @@ pub fn is_set(found: &ArgMatches<'_>, id: &str) -> bool
 
 /// A copy of the value of an option or a word, if it was given.
 pub fn value_of(alloc: Global, found: &ArgMatches<'_>, id: &str) -> Result<Option<Text>, AllocError>
-    ensures { IfOk result (λ value. value ≡ first_of id.now (rows_of (found_of found.now))) }
+    ensures { IfOk result (λ value. value ≡ first_of id.now (rows_in found.now)) }
 {
     match found.get_str(id) {
         Some(text) => Ok(Some(Text::copy_of(alloc, text)?)),
@@ -128,7 +130,7 @@ pub fn values_of(
     found: &ArgMatches<'_>,
     id: &str,
 ) -> Result<Option<Paths>, AllocError>
-    ensures { IfOk result (λ values. values ≡ all_of id.now (rows_of (found_of found.now))) }
+    ensures { IfOk result (λ values. values ≡ all_of id.now (rows_in found.now)) }
 {
     match found.get_strs(id) {
         Some(texts) => Ok(Some(copies_of(alloc, texts)?)),

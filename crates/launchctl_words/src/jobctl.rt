@@ -1,8 +1,8 @@
 //! What the control program's words mean.
 ghost use Rattle.std.specs.Prelude.{◌≡◌, IfOk, map, string_bytes};
-ghost use Rattle.clap.specs.Words.{rows_of, found_of, subcommand_rows_of};
+ghost use Rattle.clap.specs.Words.{subcommand_rows_of};
 ghost use Rattle.launchctl_words.specs.Jobctl.{files_meant};
-ghost use Rattle.launchctl_words.specs.Meaning.{Says};
+ghost use Rattle.launchctl_words.specs.Meaning.{Says, rows_in};
 ghost use Rattle.launchctl_words.specs.Jobctl as spec;
 
 use crate::arguments::{is_set, value_of, values_of};
@@ -21,7 +21,7 @@ fn read_files(
     name: &str,
     found: &ArgMatches<'_>,
 ) -> Result<Option<Command>, AllocError>
-    ensures { IfOk result (λ command. command ≡ files_meant name.now (rows_of (found_of found.now))) }
+    ensures { IfOk result (λ command. command ≡ files_meant name.now (rows_in found.now)) }
 {
     if name == "load" {
         let write = is_set(found, "write");
@@ -47,7 +47,7 @@ fn read_files(
 
 /// The label under an argument; none where it is no label.
 fn label_in(alloc: Global, found: &ArgMatches<'_>) -> Result<Option<Text>, AllocError>
-    ensures { IfOk result (λ label. label ≡ spec.label_in (rows_of (found_of found.now))) }
+    ensures { IfOk result (λ label. label ≡ spec.label_in (rows_in found.now)) }
 {
     match value_of(alloc, found, "label")? {
         Some(label) => {
@@ -67,7 +67,7 @@ fn read_labels(
     name: &str,
     found: &ArgMatches<'_>,
 ) -> Result<Option<Command>, AllocError>
-    ensures { IfOk result (λ command. command ≡ spec.labels_meant name.now (rows_of (found_of found.now))) }
+    ensures { IfOk result (λ command. command ≡ spec.labels_meant name.now (rows_in found.now)) }
 {
     if name == "start" {
         match label_in(alloc, found)? {
@@ -86,7 +86,7 @@ fn read_labels(
 
 /// The label that the target under an argument names; none where it names none.
 fn target_in(alloc: Global, found: &ArgMatches<'_>) -> Result<Option<Text>, AllocError>
-    ensures { IfOk result (λ label. label ≡ spec.target_in (rows_of (found_of found.now))) }
+    ensures { IfOk result (λ label. label ≡ spec.target_in (rows_in found.now)) }
 {
     match value_of(alloc, found, "target")? {
         Some(target) => match read_target(alloc, target.as_str()) {
@@ -104,7 +104,7 @@ fn read_settings(
     name: &str,
     found: &ArgMatches<'_>,
 ) -> Result<Option<Command>, AllocError>
-    ensures { IfOk result (λ command. command ≡ spec.settings_meant name.now (rows_of (found_of found.now))) }
+    ensures { IfOk result (λ command. command ≡ spec.settings_meant name.now (rows_in found.now)) }
 {
     if name == "enable" {
         match target_in(alloc, found)? {
@@ -127,7 +127,7 @@ fn read_targets(
     name: &str,
     found: &ArgMatches<'_>,
 ) -> Result<Option<Command>, AllocError>
-    ensures { IfOk result (λ command. command ≡ spec.targets_meant name.now (rows_of (found_of found.now))) }
+    ensures { IfOk result (λ command. command ≡ spec.targets_meant name.now (rows_in found.now)) }
 {
     if name == "kickstart" {
         let kill = is_set(found, "kill");
@@ -164,7 +164,7 @@ fn read_command(
     name: &str,
     found: &ArgMatches<'_>,
 ) -> Result<Option<Command>, AllocError>
-    ensures { IfOk result (λ command. command ≡ spec.command_meant name.now (rows_of (found_of found.now))) }
+    ensures { IfOk result (λ command. command ≡ spec.command_meant name.now (rows_in found.now)) }
 {
     if let Some(command) = read_files(alloc, name, found)? {
         return Ok(Some(command));
@@ -183,7 +183,7 @@ fn read_command(
 
 /// The socket that was named, or the one in the present folder.
 fn socket_in(alloc: Global, matches: &ArgMatches<'_>) -> Result<Text, AllocError>
-    ensures { IfOk result (λ socket. socket ≡ spec.socket_in (rows_of (found_of matches.now))) }
+    ensures { IfOk result (λ socket. socket ≡ spec.socket_in (rows_in matches.now)) }
 {
     match value_of(alloc, matches, "socket")? {
         Some(socket) => Ok(socket),
@@ -193,7 +193,8 @@ fn socket_in(alloc: Global, matches: &ArgMatches<'_>) -> Result<Text, AllocError
 
 /// What a subcommand among the words means; none where they are no command.
 fn read_subcommand(alloc: Global, matches: &ArgMatches<'_>) -> Result<Option<Command>, AllocError>
-    ensures { IfOk result (λ command. command ≡ spec.command_found (subcommand_rows_of matches.now)) }
+    ensures { IfOk result (λ command. command
+        ≡ spec.command_found (subcommand_rows_of matches.now)) }
 {
     match matches.subcommand() {
         Some((name, found)) => match read_command(alloc, name, found) {
@@ -205,7 +206,8 @@ fn read_subcommand(alloc: Global, matches: &ArgMatches<'_>) -> Result<Option<Com
 }
 
 fn read_matches(alloc: Global, matches: &ArgMatches<'_>) -> Result<Option<Words>, AllocError>
-    ensures { IfOk result (λ words. words ≡ spec.found_meant (rows_of (found_of matches.now)) (subcommand_rows_of matches.now)) }
+    ensures { IfOk result (λ words. words
+        ≡ spec.found_meant (rows_in matches.now) (subcommand_rows_of matches.now)) }
 {
     let socket = socket_in(alloc, matches)?;
     match read_subcommand(alloc, matches)? {

@@ -1,8 +1,8 @@
 //! The daemon's words: how clap takes them, and what they mean.
 ghost use Rattle.std.specs.Prelude.{◌≡◌, IfOk, map, string_bytes};
-ghost use Rattle.clap.specs.Words.{App, rows_of, found_of, subcommand_rows_of};
+ghost use Rattle.clap.specs.Words.{App, subcommand_rows_of};
 ghost use Rattle.launchctl_words.specs.Rules.{Makes};
-ghost use Rattle.launchctl_words.specs.Meaning.{Says};
+ghost use Rattle.launchctl_words.specs.Meaning.{Says, rows_in};
 ghost use Rattle.launchctl_words.specs.Jobd as spec;
 ghost use Rattle.launchctl_words.specs.Jobd.{with_places, with_choices, serve_app, overrides_app, jobd_app};
 
@@ -130,7 +130,7 @@ fn zone_meant(rule: Option<Text>, file: Option<Text>) -> Option<ZoneWords>
 
 /// The zone that was named; none where both forms were.
 fn zone_in(alloc: Global, found: &ArgMatches<'_>) -> Result<Option<ZoneWords>, AllocError>
-    ensures { IfOk result (λ zone. zone ≡ spec.zone_in (rows_of (found_of found.now))) }
+    ensures { IfOk result (λ zone. zone ≡ spec.zone_in (rows_in found.now)) }
 {
     let (rule, file) = pair_of(alloc, found, "zone", "zone-file")?;
     Ok(zone_meant(rule, file))
@@ -165,7 +165,7 @@ fn pair_of(
     first: &str,
     second: &str,
 ) -> Result<(Option<Text>, Option<Text>), AllocError>
-    ensures { IfOk result (λ pair. pair ≡ spec.pair_in first.now second.now (rows_of (found_of found.now))) }
+    ensures { IfOk result (λ pair. pair ≡ spec.pair_in first.now second.now (rows_in found.now)) }
 {
     let first = value_of(alloc, found, first)?;
     let second = value_of(alloc, found, second)?;
@@ -174,7 +174,7 @@ fn pair_of(
 
 /// What serve means.
 fn read_serve(alloc: Global, found: &ArgMatches<'_>) -> Result<Option<DaemonCommand>, AllocError>
-    ensures { IfOk result (λ command. command ≡ spec.serve_meant (rows_of (found_of found.now))) }
+    ensures { IfOk result (λ command. command ≡ spec.serve_meant (rows_in found.now)) }
 {
     let (socket, store) = pair_of(alloc, found, "socket", "store")?;
     let (spool, journal) = pair_of(alloc, found, "spool", "journal")?;
@@ -188,7 +188,8 @@ fn read_command(
     name: &str,
     found: &ArgMatches<'_>,
 ) -> Result<Option<DaemonCommand>, AllocError>
-    ensures { IfOk result (λ command. command ≡ spec.daemon_command_meant name.now (rows_of (found_of found.now))) }
+    ensures { IfOk result (λ command. command
+        ≡ spec.daemon_command_meant name.now (rows_in found.now)) }
 {
     if name == "replay" {
         Ok(Some(DaemonCommand::Replay))
@@ -211,7 +212,8 @@ fn read_matches(
     alloc: Global,
     matches: &ArgMatches<'_>,
 ) -> Result<Option<DaemonCommand>, AllocError>
-    ensures { IfOk result (λ command. command ≡ spec.daemon_found_meant (subcommand_rows_of matches.now)) }
+    ensures { IfOk result (λ command. command
+        ≡ spec.daemon_found_meant (subcommand_rows_of matches.now)) }
 {
     match matches.subcommand() {
         Some((name, found)) => match read_command(alloc, name, found) {

@@ -21,7 +21,7 @@ use Rattle.load_asking.specs.declared.asking.Asked.{Asked}
 use Rattle.load_asking.specs.Stores.{StoreCall}
 use Rattle.event_journal.specs.Journals.{Kept, Grows}
 use Rattle.event_journal.proofs.Growing.{grows_nothing}
-use Rattle.ctl_protocol.specs.Journal.{event_text}
+use Rattle.ctl_protocol.specs.EventWriter.{event_line}
 use Rattle.launcher_turn.specs.Turns.{IsLed, TurnsOf, refusal_told}
 use Rattle.launcher_load.specs.Lines.{told_set, load_line, set_line}
 use Rattle.launcher_load.specs.LoadTurns.{LoadTurnOf, SetTurnOf, IsUntouched, is_memory, settings_after}
@@ -147,14 +147,14 @@ unasked table a t k n before is = record {
 }
 
 module _ {A : Type 0} (bytes : A → List ℕ) (table : Table) (a : Option (List Entry)) (t : Option (List StoreCall)) (k n : Kept) (before : List Setting → Type 0) (words : List ℕ) where
-  pub listed : (answer : Result A Refusal) → IfOk answer (λ x. IsToldText ListJobs table (bytes x)) → IfErr answer (λ r. r ≡ NoMemory) → OnOk answer (Grows k n (event_text told.List)) → OnErr answer (n ≡ k) →
+  pub listed : (answer : Result A Refusal) → IfOk answer (λ x. IsToldText ListJobs table (bytes x)) → IfErr answer (λ r. r ≡ NoMemory) → OnOk answer (Grows k n (event_line told.List)) → OnErr answer (n ≡ k) →
       IsNumbered table → IfOk answer (λ x. words ≡ bytes x) → Hears (Some told.List) (refusal_told answer) words (standing table a t k) (standing table a t n) before before
   listed (Ok x) text memory noted silent numbered is = λ s led keeps. record {
     asked = record { bind = true; store = true };
     job = 0;
     mid = a;
     asks = record { bind = refl; store = refl; tells = no_call a; stores = no_store t };
-    turn = question s ListJobs (event_text told.List) (bytes x) table a k n (text s keeps) numbered noted keeps led;
+    turn = question s ListJobs (event_line told.List) (bytes x) table a k n (text s keeps) numbered noted keeps led;
     own = λ none. tt;
     text = λ none. ap (λ (o : Outcome). o.text) (text s keeps).0 ∙ sym is;
     stored = subst before (sym (ap (λ (u : State). u.settings) (text s keeps).1));
@@ -163,28 +163,28 @@ module _ {A : Type 0} (bytes : A → List ℕ) (table : Table) (a : Option (List
   listed (Err _) text memory noted silent numbered is = cc
 
   -- a refusal of the machine is a turn with no order
-  refused_print : (label : Label) (r : Refusal) → ((s : State) → KeepsState table s → refusal_in s (PrintJob label) ≡ Some r) → Grows k n (event_text (told.Print label)) →
+  refused_print : (label : Label) (r : Refusal) → ((s : State) → KeepsState table s → refusal_in s (PrintJob label) ≡ Some r) → Grows k n (event_line (told.Print label)) →
       (s : State) → IsLed s → KeepsState table s → HostTurnOf s (told.Print label) (Some r) words (standing table a t k) (standing table a t n) before before
   refused_print label r is noted s led keeps = record {
     asked = record { bind = true; store = true };
     job = 0;
     mid = a;
     asks = record { bind = refl; store = refl; tells = no_call a; stores = no_store t };
-    turn = nothing_done s (PrintJob label) (event_text (told.Print label)) table r a k n (is s keeps) noted keeps led;
+    turn = nothing_done s (PrintJob label) (event_line (told.Print label)) table r a k n (is s keeps) noted keeps led;
     own = λ none. tt;
     text = λ none. cc;
     stored = subst before (sym (ap (λ (o : Option Refusal). (step_by o s (PrintJob label)).settings) (is s keeps)));
   }
 
   pub printed : (label : Label) (answer : Result A Refusal) → IfOk answer (λ x. IsToldText (PrintJob label) table (bytes x)) →
-      IfErr answer (λ r. Tells r ((s : State) → KeepsState table s → refusal_in s (PrintJob label) ≡ Some r)) → UnlessMemory answer (Grows k n (event_text (told.Print label))) → (answer ≡ Err NoMemory → n ≡ k) →
+      IfErr answer (λ r. Tells r ((s : State) → KeepsState table s → refusal_in s (PrintJob label) ≡ Some r)) → UnlessMemory answer (Grows k n (event_line (told.Print label))) → (answer ≡ Err NoMemory → n ≡ k) →
       IsNumbered table → IfOk answer (λ x. words ≡ bytes x) → Hears (Some (told.Print label)) (refusal_told answer) words (standing table a t k) (standing table a t n) before before
   printed label (Ok x) text refused noted silent numbered is = λ s led keeps. record {
     asked = record { bind = true; store = true };
     job = 0;
     mid = a;
     asks = record { bind = refl; store = refl; tells = no_call a; stores = no_store t };
-    turn = question s (PrintJob label) (event_text (told.Print label)) (bytes x) table a k n (text s keeps) numbered noted keeps led;
+    turn = question s (PrintJob label) (event_line (told.Print label)) (bytes x) table a k n (text s keeps) numbered noted keeps led;
     own = λ none. tt;
     text = λ none. ap (λ (o : Outcome). o.text) (text s keeps).0 ∙ sym is;
     stored = subst before (sym (ap (λ (u : State). u.settings) (text s keeps).1));

@@ -14,7 +14,7 @@ use Rattle.history_model.specs.Acceptance.{refused_if}
 use Rattle.history_model.specs.Refusals.{is_clock_refused}
 use Rattle.calendar_due.specs.Offsets.{shown_by}
 use Rattle.ctl_protocol.specs.declared.header.Header.{Header}
-use Rattle.ctl_protocol.specs.HeaderLines.{header_text}
+use Rattle.ctl_protocol.specs.HeaderLines.{header_line}
 use Rattle.job_table.specs.Opening.{opening_refusal}
 use Rattle.job_table.specs.Rows.{Table}
 use Rattle.order_edge.specs.Calls.{Entry}
@@ -46,7 +46,7 @@ pub led_first : (header : Header) (s : State) → OpensBy header s → opening_r
 led_first header s opens admitted = subst IsLed (sym opens.state) (led_opened (record { reading = header.reading; zone = shown_by opens.ahead; overrides = header.overrides }) (within header.reading header.overrides admitted))
 
 pub made_new : (header : Header) (settings : List Setting) (table : Table) (calls : Option (List Entry)) (stores stores' : Option (List StoreCall)) (first noted : Kept) (before after : List Setting → Type 0) →
-    StandsOpened (with_settings header settings) table → AreTold stores [] stores' → Grows first noted (header_text (with_settings header settings)) → ((list : List Setting) → before list → after (reverse settings)) →
+    StandsOpened (with_settings header settings) table → AreTold stores [] stores' → Grows first noted (header_line (with_settings header settings)) → ((list : List Setting) → before list → after (reverse settings)) →
     IsNew header calls stores first (standing table calls stores' noted) before after
 made_new header settings table calls stores stores' first noted before after stands unasked grew holds = record {
   settings = settings;

@@ -21,7 +21,7 @@ use Rattle.load_asking.specs.declared.asking.Asked.{Asked}
 use Rattle.load_asking.specs.Stores.{StoreCall}
 use Rattle.event_journal.specs.Journals.{Kept, Grows}
 use Rattle.event_journal.proofs.Growing.{grows_nothing}
-use Rattle.ctl_protocol.specs.Journal.{event_text}
+use Rattle.ctl_protocol.specs.EventWriter.{event_line}
 use Rattle.launcher_turn.specs.declared.happening.Happening.{Happening}
 use Rattle.launcher_turn.specs.declared.happening.Happening.TheVariants as happenings
 use Rattle.launcher_turn.specs.declared.happening.News.{News}
@@ -163,7 +163,7 @@ unless P (Err NoMemory) holds other = cc
 unless P (Err _) holds other = holds
 
 pub happened : (what : Happening) (answer : Result (Unit {0}) Refusal) (old new : Table) (a c : Option (List Entry)) (t : Option (List StoreCall)) (k n : Kept) (before : List Setting → Type 0) →
-    UnlessMemory answer (Turns (turns.event_of what) (event_text (told_by what)) (refusal_told answer) old new a c k n) →
+    UnlessMemory answer (Turns (turns.event_of what) (event_line (told_by what)) (refusal_told answer) old new a c k n) →
     (answer ≡ Err NoMemory → (is_clock what ≡ true) × IsUntouched old new a c × (n ≡ k)) →
     Hears (Some (told_by what)) (refusal_told answer) [] (standing old a t k) (standing new c t n) before before
 happened what answer old new a c t k n before turned none =
@@ -176,10 +176,10 @@ happened what answer old new a c t k n before turned none =
       stored = λ s keeps holds. holds;
     })
     (λ other s led keeps.
-    let turn = (unless (Turns (turns.event_of what) (event_text (told_by what)) (refusal_told answer) old new a c k n) answer turned other s led keeps).0 in
+    let turn = (unless (Turns (turns.event_of what) (event_line (told_by what)) (refusal_told answer) old new a c k n) answer turned other s led keeps).0 in
     let event : event_of (answered well (told_by what)) ≡ turns.event_of what = ap event_of (same_line what) ∙ same_event what in
-    let told = subst (λ (e : Event). TurnsOf s e (event_text (answered well (told_by what))) (refusal_told answer) new a c k n) (sym event)
-    (subst (λ (l : journal.Event). TurnsOf s (turns.event_of what) (event_text l) (refusal_told answer) new a c k n) (sym (same_line what)) turn) in
+    let told = subst (λ (e : Event). TurnsOf s e (event_line (answered well (told_by what))) (refusal_told answer) new a c k n) (sym event)
+    (subst (λ (l : journal.Event). TurnsOf s (turns.event_of what) (event_line l) (refusal_told answer) new a c k n) (sym (same_line what)) turn) in
     record {
       asked = well;
       job = 0;

@@ -15,7 +15,7 @@ use Rattle.job_table.specs.Kept.{KeepsState}
 use Rattle.child_edge.specs.Calls.{Tells}
 use Rattle.order_edge.specs.Calls.{Entry, answers_in}
 use Rattle.load_asking.specs.Stores.{StoreCall, AreTold}
-use Rattle.ctl_protocol.specs.Journal.{event_text}
+use Rattle.ctl_protocol.specs.EventWriter.{event_line}
 use Rattle.event_journal.specs.Journals.{Kept, Grows}
 use Rattle.event_journal.proofs.Growing.{grows_append, grows_nothing}
 use Rattle.launcher_turn.specs.Turns.{IsLed, refusal_told}
@@ -107,7 +107,7 @@ flushed event refusal words old table calls stores m n before after heard grew =
           led = turn.turn.led;
           replies = turn.turn.replies;
           numbers = turn.turn.numbers;
-          noted = line_flushed old.journal m n (event_text (answered turn.asked e) ++ answer_texts turn.turn.names (answers_in turn.turn.entries)) turn.turn.noted grew;
+          noted = line_flushed old.journal m n (event_line (answered turn.asked e) ++ answer_texts turn.turn.names (answers_in turn.turn.entries)) turn.turn.noted grew;
         };
         own = turn.own;
         text = turn.text;

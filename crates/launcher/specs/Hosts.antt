@@ -12,8 +12,8 @@ use Rattle.history_model.specs.Step.{outcome, step}
 use Rattle.job_defs.specs.Described.{Described}
 use Rattle.job_defs.specs.Table.{def_of}
 use Rattle.ctl_protocol.specs.declared.header.Header.{Header}
-use Rattle.ctl_protocol.specs.Journal.{event_text}
-use Rattle.ctl_protocol.specs.HeaderLines.{header_text}
+use Rattle.ctl_protocol.specs.EventWriter.{event_line}
+use Rattle.ctl_protocol.specs.HeaderLines.{header_line}
 use Rattle.job_table.specs.Rows.{Table, Name, definition_of_number}
 use Rattle.job_table.specs.Kept.{KeepsState}
 use Rattle.job_table.specs.Loads.{load_of}
@@ -70,7 +70,7 @@ pub record HostTurnOf (s : State) (event : journal.Event) (refusal : Option Refu
   pub job : ℕ
   pub mid : Option (List Entry)
   pub asks : AsksOutside s event job asked old.calls mid old.stores new.stores
-  pub turn : TurnsOf s (event_of (answered asked event)) (event_text (answered asked event)) refusal new.table mid new.calls old.journal new.journal
+  pub turn : TurnsOf s (event_of (answered asked event)) (event_line (answered asked event)) refusal new.table mid new.calls old.journal new.journal
   pub own : refusal ≡ None → IsOwn event turn.names job
   pub text : refusal ≡ None → (outcome s (event_of (answered asked event))).text ≡ words
   pub stored : before s.settings → after (step s (event_of (answered asked event))).settings
@@ -108,5 +108,5 @@ pub record IsNew (header : Header) (calls : Option (List Entry)) (stores : Optio
   pub kept : KeepsState new.table machine
   pub none : new.calls ≡ calls
   pub unasked : AreTold stores [] new.stores
-  pub noted : Grows journal new.journal (header_text (with_settings header settings))
+  pub noted : Grows journal new.journal (header_line (with_settings header settings))
   pub stored : (list : List Setting) → before list → after machine.settings

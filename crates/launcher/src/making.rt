@@ -1,7 +1,7 @@
 //! What a launcher is made of, as its header tells it.
 
 ghost use Rattle.std.specs.Prelude.{◌≡◌, IfErr, IfOk, is_some};
-ghost use Rattle.ctl_protocol.specs.HeaderLines.{header_text};
+ghost use Rattle.ctl_protocol.specs.HeaderLines.{header_line};
 ghost use Rattle.event_journal.specs.Journals.{Grows, fresh, held};
 ghost use Rattle.table_opening.specs.Openings.{StandsOpened};
 ghost use Rattle.launcher.specs.Hosts.{with_settings as with_overrides};
@@ -51,7 +51,7 @@ pub(crate) fn with_settings(header: Header, settings: Vec<Setting>) -> Header
 
 /// The journal with the header's line, if there is one.
 fn begun<W: Write>(alloc: Global, journal: Option<W>, header: &Header) -> Journal<W>
-    ensures { Grows (fresh (held W.contents journal) (is_some journal)) result (header_text header.now) }
+    ensures { Grows (fresh (held W.contents journal) (is_some journal)) result (header_line header.now) }
 {
     match journal {
         Some(writer) => Journal::begin(alloc, writer, header),
@@ -73,7 +73,7 @@ pub(crate) fn make_inside<W: Write + Drop>(
     journal: Option<W>,
 ) -> Result<Inside<W>, HostFault>
     ensures opened { IfOk result (λ made. StandsOpened header made.table) }
-    ensures noted { IfOk result (λ made. Grows (fresh (held W.contents journal) (is_some journal)) made.journal (header_text header)) }
+    ensures noted { IfOk result (λ made. Grows (fresh (held W.contents journal) (is_some journal)) made.journal (header_line header)) }
     ensures faults { FaultOf header result }
     ensures fault { IfErr result (IsFaultWith header) }
 {

@@ -11,9 +11,9 @@ use Rattle.history_model.specs.declared.event.Event.{Event}
 use Rattle.history_model.specs.declared.event.Event.TheVariants as events
 use Rattle.event_reader.specs.declared.members.Form.TheVariants as forms
 use Rattle.event_reader.specs.Members.{tag_of}
-use Rattle.event_reader.specs.Rows.{event_at}
+use Rattle.event_reader.specs.EventLines.{event_at}
 use Rattle.ctl_protocol.specs.Objects.{Plain, text, flag, count, whole, plain_data, with_members}
-use Rattle.ctl_protocol.specs.Journal.{name_of, row_members, answer_members, event_object}
+use Rattle.ctl_protocol.specs.EventWriter.{name_of, row_members, answer_members, event_object}
 use Rattle.ctl_protocol.proofs.RoundTrips.{event_back}
 use Rattle.launcher_laws.specs.Tellable.{IsFit, IsTold}
 use Rattle.launcher_laws.proofs.ReadBack.{IsFitData, AreFit, again, put_fit, text_back}

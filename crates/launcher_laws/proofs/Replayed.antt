@@ -9,9 +9,9 @@ use Rattle.history_model.specs.declared.event.Setting.{Setting}
 use Rattle.history_model.specs.Machine.{State}
 use Rattle.history_model.specs.Step.{Outcome, outcomes}
 use Rattle.ctl_protocol.specs.declared.header.Header.{Header}
-use Rattle.ctl_protocol.specs.Journal.{event_text}
-use Rattle.ctl_protocol.specs.HeaderLines.{header_text}
-use Rattle.ctl_protocol.specs.Outcomes.{outcome_text}
+use Rattle.ctl_protocol.specs.EventWriter.{event_line}
+use Rattle.ctl_protocol.specs.HeaderLines.{header_line}
+use Rattle.ctl_protocol.specs.Outcomes.{outcome_line}
 use Rattle.replay_loop.specs.Outcomes.{input_lines}
 use Rattle.jobd.proofs.OneOutput.{one_output}
 use Rattle.order_edge.specs.Calls.{Entry}
@@ -27,22 +27,22 @@ use Rattle.launcher_laws.specs.Tellable.{IsTold, IsToldHeader}
 use Rattle.launcher_laws.specs.Replays.{outcome_texts, IsReplayed}
 use Rattle.launcher_laws.proofs.Events.{event_read}
 use Rattle.launcher_laws.proofs.Headers.{header_read}
-use Rattle.launcher_laws.proofs.Lines.{event_line, header_line, journal_lines}
+use Rattle.launcher_laws.proofs.Lines.{event_object_text, header_object_text, journal_lines}
 use Rattle.launcher_laws.proofs.Runs.{grown, went}
 
-read_lines : (events : List journal.Event) → AllByRecursion IsTold events → map event_in (map event_line events) ≡ map event_of events
+read_lines : (events : List journal.Event) → AllByRecursion IsTold events → map event_in (map event_object_text events) ≡ map event_of events
 read_lines [] told = refl
 read_lines (e ∷ events) told = λ i. read_as (event_read e told.0 i) ∷ read_lines events told.1 i
 
 -- the output of the journal's lines
 its_output : (h : Header) (s : State) (events : List journal.Event) (bytes : List ℕ) → OpensBy h s → IsToldHeader h → AllByRecursion IsTold events →
-    bytes ≡ header_text h ++ flat_map event_text events → IsOutput (input_lines bytes) (Some (flat_map outcome_text (outcomes (map event_of events) s)))
+    bytes ≡ header_line h ++ flat_map event_line events → IsOutput (input_lines bytes) (Some (flat_map outcome_line (outcomes (map event_of events) s)))
 its_output h s events bytes opens header told is =
-    let lines : input_lines bytes ≡ header_line h ∷ map event_line events = ap input_lines is ∙ journal_lines h events in
-    subst (λ l. IsOutput l (Some (flat_map outcome_text (outcomes (map event_of events) s)))) (sym lines) (
+    let lines : input_lines bytes ≡ header_object_text h ∷ map event_object_text events = ap input_lines is ∙ journal_lines h events in
+    subst (λ l. IsOutput l (Some (flat_map outcome_line (outcomes (map event_of events) s)))) (sym lines) (
       s,
       record { header = h; read = header_read h header; ahead = opens.ahead; describes = opens.describes; state = opens.state },
-      ap (λ es. flat_map outcome_text (outcomes es s)) (sym (read_lines events told)),
+      ap (λ es. flat_map outcome_line (outcomes es s)) (sym (read_lines events told)),
     )
 
 -- a reader that gave all of these bytes
@@ -64,10 +64,10 @@ module _ {T : Type 0} (holds : T → List Setting → Type 0) where
       let h = with_settings header new.settings in
       let w = went holds new.machine first turns last new.led new.kept heard in
       let later = w.noted still in
-      let begun = grown (fresh (Some []) true) first.stands.journal (header_text h) new.noted later.was in
-      let is : bytes ≡ header_text h ++ flat_map event_text (parts_events w.parts) =
-      its_bytes (Some []) first.stands.journal.bytes last.stands.journal.bytes bytes (header_text h) (flat_map event_text (parts_events w.parts)) refl ends begun.grew later.grew in
-      let same : flat_map outcome_text (outcomes (map event_of (parts_events w.parts)) new.machine) ≡ outcome_texts w.parts = ap (flat_map outcome_text) (sym w.all) in
+      let begun = grown (fresh (Some []) true) first.stands.journal (header_line h) new.noted later.was in
+      let is : bytes ≡ header_line h ++ flat_map event_line (parts_events w.parts) =
+      its_bytes (Some []) first.stands.journal.bytes last.stands.journal.bytes bytes (header_line h) (flat_map event_line (parts_events w.parts)) refl ends begun.grew later.grew in
+      let same : flat_map outcome_line (outcomes (map event_of (parts_events w.parts)) new.machine) ≡ outcome_texts w.parts = ap (flat_map outcome_line) (sym w.all) in
       let out : AllByRecursion IsTold (parts_events w.parts) → IsOutput (input_lines bytes) (Some (outcome_texts w.parts)) =
       λ each. subst (λ t. IsOutput (input_lines bytes) (Some t)) same (its_output h new.machine (parts_events w.parts) bytes new.opens told each is) in
       record {

@@ -17,7 +17,7 @@ use Rattle.job_table.specs.Rows.{Table, Name, label_of}
 use Rattle.job_table.specs.Kept.{KeepsState}
 use Rattle.order_edge.specs.declared.pending.Pending.{Pending}
 use Rattle.order_edge.specs.Calls.{answers_in}
-use Rattle.ctl_protocol.specs.Journal.{event_text}
+use Rattle.ctl_protocol.specs.EventWriter.{event_line}
 use Rattle.event_journal.specs.declared.journal.Phase.{Phase}
 use Rattle.event_journal.specs.declared.journal.Phase.TheVariants.{Open, Closed, Told}
 use Rattle.event_journal.specs.Journals.{Kept, Grows, GrowsIn, told}
@@ -55,9 +55,9 @@ answers_are : (names : List Name) (ps : List Pending) → map event_of (map (ans
 answers_are names [] = refl
 answers_are names (p ∷ ps) = λ i. answer_is (label_of names p.job) p.answer i ∷ answers_are names ps i
 
-answer_lines : (names : List Name) (ps : List Pending) → flat_map event_text (map (answer_told names) ps) ≡ answer_texts names ps
+answer_lines : (names : List Name) (ps : List Pending) → flat_map event_line (map (answer_told names) ps) ≡ answer_texts names ps
 answer_lines names [] = refl
-answer_lines names (p ∷ ps) = ap (λ l. event_text (answer_told names p) ++ l) (answer_lines names ps)
+answer_lines names (p ∷ ps) = ap (λ l. event_line (answer_told names p) ++ l) (answer_lines names ps)
 
 -- ---- one turn
 
@@ -70,7 +70,7 @@ pub record Was {T : Type 0} (holds : T → List Setting → Type 0) (s : State) 
   pub led : IsLed (run (map event_of events) s)
   pub kept : KeepsState turn.after.stands.table (run (map event_of events) s)
   pub held : holds turn.before.store s.settings → holds turn.after.store (run (map event_of events) s).settings
-  pub noted : Grows turn.before.stands.journal turn.after.stands.journal (flat_map event_text events)
+  pub noted : Grows turn.before.stands.journal turn.after.stands.journal (flat_map event_line events)
 
 module _ {T : Type 0} (holds : T → List Setting → Type 0) (s : State) (turn : Turn T) where
   spared_was : IsLed s → KeepsState turn.before.stands.table s → IsToldBy turn ([], []) → IsSpared turn.before.stands turn.after.stands (holds turn.before.store) (holds turn.after.store) → Was holds s turn
@@ -118,7 +118,7 @@ module _ {T : Type 0} (holds : T → List Setting → Type 0) (s : State) (turn 
         led = subst (λ es. IsLed (run es s)) same t.turn.led;
         kept = subst (λ es. KeepsState turn.after.stands.table (run es s)) same t.turn.turn.kept;
         held = λ held. subst (holds turn.after.store) (sym (turn_settings s input names t.turn.entries) ∙ ap (λ es. (run es s).settings) same) (t.stored held);
-        noted = subst (λ l. Grows turn.before.stands.journal turn.after.stands.journal (event_text first ++ l)) (sym (answer_lines names ps)) t.turn.noted;
+        noted = subst (λ l. Grows turn.before.stands.journal turn.after.stands.journal (event_line first ++ l)) (sym (answer_lines names ps)) t.turn.noted;
       }
 
   was : IsLed s → KeepsState turn.before.stands.table s → WasHeard holds turn → Was holds s turn
@@ -177,7 +177,7 @@ pub record Went {T : Type 0} (holds : T → List Setting → Type 0) (s : State)
   pub led : IsLed (run (map event_of (parts_events parts)) s)
   pub kept : KeepsState last.stands.table (run (map event_of (parts_events parts)) s)
   pub held : holds first.store s.settings → holds last.store (run (map event_of (parts_events parts)) s).settings
-  pub noted : last.stands.journal.phase ≡ Open → IsOpenBy first.stands.journal last.stands.journal (flat_map event_text (parts_events parts))
+  pub noted : last.stands.journal.phase ≡ Open → IsOpenBy first.stands.journal last.stands.journal (flat_map event_line (parts_events parts))
 
 module _ {T : Type 0} (holds : T → List Setting → Type 0) where
   none_went : (s : State) (first last : Moment T) → IsLed s → KeepsState first.stands.table s → IsBetween first last → Went holds s first [] last
@@ -206,13 +206,13 @@ module _ {T : Type 0} (holds : T → List Setting → Type 0) where
         held = λ held. subst (λ (t : State). holds last.store t.settings) ended (more.held (w.held (subst (λ (store : T). holds store s.settings) (sym left.store) held)));
         noted = λ still.
             let later = more.noted still in
-            let here = grown turn.before.stands.journal turn.after.stands.journal (flat_map event_text w.events) w.noted later.was in
+            let here = grown turn.before.stands.journal turn.after.stands.journal (flat_map event_line w.events) w.noted later.was in
             let before = between first turn.before left here.was in
             record {
               was = before.was;
-              grew = subst (Appends first.stands.journal.bytes last.stands.journal.bytes) (sym (flat_map-append event_text w.events (parts_events more.parts)))
-                  (Appends-trans first.stands.journal.bytes turn.before.stands.journal.bytes last.stands.journal.bytes [] (flat_map event_text w.events ++ flat_map event_text (parts_events more.parts)) before.grew
-                  (Appends-trans turn.before.stands.journal.bytes turn.after.stands.journal.bytes last.stands.journal.bytes (flat_map event_text w.events) (flat_map event_text (parts_events more.parts)) here.grew later.grew));
+              grew = subst (Appends first.stands.journal.bytes last.stands.journal.bytes) (sym (flat_map-append event_line w.events (parts_events more.parts)))
+                  (Appends-trans first.stands.journal.bytes turn.before.stands.journal.bytes last.stands.journal.bytes [] (flat_map event_line w.events ++ flat_map event_line (parts_events more.parts)) before.grew
+                  (Appends-trans turn.before.stands.journal.bytes turn.after.stands.journal.bytes last.stands.journal.bytes (flat_map event_line w.events) (flat_map event_line (parts_events more.parts)) here.grew later.grew));
             };
       }
 

@@ -4,7 +4,7 @@ use Rattle.std.specs.List.{AllByRecursion}
 use Rattle.history_model.specs.declared.event.Event.{Event}
 use Rattle.ctl_protocol.specs.declared.header.Header.{Header}
 use Rattle.ctl_protocol.specs.Objects.{Plain, text, flag, count, whole}
-use Rattle.ctl_protocol.specs.Journal.{row_members, is_tellable}
+use Rattle.ctl_protocol.specs.EventWriter.{row_members, is_tellable}
 use Rattle.ctl_protocol.specs.HeaderLines.{plain_members, setting_members, IsHeader}
 
 -- a text is UTF-8, and a number has 64 bits

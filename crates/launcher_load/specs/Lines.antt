@@ -3,7 +3,7 @@ use Rattle.std.specs.Prelude.{ℕ, Bool, true, List, if◌then◌else◌}
 use Rattle.history_model.specs.declared.event.Event as journal
 use Rattle.history_model.specs.declared.event.Event.TheVariants as told
 use Rattle.history_model.specs.Labels.{Label}
-use Rattle.ctl_protocol.specs.Journal.{event_text}
+use Rattle.ctl_protocol.specs.EventWriter.{event_line}
 use Rattle.load_asking.specs.declared.asking.Asked.{Asked}
 
 -- the journal's event of a load of a definition's bytes, with what the outside answered
@@ -15,7 +15,7 @@ abbrev pub told_set : Label → (disabled unload store : Bool) → journal.Event
 told_set label disabled unload store = if unload then told.Unload label true store else (if disabled then told.Disable label store else told.Enable label store)
 
 abbrev pub load_line : List ℕ → (w force : Bool) → Asked → List ℕ
-load_line bytes w force asked = event_text (told_load bytes w force asked)
+load_line bytes w force asked = event_line (told_load bytes w force asked)
 
 abbrev pub set_line : Label → (disabled unload store : Bool) → List ℕ
-set_line label disabled unload store = event_text (told_set label disabled unload store)
+set_line label disabled unload store = event_line (told_set label disabled unload store)

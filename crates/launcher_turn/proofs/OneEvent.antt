@@ -30,7 +30,7 @@ use Rattle.history_model.proofs.InOrder.{told_one-labels, same_self, order-run}
 use Rattle.launcher_turn.proofs.Labels.{all-stays}
 use Rattle.launcher_turn.specs.Turns.{Carried, orders_given, refusal_told, IsUntouched, event_in, AreTheirs, IsOrderly, IsWaiting, HappensTo, Happens, Handled}
 use Rattle.job_core.specs.Memory.{NeedsNoMemory}
-use Rattle.ctl_protocol.specs.Journal.{event_text}
+use Rattle.ctl_protocol.specs.EventWriter.{event_line}
 use Rattle.event_journal.specs.Journals.{Kept, Grows}
 use Rattle.launcher_turn.specs.Lines.{told_answer}
 use Rattle.launcher_turn.proofs.CarryLemmas.{none-called}
@@ -170,7 +170,7 @@ orderly-next s label x is = record {
 
 -- the answer goes to its job, and then those that it ordered wait behind the others
 pub handled : (reply : Option Refusal) (old new : Table) (before after : List Pending) (told told' : Option (List Entry)) (written written' : Kept) (pending : Pending) (found said : Label) →
-    found ≡ label_of old.names pending.job → IsNumbered old → (length found ≤ 255 → said ≡ found) → Happens (OfJob said (Answered pending.answer)) reply old new before after told told' → Grows written written' (event_text (told_answer said pending.answer)) →
+    found ≡ label_of old.names pending.job → IsNumbered old → (length found ≤ 255 → said ≡ found) → Happens (OfJob said (Answered pending.answer)) reply old new before after told told' → Grows written written' (event_line (told_answer said pending.answer)) →
     (s : State) (names : List Name) (given : Given) (waits : List Given) (rest : List Pending) → IsWaiting old s names (given ∷ waits) (pending ∷ rest) →
     Handled s names given waits pending rest new before after told told' written written'
 handled reply old new before after told told' written written' pending found said looked numbered copied happened noted s names given waits rest is =
@@ -199,6 +199,6 @@ handled reply old new before after told told' written written' pending found sai
         theirs = theirs-append names waits (wanting (outcome s e).orders) rest (answers_in made) is.theirs.2
             (subst (λ (os : List Given). AreTheirs names (wanting os) (answers_in made)) ordered.1 (made-theirs names did.begins.orders made ordered.2 calls));
       };
-      noted = subst (λ (l : Label). Grows written written' (event_text (told_answer l pending.answer))) same noted;
+      noted = subst (λ (l : Label). Grows written written' (event_line (told_answer l pending.answer))) same noted;
       lighter = next.1;
     }

@@ -29,7 +29,7 @@ use Rattle.launcher_turn.proofs.Labels.{all-stays, all-with}
 use Rattle.history_model.proofs.TurnBound.{turning-start, within-step, length-heavy}
 use Rattle.launcher_turn.specs.Turns.{event_in, events_in, AreTheirs, IsWaiting, Begins, Happens, Settled, IsShort, IsLed, TurnsOf, Turns, refusal_told}
 use Rattle.launcher_turn.specs.Events.{event_of}
-use Rattle.ctl_protocol.specs.Journal.{event_text}
+use Rattle.ctl_protocol.specs.EventWriter.{event_line}
 use Rattle.event_journal.specs.Journals.{Kept, Grows}
 use Rattle.event_journal.proofs.Growing.{grows_append}
 use Rattle.launcher_turn.specs.Lines.{told_by, answer_texts}
@@ -179,12 +179,12 @@ short-event happenings.Shutdown = tt
 
 -- the answer of the turn is that of its event
 pub turned-from : (what : Happening) (result : Result (Unit {0}) Refusal) (old mid new : Table) (before first after : List Pending) (a b c : Option (List Entry)) (k m n : Kept) → result ≡ Ok tt → before ≡ [] →
-    UnlessMemory result (Happens (event_of what) (refusal_told result) old mid before first a b) → Grows k m (event_text (told_by what)) → Settles mid first after new b c m n → Turns (event_of what) (event_text (told_by what)) None old new a c k n
+    UnlessMemory result (Happens (event_of what) (refusal_told result) old mid before first a b) → Grows k m (event_line (told_by what)) → Settles mid first after new b c m n → Turns (event_of what) (event_line (told_by what)) None old new a c k n
 unfolding turned-at
 turned-from what (Err refusal) old mid new before first after a b c k m n ok empty happened noted settles = cc
 turned-from what (Ok done) old mid new before first after a b c k m n ok empty happened noted settles = λ s led keeps.
     let did = happened s keeps in (
-      turned-at s (event_of what) (event_text (told_by what)) old mid new first after a b c k m n (short-event what) led keeps (subst (λ ps. Begins s (event_of what) None mid ps first a b) empty did.begins) noted settles,
+      turned-at s (event_of what) (event_line (told_by what)) old mid new first after a b c k m n (short-event what) led keeps (subst (λ ps. Begins s (event_of what) None mid ps first a b) empty did.begins) noted settles,
       did.loaded,
     )
 
@@ -194,9 +194,9 @@ unless-memory NoMemory follows holds = tt
 unless-memory _ follows holds = follows holds
 
 pub refused-from : (what : Happening) (result : Result (Unit {0}) Refusal) (refusal : Refusal) (old new : Table) (before first : List Pending) (a b : Option (List Entry)) (k n : Kept) →
-    result ≡ Err refusal → before ≡ [] → Grows k n (event_text (told_by what)) → UnlessMemory result (Happens (event_of what) (refusal_told result) old new before first a b) →
-    UnlessMemory {A = Unit {0}} (Err refusal) (Turns (event_of what) (event_text (told_by what)) (Some refusal) old new a b k n)
+    result ≡ Err refusal → before ≡ [] → Grows k n (event_line (told_by what)) → UnlessMemory result (Happens (event_of what) (refusal_told result) old new before first a b) →
+    UnlessMemory {A = Unit {0}} (Err refusal) (Turns (event_of what) (event_line (told_by what)) (Some refusal) old new a b k n)
 refused-from what result refusal old new before first a b k n is empty noted happened =
     unless-memory refusal
-    (λ did. refused-turn (event_of what) (event_text (told_by what)) refusal old new first a b k n (short-event what) noted (subst (λ ps. Happens (event_of what) (Some refusal) old new ps first a b) empty did))
+    (λ did. refused-turn (event_of what) (event_line (told_by what)) refusal old new first a b k n (short-event what) noted (subst (λ ps. Happens (event_of what) (Some refusal) old new ps first a b) empty did))
     (subst (λ r. UnlessMemory r (Happens (event_of what) (refusal_told r) old new before first a b)) is happened)

@@ -6,7 +6,7 @@ use Rattle.history_model.specs.declared.Answer.TheVariants as answers
 use Rattle.history_model.specs.declared.event.Event as journal
 use Rattle.history_model.specs.declared.event.Event.TheVariants as told
 use Rattle.history_model.specs.Labels.{Label}
-use Rattle.ctl_protocol.specs.Journal.{event_text}
+use Rattle.ctl_protocol.specs.EventWriter.{event_line}
 use Rattle.job_table.specs.Rows.{Name, label_of}
 use Rattle.order_edge.specs.declared.pending.Pending.{Pending}
 use Rattle.launcher_turn.specs.declared.happening.News.{News}
@@ -42,7 +42,7 @@ told_by happenings.Shutdown = told.Shutdown
 
 -- the line of an answer; a number stands for its job's label
 abbrev pub answer_text : List Name → Pending → List ℕ
-answer_text names pending = event_text (told_answer (label_of names pending.job) pending.answer)
+answer_text names pending = event_line (told_answer (label_of names pending.job) pending.answer)
 
 -- the lines of the answers, in order
 abbrev pub answer_texts : List Name → List Pending → List ℕ

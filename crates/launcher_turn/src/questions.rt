@@ -6,7 +6,7 @@ ghost use Rattle.history_model.specs.declared.Refusal.TheVariants.{NoMemory};
 ghost use Rattle.history_model.specs.declared.event.Event.TheVariants as told;
 ghost use Rattle.history_model.specs.Acceptance.{refusal_in};
 ghost use Rattle.history_model.specs.Machine.{State, ListJobs, PrintJob};
-ghost use Rattle.ctl_protocol.specs.Journal.{event_text};
+ghost use Rattle.ctl_protocol.specs.EventWriter.{event_line};
 ghost use Rattle.job_table.specs.Kept.{KeepsState};
 ghost use Rattle.job_table.specs.Outcomes.{UnlessMemory, IsToldText, Tells};
 ghost use Rattle.event_journal.specs.Journals.{Grows};
@@ -25,7 +25,7 @@ pub fn list<W: Write>(
 ) -> Result<String, Refusal>
     ensures text { IfOk result (λ text. IsToldText ListJobs table.now (string_bytes text)) }
     ensures memory { IfErr result (λ refusal. refusal ≡ NoMemory) }
-    ensures noted { OnOk result (Grows journal.old journal.new (event_text told.List)) }
+    ensures noted { OnOk result (Grows journal.old journal.new (event_line told.List)) }
     ensures silent { OnErr result (journal.new ≡ journal.old) }
 {
     let text = table.list(alloc)?;
@@ -50,7 +50,7 @@ pub fn print<W: Write>(
 ) -> Result<String, Refusal>
     ensures text { IfOk result (λ text. IsToldText (PrintJob label.now) table.now (string_bytes text)) }
     ensures refused { IfErr result (λ refusal. Tells refusal ((s : State) → KeepsState table.now s → refusal_in s (PrintJob label.now) ≡ Some refusal)) }
-    ensures noted { UnlessMemory result (Grows journal.old journal.new (event_text (told.Print label.now))) }
+    ensures noted { UnlessMemory result (Grows journal.old journal.new (event_line (told.Print label.now))) }
     ensures silent { result ≡ Err NoMemory → journal.new ≡ journal.old }
 {
     match table.print(alloc, label) {

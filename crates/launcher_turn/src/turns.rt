@@ -3,7 +3,7 @@
 ghost use Rattle.std.specs.Prelude.{◌≡◌, Err, true};
 ghost use Rattle.history_model.specs.declared.Refusal.TheVariants.{NoMemory};
 ghost use Rattle.job_table.specs.Outcomes.{UnlessMemory};
-ghost use Rattle.ctl_protocol.specs.Journal.{event_text};
+ghost use Rattle.ctl_protocol.specs.EventWriter.{event_line};
 ghost use Rattle.launcher_turn.specs.Events.{event_of, is_clock};
 ghost use Rattle.launcher_turn.specs.Lines.{told_by};
 ghost use Rattle.launcher_turn.specs.Turns.{Turns, IsUntouched, refusal_told};
@@ -33,7 +33,7 @@ pub fn turn<E: ChildEdge + SocketEdge, W: Write>(
     room: &mut Room,
     what: Happening<'_>,
 ) -> Result<(), Refusal>
-    ensures turn { UnlessMemory result (Turns (event_of what.entry) (event_text (told_by what.entry)) (refusal_told result) table.old table.new (E.told edge.old) (E.told edge.new) journal.old journal.new) }
+    ensures turn { UnlessMemory result (Turns (event_of what.entry) (event_line (told_by what.entry)) (refusal_told result) table.old table.new (E.told edge.old) (E.told edge.new) journal.old journal.new) }
     ensures memory { result ≡ Err NoMemory → (is_clock what.entry ≡ true) × IsUntouched table.old table.new (E.told edge.old) (E.told edge.new) × (journal.new ≡ journal.old) }
 {
     room.answers.clear();

@@ -9,6 +9,9 @@ use bytes::{Bytes, BytesMut};
 use std::alloc::{AllocError, Global};
 use std::marker::Model;
 
+/// The most bytes of a line before its newline, for requests and journals alike.
+pub const LINE_LIMIT: usize = 262_144;
+
 /// Why a piece was not taken, or no line was given.
 #[derive(Clone, Copy, PartialEq, Eq)]
 pub enum LineFault {
@@ -38,9 +41,15 @@ pub struct LineFeed {
 impl Model for LineFeed {
     ghost Value = { Feed };
 
-    ghost view = { λ f. record { lines = lines_of f.buffer.items; rest = rest_of f.buffer.items; limit = f.limit; refusing = f.is_refusing } };
+    ghost view = { λ f. record {
+      lines = lines_of f.buffer.items;
+      rest = rest_of f.buffer.items;
+      limit = f.limit;
+      refusing = f.is_refusing;
+    } };
 
-    ghost invariant = { λ f. (f.rest_len ≡ length (rest_of f.buffer.items)) × (f.rest_len ≤ f.limit) };
+    ghost invariant = { λ f. (f.rest_len ≡ length (rest_of f.buffer.items))
+        × (f.rest_len ≤ f.limit) };
 }
 
 impl LineFeed {

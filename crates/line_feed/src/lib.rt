@@ -6,4 +6,4 @@ mod cut;
 mod feed;
 pub mod laws;
 
-pub use feed::{LineFault, LineFeed};
+pub use feed::{LINE_LIMIT, LineFault, LineFeed};

@@ -4,11 +4,11 @@ use Rattle.std.proofs.lemmas.List.Folds.{list_all-append}
 use Rattle.std.specs.Io.KnownBytes.{Appends, Consumes, Keeps, IsAtEnd}
 use Rattle.std.specs.List.{list_all, take_while}
 use Rattle.std.proofs.KnownBytes.{Appends-trans, Consumes-trans, Consumes-kept, Consumes-nil}
-use Rattle.line_feed.specs.Lines.{Feed, lines_of, rest_of, fits, takes, fed, stopped, is_short}
+use Rattle.line_feed.specs.Lines.{Feed, lines_of, rest_of, fits, takes, fed, stopped, is_short, line_limit}
 use Rattle.line_feed.proofs.Cuts.{lines_none, rest_none, lines_joined, rest_joined, while_append}
 use Rattle.replay_loop.specs.Machine.{Output, Future}
 use Rattle.replay_loop.specs.Handling.{Handles, Stops, drained, come, LastStops, PieceStops}
-use Rattle.replay_loop.specs.Outcomes.{Answers, last_line, input_lines, counted, limit}
+use Rattle.replay_loop.specs.Outcomes.{Answers, last_line, input_lines, counted}
 use Rattle.replay_loop.specs.Ran.{Answered, Wrote, Failed, RanOut, CutOff, OpensNone, HasNoMachine}
 use Rattle.replay_loop.specs.declared.fault.ReplayFault.{ReplayFault}
 use Rattle.replay_loop.specs.declared.fault.ReplayFault.TheVariants.{NoMemory, Header, Read, Write, TooLong, ReadCount}
@@ -17,12 +17,12 @@ use Rattle.replay_loop.proofs.Handled.{nothing, then_more, stops_later}
 pub record Going (output : Output) (count : ℕ) (left rest held holds : Option (List ℕ)) (feed : Feed) (stage : Option Future) : Type 0 where
   pub given : List ℕ
   pub taken : Consumes left rest given
-  pub feed_is : feed ≡ record { lines = []; rest = rest_of given; limit = limit; refusing = false }
-  pub fits_is : fits limit given ≡ true
+  pub feed_is : feed ≡ record { lines = []; rest = rest_of given; limit = line_limit; refusing = false }
+  pub fits_is : fits line_limit given ≡ true
   pub count_is : count ≤ length given
   pub handled : Handles output None stage held holds (lines_of given)
 
-pub start : (output : Output) (left held : Option (List ℕ)) → Going output 0 left left held held (record { lines = []; rest = []; limit = limit; refusing = false }) None
+pub start : (output : Output) (left held : Option (List ℕ)) → Going output 0 left left held held (record { lines = []; rest = []; limit = line_limit; refusing = false }) None
 start output left held = record {
   given = [];
   taken = Consumes-nil left;
@@ -44,15 +44,15 @@ front_true : (a b : Bool) → (a && b) ≡ true → a ≡ true
 front_true true b e = refl
 front_true false b e = absurd (cc)
 
-fits_joined : (x y : List ℕ) → fits limit x ≡ true → fits limit (rest_of x ++ y) ≡ true → fits limit (x ++ y) ≡ true
+fits_joined : (x y : List ℕ) → fits line_limit x ≡ true → fits line_limit (rest_of x ++ y) ≡ true → fits line_limit (x ++ y) ≡ true
 fits_joined x y e f = rw (lines_joined x y, rest_joined x y, list_all-append)
-    (both (list_all (is_short limit) (lines_of x)) (is_short limit (rest_of x)) (list_all (is_short limit) (lines_of (rest_of x ++ y))) (is_short limit (rest_of (rest_of x ++ y))) e f)
+    (both (list_all (is_short line_limit) (lines_of x)) (is_short line_limit (rest_of x)) (list_all (is_short line_limit) (lines_of (rest_of x ++ y))) (is_short line_limit (rest_of (rest_of x ++ y))) e f)
 
-unfit : (x y : List ℕ) → fits limit x ≡ true → fits limit (rest_of x ++ y) ≡ false → fits limit (x ++ y) ≡ false
+unfit : (x y : List ℕ) → fits line_limit x ≡ true → fits line_limit (rest_of x ++ y) ≡ false → fits line_limit (x ++ y) ≡ false
 unfit x y e f = rw (lines_joined x y, rest_joined x y, list_all-append)
-    (true_and (list_all (is_short limit) (lines_of x)) (is_short limit (rest_of x)) (list_all (is_short limit) (lines_of (rest_of x ++ y))) (is_short limit (rest_of (rest_of x ++ y))) e f)
+    (true_and (list_all (is_short line_limit) (lines_of x)) (is_short line_limit (rest_of x)) (list_all (is_short line_limit) (lines_of (rest_of x ++ y))) (is_short line_limit (rest_of (rest_of x ++ y))) e f)
 
-taken_fits : (f : Feed) (given piece : List ℕ) → f ≡ record { lines = []; rest = rest_of given; limit = limit; refusing = false } → (takes f piece ≡ fits limit (rest_of given ++ piece))
+taken_fits : (f : Feed) (given piece : List ℕ) → f ≡ record { lines = []; rest = rest_of given; limit = line_limit; refusing = false } → (takes f piece ≡ fits line_limit (rest_of given ++ piece))
 taken_fits f given piece e = rw e refl
 
 pub more : (output : Output) (count : ℕ) (left rest after held holds has : Option (List ℕ)) (f g : Feed) (stage new : Option Future) (piece : List ℕ) → Going output count left rest held holds f stage → 0 < length piece → Consumes rest after piece
@@ -106,20 +106,20 @@ cut_off output held holds lines stop = let (all, is, front) = stop [] in (all, s
 record Counts (x piece : List ℕ) (f : Feed) : Type 0 where
   others : List (List ℕ)
   split : counted (x ++ piece) ≡ lines_of x ++ (come f piece ++ others)
-  alone : fits limit (rest_of x ++ piece) ≡ false → others ≡ []
+  alone : fits line_limit (rest_of x ++ piece) ≡ false → others ≡ []
 
-counts_at : (t : Bool) (x piece : List ℕ) (f : Feed) → f ≡ record { lines = []; rest = rest_of x; limit = limit; refusing = false } → fits limit x ≡ true → fits limit (rest_of x ++ piece) ≡ t → Counts x piece f
+counts_at : (t : Bool) (x piece : List ℕ) (f : Feed) → f ≡ record { lines = []; rest = rest_of x; limit = line_limit; refusing = false } → fits line_limit x ≡ true → fits line_limit (rest_of x ++ piece) ≡ t → Counts x piece f
 counts_at true x piece f is fine e =
-    let all : fits limit (x ++ piece) ≡ true = fits_joined x piece fine e in
+    let all : fits line_limit (x ++ piece) ≡ true = fits_joined x piece fine e in
     record { others = last_line (rest_of (x ++ piece)); alone = λ no. absurd (true≢false (sym e ∙ no)); split = rw (all, is, e) (ap (λ ls. ls ++ last_line (rest_of (x ++ piece))) (lines_joined x piece) ∙ append_assoc (lines_of x) (lines_of (rest_of x ++ piece)) (last_line (rest_of (x ++ piece)))) }
 counts_at false x piece f is fine e =
-    let short : list_all (is_short limit) (lines_of x) ≡ true = front_true (list_all (is_short limit) (lines_of x)) (is_short limit (rest_of x)) fine in
-    let none : fits limit (x ++ piece) ≡ false = unfit x piece fine e in
-    let here : take_while (is_short limit) (lines_of (x ++ piece)) ≡ lines_of x ++ take_while (is_short limit) (lines_of (rest_of x ++ piece)) = ap (take_while (is_short limit)) (lines_joined x piece) ∙ while_append limit (lines_of x) (lines_of (rest_of x ++ piece)) short in
-    record { others = []; alone = λ _. refl; split = rw (none, is, e) (here ∙ ap (λ ls. lines_of x ++ ls) (sym (append-nil (take_while (is_short limit) (lines_of (rest_of x ++ piece)))))) }
+    let short : list_all (is_short line_limit) (lines_of x) ≡ true = front_true (list_all (is_short line_limit) (lines_of x)) (is_short line_limit (rest_of x)) fine in
+    let none : fits line_limit (x ++ piece) ≡ false = unfit x piece fine e in
+    let here : take_while (is_short line_limit) (lines_of (x ++ piece)) ≡ lines_of x ++ take_while (is_short line_limit) (lines_of (rest_of x ++ piece)) = ap (take_while (is_short line_limit)) (lines_joined x piece) ∙ while_append line_limit (lines_of x) (lines_of (rest_of x ++ piece)) short in
+    record { others = []; alone = λ _. refl; split = rw (none, is, e) (here ∙ ap (λ ls. lines_of x ++ ls) (sym (append-nil (take_while (is_short line_limit) (lines_of (rest_of x ++ piece)))))) }
 
 counts : (output : Output) (count : ℕ) (left rest held holds : Option (List ℕ)) (f : Feed) (stage : Option Future) (piece : List ℕ) (going : Going output count left rest held holds f stage) → Counts going.given piece f
-counts output count left rest held holds f stage piece going = counts_at (fits limit (rest_of going.given ++ piece)) going.given piece f going.feed_is going.fits_is refl
+counts output count left rest held holds f stage piece going = counts_at (fits line_limit (rest_of going.given ++ piece)) going.given piece f going.feed_is going.fits_is refl
 
 all_failed : (output : Output) → output [] None → (reads count : ℕ) (left rest after held holds has : Option (List ℕ)) (f : Feed) (stage : Option Future) (piece : List ℕ) → Going output count left rest held holds f stage → Consumes rest after piece
     → Stops output stage holds has (come f piece) NoMemory → Failed output reads left after held has NoMemory
@@ -147,32 +147,32 @@ last_stop output e count left rest held holds has f stage going stop =
 no_header : (output : Output) (held holds has : Option (List ℕ)) (stage : Option Future) (lines : List (List ℕ)) → Handles output None stage held holds lines → stage ≡ None → Appends holds has [] → Appends held has []
 no_header output held holds has stage lines h none kept = subst (Appends held has) (rw (h.silent none) refl) (Appends-trans held holds has h.text [] h.wrote kept)
 
-all_short : (xs : List (List ℕ)) → list_all (is_short limit) xs ≡ true → take_while (is_short limit) xs ≡ xs
-all_short xs short = ap (take_while (is_short limit)) (sym (append-nil xs)) ∙ while_append limit xs [] short ∙ append-nil xs
+all_short : (xs : List (List ℕ)) → list_all (is_short line_limit) xs ≡ true → take_while (is_short line_limit) xs ≡ xs
+all_short xs short = ap (take_while (is_short line_limit)) (sym (append-nil xs)) ∙ while_append line_limit xs [] short ∙ append-nil xs
 
 -- where no line came before, the short lines of all are those that the piece ends
-come_first : (t : Bool) (x piece : List ℕ) (f : Feed) → f ≡ record { lines = []; rest = rest_of x; limit = limit; refusing = false } → fits limit x ≡ true → lines_of x ≡ [] → fits limit (rest_of x ++ piece) ≡ t
-    → take_while (is_short limit) (lines_of (x ++ piece)) ≡ come f piece
+come_first : (t : Bool) (x piece : List ℕ) (f : Feed) → f ≡ record { lines = []; rest = rest_of x; limit = line_limit; refusing = false } → fits line_limit x ≡ true → lines_of x ≡ [] → fits line_limit (rest_of x ++ piece) ≡ t
+    → take_while (is_short line_limit) (lines_of (x ++ piece)) ≡ come f piece
 come_first t x piece f is fine none e =
-    let here : take_while (is_short limit) (lines_of (x ++ piece)) ≡ take_while (is_short limit) (lines_of (rest_of x ++ piece)) = ap (take_while (is_short limit)) (lines_joined x piece ∙ ap (λ ls. ls ++ lines_of (rest_of x ++ piece)) none) in
+    let here : take_while (is_short line_limit) (lines_of (x ++ piece)) ≡ take_while (is_short line_limit) (lines_of (rest_of x ++ piece)) = ap (take_while (is_short line_limit)) (lines_joined x piece ∙ ap (λ ls. ls ++ lines_of (rest_of x ++ piece)) none) in
     go t e here
   where
-    go : (t : Bool) → fits limit (rest_of x ++ piece) ≡ t → take_while (is_short limit) (lines_of (x ++ piece)) ≡ take_while (is_short limit) (lines_of (rest_of x ++ piece)) → take_while (is_short limit) (lines_of (x ++ piece)) ≡ come f piece
-    go true e here = rw (is, e) (here ∙ all_short (lines_of (rest_of x ++ piece)) (front_true (list_all (is_short limit) (lines_of (rest_of x ++ piece))) (is_short limit (rest_of (rest_of x ++ piece))) e))
+    go : (t : Bool) → fits line_limit (rest_of x ++ piece) ≡ t → take_while (is_short line_limit) (lines_of (x ++ piece)) ≡ take_while (is_short line_limit) (lines_of (rest_of x ++ piece)) → take_while (is_short line_limit) (lines_of (x ++ piece)) ≡ come f piece
+    go true e here = rw (is, e) (here ∙ all_short (lines_of (rest_of x ++ piece)) (front_true (list_all (is_short line_limit) (lines_of (rest_of x ++ piece))) (is_short line_limit (rest_of (rest_of x ++ piece))) e))
     go false e here = rw (is, e) here
 
 no_machine : (output : Output) (reads count : ℕ) (left rest after held holds has : Option (List ℕ)) (f : Feed) (stage : Option Future) (piece : List ℕ) → Going output count left rest held holds f stage → Consumes rest after piece
     → PieceStops output f piece holds has Header stage → Failed output reads left after held has Header
 no_machine output reads count left rest after held holds has f stage piece going came (none, kept, why) =
     let x = going.given in
-    let lines = come_first (fits limit (rest_of x ++ piece)) x piece f going.feed_is going.fits_is (going.handled.unopened none) refl in (
+    let lines = come_first (fits line_limit (rest_of x ++ piece)) x piece f going.feed_is going.fits_is (going.handled.unopened none) refl in (
       x ++ piece,
       Consumes-trans left rest after x piece going.taken came,
       reason lines why,
       no_header output held holds has stage (lines_of x) going.handled none kept,
     )
   where
-    reason : take_while (is_short limit) (lines_of (going.given ++ piece)) ≡ come f piece → OpensNone output (come f piece) ⊎ ((takes f piece ≡ false) × (come f piece ≡ [])) → HasNoMachine output (going.given ++ piece) after
+    reason : take_while (is_short line_limit) (lines_of (going.given ++ piece)) ≡ come f piece → OpensNone output (come f piece) ⊎ ((takes f piece ≡ false) × (come f piece ≡ [])) → HasNoMachine output (going.given ++ piece) after
     reason lines (inl refused) = inl (subst (OpensNone output) (sym lines) refused)
     reason lines (inr (long, empty)) = inr (inl (unfit going.given piece going.fits_is (sym (taken_fits f going.given piece going.feed_is) ∙ long), lines ∙ empty))
 
@@ -181,14 +181,14 @@ pub fails : (output : Output) → output [] None → (e : ReplayFault) (reads co
 fails output empty Header reads count left rest after held holds has f stage piece going came stop = no_machine output reads count left rest after held holds has f stage piece going came stop
 fails output empty TooLong reads count left rest after held holds has f stage piece going came (refused, new, some, second) =
     let x = going.given in
-    let short : list_all (is_short limit) (lines_of x) ≡ true = front_true (list_all (is_short limit) (lines_of x)) (is_short limit (rest_of x)) going.fits_is in
-    let past : fits limit (rest_of x ++ piece) ≡ false = sym (taken_fits f x piece going.feed_is) ∙ refused in
-    let here : take_while (is_short limit) (lines_of (x ++ piece)) ≡ lines_of x ++ take_while (is_short limit) (lines_of (rest_of x ++ piece)) = ap (take_while (is_short limit)) (lines_joined x piece) ∙ while_append limit (lines_of x) (lines_of (rest_of x ++ piece)) short in
+    let short : list_all (is_short line_limit) (lines_of x) ≡ true = front_true (list_all (is_short line_limit) (lines_of x)) (is_short line_limit (rest_of x)) going.fits_is in
+    let past : fits line_limit (rest_of x ++ piece) ≡ false = sym (taken_fits f x piece going.feed_is) ∙ refused in
+    let here : take_while (is_short line_limit) (lines_of (x ++ piece)) ≡ lines_of x ++ take_while (is_short line_limit) (lines_of (rest_of x ++ piece)) = ap (take_while (is_short line_limit)) (lines_joined x piece) ∙ while_append line_limit (lines_of x) (lines_of (rest_of x ++ piece)) short in
     let later = subst (λ h. Handles output stage new holds has (stopped h piece).lines) going.feed_is second in (
       x ++ piece,
       Consumes-trans left rest after x piece going.taken came,
-      rw (lines_joined x piece, rest_joined x piece, list_all-append) (true_and (list_all (is_short limit) (lines_of x)) (is_short limit (rest_of x)) (list_all (is_short limit) (lines_of (rest_of x ++ piece))) (is_short limit (rest_of (rest_of x ++ piece))) going.fits_is past),
-      answered output new held has (take_while (is_short limit) (lines_of (x ++ piece))) some (subst (Handles output None new held has) (sym here) (then_more output None stage new held holds has (lines_of x) (take_while (is_short limit) (lines_of (rest_of x ++ piece))) going.handled later)),
+      rw (lines_joined x piece, rest_joined x piece, list_all-append) (true_and (list_all (is_short line_limit) (lines_of x)) (is_short line_limit (rest_of x)) (list_all (is_short line_limit) (lines_of (rest_of x ++ piece))) (is_short line_limit (rest_of (rest_of x ++ piece))) going.fits_is past),
+      answered output new held has (take_while (is_short line_limit) (lines_of (x ++ piece))) some (subst (Handles output None new held has) (sym here) (then_more output None stage new held holds has (lines_of x) (take_while (is_short line_limit) (lines_of (rest_of x ++ piece))) going.handled later)),
     )
 fails output empty NoMemory reads count left rest after held holds has f stage piece going came stop = all_failed output empty reads count left rest after held holds has f stage piece going came stop
 fails output empty Write reads count left rest after held holds has f stage piece going came stop = all_write output reads count left rest after held holds has f stage piece going came stop

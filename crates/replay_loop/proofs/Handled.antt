@@ -129,36 +129,36 @@ stands_quiet will_write stage None stands = tt
 stands_quiet will_write None (Some future) stands = absurd stands
 stands_quiet will_write (Some machine) (Some future) stands = stands.1
 
-pub nothing_leads : {M : Type 0} (output : Output) (will_write : M → Future → Type 0) (old : Option M) (held : Option (List ℕ)) → Leads output will_write old old held held []
+pub nothing_leads : {M : Type 0} (output : Output) (will_write : M → Future → Type 0) (old : Option M) (held : Option (List ℕ)) → Leads output will_write (record { old = old; new = old; held = held; holds = held }) []
 nothing_leads output will_write old held = λ past stands. (past, stands, nothing output past held (stands_quiet will_write old past stands))
 
 pub leads_more : {M : Type 0} (output : Output) (will_write : M → Future → Type 0) (a b c : Option M) (h i j : Option (List ℕ)) (xs ys : List (List ℕ))
-    → Leads output will_write a b h i xs → Leads output will_write b c i j ys → Leads output will_write a c h j (xs ++ ys)
+    → Leads output will_write (record { old = a; new = b; held = h; holds = i }) xs → Leads output will_write (record { old = b; new = c; held = i; holds = j }) ys → Leads output will_write (record { old = a; new = c; held = h; holds = j }) (xs ++ ys)
 leads_more output will_write a b c h i j xs ys first second = λ past stands.
     let (here, stood, left) = first past stands in
     let (next, standing, right) = second here stood in
     (next, standing, then_more output past here next h i j xs ys left right)
 
 pub ends_later : {M : Type 0} (output : Output) (will_write : M → Future → Type 0) (e : ReplayFault) (a b : Option M) (h i j : Option (List ℕ)) (xs ys zs all : List (List ℕ)) → all ≡ xs ++ (ys ++ zs)
-    → Leads output will_write a b h i xs → Ends will_write b (λ past. Stops output past i j ys e) → Ends will_write a (λ past. Stops output past h j all e)
+    → Leads output will_write (record { old = a; new = b; held = h; holds = i }) xs → Ends will_write b (λ past. Stops output past i j ys e) → Ends will_write a (λ past. Stops output past h j all e)
 ends_later output will_write e a b h i j xs ys zs all split first stop = λ past stands.
     let (here, stood, left) = first past stands in
     stops_later output e past here h i j xs ys zs all split left (stop here stood)
 
 -- the header was read: it opens the machine
 pub opens : {M : Type 0} (output : Output) (will_write : M → Future → Type 0) (old : Option M) (machine : M) (held : Option (List ℕ)) (header : List ℕ) → old ≡ None
-    → Opens output will_write header (Some machine) → Leads output will_write old (Some machine) held held (header ∷ [])
+    → Opens output will_write header (Some machine) → Leads output will_write (record { old = old; new = (Some machine); held = held; holds = held }) (header ∷ [])
 opens output will_write old machine held header none (future, will, is) =
-    subst (λ stage. Leads output will_write stage (Some machine) held held (header ∷ [])) (sym none) (elim [
+    subst (λ stage. Leads output will_write (record { old = stage; new = (Some machine); held = held; holds = held }) (header ∷ [])) (sym none) (elim [
       | None ↦ λ stands. (Some future, will, record { text = []; wrote = Appends-nil held; goes_on = λ more after h. subst (λ t. output (header ∷ more) (option_map (λ x. [] ++ x) t)) (sym h) (is more); silent = λ no. absurd (cc); stays = λ no. absurd (cc); unopened = λ no. absurd (cc); quiet = will.1 })
       | (Some other) ↦ λ stands. absurd stands
     ])
 
 -- a line was answered, and the answer written
 pub answers : {M : Type 0} (output : Output) (will_write : M → Future → Type 0) (stage : Option M) (old new : M) (held holds : Option (List ℕ)) (line text : List ℕ) → stage ≡ Some old
-    → GoesOn will_write old new line text → Appends held holds text → Leads output will_write stage (Some new) held holds (line ∷ [])
+    → GoesOn will_write old new line text → Appends held holds text → Leads output will_write (record { old = stage; new = (Some new); held = held; holds = holds }) (line ∷ [])
 answers output will_write stage old new held holds line text some goes wrote =
-    subst (λ stage. Leads output will_write stage (Some new) held holds (line ∷ [])) (sym some) (elim [
+    subst (λ stage. Leads output will_write (record { old = stage; new = (Some new); held = held; holds = holds }) (line ∷ [])) (sym some) (elim [
       | None ↦ λ stands. absurd stands
       | (Some future) ↦ λ stands. let (next, will, is) = goes future stands.0 in
           (Some next, will, record { text = text; wrote = wrote; goes_on = λ more after h. ap (option_map (λ x. text ++ x)) h ∙ ap Some (sym (is more)); silent = λ no. absurd (cc); stays = λ no. absurd (cc); unopened = λ no. absurd (cc); quiet = will.1 })

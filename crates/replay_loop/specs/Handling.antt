@@ -1,14 +1,28 @@
--- What handling some lines does to the machine and to what a writer holds.
+-- What the handling of some lines does to the machine and to what a writer holds. The stage is the
+-- machine, or None until the header has come. Lines lead from a stage to a stage, and each stage
+-- stands for the future that is written for the lines that still come:
+--
+--     no machine --header--> machine --line--> machine --line--> machine ..   `Leads`
+--         |                     |                 |                 |
+--         None             Some future       Some future       Some future    `Stands`
+--
+-- What is written along an arrow, and then what the stage at its end answers, is what the stage at
+-- its beginning answers to the lines of both (`Handles`). If an arrow stops, the fault says where:
+--
+--     Header    at None: the first line opens no machine, and nothing is written    `Stops`
+--     NoMemory  at some line: the lines before it are handled                       `Stops`
+--     Write     at some line: a front of the answer is written                      `Stops`
+--     TooLong   at a machine: the lines before the long one are handled             `PieceStops`
 use Rattle.std.specs.Prelude.{◌≡◌, ◌≢◌, ◌⊎◌, ℕ, List, [], ◌∷◌, ◌++◌, Option, Some, None, option_map, Bool, true, false, if◌then◌else◌}
 use Rattle.std.specs.Io.KnownBytes.{Appends}
 use Rattle.replay_loop.specs.declared.fault.ReplayFault.{ReplayFault}
 use Rattle.replay_loop.specs.declared.fault.ReplayFault.TheVariants.{NoMemory, Header, Read, Write, TooLong, ReadCount}
 use Rattle.line_feed.specs.Lines.{Feed, takes, fed, stopped}
-use Rattle.replay_loop.specs.Machine.{Output, Future, Will}
+use Rattle.replay_loop.specs.Machine.{Bytes, Lines, Held, Output, Future, Will}
 use Rattle.replay_loop.specs.Outcomes.{Answers, last_line}
 use Rattle.replay_loop.specs.Ran.{WritesFront, OpensNone}
 
--- the machine, where the header has come, will write this
+-- the machine, if the header has come, will write this
 abbrev pub Stands : {M : Type 0} → (M → Future → Type 0) → Option M → Option Future → Type 0
 Stands will_write None None = Unit {0}
 Stands will_write (Some machine) (Some future) = Will will_write machine future
@@ -21,38 +35,54 @@ IsQuiet None = Unit {0}
 IsQuiet (Some future) = future [] ≡ []
 
 -- what was written for the lines is the front of each answer to them and more
-pub record Handles (output : Output) (old new : Option Future) (held holds : Option (List ℕ)) (lines : List (List ℕ)) : Type 0 where
-  pub text : List ℕ
+pub record Handles (output : Output) (old new : Option Future) (held holds : Held) (lines : Lines)
+    : Type 0 where
+  pub text : Bytes
   pub wrote : Appends held holds text
-  pub goes_on : (more : List (List ℕ)) (after : Option (List ℕ)) → Answers output new more after → Answers output old (lines ++ more) (option_map (λ x. text ++ x) after)
+  pub goes_on : (more : Lines) (after : Option Bytes) → Answers output new more after
+      → Answers output old (lines ++ more) (option_map (λ x. text ++ x) after)
   pub silent : new ≡ None → text ≡ []
   pub stays : new ≡ None → old ≡ None
   pub unopened : new ≡ None → lines ≡ []
   pub quiet : IsQuiet new
 
+-- a stage before and after some lines, and what the writer held before them and holds after them
+pub record Passage (M : Type 0) : Type 0 where
+  pub old : Option M
+  pub new : Option M
+  pub held : Held
+  pub holds : Held
+
 -- the lines were handled, and the machine stands where they lead
-abbrev pub Leads : {M : Type 0} → Output → (M → Future → Type 0) → Option M → Option M → Option (List ℕ) → Option (List ℕ) → List (List ℕ) → Type 0
-Leads output will_write old new held holds lines =
-    (past : Option Future) → Stands will_write old past
-    → (next : Option Future) × Stands will_write new next × Handles output past next held holds lines
+abbrev pub Leads : {M : Type 0} → Output → (M → Future → Type 0) → Passage M → Lines → Type 0
+Leads output will_write p lines =
+    (past : Option Future) → Stands will_write p.old past
+    → (next : Option Future) × Stands will_write p.new next
+    × Handles output past next p.held p.holds lines
 
 -- the lines were handled, and a machine stands at their end
-abbrev pub LeadsPast : {M : Type 0} → Output → (M → Future → Type 0) → Option M → Option (List ℕ) → Option (List ℕ) → List (List ℕ) → Type 0
-LeadsPast output will_write old held holds lines =
-    (past : Option Future) → Stands will_write old past → (next : Option Future) × (next ≢ None) × Handles output past next held holds lines
+abbrev pub LeadsPast : {M : Type 0} → Output → (M → Future → Type 0) → Passage M → Lines → Type 0
+LeadsPast output will_write p lines =
+    (past : Option Future) → Stands will_write p.old past
+    → (next : Option Future) × (next ≢ None) × Handles output past next p.held p.holds lines
 
 -- why no more lines were handled
-abbrev pub Stops : Output → Option Future → Option (List ℕ) → Option (List ℕ) → List (List ℕ) → ReplayFault → Type 0
-Stops output old held holds lines Header = (old ≡ None) × Appends held holds [] × OpensNone output lines
+abbrev pub Stops : Output → Option Future → Held → Held → Lines → ReplayFault → Type 0
+Stops output old held holds lines Header =
+    (old ≡ None) × Appends held holds [] × OpensNone output lines
 Stops output old held holds lines NoMemory =
-    (done : List (List ℕ)) × (rest : List (List ℕ)) × (new : Option Future) × (lines ≡ done ++ rest) × Handles output old new held holds done
-Stops output old held holds lines Write = (more : List (List ℕ)) → (all : List ℕ) × (Answers output old (lines ++ more) (Some all)) × WritesFront held holds all
+    (done : Lines) × (rest : Lines) × (new : Option Future) × (lines ≡ done ++ rest)
+    × Handles output old new held holds done
+Stops output old held holds lines Write =
+    (more : Lines) → (all : Bytes) × (Answers output old (lines ++ more) (Some all))
+    × WritesFront held holds all
 Stops output old held holds lines Read = ⊥
 Stops output old held holds lines TooLong = ⊥
 Stops output old held holds lines ReadCount = ⊥
 
--- so from wherever the machine stands
-abbrev pub Ends : {M : Type 0} → (M → Future → Type 0) → Option M → (Option Future → Type 0) → Type 0
+-- this holds of every future that the stage stands for
+abbrev pub Ends : {M : Type 0} → (M → Future → Type 0) → Option M → (Option Future → Type 0)
+    → Type 0
 Ends will_write old stops = (past : Option Future) → Stands will_write old past → stops past
 
 -- a feed whose lines were all taken
@@ -60,31 +90,40 @@ abbrev pub drained : Feed → Feed
 drained f = record { lines = []; rest = f.rest; limit = f.limit; refusing = f.refusing }
 
 -- one line of the feed was handled, or it has none
-abbrev pub HandlesNext : {M : Type 0} → Output → (M → Future → Type 0) → Bool → Feed → Feed → Option M → Option M → Option (List ℕ) → Option (List ℕ) → Type 0
-HandlesNext output will_write true f g old new held holds =
-    (line : List ℕ) × (f.lines ≡ line ∷ g.lines) × (drained g ≡ drained f) × Leads output will_write old new held holds (line ∷ [])
-HandlesNext output will_write false f g old new held holds = (f.lines ≡ []) × (g ≡ f) × Leads output will_write old new held holds []
+abbrev pub HandlesNext : {M : Type 0} → Output → (M → Future → Type 0)
+    → Bool → Feed → Feed → Passage M → Type 0
+HandlesNext output will_write true f g p =
+    (line : Bytes) × (f.lines ≡ line ∷ g.lines) × (drained g ≡ drained f)
+    × Leads output will_write p (line ∷ [])
+HandlesNext output will_write false f g p =
+    (f.lines ≡ []) × (g ≡ f) × Leads output will_write p []
 
 -- the lines that a piece ends, up to one that is too long
-abbrev pub come : Feed → List ℕ → List (List ℕ)
+abbrev pub come : Feed → Bytes → Lines
 come f piece = if takes f piece then (fed f piece).lines else (stopped f piece).lines
 
 -- why a piece was not taken to its end
-abbrev pub PieceStops : Output → Feed → List ℕ → Option (List ℕ) → Option (List ℕ) → ReplayFault → Option Future → Type 0
+abbrev pub PieceStops : Output → Feed → Bytes → Held → Held → ReplayFault → Option Future → Type 0
 PieceStops output f piece held holds Header old =
-    (old ≡ None) × Appends held holds [] × (OpensNone output (come f piece) ⊎ ((takes f piece ≡ false) × (come f piece ≡ [])))
+    (old ≡ None) × Appends held holds []
+    × (OpensNone output (come f piece) ⊎ ((takes f piece ≡ false) × (come f piece ≡ [])))
 PieceStops output f piece held holds TooLong old =
-    (takes f piece ≡ false) × (new : Option Future) × (new ≢ None) × Handles output old new held holds (stopped f piece).lines
-PieceStops output f piece held holds NoMemory old = Stops output old held holds (come f piece) NoMemory
-PieceStops output f piece held holds Write old = Stops output old held holds (come f piece) Write
+    (takes f piece ≡ false) × (new : Option Future) × (new ≢ None)
+    × Handles output old new held holds (stopped f piece).lines
+PieceStops output f piece held holds NoMemory old =
+    Stops output old held holds (come f piece) NoMemory
+PieceStops output f piece held holds Write old =
+    Stops output old held holds (come f piece) Write
 PieceStops output f piece held holds Read old = ⊥
 PieceStops output f piece held holds ReadCount old = ⊥
 
 -- why the last line was not taken
-abbrev pub LastStops : Output → List ℕ → Option (List ℕ) → Option (List ℕ) → ReplayFault → Option Future → Type 0
-LastStops output line held holds Header old = (old ≡ None) × Appends held holds [] × (Answers output old (last_line line) None)
+abbrev pub LastStops : Output → Bytes → Held → Held → ReplayFault → Option Future → Type 0
+LastStops output line held holds Header old =
+    (old ≡ None) × Appends held holds [] × (Answers output old (last_line line) None)
 LastStops output line held holds TooLong old = ⊥
-LastStops output line held holds NoMemory old = Stops output old held holds (last_line line) NoMemory
+LastStops output line held holds NoMemory old =
+    Stops output old held holds (last_line line) NoMemory
 LastStops output line held holds Write old = Stops output old held holds (last_line line) Write
 LastStops output line held holds Read old = ⊥
 LastStops output line held holds ReadCount old = ⊥

@@ -12,7 +12,8 @@ pub enum ReplayFault {
     Read,
     /// The writer answered an error, or took no byte. What stands written is a front of the output.
     Write,
-    /// A line after the header has more bytes than [`crate::LIMIT`]. What stands written is the output of the lines before it.
+    /// A line after the header has more bytes than [`crate::LINE_LIMIT`]. What stands written is the output of the
+    /// lines before it.
     TooLong,
     /// The end of the input was not met within the reads that were allowed.
     ReadCount,

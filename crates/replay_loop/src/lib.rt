@@ -8,5 +8,6 @@ mod machine;
 mod reading;
 
 pub use fault::ReplayFault;
+pub use line_feed::LINE_LIMIT;
 pub use machine::LineMachine;
-pub use reading::{LIMIT, run_within};
+pub use reading::run_within;

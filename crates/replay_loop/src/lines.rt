@@ -35,8 +35,12 @@ pub(crate) fn handle<M: LineMachine, W: Write>(
     line: &[u8],
     writer: &mut W,
 ) -> Result<(), ReplayFault>
-    ensures ok { OnOk result (Leads M.output M.will_write stage.old stage.new
-        (W.contents writer.old) (W.contents writer.new) (line.now ∷ [])) }
+    ensures ok { OnOk result (Leads M.output M.will_write (record {
+      old = stage.old;
+      new = stage.new;
+      held = W.contents writer.old;
+      holds = W.contents writer.new;
+    }) (line.now ∷ [])) }
     ensures err { IfErr result (λ e. Ends M.will_write stage.old (λ past. Stops M.output past
         (W.contents writer.old) (W.contents writer.new) (line.now ∷ []) e)) }
 {
@@ -67,7 +71,12 @@ fn handle_next<M: LineMachine, W: Write>(
     writer: &mut W,
 ) -> Result<bool, ReplayFault>
     ensures ok { IfOk result (λ more. HandlesNext M.output M.will_write more feed.old feed.new
-        stage.old stage.new (W.contents writer.old) (W.contents writer.new)) }
+        (record {
+          old = stage.old;
+          new = stage.new;
+          held = W.contents writer.old;
+          holds = W.contents writer.new;
+        })) }
     ensures err { IfErr result (λ e. Ends M.will_write stage.old (λ past. Stops M.output past
         (W.contents writer.old) (W.contents writer.new) feed.old.lines e)) }
 {
@@ -91,8 +100,12 @@ pub(crate) fn drain<M: LineMachine, W: Write>(
     stage: &mut Option<M>,
     writer: &mut W,
 ) -> Result<(), ReplayFault>
-    ensures ok { OnOk result (Leads M.output M.will_write stage.old stage.new
-        (W.contents writer.old) (W.contents writer.new) feed.old.lines) }
+    ensures ok { OnOk result (Leads M.output M.will_write (record {
+      old = stage.old;
+      new = stage.new;
+      held = W.contents writer.old;
+      holds = W.contents writer.new;
+    }) feed.old.lines) }
     ensures feed { OnOk result (feed.new ≡ drained feed.old) }
     ensures err { IfErr result (λ e. Ends M.will_write stage.old (λ past. Stops M.output past
         (W.contents writer.old) (W.contents writer.new) feed.old.lines e)) }

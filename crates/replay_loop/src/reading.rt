@@ -8,12 +8,9 @@ ghost use Rattle.replay_loop.specs.Ran.{Answered, Failed};
 use crate::fault::ReplayFault;
 use crate::lines::{drain, handle};
 use crate::machine::LineMachine;
-use line_feed::{LineFault, LineFeed};
+use line_feed::{LINE_LIMIT, LineFault, LineFeed};
 use std::alloc::Global;
 use std::io::{Read, Write};
-
-/// The most bytes of a line, before its newline.
-pub const LIMIT: usize = 262_144;
 
 /// Takes a piece of the input, and handles the lines that it ends.
 fn take_piece<M: LineMachine, W: Write>(
@@ -25,10 +22,14 @@ fn take_piece<M: LineMachine, W: Write>(
 ) -> Result<(), ReplayFault>
     ensures ok { OnOk result ((takes feed.old piece.now ≡ true)
         × (feed.new ≡ drained (fed feed.old piece.now))
-        × Leads M.output M.will_write stage.old stage.new (W.contents writer.old) (W.contents writer.new)
-        (fed feed.old piece.now).lines) }
-    ensures err { IfErr result (λ e. Ends M.will_write stage.old (PieceStops M.output feed.old piece.now
-        (W.contents writer.old) (W.contents writer.new) e)) }
+        × Leads M.output M.will_write (record {
+          old = stage.old;
+          new = stage.new;
+          held = W.contents writer.old;
+          holds = W.contents writer.new;
+        }) (fed feed.old piece.now).lines) }
+    ensures err { IfErr result (λ e. Ends M.will_write stage.old (PieceStops M.output feed.old
+        piece.now (W.contents writer.old) (W.contents writer.new) e)) }
 {
     match feed.feed(piece) {
         Ok(()) => match drain(alloc, feed, stage, writer) {
@@ -53,8 +54,12 @@ fn handle_last<M: LineMachine, W: Write>(
     stage: &mut Option<M>,
     writer: &mut W,
 ) -> Result<(), ReplayFault>
-    ensures ok { OnOk result (Leads M.output M.will_write stage.old stage.new
-        (W.contents writer.old) (W.contents writer.new) (last_line rest.now)) }
+    ensures ok { OnOk result (Leads M.output M.will_write (record {
+      old = stage.old;
+      new = stage.new;
+      held = W.contents writer.old;
+      holds = W.contents writer.new;
+    }) (last_line rest.now)) }
     ensures err { IfErr result (λ e. Ends M.will_write stage.old (λ past. Stops M.output past
         (W.contents writer.old) (W.contents writer.new) (last_line rest.now) e)) }
 {
@@ -74,8 +79,12 @@ fn finish<M: LineMachine, W: Write>(
     stage: &mut Option<M>,
     writer: &mut W,
 ) -> Result<(), ReplayFault>
-    ensures ok { OnOk result (LeadsPast M.output M.will_write stage.old
-        (W.contents writer.old) (W.contents writer.new) (last_line rest.now)) }
+    ensures ok { OnOk result (LeadsPast M.output M.will_write (record {
+      old = stage.old;
+      new = stage.new;
+      held = W.contents writer.old;
+      holds = W.contents writer.new;
+    }) (last_line rest.now)) }
     ensures err { IfErr result (λ e. Ends M.will_write stage.old (LastStops M.output rest.now
         (W.contents writer.old) (W.contents writer.new) e)) }
 {
@@ -104,7 +113,7 @@ pub fn run_within<M: LineMachine, R: Read, W: Write>(
     ensures err { IfErr result (λ e. Failed M.output reads (R.remaining reader.old)
         (R.remaining reader.new) (W.contents writer.old) (W.contents writer.new) e) }
 {
-    let mut feed = LineFeed::new(alloc, LIMIT);
+    let mut feed = LineFeed::new(alloc, LINE_LIMIT);
     let mut stage: Option<M> = None;
     let mut piece = [0u8; 4096];
     'reads: for _ in 0..reads {

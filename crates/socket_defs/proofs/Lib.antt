@@ -1,1 +1,1 @@
-pub mod Hosts
+pub mod HostLemmas

@@ -1,6 +1,6 @@
--- `Sockets` and `inetdCompatibility` of launchd.plist(5). Each name stands for one socket or for an array of them. Only
--- listening stream sockets over IPv4 and at Unix paths are supported, and only for jobs that take each connection as their
--- standard input and output.
+-- `Sockets` and `inetdCompatibility` of launchd.plist(5). Each name stands for one socket or for an
+-- array of them. Only listening stream sockets over IPv4 and at Unix paths are supported, and only
+-- for jobs that take each connection as their standard input and output.
 use Rattle.std.specs.Prelude.{ℕ, ◌+◌, List, [], ◌∷◌, Bool, true, false, not, ◌&&◌, nat_lt, nat_le, length, Result, Ok, Err, Option, Some, None, if◌then◌else◌, codes, ⊤, ◌==◌}
 use Rattle.std.specs.List.{list_all, slice_split}
 use Rattle.std.specs.Str.{bytes_eq}
@@ -36,7 +36,10 @@ passive_at d = do
 
 -- the number that one to so many decimal digits write
 unfoldable pub number_in : ℕ → List ℕ → Option ℕ
-number_in most text = if nat_lt 0 (length text) && nat_le (length text) most && list_all is_digit text then Some (digits_value 10 text) else None
+number_in most text =
+    if nat_lt 0 (length text) && nat_le (length text) most && list_all is_digit text
+    then Some (digits_value 10 text)
+    else None
 
 -- at most three digits, at most 255
 unfoldable pub octet_in : List ℕ → Option ℕ
@@ -65,7 +68,8 @@ dotted_in text = octets_in (slice_split is_dot text)
 
 -- a name of its own, or numbers
 unfoldable pub host_in : List ℕ → Option (List ℕ)
-host_in text = if bytes_eq text (codes "localhost") then Some (127 ∷ 0 ∷ 0 ∷ 1 ∷ []) else dotted_in text
+host_in text =
+    if bytes_eq text (codes "localhost") then Some (127 ∷ 0 ∷ 0 ∷ 1 ∷ []) else dotted_in text
 
 -- nothing is looked up
 unfoldable pub host_at : Data → Result (List ℕ) Fault
@@ -130,7 +134,8 @@ sockets_in name d = each_item socket_at (members_or_one d)
 unfoldable pub sockets_at : Data → Result (List Socket) Fault
 sockets_at d = do
   named ← object_at keys.Sockets d
-  if nat_lt 8 (socket_count named) then Err (bad TooLong keys.Sockets) else each_member sockets_in named
+  if nat_lt 8 (socket_count named) then Err (bad TooLong keys.Sockets)
+      else each_member sockets_in named
 
 -- without the key there are none
 unfoldable pub sockets_row : Data → Result (List Socket) Fault

@@ -32,7 +32,8 @@ fn dotted_in(text: &str) -> Option<[u8; 4]>
 }
 
 fn octets_in(first: &str, second: &str, third: &str, fourth: &str) -> Option<[u8; 4]>
-    ensures { result ≡ four_octets (sockets.octet_in first.now) (sockets.octet_in second.now) (sockets.octet_in third.now) (sockets.octet_in fourth.now) }
+    ensures { result ≡ four_octets (sockets.octet_in first.now) (sockets.octet_in second.now)
+        (sockets.octet_in third.now) (sockets.octet_in fourth.now) }
 {
     match (
         octet_in(first),
@@ -49,7 +50,8 @@ fn octets_in(first: &str, second: &str, third: &str, fourth: &str) -> Option<[u8
 fn cut(text: &str) -> Option<(&str, &str)>
     ensures { MatchOption result
         (slice_split sockets.is_dot text.now ≡ text.now ∷ [])
-        (λ parts. slice_split sockets.is_dot text.now ≡ parts.0.now ∷ slice_split sockets.is_dot parts.1.now) }
+        (λ parts. slice_split sockets.is_dot text.now
+        ≡ parts.0.now ∷ slice_split sockets.is_dot parts.1.now) }
 {
     text.split_once('.')
 }

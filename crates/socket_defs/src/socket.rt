@@ -1,13 +1,13 @@
 //! The keys of one socket.
 
-ghost use Rattle.std.specs.Prelude.{◌≡◌, List, ℕ, map, ⊤};
+ghost use Rattle.std.specs.Prelude.{◌≡◌, List, ℕ, ⊤};
 ghost use Rattle.serde_json.specs.View.{view};
 ghost use Rattle.serde_json.specs.Find.{get};
 ghost use Rattle.history_model.specs.declared.KeyName.TheVariants as keys;
 ghost use Rattle.json_kinds.specs.Faults.{Gives};
 ghost use Rattle.json_kinds.specs.Names as names;
 ghost use Rattle.socket_defs.specs.Sockets as sockets;
-ghost use Rattle.json_kinds.specs.Kinds.{where_given, optional, filled_at};
+ghost use Rattle.json_kinds.specs.Kinds.{where_given, optional, filled_at, texts_in};
 ghost use Rattle.socket_defs.specs.Sockets.{one_of, passive_at, host_at, any_host, port_in, port_at, port_by, address_of, socket_at};
 
 use crate::host::{host_in, number_in};
@@ -59,7 +59,8 @@ fn address(path: Option<Text>, host: [u8; 4], port: Option<u16>) -> Result<Addre
 
 /// A text that has to be one of `texts`.
 fn one_of_row(socket: &Value, name: &str, texts: &[&str]) -> Result<(), DefFault>
-    ensures { Gives (λ done. done) result (where_given (one_of (map (λ text. text.now) texts.now)) tt (get name.now (view socket.now))) }
+    ensures { Gives (λ done. done) result
+        (where_given (one_of (texts_in texts.now)) tt (get name.now (view socket.now))) }
 {
     match socket.get(name) {
         Some(found) => one_of(found, texts),
@@ -69,7 +70,8 @@ fn one_of_row(socket: &Value, name: &str, texts: &[&str]) -> Result<(), DefFault
 
 #[tactic(auto, unfolding(crate::specs::Sockets::one_of))]
 fn one_of(found: &Value, texts: &[&str]) -> Result<(), DefFault>
-    ensures { Gives (λ done. done) result (sockets.one_of (map (λ text. text.now) texts.now) (view found.now)) }
+    ensures { Gives (λ done. done) result
+        (sockets.one_of (texts_in texts.now) (view found.now)) }
 {
     let text = text_of(found, KeyName::Sockets)?;
     if is_among(texts, text) {
@@ -82,7 +84,8 @@ fn one_of(found: &Value, texts: &[&str]) -> Result<(), DefFault>
 }
 
 fn passive_row(socket: &Value) -> Result<(), DefFault>
-    ensures { Gives (λ done. done) result (where_given passive_at tt (get names.passive (view socket.now))) }
+    ensures { Gives (λ done. done) result
+        (where_given passive_at tt (get names.passive (view socket.now))) }
 {
     match socket.get(PASSIVE) {
         Some(found) => listens(found),
@@ -104,7 +107,8 @@ fn listens(found: &Value) -> Result<(), DefFault>
 }
 
 fn path_row(alloc: Global, socket: &Value) -> Result<Option<Text>, DefFault>
-    ensures { Gives (λ path. path) result (optional (filled_at 107 keys.Sockets) (get names.path_name (view socket.now))) }
+    ensures { Gives (λ path. path) result
+        (optional (filled_at 107 keys.Sockets) (get names.path_name (view socket.now))) }
 {
     match socket.get(PATH_NAME) {
         Some(found) => {
@@ -116,7 +120,8 @@ fn path_row(alloc: Global, socket: &Value) -> Result<Option<Text>, DefFault>
 }
 
 fn host_row(socket: &Value) -> Result<[u8; 4], DefFault>
-    ensures { Gives (λ host. host) result (where_given host_at any_host (get names.node_name (view socket.now))) }
+    ensures { Gives (λ host. host) result
+        (where_given host_at any_host (get names.node_name (view socket.now))) }
 {
     match socket.get(NODE_NAME) {
         Some(found) => host_of(found),
@@ -138,7 +143,8 @@ fn host_of(found: &Value) -> Result<[u8; 4], DefFault>
 }
 
 fn port_row(socket: &Value) -> Result<Option<u16>, DefFault>
-    ensures { Gives (λ port. port) result (optional port_at (get names.service_name (view socket.now))) }
+    ensures { Gives (λ port. port) result
+        (optional port_at (get names.service_name (view socket.now))) }
 {
     match socket.get(SERVICE_NAME) {
         Some(found) => Ok(Some(port_of(found)?)),

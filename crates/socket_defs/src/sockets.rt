@@ -69,7 +69,8 @@ fn has_too_many(members: &Map<String, Value>) -> bool
 
 #[tactic(auto, unfolding(crate::specs::Sockets::sockets_in))]
 fn each_name(alloc: Global, members: &Map<String, Value>) -> Result<Vec<Socket>, DefFault>
-    ensures { Gives (λ sockets. sockets.items) result (each_member sockets_in (members_view members.now.entries)) }
+    ensures { Gives (λ sockets. sockets.items) result
+        (each_member sockets_in (members_view members.now.entries)) }
 {
     let mut sockets = Vec::new(alloc);
     for (_, found) in members.iter() {

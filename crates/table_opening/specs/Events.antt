@@ -7,7 +7,7 @@ use Rattle.history_model.specs.declared.Answer.TheVariants as answers
 use Rattle.history_model.specs.Items.{Asked, Answered, Came, Left, RunEnded, WaitRefused}
 use Rattle.history_model.specs.Machine.{Event, Unreadable, UnloadJob, Set, ListJobs, PrintJob, ShutDown, Tick, Sight, OfJob}
 use Rattle.job_table.specs.Loads.{load_of}
-use Rattle.ctl_protocol.specs.Rows.{event_at}
+use Rattle.ctl_protocol.specs.EventLines.{event_at}
 
 -- the machine's event; a load's definition is what its text reads as
 abbrev pub event_of : journal.Event → Event
@@ -32,6 +32,7 @@ event_of (told.Killed job run ok) = OfJob job (Answered (answers.Killed run ok))
 event_of (told.Ended job run how) = OfJob job (RunEnded run how)
 event_of (told.WaitRefused job run) = OfJob job (WaitRefused run)
 
+-- the event that was read, or one that is unreadable
 abbrev pub read_as : Option journal.Event → Event
 read_as None = Unreadable
 read_as (Some event) = event_of event

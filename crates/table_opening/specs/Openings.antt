@@ -32,14 +32,17 @@ IsNoZone (Posix text) = read_whole text ≡ None
 IsNoZone (Offset seconds) = ¬ IsWithin 86_399 seconds
 IsNoZone (File bytes) = IsBadFile bytes
 
+-- the zone of a rule, if it is one
 abbrev pub IsPosixZone : List ℕ → Option Zone → Type 0
 IsPosixZone text None = read_whole text ≡ None
 IsPosixZone text (Some zone) = IsOfRule text (offsets zone)
 
+-- the zone of an offset, if it is one
 abbrev pub IsFixedZone : ℤ → Option Zone → Type 0
 IsFixedZone seconds None = ¬ IsWithin 86_399 seconds
 IsFixedZone seconds (Some zone) = IsWithin 86_399 seconds × (offsets zone ≡ always seconds)
 
+-- the zone of a zone file's bytes, if they are one
 abbrev pub IsFileZone : List ℕ → Option Zone → Type 0
 IsFileZone bytes None = IsBadFile bytes
 IsFileZone bytes (Some zone) = (length bytes ≤ 65_536) × IsOfTable bytes (offsets zone)
@@ -49,11 +52,20 @@ abbrev pub IsZoneOf : ZoneText → Option Zone → Type 0
 IsZoneOf text None = IsNoZone text
 IsZoneOf text (Some zone) = Describes text (offsets zone)
 
--- the machine that a header opens: with its reading, in its zone, with its settings
+-- the machine with the header's reading, in this zone, with the header's settings
+abbrev pub opened_by : Header → Offsets → State
+opened_by header ahead =
+    opened (record {
+      reading = header.reading;
+      zone = shown_by ahead;
+      overrides = header.overrides;
+    })
+
+-- the machine that a header opens, in a zone that the header describes
 pub record OpensBy (header : Header) (s : State) : Type 0 where
   pub ahead : Offsets
   pub describes : Describes header.zone ahead
-  pub state : s ≡ opened (record { reading = header.reading; zone = shown_by ahead; overrides = header.overrides })
+  pub state : s ≡ opened_by header ahead
 
 -- a machine that the header opens, for which the table stands
 pub record StandsOpened (header : Header) (table : Table) : Type 0 where
@@ -67,5 +79,6 @@ abbrev pub OpensAs : Header → Result Table OpeningFault → Type 0
 OpensAs header (Ok table) = StandsOpened header table
 OpensAs header (Err NoMemory) = Unit {0}
 OpensAs header (Err BadZone) = IsNoZone header.zone
-OpensAs header (Err BadLabel) = list_all (λ setting. is_label setting.label) header.overrides ≡ false
+OpensAs header (Err BadLabel) =
+    list_all (λ setting. is_label setting.label) header.overrides ≡ false
 OpensAs header (Err BadReading) = is_clock_refused header.reading header.reading ≡ true

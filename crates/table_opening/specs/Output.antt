@@ -1,13 +1,13 @@
 -- What is written for the lines of an input.
 use Rattle.std.specs.Prelude.{◌≡◌, ◌⊎◌, ℕ, List, [], ◌∷◌, map, Option, Some, None}
 use Rattle.std.specs.List.{flat_map}
-use Rattle.history_model.specs.Machine.{State, opened}
+use Rattle.history_model.specs.Machine.{State}
 use Rattle.history_model.specs.Step.{outcomes}
-use Rattle.calendar_due.specs.Offsets.{Offsets, shown_by}
+use Rattle.calendar_due.specs.Offsets.{Offsets}
 use Rattle.ctl_protocol.specs.declared.header.Header.{Header}
 use Rattle.ctl_protocol.specs.Headers.{header_at}
-use Rattle.ctl_protocol.specs.Outcomes.{outcome_text}
-use Rattle.table_opening.specs.Openings.{Describes, IsNoZone}
+use Rattle.ctl_protocol.specs.Outcomes.{outcome_line}
+use Rattle.table_opening.specs.Openings.{Describes, IsNoZone, opened_by}
 use Rattle.table_opening.specs.Events.{event_in}
 
 -- the machine that a header's line opens
@@ -16,7 +16,7 @@ pub record Opens (line : List ℕ) (s : State) : Type 0 where
   pub read : header_at line ≡ Some header
   pub ahead : Offsets
   pub describes : Describes header.zone ahead
-  pub state : s ≡ opened (record { reading = header.reading; zone = shown_by ahead; overrides = header.overrides })
+  pub state : s ≡ opened_by header ahead
 
 -- a line that is read as a header, whose zone is none
 pub record HasNoZone (line : List ℕ) : Type 0 where
@@ -30,7 +30,7 @@ IsNoHeader line = (header_at line ≡ None) ⊎ HasNoZone line
 
 -- the outcome lines of these event lines
 abbrev pub output_from : State → List (List ℕ) → List ℕ
-output_from s lines = flat_map outcome_text (outcomes (map event_in lines) s)
+output_from s lines = flat_map outcome_line (outcomes (map event_in lines) s)
 
 -- this is written for all lines of an input: the first is the header, and each later one an event
 abbrev pub IsOutput : List (List ℕ) → Option (List ℕ) → Type 0

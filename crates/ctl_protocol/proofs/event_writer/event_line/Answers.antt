@@ -1,9 +1,9 @@
 use Rattle.std.proofs.Common.{ap, ◌∙◌}
 use Rattle.serde_json.specs.Written.{has_float}
 use Rattle.event_reader.specs.declared.members.Form.TheVariants as forms
-use Rattle.ctl_protocol.specs.Journal.{name_of, row_members, answer_members}
+use Rattle.ctl_protocol.specs.EventWriter.{name_of, row_members, answer_members}
 use Rattle.serde_json.specs.View.{view}
-use Rattle.ctl_protocol.proofs.Objects.{row_no_float}
+use Rattle.ctl_protocol.proofs.ObjectsLemmas.{row_no_float}
 use Rattle.ctl_protocol.proofs.RoundTrips.{event_back, on_ok}
 use Rattle.ctl_protocol.proofs.event_writer.event_line.Goals as goal
 

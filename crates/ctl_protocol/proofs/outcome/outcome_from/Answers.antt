@@ -1,7 +1,7 @@
 use Rattle.std.proofs.Common.{◌∙◌}
 use Rattle.std.proofs.lemmas.Result.{IfOk-weaker}
 use Rattle.ctl_protocol.specs.Outcomes.{orders_of}
-use Rattle.ctl_protocol.proofs.Outcomes.{bare_parts, from_parts, number_written}
+use Rattle.ctl_protocol.proofs.OutcomesLemmas.{bare_parts, from_parts, number_written}
 use Rattle.ctl_protocol.proofs.outcome.outcome_from.Goals as goal
 
 pub returns-then-is_empty-2 : goal.returns-then-is_empty-2

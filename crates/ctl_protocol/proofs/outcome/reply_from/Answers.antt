@@ -1,6 +1,6 @@
 use Rattle.std.proofs.Common.{ap, ◌∙◌}
 use Rattle.serde_json.specs.Written.{has_float}
-use Rattle.ctl_protocol.proofs.Objects.{reply_no_float}
+use Rattle.ctl_protocol.proofs.ObjectsLemmas.{reply_no_float}
 use Rattle.ctl_protocol.proofs.outcome.reply_from.Goals as goal
 
 pub line_from-requires : goal.line_from-requires

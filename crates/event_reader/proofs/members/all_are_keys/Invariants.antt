@@ -1,9 +1,10 @@
 use Rattle.std.proofs.Common.{◌≡◌, drop}
 use Rattle.json.specs.Value.{members_view}
-use Rattle.event_reader.specs.Members.{is_key, names_of}
+use Rattle.event_reader.specs.Members.{is_key}
+use Rattle.json_kinds.specs.Kinds.{texts_in}
 use Rattle.event_reader.specs.Trees.{keys_pass}
 use Rattle.event_reader.proofs.members.all_are_keys.Given as goal
 
 abbrev pub invariant-loop-member : goal.invariant-loop-member
-invariant-loop-member l = keys_pass (is_key l.form (names_of l.keys) (names_of l.answers)) (members_view (drop l.member-index l.member-items))
-    ≡ keys_pass (is_key l.form (names_of l.keys) (names_of l.answers)) (members_view l.member-items)
+invariant-loop-member l = keys_pass (is_key l.form (texts_in l.keys) (texts_in l.answers)) (members_view (drop l.member-index l.member-items))
+    ≡ keys_pass (is_key l.form (texts_in l.keys) (texts_in l.answers)) (members_view l.member-items)

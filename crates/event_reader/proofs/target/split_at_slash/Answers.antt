@@ -4,7 +4,7 @@ use Rattle.std.specs.Prelude.{MatchOption}
 use Rattle.std.specs.List.{position_or_len, before_first, after_first}
 use Rattle.std.proofs.lemmas.Str.Pattern.{split_once_first}
 use Rattle.event_reader.specs.Targets.{is_slash, SplitsAtSlash}
-use Rattle.event_reader.proofs.Slashes.{none_there, one_there}
+use Rattle.event_reader.proofs.TargetsLemmas.{none_there, one_there}
 use Rattle.event_reader.proofs.target.split_at_slash.Goals as goal
 
 parted : (text : List ℕ) (r : Option (Bor (List ℕ) × Bor (List ℕ)))

@@ -2,7 +2,7 @@ use Rattle.std.proofs.Common.{◌∙◌, sym, ap}
 use Rattle.json.specs.Lex.{tokens}
 use Rattle.json.specs.Json.{value}
 use Rattle.serde_json.specs.Read.{max_depth}
-use Rattle.event_reader.proofs.Trees.{no_tree, tree_read}
+use Rattle.event_reader.proofs.TreesLemmas.{no_tree, tree_read}
 use Rattle.event_reader.proofs.tree.tree_in.Goals as goal
 
 pub returns-in_default : goal.returns-in_default

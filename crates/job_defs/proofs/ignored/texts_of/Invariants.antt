@@ -1,5 +1,5 @@
 use Rattle.std.proofs.Common.{◌≡◌, ◌++◌, map, string_bytes}
-use Rattle.job_defs.specs.Seen.{names_of}
+use Rattle.job_defs.specs.Parts.{names_of}
 use Rattle.job_defs.proofs.ignored.texts_of.Given as goal
 
 abbrev pub invariant-loop-name : goal.invariant-loop-name

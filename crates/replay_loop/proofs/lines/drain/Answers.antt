@@ -10,7 +10,7 @@ lines-preserved g c =
     let k = c.handle_next.new in
     let output = g.M.LineMachine.output in
     let will_write = g.M.LineMachine.will_write in
-    let next : HandlesNext output will_write true l.feed k.feed l.stage k.stage (g.W.Write.contents l.writer) (g.W.Write.contents k.writer) = rw c.in-Ok-true.field-0-test at c.in-Ok-true.ensures.ok in
+    let next : HandlesNext output will_write true l.feed k.feed (record { old = l.stage; new = k.stage; held = (g.W.Write.contents l.writer); holds = (g.W.Write.contents k.writer) }) = rw c.in-Ok-true.field-0-test at c.in-Ok-true.ensures.ok in
     let (line, first, kept, now) = next in (
       done ++ line ∷ [],
       split ∙ ap (λ ls. done ++ ls) first ∙ sym (append_assoc done (line ∷ []) k.feed.lines),
@@ -37,7 +37,7 @@ returns-in-Ok-false-clause-ok g c =
     let will_write = g.M.LineMachine.will_write in
     let held = g.W.Write.contents c.args.writer.now in
     let holds = g.W.Write.contents k.writer in
-    let next : HandlesNext output will_write false l.feed k.feed l.stage k.stage (g.W.Write.contents l.writer) holds = rw c.in-Ok-false.field-0-test at c.in-Ok-false.ensures.ok in
+    let next : HandlesNext output will_write false l.feed k.feed (record { old = l.stage; new = k.stage; held = (g.W.Write.contents l.writer); holds = holds }) = rw c.in-Ok-false.field-0-test at c.in-Ok-false.ensures.ok in
     let (none, as_it_was, now) = next in
-    subst (Leads output will_write c.args.stage.now k.stage held holds) (sym (split ∙ ap (λ ls. done ++ ls) none))
+    subst (Leads output will_write (record { old = c.args.stage.now; new = k.stage; held = held; holds = holds })) (sym (split ∙ ap (λ ls. done ++ ls) none))
     (leads_more output will_write c.args.stage.now l.stage k.stage held (g.W.Write.contents l.writer) holds done [] handled now)

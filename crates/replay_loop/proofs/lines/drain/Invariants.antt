@@ -5,7 +5,7 @@ use Rattle.replay_loop.proofs.lines.drain.Given as goal
 abbrev pub invariant-lines : goal.invariant-lines
 invariant-lines g l =
     (done : List (List ℕ)) × (l.initial.feed.lines ≡ done ++ l.feed.lines) × (drained l.feed ≡ drained l.initial.feed)
-    × Leads g.M.LineMachine.output g.M.LineMachine.will_write l.initial.stage l.stage (g.W.Write.contents l.initial.writer) (g.W.Write.contents l.writer) done
+    × Leads g.M.LineMachine.output g.M.LineMachine.will_write (record { old = l.initial.stage; new = l.stage; held = (g.W.Write.contents l.initial.writer); holds = (g.W.Write.contents l.writer) }) done
 
 abbrev pub decreases-lines : goal.decreases-lines
 decreases-lines g l = length l.feed.lines

@@ -1,4 +1,4 @@
-use Rattle.socket_defs.proofs.Hosts.{parts_of}
+use Rattle.socket_defs.proofs.HostLemmas.{parts_of}
 use Rattle.socket_defs.proofs.host.cut.Goals as goal
 
 pub returns : goal.returns

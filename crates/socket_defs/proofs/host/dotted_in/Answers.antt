@@ -1,6 +1,6 @@
 use Rattle.std.proofs.Common.{◌∷◌, sym, ap, ◌∙◌}
 use Rattle.socket_defs.specs.Sockets.{dotted_in, octets_in}
-use Rattle.socket_defs.proofs.Hosts.{five_parts}
+use Rattle.socket_defs.proofs.HostLemmas.{five_parts}
 use Rattle.socket_defs.proofs.host.dotted_in.Goals as goal
 
 pub returns-in-Some : goal.returns-in-Some

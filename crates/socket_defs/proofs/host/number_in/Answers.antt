@@ -1,5 +1,5 @@
 use Rattle.std.proofs.Common.{◌∙◌, ◌<◌, ◌≤◌, length, rules}
-use Rattle.socket_defs.proofs.Hosts.{number_is}
+use Rattle.socket_defs.proofs.HostLemmas.{number_is}
 use Rattle.socket_defs.proofs.host.number_in.Goals as goal
 
 pub returns : goal.returns

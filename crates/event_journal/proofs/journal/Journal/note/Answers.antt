@@ -1,6 +1,6 @@
-use Rattle.ctl_protocol.specs.Journal.{event_text}
+use Rattle.ctl_protocol.specs.EventWriter.{event_line}
 use Rattle.event_journal.proofs.journal.Journal.note.Goals as goal
 
 -- no memory for the line
 pub returns-in-Err : goal.returns-in-Err
-returns-in-Err g c = c.close.ensures (event_text c.args.event.now)
+returns-in-Err g c = c.close.ensures (event_line c.args.event.now)

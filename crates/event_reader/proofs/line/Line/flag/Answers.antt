@@ -1,7 +1,7 @@
 use Rattle.std.proofs.Common.{◌∙◌, sym, ap, option_and_then}
 use Rattle.json.specs.Find as json
 use Rattle.json.specs.Value.{value_view}
-use Rattle.event_reader.proofs.Trees.{flag_at_key}
+use Rattle.event_reader.proofs.TreesLemmas.{flag_at_key}
 use Rattle.event_reader.proofs.line.Line.flag.Goals as goal
 
 pub returns-in-Some : goal.returns-in-Some

@@ -1,7 +1,7 @@
 use Rattle.std.proofs.Common.{◌∙◌, sym, ap}
 use Rattle.json.specs.Value.{value_view}
 use Rattle.event_reader.specs.Trees.{flag_from}
-use Rattle.event_reader.proofs.Trees.{flag_or_at_key}
+use Rattle.event_reader.proofs.TreesLemmas.{flag_or_at_key}
 use Rattle.event_reader.proofs.line.Line.flag_or.Goals as goal
 
 pub returns-in-Some : goal.returns-in-Some

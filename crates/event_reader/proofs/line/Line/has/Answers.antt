@@ -1,6 +1,6 @@
 use Rattle.std.proofs.Common.{◌∙◌, sym, ap, is_some}
 use Rattle.json.specs.Value.{value_view}
-use Rattle.event_reader.proofs.Trees.{has_at_key}
+use Rattle.event_reader.proofs.TreesLemmas.{has_at_key}
 use Rattle.event_reader.proofs.line.Line.has.Goals as goal
 
 pub returns-in-Some : goal.returns-in-Some

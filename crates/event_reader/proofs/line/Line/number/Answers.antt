@@ -1,7 +1,7 @@
 use Rattle.std.proofs.Common.{◌∙◌, sym, ap, option_and_then}
 use Rattle.event_reader.specs.Trees.{integer_of}
 use Rattle.json.specs.Value.{value_view}
-use Rattle.event_reader.proofs.Trees.{number_at_key}
+use Rattle.event_reader.proofs.TreesLemmas.{number_at_key}
 use Rattle.event_reader.proofs.line.Line.number.Goals as goal
 
 pub returns-in-Some : goal.returns-in-Some

@@ -2,7 +2,7 @@
 use Rattle.std.proofs.Common.{subst, sym, ap}
 use Rattle.std.specs.Prelude.{is_some, Ok, Err}
 use Rattle.ctl_protocol.specs.declared.header.Header.{Header}
-use Rattle.ctl_protocol.specs.HeaderLines.{header_text}
+use Rattle.ctl_protocol.specs.HeaderLines.{header_line}
 use Rattle.event_journal.specs.Journals.{Grows, fresh, held}
 use Rattle.table_opening.specs.Openings.{StandsOpened}
 use Rattle.launcher.specs.Faults.{IsFaultOf, IsFaultWith, IsBadHeader}
@@ -16,7 +16,7 @@ returns-in-Ok-make_inside-clause-new g c =
     made_new c.args.header c.in-Ok.settings.items made.table (g.E.Edge.told c.args.edge) (g.T.SettingStore.told c.args.store) (g.T.SettingStore.told c.all.new.self) first made.journal
     (g.T.SettingStore.holds c.args.store) (g.T.SettingStore.holds c.all.new.self)
     (subst (λ (h : Header). StandsOpened h made.table) c.with_settings.ensures c.in-Ok-make_inside.ensures.opened) c.in-Ok.ensures.told
-    (subst (λ (h : Header). Grows first made.journal (header_text h)) c.with_settings.ensures c.in-Ok-make_inside.ensures.noted) c.in-Ok.ensures.gives
+    (subst (λ (h : Header). Grows first made.journal (header_line h)) c.with_settings.ensures c.in-Ok-make_inside.ensures.noted) c.in-Ok.ensures.gives
 
 pub returns-in-Ok-make_inside-clause-faults : goal.returns-in-Ok-make_inside-clause-faults
 returns-in-Ok-make_inside-clause-faults g c = subst (λ (h : Header). IsBadHeader h → ⊥) c.with_settings.ensures c.in-Ok-make_inside.ensures.faults

@@ -11,7 +11,7 @@ use Rattle.ctl_protocol.specs.Objects.{Plain, text, flag, count, whole, plain_da
 use Rattle.history_model.specs.declared.Act.{Act}
 use Rattle.event_reader.specs.declared.members.Form.{Form}
 use Rattle.event_reader.specs.Members.{tag_of, has_answers}
-use Rattle.ctl_protocol.specs.Journal.{row_object}
+use Rattle.ctl_protocol.specs.EventWriter.{row_object}
 use Rattle.ctl_protocol.specs.declared.header.Header.{Header}
 use Rattle.ctl_protocol.specs.HeaderLines.{header_object, plain_members, setting_members}
 use Rattle.ctl_protocol.specs.Outcomes.{order_members, orders_data, outcome_object, reply_object}

@@ -1,5 +1,6 @@
--- The lines that tell an event, row by row: the keys that each must or may have, their kinds, and the event that they give.
--- A request is the same row under the key `req`, without the answers of the outside.
+-- The lines that tell an event, row by row: the keys that each must or may have, their kinds, and
+-- the event that they give. A request is the same row under the key `req`, without the answers of
+-- the outside.
 use Rattle.std.specs.Prelude.{ℕ, ◌^◌, List, [], ◌∷◌, ◌++◌, codes, Bool, true, false, ◌&&◌, Option, Some, None, nat_lt, if◌then◌else◌}
 use Rattle.std.specs.Str.{bytes_eq}
 use Rattle.serde_json.specs.Data.{Data}
@@ -16,9 +17,14 @@ use Rattle.event_reader.specs.Members.{◌>>=◌, text_key, number_key, flag_key
 
 -- ---- what clients ask
 
+-- no key but those of `load`
+abbrev pub has_load_keys : Form → Data → Bool
+has_load_keys form d =
+    has_only form (codes "def" ∷ codes "w" ∷ codes "F" ∷ []) (codes "bind" ∷ codes "store" ∷ []) d
+
 -- `load`: the text `def`; the flags `w` and `F` (false); the answers `bind` and `store` (true)
 unfoldable pub load_row : Form → Data → Option Event
-load_row form d = if has_only form (codes "def" ∷ codes "w" ∷ codes "F" ∷ []) (codes "bind" ∷ codes "store" ∷ []) d then (do
+load_row form d = if has_load_keys form d then (do
   def ← text_key (codes "def") d
   w ← flag_or (codes "w") false d
   force ← flag_or (codes "F") false d
@@ -40,7 +46,8 @@ job_row form d = if has_only form (codes "job" ∷ []) [] d then label_key (code
 
 -- `print`: the target `job`
 unfoldable pub target_row : Form → Data → Option (List ℕ)
-target_row form d = if has_only form (codes "job" ∷ []) [] d then target_key (codes "job") d else None
+target_row form d =
+    if has_only form (codes "job" ∷ []) [] d then target_key (codes "job") d else None
 
 -- `enable` and `disable`: the target `job`; the answer `store` (true)
 unfoldable pub setting_row : Form → Data → Option (List ℕ × Bool)
@@ -69,6 +76,7 @@ abbrev row_of : List ℕ → List Row → Data → Option Event
 row_of name [] d = None
 row_of name (r ∷ rows) d = if bytes_eq name r.0 then r.1 d else row_of name rows d
 
+-- the rows of what clients ask
 abbrev pub asked_rows : Form → List Row
 asked_rows form =
     (codes "load", load_row form)
@@ -83,6 +91,7 @@ asked_rows form =
     ∷ (codes "shutdown", bare_row events.Shutdown form)
     ∷ []
 
+-- the event that a client asks for under this name
 unfoldable pub asked_row : List ℕ → Form → Data → Option Event
 asked_row name form d = row_of name (asked_rows form) d
 
@@ -103,8 +112,11 @@ sight_keys d = do
   stamp ← number_key (codes "stamp") d
   Some (record { present = present; nonempty_dir = nonempty; stamp = stamp })
 
+-- no key but those of `saw`
 unfoldable pub has_saw_keys : Data → Bool
-has_saw_keys d = has_only forms.Event (codes "path" ∷ codes "exists" ∷ codes "nonempty" ∷ codes "stamp" ∷ []) [] d
+has_saw_keys d =
+    has_only forms.Event
+    (codes "path" ∷ codes "exists" ∷ codes "nonempty" ∷ codes "stamp" ∷ []) [] d
 
 -- `saw`: the text `path`; what was seen
 unfoldable pub saw_row : Data → Option Event
@@ -122,7 +134,8 @@ connection_row d = if has_only forms.Event (codes "job" ∷ codes "conn" ∷ [])
 
 -- from 1 to 2^32 - 1
 unfoldable pub pid_key : Data → Option ℕ
-pid_key d = number_key (codes "pid") d >>= λ pid. if nat_lt 0 pid && nat_lt pid (2 ^ 32) then Some pid else None
+pid_key d = number_key (codes "pid") d >>= λ pid.
+    if nat_lt 0 pid && nat_lt pid (2 ^ 32) then Some pid else None
 
 -- `spawned`: the label `job`; the number `run`; the process id `pid`
 unfoldable pub spawned_row : Data → Option Event
@@ -151,6 +164,7 @@ answer_row d = if has_only forms.Event (codes "job" ∷ codes "run" ∷ codes "o
 unfoldable pub byte_key : List ℕ → Data → Option ℕ
 byte_key key d = number_key key d >>= λ n. if nat_lt n 256 then Some n else None
 
+-- the end that one of the two values tells, if the other is absent
 abbrev one_of : Option Data → Option Data → Data → Option Ended
 one_of (Some x) None d = byte_key (codes "code") d >>= λ n. Some (Code n)
 one_of None (Some x) d = byte_key (codes "signal") d >>= λ n. Some (Signal n)
@@ -161,14 +175,20 @@ one_of (Some x) (Some y) d = None
 unfoldable pub end_key : Data → Option Ended
 end_key d = one_of (get (codes "code") d) (get (codes "signal") d) d
 
+-- no key but those of `ended`
+abbrev pub has_ended_keys : Data → Bool
+has_ended_keys d =
+    has_only forms.Event (codes "job" ∷ codes "run" ∷ codes "code" ∷ codes "signal" ∷ []) [] d
+
 -- `ended`: the label `job`; the number `run`; one of the bytes `code` and `signal`
 unfoldable pub ended_row : Data → Option Event
-ended_row d = if has_only forms.Event (codes "job" ∷ codes "run" ∷ codes "code" ∷ codes "signal" ∷ []) [] d then (do
+ended_row d = if has_ended_keys d then (do
   job ← label_key (codes "job") d
   run ← number_key (codes "run") d
   how ← end_key d
   Some (events.Ended job run how)) else None
 
+-- the rows of what the outside tells
 abbrev pub told_rows : List Row
 told_rows =
     (codes "clock", clock_row)
@@ -189,9 +209,11 @@ told_row name d = row_of name (told_rows ++ asked_rows forms.Event) d
 
 -- ---- whole lines
 
+-- the event that the object of a journal's line tells
 unfoldable pub event_row : Data → Option Event
 event_row d = text_key (tag_of forms.Event) d >>= λ name. told_row name d
 
+-- the event that the object of a request asks for
 unfoldable pub request_row : Data → Option Event
 request_row d = text_key (tag_of forms.Request) d >>= λ name. asked_row name forms.Request d
 

@@ -11,6 +11,7 @@ use Rattle.event_reader.specs.declared.members.Form.TheVariants as forms
 use Rattle.event_reader.specs.Members.{tag_of, has_answers}
 use Rattle.ctl_protocol.specs.Objects.{Plain, text, flag, count, with_members, line_of}
 
+-- the name that stands under the tag
 abbrev pub name_of : Event → List ℕ
 name_of (events.Load def w force bind store) = codes "load"
 name_of (events.Unload job w store) = codes "unload"
@@ -33,15 +34,19 @@ name_of (events.Killed job run ok) = codes "killed"
 name_of (events.Ended job run how) = codes "ended"
 name_of (events.WaitRefused job run) = codes "wait_refused"
 
+-- the key `job`
 abbrev pub of_job : List ℕ → List ℕ × Plain
 of_job job = (codes "job", text job)
 
+-- the keys of an event of a run
 abbrev pub of_run : List ℕ → ℕ → List (List ℕ × Plain)
 of_run job run = of_job job ∷ (codes "run", count run) ∷ []
 
+-- the keys of the answer to a TERM or KILL
 abbrev pub of_answer : List ℕ → ℕ → Bool → List (List ℕ × Plain)
 of_answer job run ok = of_job job ∷ (codes "ok", flag ok) ∷ (codes "run", count run) ∷ []
 
+-- the keys of an event of a connection
 abbrev pub of_connection : List ℕ → ℕ → List (List ℕ × Plain)
 of_connection job conn = (codes "conn", count conn) ∷ of_job job ∷ []
 
@@ -52,7 +57,8 @@ end_member (Signal n) = (codes "signal", count n)
 
 -- the keys of its row, but for the tag and the answers
 abbrev pub row_members : Event → List (List ℕ × Plain)
-row_members (events.Load def w force bind store) = (codes "F", flag force) ∷ (codes "def", text def) ∷ (codes "w", flag w) ∷ []
+row_members (events.Load def w force bind store) =
+    (codes "F", flag force) ∷ (codes "def", text def) ∷ (codes "w", flag w) ∷ []
 row_members (events.Unload job w store) = of_job job ∷ (codes "w", flag w) ∷ []
 row_members (events.Start job) = of_job job ∷ []
 row_members (events.Stop job) = of_job job ∷ []
@@ -64,10 +70,12 @@ row_members (events.Print job) = of_job job ∷ []
 row_members events.Shutdown = []
 row_members (events.Clock at) = (codes "up", count at.up) ∷ (codes "wall", count at.wall) ∷ []
 row_members (events.Saw path obs) =
-    (codes "exists", flag obs.present) ∷ (codes "nonempty", flag obs.nonempty_dir) ∷ (codes "path", text path) ∷ (codes "stamp", count obs.stamp) ∷ []
+    (codes "exists", flag obs.present) ∷ (codes "nonempty", flag obs.nonempty_dir)
+    ∷ (codes "path", text path) ∷ (codes "stamp", count obs.stamp) ∷ []
 row_members (events.Came job conn) = of_connection job conn
 row_members (events.Left job conn) = of_connection job conn
-row_members (events.Spawned job run pid) = of_job job ∷ (codes "pid", count pid) ∷ (codes "run", count run) ∷ []
+row_members (events.Spawned job run pid) =
+    of_job job ∷ (codes "pid", count pid) ∷ (codes "run", count run) ∷ []
 row_members (events.SpawnRefused job run) = of_run job run
 row_members (events.Termed job run ok) = of_answer job run ok
 row_members (events.Killed job run ok) = of_answer job run ok
@@ -76,33 +84,40 @@ row_members (events.WaitRefused job run) = of_run job run
 
 -- what the outside answered
 abbrev pub answer_members : Event → List (List ℕ × Plain)
-answer_members (events.Load def w force bind store) = (codes "bind", flag bind) ∷ (codes "store", flag store) ∷ []
+answer_members (events.Load def w force bind store) =
+    (codes "bind", flag bind) ∷ (codes "store", flag store) ∷ []
 answer_members (events.Unload job w store) = (codes "store", flag store) ∷ []
 answer_members (events.Enable job store) = (codes "store", flag store) ∷ []
 answer_members (events.Disable job store) = (codes "store", flag store) ∷ []
 answer_members _ = []
 
+-- the object of a line: its tag with the name, the row's keys, and an event's answers
 abbrev pub row_object : Form → List ℕ → List (List ℕ × Plain) → List (List ℕ × Plain) → Data
 row_object form name row answers =
-    object (with_members (with_members (with_members no_members ((tag_of form, text name) ∷ [])) row) (if has_answers form then answers else []))
+    object (with_members
+    (with_members (with_members no_members ((tag_of form, text name) ∷ [])) row)
+    (if has_answers form then answers else []))
 
+-- the object of the line that tells the event, or asks for it
 abbrev pub event_object : Form → Event → Data
 event_object form e = row_object form (name_of e) (row_members e) (answer_members e)
 
 -- the line of a journal that tells the event, with its newline
-abbrev pub event_text : Event → List ℕ
-event_text e = line_of (event_object forms.Event e)
+abbrev pub event_line : Event → List ℕ
+event_line e = line_of (event_object forms.Event e)
 
 -- the line by which a client asks for it, with its newline
-abbrev pub request_text : Event → List ℕ
-request_text e = line_of (event_object forms.Request e)
+abbrev pub request_line : Event → List ℕ
+request_line e = line_of (event_object forms.Request e)
 
 -- ---- which events a line can tell: the job is a label, and each number is one of its row
 
+-- the exit code or the signal is a byte
 abbrev is_byte_end : Ended → Bool
 is_byte_end (Code n) = nat_lt n 256
 is_byte_end (Signal n) = nat_lt n 256
 
+-- the job is a label, and each number is one of its row
 abbrev pub is_tellable : Event → Bool
 is_tellable (events.Load def w force bind store) = true
 is_tellable (events.Unload job w store) = is_label job

@@ -4,5 +4,6 @@ use Rattle.serde_json.specs.Data.{Data}
 use Rattle.event_reader.specs.Trees.{data_of}
 use Rattle.event_reader.specs.declared.line.Line.{Line}
 
+-- what `serde_json` would read of the line
 abbrev pub seen : Line → Data
 seen line = data_of (value_view line.tree)
