@@ -8,7 +8,7 @@ ghost use Rattle.sqlite.specs.State.{HasCleanDisk};
 ghost use Rattle.history_model.specs.declared.event.Setting.{Setting};
 ghost use Rattle.ctl_protocol.specs.declared.header.Header.{Header};
 ghost use Rattle.order_edge.specs.Calls.{Entry};
-ghost use Rattle.override_store.specs.Ours.{HoldsSettings, IsOpenedOn, rows_in};
+ghost use Rattle.override_store.specs.OverrideStores.{HoldsSettings, IsOpenedOn, rows_in};
 ghost use Rattle.override_store.specs.Settings.{HoldsEach, setting_in};
 ghost use Rattle.load_asking.specs.Stores.{StoreCall};
 ghost use Rattle.stored_settings.specs.declared.StoredSettings.{StoredSettings as Stored};

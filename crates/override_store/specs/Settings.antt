@@ -12,7 +12,7 @@ use Rattle.history_model.specs.declared.event.Setting.{Setting}
 use Rattle.history_model.specs.Search.{first}
 use Rattle.history_model.specs.Labels.{Label, is_label}
 use Rattle.history_model.specs.Machine.{sets}
-use Rattle.override_store.specs.Rows.{IsFlag, Says}
+use Rattle.override_store.specs.SettingRows.{IsFlag, Says}
 
 -- what the query shows of a row
 abbrev pub shown : Row → Row

@@ -8,7 +8,7 @@ ghost use Rattle.sqlite.specs.Held.{state};
 ghost use Rattle.sqlite.specs.State.{HasCleanDisk};
 ghost use Rattle.sqlite_wal.specs.Reads.{AreClean};
 ghost use Rattle.history_model.specs.declared.event.Setting.{Setting};
-ghost use Rattle.override_store.specs.Ours.{HoldsNow, HoldsSettings, IsOpenedOn, rows_in};
+ghost use Rattle.override_store.specs.OverrideStores.{HoldsNow, HoldsSettings, IsOpenedOn, rows_in};
 ghost use Rattle.override_store.specs.Settings.{HoldsEach, setting_in};
 
 use crate::OverrideStore;

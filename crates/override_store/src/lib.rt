@@ -11,8 +11,8 @@ ghost use Rattle.sqlite.specs.Tree.{Trees};
 ghost use Rattle.sqlite.specs.View.{IsClean, doubt};
 ghost use Rattle.history_model.specs.Labels.{is_label, is_same};
 ghost use Rattle.history_model.specs.declared.event.Setting.{Setting};
-ghost use Rattle.override_store.specs.Ours.{AreFit, Carries, HoldsAs, HoldsSetting, HoldsSettings, IsOurs, rows_in};
-ghost use Rattle.override_store.specs.Rows.{Sets, Stamps};
+ghost use Rattle.override_store.specs.OverrideStores.{AreFit, Carries, HoldsAs, HoldsSetting, HoldsSettings, IsOurs, rows_in};
+ghost use Rattle.override_store.specs.SettingRows.{Sets, Stamps};
 ghost use Rattle.override_store.specs.Settings.{Change, HoldsEach, IsForeign, ListsChanges, ListsSettings, change_of, setting_in};
 
 pub mod again;

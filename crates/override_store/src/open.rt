@@ -6,8 +6,8 @@ ghost use Rattle.sqlite.specs.Order.{Row};
 ghost use Rattle.sqlite.specs.State.{HasCleanDisk, Survives};
 ghost use Rattle.sqlite.specs.Tree.{Trees};
 ghost use Rattle.sqlite.specs.View.{doubt};
-ghost use Rattle.override_store.specs.Ours.{HasTables, HoldsMoved, IsOurs, IsReady, rows_in};
-ghost use Rattle.override_store.specs.Rows.{Moves};
+ghost use Rattle.override_store.specs.OverrideStores.{HasTables, HoldsMoved, IsOurs, IsReady, rows_in};
+ghost use Rattle.override_store.specs.SettingRows.{Moves};
 
 use crate::batch::run_batch;
 use crate::{StoreFault, fault};

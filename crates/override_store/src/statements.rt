@@ -4,8 +4,8 @@ ghost use Rattle.std.specs.Prelude.{◌≡◌, ◌≢◌, ◌≤◌, IfErr, IfOk
 ghost use Rattle.sqlite.specs.Held.{state};
 ghost use Rattle.sqlite.specs.State.{HasCleanDisk, Survives};
 ghost use Rattle.sqlite.specs.Tree.{Trees};
-ghost use Rattle.override_store.specs.Ours.{HoldsSetting, IsOurs, rows_in};
-ghost use Rattle.override_store.specs.Rows.{Sets, Stamps};
+ghost use Rattle.override_store.specs.OverrideStores.{HoldsSetting, IsOurs, rows_in};
+ghost use Rattle.override_store.specs.SettingRows.{Sets, Stamps};
 ghost use Rattle.override_store.specs.Settings.{IsSortedList};
 
 use crate::{StoreFault, fault};

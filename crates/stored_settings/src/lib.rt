@@ -6,7 +6,7 @@ ghost use Rattle.std.specs.Prelude.{IfOk, List, None, reverse};
 ghost use Rattle.history_model.specs.declared.event.Setting.{Setting as Held};
 ghost use Rattle.sqlite.specs.Held.{state};
 ghost use Rattle.sqlite.specs.State.{HasCleanDisk};
-ghost use Rattle.override_store.specs.Ours.{AreFit, HoldsNow, HoldsSettings};
+ghost use Rattle.override_store.specs.OverrideStores.{AreFit, HoldsNow, HoldsSettings};
 
 use history_model::Setting;
 use load_asking::{self, SettingStore};
