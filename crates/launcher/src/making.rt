@@ -51,7 +51,8 @@ pub(crate) fn with_settings(header: Header, settings: Vec<Setting>) -> Header
 
 /// The journal with the header's line, if there is one.
 fn begun<W: Write>(alloc: Global, journal: Option<W>, header: &Header) -> Journal<W>
-    ensures { Grows (fresh (held W.contents journal) (is_some journal)) result (header_text header.now) }
+    ensures { Grows (fresh (held W.contents journal) (is_some journal)) result
+        (header_text header.now) }
 {
     match journal {
         Some(writer) => Journal::begin(alloc, writer, header),
@@ -73,7 +74,9 @@ pub(crate) fn make_inside<W: Write + Drop>(
     journal: Option<W>,
 ) -> Result<Inside<W>, HostFault>
     ensures opened { IfOk result (λ made. StandsOpened header made.table) }
-    ensures noted { IfOk result (λ made. Grows (fresh (held W.contents journal) (is_some journal)) made.journal (header_text header)) }
+    ensures noted { IfOk result (λ made.
+        Grows (fresh (held W.contents journal) (is_some journal)) made.journal
+        (header_text header)) }
     ensures faults { FaultOf header result }
     ensures fault { IfErr result (IsFaultWith header) }
 {

@@ -25,8 +25,11 @@ pub(crate) fn finish<E: ChildEdge + SocketEdge, W: Write>(
     room: &mut Room,
 )
     requires { room.old.answers ≡ [] }
-    ensures { (before : Table) (s : State) (e : Event) (line : List ℕ) (written : Kept) → Grows written journal.old line → IsShort e → IsLed s → KeepsState before s → HasTaken s e table.old
-        → Finishes s e line table.old.names table.new (E.told edge.old) (E.told edge.new) written journal.new }
+    ensures { (before : Table) (s : State) (e : Event) (line : List ℕ) (written : Kept) →
+        Grows written journal.old line → IsShort e → IsLed s → KeepsState before s →
+        HasTaken s e table.old
+        → Finishes s e line table.old.names table.new
+        (E.told edge.old) (E.told edge.new) written journal.new }
 {
     carry_all(edge, &table.given(), &mut room.answers);
     settle(table, edge, journal, alloc, room);

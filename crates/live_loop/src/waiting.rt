@@ -12,7 +12,8 @@ pub(crate) const SHORTEST: u64 = 1;
 /// The pause after one round more, of the pause after those before it: a millisecond, doubled by each quiet round since one in
 /// which something happened, and at most a tenth of a second.
 pub fn next_pause(is_active: bool, pause: u64) -> u64
-    ensures { (rounds : List Bool) → pause ≡ pause_after rounds → result ≡ pause_after (is_active ∷ rounds) }
+    ensures { (rounds : List Bool) → pause ≡ pause_after rounds →
+        result ≡ pause_after (is_active ∷ rounds) }
 {
     if is_active {
         SHORTEST
