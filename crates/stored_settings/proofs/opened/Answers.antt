@@ -1,3 +1,4 @@
+-- The answers to the goals of `opened`.
 use Rattle.std.proofs.Common.{reverse}
 use Rattle.stored_settings.proofs.opened.Goals as goal
 

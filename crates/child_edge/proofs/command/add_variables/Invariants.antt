@@ -1,3 +1,4 @@
+-- The invariants of the loop of `command::add_variables`.
 use Rattle.std.proofs.Common.{◌≡◌, ℕ, List, take}
 use Rattle.std.specs.Process.{command_var, SameProgramAndArgs, SameDir}
 use Rattle.child_edge.specs.Command.{said_after}

@@ -1,3 +1,4 @@
+-- The answers to the goals of `laws::what_all_lists_is_what_is_held`.
 use Rattle.std.proofs.Common.{reverse}
 use Rattle.sqlite.specs.Held.{state}
 use Rattle.override_store.specs.OverrideStores.{rows_in}

@@ -1,3 +1,4 @@
+-- The answers to the goals of `open::open_tables`.
 use Rattle.std.proofs.Common.{sym, subst}
 use Rattle.sqlite.specs.Held.{state}
 use Rattle.sqlite.specs.Tree.{Trees}

@@ -1,3 +1,4 @@
+-- The answers to the goals of `quiet::is_wanted`.
 use Rattle.std.proofs.Common.{◌≡◌}
 use Rattle.std.specs.List.{list_any}
 use Rattle.history_model.specs.Moments.{next_moment}
