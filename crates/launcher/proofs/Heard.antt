@@ -57,11 +57,6 @@ pub as_replied : (event : Option journal.Event) (refusal given : Option Refusal)
 as_replied event refusal given words told old new before after same_refusal same_words heard =
     subst (λ (r : Option Refusal). Hears event r words old new before after) (sym same_refusal) (subst (λ (w : List ℕ). Hears event given w old new before after) (sym same_words) heard)
 
--- the event that it was
-pub as_event : (event given : Option journal.Event) (refusal : Option Refusal) (words : List ℕ) (old new : Standing) (before after : List Setting → Type 0) → event ≡ given →
-    Hears given refusal words old new before after → Hears event refusal words old new before after
-as_event event given refusal words old new before after same heard = subst (λ (e : Option journal.Event). Hears e refusal words old new before after) (sym same) heard
-
 -- a line that is no event
 pub unheard : (event : Option journal.Event) (refusal : Option Refusal) (words : List ℕ) (old : Standing) (before : List Setting → Type 0) →
     refusal ≡ Some BadRequest → event ≡ None → Hears event refusal words old old before before
