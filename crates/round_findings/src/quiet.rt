@@ -14,7 +14,7 @@ use job_table::JobTable;
 
 /// Whether the reading may change something since the table's last one: a job's next moment is reached, or some job has
 /// calendar entries and a civil minute is crossed, or the wall clock was set back. It takes no memory.
-pub fn is_wanted(table: &JobTable, at: Reading) -> bool
+pub fn is_news(table: &JobTable, at: Reading) -> bool
     ensures { (s : State) → KeepsState table.now s →
         result ≡ may_change s.jobs table.now.reading at }
 {
