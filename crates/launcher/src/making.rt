@@ -1,4 +1,4 @@
-//! What a launcher is made of, as its header tells it.
+//! What a launcher is made of, as the header of its journal tells it.
 
 ghost use Rattle.std.specs.Prelude.{◌≡◌, IfErr, IfOk, is_some};
 ghost use Rattle.ctl_protocol.specs.HeaderLines.{header_text};

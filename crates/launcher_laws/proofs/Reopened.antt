@@ -1,4 +1,4 @@
--- The store that was closed after the turns and is opened again.
+-- The store of settings that was closed after the turns and is opened again.
 use Rattle.std.proofs.Common.{◌≡◌, ℕ, List, Option}
 use Rattle.std.specs.Prelude.{reverse}
 use Rattle.sqlite.specs.State.{State, HasCleanDisk}

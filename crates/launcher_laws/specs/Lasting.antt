@@ -1,4 +1,4 @@
--- What the turns of a launcher come to.
+-- What any turns of a launcher, one after another, come to.
 use Rattle.std.specs.Prelude.{◌≡◌, List, map}
 use Rattle.std.specs.List.{flat_map}
 use Rattle.history_model.specs.declared.event.Event as journal

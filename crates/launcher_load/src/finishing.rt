@@ -1,4 +1,4 @@
-//! The rest of a turn whose first event the table has taken in.
+//! The rest of a load or of a setting whose event the table has taken in.
 
 ghost use Rattle.std.specs.Prelude.{◌≡◌, ℕ, List, []};
 ghost use Rattle.history_model.specs.Machine.{State, Event};

@@ -1,4 +1,4 @@
--- The settings of the machine, after a turn.
+-- The settings of the machine, after a turn of the launcher.
 use Rattle.std.proofs.Common.{◌≡◌, ℕ, Bool, true, false, not, ◌&&◌, List, [], ◌∷◌, map, Option, Some, None, refl, sym, ap, ◌∙◌}
 use Rattle.std.specs.Prelude.{Ok}
 use Rattle.history_model.specs.declared.Refusal.{Refusal}

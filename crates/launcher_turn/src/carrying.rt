@@ -1,4 +1,4 @@
-//! Carries out the orders of a step.
+//! Carries out on the outside what the table orders at one event.
 
 ghost use Rattle.std.specs.Prelude.{◌≡◌};
 ghost use Rattle.job_table.specs.Ends.{AreKnown};

@@ -1,4 +1,4 @@
-//! Makes each answer the next event, first in first out, until none is left.
+//! Makes each answer of the outside the next event, first in first out, until none is left.
 
 ghost use Rattle.std.specs.Prelude.{◌≤◌, ◌*◌, List, ◌∷◌};
 ghost use Rattle.history_model.specs.Machine.{State};

@@ -1,4 +1,4 @@
-//! A whole turn: what happens, and then the answers to all that it orders.
+//! A whole turn of the launcher: what happens, and then the answers to all that it orders.
 
 ghost use Rattle.std.specs.Prelude.{◌≡◌, Err, true};
 ghost use Rattle.history_model.specs.declared.Refusal.TheVariants.{NoMemory};

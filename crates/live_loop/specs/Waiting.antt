@@ -1,4 +1,4 @@
--- How long a round waits, in milliseconds.
+-- How long a round of the live loop waits, in milliseconds.
 use Rattle.std.specs.Prelude.{ℕ, ◌+◌, ◌^◌, ◌≤◌, Bool, true, false, List, [], ◌∷◌, Option, min, max}
 use Rattle.std.specs.Option.{ForSome}
 

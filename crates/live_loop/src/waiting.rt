@@ -1,4 +1,4 @@
-//! How long a round waits, in milliseconds.
+//! How long a round of the live loop waits, in milliseconds.
 
 ghost use Rattle.std.specs.Prelude.{◌≡◌, ◌≤◌, ◌∷◌, ℕ, Bool, List};
 ghost use Rattle.live_loop.specs.Waiting.{pause_after, IsNotPast, IsLongestWait};

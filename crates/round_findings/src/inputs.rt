@@ -1,4 +1,4 @@
-//! What a round finds, handed to the launcher one by one.
+//! What a round of the live loop finds, handed to the launcher one by one.
 
 use crate::quiet::is_news;
 use child_edge::{ChildEdge, ClockEdge, SocketEdge};
