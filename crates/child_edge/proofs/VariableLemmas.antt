@@ -3,7 +3,7 @@ use Rattle.std.proofs.Common.{◌≡◌, ◌≢◌, ℕ, Bool, true, false, cond
 use Rattle.std.proofs.lemmas.List.Sums.{fold_push}
 use Rattle.std.proofs.lemmas.Slice.Eq.{bytes_eq-Decides}
 use Rattle.job_defs.specs.declared.parts.Variable.{Variable}
-use Rattle.child_edge.specs.Launch.{said_after}
+use Rattle.child_edge.specs.Command.{said_after}
 
 -- a name has its new value, and another name keeps what was said of it
 one_more : (k v name : List ℕ) (now was said : Option (Option (List ℕ))) → (name ≡ k → now ≡ Some (Some v)) → (name ≢ k → now ≡ was) → was ≡ said

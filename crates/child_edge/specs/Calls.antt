@@ -1,5 +1,5 @@
--- What an edge tells: the calls that were made of it, oldest first, each with the answer that it gave.
-use Rattle.std.specs.Prelude.{◌≡◌, ℕ, ◌+◌, ◌%◌, ◌^◌, List, ◌++◌, Option, Some, None, Result, Ok, Err}
+-- What an edge tells: the calls that were made of it, oldest first, each with its answer.
+use Rattle.std.specs.Prelude.{◌≡◌, ℕ, ◌+◌, ◌%◌, ◌^◌, List, [], ◌∷◌, ◌++◌, Option, Some, None, Result, Ok, Err}
 use Rattle.history_model.specs.declared.Ended.{Ended}
 use Rattle.history_model.specs.declared.Obs.{Obs}
 use Rattle.history_model.specs.declared.Reading.{Reading}
@@ -9,12 +9,20 @@ use Rattle.child_edge.specs.declared.plain.EdgeFault.TheVariants as Fault
 use Rattle.child_edge.specs.declared.plain.Scripted.{Scripted}
 use Rattle.child_edge.specs.declared.plain.Scripted.TheVariants.{Started, Done, Running, Over, Seen, At, Refused, NoMemory}
 
--- From old to new the edge was called for exactly these entries, in this order. Nothing is claimed of an edge that does
--- not tell, nor from the call on at which it stops telling.
-abbrev pub Tells : Option (List (EdgeCall × Scripted)) → List (EdgeCall × Scripted) → Option (List (EdgeCall × Scripted)) → Type 0
+-- a call with its answer
+abbrev pub Entry : Type 0
+Entry = EdgeCall × Scripted
+
+-- From old to new the edge was called for exactly these entries, in this order. Nothing is claimed
+-- of an edge that does not tell, nor from the call on at which it stops telling.
+abbrev pub Tells : Option (List Entry) → List Entry → Option (List Entry) → Type 0
 Tells old entries new =
-    (after : List (EdgeCall × Scripted)) → new ≡ Some after
-    → (before : List (EdgeCall × Scripted)) × (old ≡ Some before) × (after ≡ before ++ entries)
+    (after : List Entry) → new ≡ Some after
+    → (before : List Entry) × (old ≡ Some before) × (after ≡ before ++ entries)
+
+-- it was called once
+abbrev pub TellsOne : Option (List Entry) → Entry → Option (List Entry) → Type 0
+TellsOne old entry new = Tells old (entry ∷ []) new
 
 -- the count of failures after one more; after the greatest u64 comes 0
 abbrev pub one_more : ℕ → ℕ

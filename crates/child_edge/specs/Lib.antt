@@ -1,3 +1,3 @@
 pub mod Calls
-pub mod Launch
-pub mod Script
+pub mod Command
+pub mod Memory

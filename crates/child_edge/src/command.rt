@@ -2,7 +2,7 @@
 
 ghost use Rattle.std.specs.Prelude.{◌≡◌, ◌++◌, ℕ, List, None, Some, IfOk, OnOk, option_map};
 ghost use Rattle.std.specs.Process.{command_program, command_args, command_dir, command_arg0, command_var, SameEnv, SameDir, SameOtherVars, SameProgramAndArgs};
-ghost use Rattle.child_edge.specs.Launch.{said_after};
+ghost use Rattle.child_edge.specs.Command.{SetsVariables, said_after};
 
 use history_model::Text;
 use job_defs::{Def, Variable};
@@ -25,7 +25,8 @@ pub(crate) fn command_of(alloc: Global, def: &Def, streams: Streams) -> Result<C
     ensures name { IfOk result (λ c. command_arg0 c ≡ Some def.now.program) }
     ensures arguments { IfOk result (λ c. command_args c ≡ def.now.arguments) }
     ensures directory { IfOk result (λ c. command_dir c ≡ def.now.working_directory) }
-    ensures variables { IfOk result (λ c. (name : List ℕ) → command_var c name ≡ said_after name None def.now.environment) }
+    ensures variables { IfOk result (λ c. (name : List ℕ) →
+        command_var c name ≡ said_after name None def.now.environment) }
 {
     let Streams {
         input,
@@ -47,9 +48,11 @@ fn set_up(command: &mut Command, def: &Def) -> Result<(), AllocError>
     requires { command_dir command.old ≡ None }
     ensures program { OnOk result (command_program command.new ≡ command_program command.old) }
     ensures name { OnOk result (command_arg0 command.new ≡ Some def.now.program) }
-    ensures arguments { OnOk result (command_args command.new ≡ command_args command.old ++ def.now.arguments) }
+    ensures arguments { OnOk result
+        (command_args command.new ≡ command_args command.old ++ def.now.arguments) }
     ensures directory { OnOk result (command_dir command.new ≡ def.now.working_directory) }
-    ensures variables { OnOk result ((name : List ℕ) → command_var command.new name ≡ said_after name (command_var command.old name) def.now.environment) }
+    ensures variables { OnOk result
+        (SetsVariables def.now.environment (command_var command.old) (command_var command.new)) }
 {
     add_words(command, def.arguments())?;
     add_variables(command, def.environment())?;
@@ -85,7 +88,8 @@ fn add_words(command: &mut Command, words: &[Text]) -> Result<(), AllocError>
 fn add_variables(command: &mut Command, variables: &[Variable]) -> Result<(), AllocError>
     ensures call { OnOk result (SameProgramAndArgs command.old command.new) }
     ensures dir { OnOk result (SameDir command.old command.new) }
-    ensures set { OnOk result ((name : List ℕ) → command_var command.new name ≡ said_after name (command_var command.old name) variables.now) }
+    ensures set { OnOk result
+        (SetsVariables variables.now (command_var command.old) (command_var command.new)) }
 {
     for variable in variables {
         set_variable(command, variable)?;
@@ -96,7 +100,8 @@ fn add_variables(command: &mut Command, variables: &[Variable]) -> Result<(), Al
 fn set_variable(command: &mut Command, variable: &Variable) -> Result<(), AllocError>
     ensures call { OnOk result (SameProgramAndArgs command.old command.new) }
     ensures dir { OnOk result (SameDir command.old command.new) }
-    ensures set { OnOk result (command_var command.new variable.now.name ≡ Some (Some variable.now.value)) }
+    ensures set { OnOk result
+        (command_var command.new variable.now.name ≡ Some (Some variable.now.value)) }
     ensures others { OnOk result (SameOtherVars command.old command.new variable.now.name) }
 {
     command.env(variable.name.as_str(), variable.value.as_str())?;

@@ -2,7 +2,7 @@
 //! the launcher started; its run is named by the job's number and the run's.
 
 ghost use Rattle.std.specs.Prelude.{◌≡◌, ◌<◌, ℕ, List, [], ◌∷◌, Option, IfOk, OnErr, OnOk};
-ghost use Rattle.child_edge.specs.Calls.{Tells, one_more, start_answer, done_answer, poll_answer, look_answer, read_answer};
+ghost use Rattle.child_edge.specs.Calls.{TellsOne, one_more, start_answer, done_answer, poll_answer, look_answer, read_answer};
 ghost use Rattle.child_edge.specs.declared.plain.EdgeCall.{EdgeCall as Call};
 ghost use Rattle.child_edge.specs.declared.plain.Scripted.{Scripted as Answer};
 
@@ -33,26 +33,30 @@ pub trait ChildEdge: Edge {
         def: &Def,
         conn: Option<u64>,
     ) -> Result<u32, EdgeFault>
-        ensures told { Tells (Self.told self.old) ((EdgeCall.Start job run conn, start_answer result) ∷ []) (Self.told self.new) }
+        ensures told { TellsOne (Self.told self.old)
+            (EdgeCall.Start job run conn, start_answer result) (Self.told self.new) }
         ensures pid { IfOk result (λ pid. 0 < pid) }
         ensures fault { OnErr result (Self.failures self.new ≡ one_more (Self.failures self.old)) }
         ensures success { OnOk result (Self.failures self.new ≡ Self.failures self.old) };
 
     /// Gives the run's child TERM.
     fn term(&mut self, job: JobNo, run: u64) -> Result<(), EdgeFault>
-        ensures told { Tells (Self.told self.old) ((EdgeCall.Term job run, done_answer result) ∷ []) (Self.told self.new) }
+        ensures told { TellsOne (Self.told self.old)
+            (EdgeCall.Term job run, done_answer result) (Self.told self.new) }
         ensures fault { OnErr result (Self.failures self.new ≡ one_more (Self.failures self.old)) }
         ensures success { OnOk result (Self.failures self.new ≡ Self.failures self.old) };
 
     /// Gives the run's child KILL.
     fn kill(&mut self, job: JobNo, run: u64) -> Result<(), EdgeFault>
-        ensures told { Tells (Self.told self.old) ((EdgeCall.Kill job run, done_answer result) ∷ []) (Self.told self.new) }
+        ensures told { TellsOne (Self.told self.old)
+            (EdgeCall.Kill job run, done_answer result) (Self.told self.new) }
         ensures fault { OnErr result (Self.failures self.new ≡ one_more (Self.failures self.old)) }
         ensures success { OnOk result (Self.failures self.new ≡ Self.failures self.old) };
 
     /// How the run's child ended, if it did; it does not wait for that. Once an end was answered, the child is gone.
     fn poll(&mut self, job: JobNo, run: u64) -> Result<Option<Ended>, EdgeFault>
-        ensures told { Tells (Self.told self.old) ((EdgeCall.Poll job run, poll_answer result) ∷ []) (Self.told self.new) }
+        ensures told { TellsOne (Self.told self.old)
+            (EdgeCall.Poll job run, poll_answer result) (Self.told self.new) }
         ensures fault { OnErr result (Self.failures self.new ≡ one_more (Self.failures self.old)) }
         ensures success { OnOk result (Self.failures self.new ≡ Self.failures self.old) };
 }
@@ -62,18 +66,21 @@ pub trait ChildEdge: Edge {
 pub trait SocketEdge: Edge {
     /// Binds each socket of the definition, for the job. After an `Err` none of them is bound.
     fn bind(&mut self, job: JobNo, def: &Def) -> Result<(), EdgeFault>
-        ensures told { Tells (Self.told self.old) ((EdgeCall.Bind job, done_answer result) ∷ []) (Self.told self.new) }
+        ensures told { TellsOne (Self.told self.old)
+            (EdgeCall.Bind job, done_answer result) (Self.told self.new) }
         ensures fault { OnErr result (Self.failures self.new ≡ one_more (Self.failures self.old)) }
         ensures success { OnOk result (Self.failures self.new ≡ Self.failures self.old) };
 
     /// Closes a connection of the job that waits.
     fn close(&mut self, job: JobNo, conn: u64)
-        ensures told { Tells (Self.told self.old) ((EdgeCall.Close job conn, Scripted.Done) ∷ []) (Self.told self.new) }
+        ensures told { TellsOne (Self.told self.old)
+            (EdgeCall.Close job conn, Scripted.Done) (Self.told self.new) }
         ensures success { Self.failures self.new ≡ Self.failures self.old };
 
     /// Gives up what was bound for the job.
     fn release(&mut self, job: JobNo)
-        ensures told { Tells (Self.told self.old) ((EdgeCall.Release job, Scripted.Done) ∷ []) (Self.told self.new) }
+        ensures told { TellsOne (Self.told self.old)
+            (EdgeCall.Release job, Scripted.Done) (Self.told self.new) }
         ensures success { Self.failures self.new ≡ Self.failures self.old };
 }
 
@@ -82,7 +89,8 @@ pub trait SocketEdge: Edge {
 pub trait PathEdge: Edge {
     /// What is at the path now. That nothing is there is an observation too.
     fn look(&mut self, path: &str) -> Result<Obs, EdgeFault>
-        ensures told { Tells (Self.told self.old) ((EdgeCall.Look, look_answer result) ∷ []) (Self.told self.new) }
+        ensures told { TellsOne (Self.told self.old)
+            (EdgeCall.Look, look_answer result) (Self.told self.new) }
         ensures fault { OnErr result (Self.failures self.new ≡ one_more (Self.failures self.old)) }
         ensures success { OnOk result (Self.failures self.new ≡ Self.failures self.old) };
 }
@@ -92,7 +100,8 @@ pub trait PathEdge: Edge {
 pub trait ClockEdge: Edge {
     /// The reading of now: `up` in milliseconds, `wall` in seconds of Unix time.
     fn read(&mut self) -> Result<Reading, EdgeFault>
-        ensures told { Tells (Self.told self.old) ((EdgeCall.Clock, read_answer result) ∷ []) (Self.told self.new) }
+        ensures told { TellsOne (Self.told self.old)
+            (EdgeCall.Clock, read_answer result) (Self.told self.new) }
         ensures fault { OnErr result (Self.failures self.new ≡ one_more (Self.failures self.old)) }
         ensures success { OnOk result (Self.failures self.new ≡ Self.failures self.old) };
 }

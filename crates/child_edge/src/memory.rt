@@ -1,9 +1,9 @@
 //! An edge in memory: it answers from a script and lists its calls, so that what the launcher asks of the outside can be
 //! compared.
 
-ghost use Rattle.std.specs.Prelude.{◌≡◌, [], IfOk, true, false, slice_get};
-ghost use Rattle.child_edge.specs.Script.{answer_to, answer_of, after_call, after_done, entered, takes as is_taken, has_room as is_room_for_one};
-ghost use Rattle.child_edge.specs.Calls.{one_more, outcome_answer, start_answer, done_answer, poll_answer, look_answer, read_answer};
+ghost use Rattle.std.specs.Prelude.{◌≡◌, IfOk, true, slice_get};
+ghost use Rattle.child_edge.specs.Memory.{answer_to, answer_of, after_call, after_done, entered, uncalled, untold, takes as is_taken, has_room as is_room_for_one};
+ghost use Rattle.child_edge.specs.Calls.{outcome_answer, start_answer, done_answer, poll_answer, look_answer, read_answer};
 
 use crate::{ChildEdge, ClockEdge, Edge, EdgeCall, EdgeFault, PathEdge, Scripted, SocketEdge};
 use history_model::{Ended, JobNo, Obs, Reading};
@@ -29,11 +29,18 @@ pub struct MemoryEdge {
 
 impl Model for MemoryEdge {
     ghost use Rattle.std.specs.Prelude.{◌≤◌, length, vec_capacity};
-    ghost use Rattle.child_edge.specs.Script.{Memory};
+    ghost use Rattle.child_edge.specs.Memory.{Memory};
 
     ghost Value = { Memory };
 
-    ghost view = { λ e. record { script = e.script.items; given = e.given; calls = e.calls.items; room = e.room; is_telling = e.is_telling; failures = e.failures } };
+    ghost view = { λ e. record {
+        script = e.script.items;
+        given = e.given;
+        calls = e.calls.items;
+        room = e.room;
+        is_telling = e.is_telling;
+        failures = e.failures;
+    } };
 
     ghost invariant = { λ e. (e.room ≤ vec_capacity e.calls) × (e.given ≤ length e.calls.items) };
 }
@@ -65,7 +72,7 @@ impl MemoryEdge {
     /// An edge that answers by this script, and has room to list so many calls. The room is taken here; `AllocError` where
     /// there is no memory for it.
     pub fn new(alloc: Global, script: Vec<Scripted>, room: usize) -> Result<MemoryEdge, AllocError>
-        ensures { IfOk result (λ e. e ≡ record { script = script.items; given = 0; calls = []; room = room; is_telling = true; failures = 0 }) }
+        ensures { IfOk result (λ e. e ≡ uncalled script.items room) }
     {
         let calls = Vec::with_capacity(alloc, room)?;
         Ok(MemoryEdge {
@@ -122,7 +129,7 @@ impl MemoryEdge {
     }
 
     fn refuse_untold(&mut self)
-        ensures { self.new ≡ record self.old { is_telling = false; failures = one_more self.old.failures } }
+        ensures { self.new ≡ untold self.old }
     {
         self.is_telling = false;
         self.failures = self.failures.wrapping_add(1);
@@ -178,7 +185,7 @@ fn answer_in(outcome: Result<Scripted, EdgeFault>) -> Scripted
 }
 
 impl Edge for MemoryEdge {
-    ghost use Rattle.child_edge.specs.Script.{told_by};
+    ghost use Rattle.child_edge.specs.Memory.{told_by};
 
     ghost told = { told_by };
 

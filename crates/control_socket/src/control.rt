@@ -1,4 +1,4 @@
-//! The socket with its clients.
+//! The control socket with its clients.
 
 use crate::client::{Client, Progress};
 use crate::dialogue::Answers;

@@ -1,4 +1,4 @@
--- An input that was heard, by whether memory ran out.
+-- What a launcher leaves that heard an input, by whether memory ran out.
 use Rattle.std.proofs.Common.{◌≡◌, ℕ, Bool, true, false, List, [], ◌∷◌, ◌++◌, Option, Some, None, refl, sym, ap, subst, ◌∙◌}
 use Rattle.std.specs.Prelude.{Result, Ok, Err, if◌then◌else◌}
 use Rattle.std.proofs.lemmas.List.{append-nil}
@@ -56,11 +56,6 @@ pub as_replied : (event : Option journal.Event) (refusal given : Option Refusal)
     Hears event given told old new before after → Hears event refusal words old new before after
 as_replied event refusal given words told old new before after same_refusal same_words heard =
     subst (λ (r : Option Refusal). Hears event r words old new before after) (sym same_refusal) (subst (λ (w : List ℕ). Hears event given w old new before after) (sym same_words) heard)
-
--- the event that it was
-pub as_event : (event given : Option journal.Event) (refusal : Option Refusal) (words : List ℕ) (old new : Standing) (before after : List Setting → Type 0) → event ≡ given →
-    Hears given refusal words old new before after → Hears event refusal words old new before after
-as_event event given refusal words old new before after same heard = subst (λ (e : Option journal.Event). Hears e refusal words old new before after) (sym same) heard
 
 -- a line that is no event
 pub unheard : (event : Option journal.Event) (refusal : Option Refusal) (words : List ℕ) (old : Standing) (before : List Setting → Type 0) →

@@ -33,15 +33,20 @@ abbrev pub fault_of_store : StoreFault → HostFault
 fault_of_store answers.NoMemory = faults.NoMemory
 fault_of_store answers.Refused = faults.Store
 
--- Of a header with the settings that the store gave: Store is answered only if one of them is of a name that is no label, Header only if the
--- header tells no machine. Memory may be refused at any time.
+-- Of a header with the settings that the store gave: Store is answered only if one of them is of a
+-- name that is no label, Header only if the header tells no machine. Memory may be refused at any
+-- time.
 abbrev pub IsFaultWith : Header → HostFault → Type 0
 IsFaultWith header faults.NoMemory = Unit {0}
-IsFaultWith header faults.Store = list_all (λ (setting : Setting). is_label setting.label) header.overrides ≡ false
+IsFaultWith header faults.Store =
+    list_all (λ (setting : Setting). is_label setting.label) header.overrides ≡ false
 IsFaultWith header faults.Header = IsBadHeader header
 
--- The fault of the store is the launcher's. With the settings that it gave, oldest first, the header opens the launcher's table, or there is such a fault.
-abbrev pub ComesOf : {A : Type 0} → (A → Table) → Header → Result (List Setting) StoreFault → Result A HostFault → Type 0
+-- The fault of the store is the launcher's. With the settings that it gave, oldest first, the
+-- header opens the launcher's table, or there is such a fault.
+abbrev pub ComesOf : {A : Type 0} → (A → Table) → Header → Result (List Setting) StoreFault →
+    Result A HostFault → Type 0
 ComesOf table header (Err fault) result = result ≡ Err (fault_of_store fault)
-ComesOf table header (Ok settings) (Ok made) = StandsOpened (with_settings header settings) (table made)
+ComesOf table header (Ok settings) (Ok made) =
+    StandsOpened (with_settings header settings) (table made)
 ComesOf table header (Ok settings) (Err fault) = IsFaultWith (with_settings header settings) fault

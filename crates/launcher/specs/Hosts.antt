@@ -28,79 +28,122 @@ use Rattle.launcher_load.specs.LoadTurns.{AsksFor, AsksNothing, AsksStore, IsUnt
 use Rattle.table_opening.specs.Events.{event_of}
 use Rattle.table_opening.specs.Openings.{OpensBy}
 use Rattle.launcher.specs.Inputs.{answered}
+use Rattle.launcher.specs.declared.host.Host.{Host}
 
--- What contracts see of a launcher: its table, the calls that its outside tells, what its store tells that it was asked, and the journal.
+-- What contracts see of a launcher: its table, the calls that its outside tells, what its store
+-- tells that it was asked, and the journal.
 pub record Standing : Type 0 where
   pub table : Table
   pub calls : Option (List Entry)
   pub stores : Option (List StoreCall)
   pub journal : Kept
 
-abbrev pub standing : Table → Option (List Entry) → Option (List StoreCall) → Kept → Standing
-standing table calls stores journal = record { table = table; calls = calls; stores = stores; journal = journal }
+-- as it stands with these
+abbrev pub standing :
+    Table → Option (List Entry) → Option (List StoreCall) → Kept → Standing
+standing table calls stores journal =
+    record { table = table; calls = calls; stores = stores; journal = journal }
+
+-- the launcher as it stands, by what its outside and its store tell
+abbrev pub stands : {T E W : Type 0} →
+    (E → Option (List Entry)) → (T → Option (List StoreCall)) → Host T E W → Standing
+stands calls stores host =
+    standing host.table (calls host.edge) (stores host.store) host.journal
 
 -- ---- what is asked of the outside
 
 -- the store is asked about a setting, and no socket is
-abbrev pub AsksSetting : State → Label → (disabled unload : Bool) → Asked → Option (List Entry) → Option (List Entry) → Option (List StoreCall) → Option (List StoreCall) → Type 0
+abbrev pub AsksSetting : State → Label → (disabled unload : Bool) → Asked → Option (List Entry) →
+    Option (List Entry) → Option (List StoreCall) → Option (List StoreCall) → Type 0
 AsksSetting s label disabled unload asked calls mid stores stores' =
-    (mid ≡ calls) × (asked.bind ≡ true) × AsksStore (refusal_in s (set_of label disabled unload true)) label (disabled || unload) s.reading.wall asked.store stores stores'
+    (mid ≡ calls) × (asked.bind ≡ true)
+    × AsksStore (refusal_in s (set_of label disabled unload true))
+    label (disabled || unload) s.reading.wall asked.store stores stores'
 
--- Of a load its sockets and then the store, of a setting the store; of anything else nothing. `mid` are the calls once this was asked.
-abbrev pub AsksOutside : State → journal.Event → ℕ → Asked → Option (List Entry) → Option (List Entry) → Option (List StoreCall) → Option (List StoreCall) → Type 0
+-- Of a load its sockets and then the store, of a setting the store; of anything else nothing. `mid`
+-- are the calls once this was asked.
+abbrev pub AsksOutside : State → journal.Event → ℕ → Asked → Option (List Entry) →
+    Option (List Entry) → Option (List StoreCall) → Option (List StoreCall) → Type 0
 AsksOutside s (told.Load def w force bind store) job asked calls mid stores stores' =
-    AsksFor (refusal_in s (load_of def w force true true)) (def_of def) job w s.reading.wall asked calls mid stores stores'
-AsksOutside s (told.Unload label true store) job asked calls mid stores stores' = AsksSetting s label true true asked calls mid stores stores'
-AsksOutside s (told.Enable label store) job asked calls mid stores stores' = AsksSetting s label false false asked calls mid stores stores'
-AsksOutside s (told.Disable label store) job asked calls mid stores stores' = AsksSetting s label true false asked calls mid stores stores'
+    AsksFor (refusal_in s (load_of def w force true true))
+    (def_of def) job w s.reading.wall asked calls mid stores stores'
+AsksOutside s (told.Unload label true store) job asked calls mid stores stores' =
+    AsksSetting s label true true asked calls mid stores stores'
+AsksOutside s (told.Enable label store) job asked calls mid stores stores' =
+    AsksSetting s label false false asked calls mid stores stores'
+AsksOutside s (told.Disable label store) job asked calls mid stores stores' =
+    AsksSetting s label true false asked calls mid stores stores'
 AsksOutside s _ job asked calls mid stores stores' = AsksNothing asked calls mid stores stores'
 
 -- a load asked for the job with the number that it then has
 abbrev pub IsOwn : journal.Event → List Name → ℕ → Type 0
-IsOwn (told.Load def w force bind store) names job = (d : Described) → def_of def ≡ Ok d → definition_of_number names job ≡ Some d
+IsOwn (told.Load def w force bind store) names job =
+    (d : Described) → def_of def ≡ Ok d → definition_of_number names job ≡ Some d
 IsOwn _ names job = Unit {0}
 
 -- ---- turns
 
--- A turn of this event, for the machine s: first the outside was asked; the event with its answers, and then the answers to the orders,
--- are a turn of the machine, with these calls and these lines. The reply, a refusal or words, is the event's. If the store held the settings of the machine, it
+-- A turn of this event, for the machine s: first the outside was asked; the event with its answers,
+-- and then the answers to the orders, are a turn of the machine, with these calls and these lines.
+-- The reply, a refusal or words, is the event's. If the store held the settings of the machine, it
 -- holds them afterwards.
-pub record HostTurnOf (s : State) (event : journal.Event) (refusal : Option Refusal) (words : List ℕ) (old new : Standing) (before after : List Setting → Type 0) : Type 0 where
+pub record HostTurnOf (s : State) (event : journal.Event) (refusal : Option Refusal)
+    (words : List ℕ) (old new : Standing) (before after : List Setting → Type 0) : Type 0 where
   pub asked : Asked
   pub job : ℕ
   pub mid : Option (List Entry)
   pub asks : AsksOutside s event job asked old.calls mid old.stores new.stores
-  pub turn : TurnsOf s (event_of (answered asked event)) (event_line (answered asked event)) refusal new.table mid new.calls old.journal new.journal
+  pub turn : TurnsOf s (event_of (answered asked event))
+      (event_line (answered asked event)) refusal new.table mid new.calls old.journal new.journal
   pub own : refusal ≡ None → IsOwn event turn.names job
   pub text : refusal ≡ None → (outcome s (event_of (answered asked event))).text ≡ words
   pub stored : before s.settings → after (step s (event_of (answered asked event))).settings
 
--- Nothing happened: the table stands for what it stood for, nothing was asked of the outside, no line was written, and the store
--- holds the settings of the machine as before.
+-- Nothing happened: the table stands for what it stood for, nothing was asked of the outside, no
+-- line was written, and the store holds the settings of the machine as before.
 pub record IsSpared (old new : Standing) (before after : List Setting → Type 0) : Type 0 where
   pub untouched : IsUntouched old.table new.table old.calls new.calls old.stores new.stores
   pub silent : Grows old.journal new.journal []
   pub stored : (s : State) → KeepsState old.table s → before s.settings → after s.settings
 
-abbrev pub HearsBy : Bool → Option journal.Event → Option Refusal → List ℕ → Standing → Standing → (List Setting → Type 0) → (List Setting → Type 0) → Type 0
+-- what a call that heard an event leaves; whether memory was wanting comes first
+abbrev pub HearsBy : Bool → Option journal.Event → Option Refusal → List ℕ → Standing → Standing →
+    (List Setting → Type 0) → (List Setting → Type 0) → Type 0
 HearsBy true event refusal words old new before after = IsSpared old new before after
-HearsBy false None refusal words old new before after = (refusal ≡ Some BadRequest) × IsSpared old new before after
-HearsBy false (Some event) refusal words old new before after = (s : State) → IsLed s → KeepsState old.table s → HostTurnOf s event refusal words old new before after
+HearsBy false None refusal words old new before after =
+    (refusal ≡ Some BadRequest) × IsSpared old new before after
+HearsBy false (Some event) refusal words old new before after =
+    (s : State) → IsLed s → KeepsState old.table s →
+    HostTurnOf s event refusal words old new before after
 
--- An event was heard, or what is none. Want of memory is no event either. Else there was a turn of it, for each machine that the table
--- stood for.
-abbrev pub Hears : Option journal.Event → Option Refusal → List ℕ → Standing → Standing → (List Setting → Type 0) → (List Setting → Type 0) → Type 0
-Hears event refusal words old new before after = HearsBy (is_memory refusal) event refusal words old new before after
+-- An event was heard, or what is none. Want of memory is no event either. Else there was a turn of
+-- it, for each machine that the table stood for.
+abbrev pub Hears : Option journal.Event → Option Refusal → List ℕ → Standing → Standing →
+    (List Setting → Type 0) → (List Setting → Type 0) → Type 0
+Hears event refusal words old new before after =
+    HearsBy (is_memory refusal) event refusal words old new before after
+
+-- a launcher heard it: so it stands before and after, by what its outside tells, and by what its
+-- store tells and holds
+abbrev pub HostHears : {T E W : Type 0} →
+    (E → Option (List Entry)) → (T → Option (List StoreCall)) → (T → List Setting → Type 0) →
+    Option journal.Event → Option Refusal → List ℕ → Host T E W → Host T E W → Type 0
+HostHears calls stores holds event refusal words old new =
+    Hears event refusal words (stands calls stores old) (stands calls stores new)
+    (holds old.store) (holds new.store)
 
 -- ---- the first moment
 
 -- the header with these settings in place of its own
 abbrev pub with_settings : Header → List Setting → Header
-with_settings header settings = record { reading = header.reading; zone = header.zone; overrides = settings }
+with_settings header settings =
+    record { reading = header.reading; zone = header.zone; overrides = settings }
 
--- A new launcher: it stands for the machine that the header opens with the settings that the store gave, has asked the outside nothing,
--- and its journal has that header's line, or a front of it. If the store held any settings, it holds those of this machine.
-pub record IsNew (header : Header) (calls : Option (List Entry)) (stores : Option (List StoreCall)) (journal : Kept) (new : Standing) (before after : List Setting → Type 0) : Type 0 where
+-- A new launcher: it stands for the machine that the header opens with the settings that the store
+-- gave, has asked the outside nothing, and its journal has that header's line, or a front of it. If
+-- the store held any settings, it holds those of this machine.
+pub record IsNew (header : Header) (calls : Option (List Entry)) (stores : Option (List StoreCall))
+    (journal : Kept) (new : Standing) (before after : List Setting → Type 0) : Type 0 where
   pub settings : List Setting
   pub machine : State
   pub opens : OpensBy (with_settings header settings) machine

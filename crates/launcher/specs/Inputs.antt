@@ -8,7 +8,8 @@ use Rattle.load_asking.specs.declared.asking.Asked.{Asked}
 use Rattle.launcher.specs.declared.input.Input.{Input}
 use Rattle.launcher.specs.declared.input.Input.TheVariants as inputs
 
--- what a client may ask, with the outside's answers as given; whatever else a line could tell is no request
+-- what a client may ask, with the outside's answers as given; whatever else a line could tell is no
+-- request
 abbrev pub asked_in : journal.Event → Option journal.Event
 asked_in (told.Load def w force bind store) = Some (told.Load def w force true true)
 asked_in (told.Unload job w store) = Some (told.Unload job w true)

@@ -5,7 +5,7 @@ ghost use Rattle.history_model.specs.declared.event.Event.TheVariants as events;
 ghost use Rattle.ctl_protocol.specs.EventLines.{request_at};
 ghost use Rattle.job_table.specs.Numbers.{IsNumbered};
 ghost use Rattle.launcher_load.specs.Lines.{told_set};
-ghost use Rattle.launcher.specs.Hosts.{Hears, standing};
+ghost use Rattle.launcher.specs.Hosts.{HostHears};
 ghost use Rattle.launcher.specs.Inputs.{asked_in};
 
 use crate::host::Host;
@@ -31,7 +31,8 @@ impl<T: SettingStore, E: ChildEdge + SocketEdge, W: Write> Host<T, E, W> {
     /// A client's line, the newline left out.
     #[tactic(auto, using(crate::proofs::Heard::unheard, crate::proofs::Heard::unread))]
     pub(crate) fn line(&mut self, alloc: Global, line: &[u8]) -> Reply
-        ensures { Hears (option_and_then asked_in (request_at line.now)) result.refusal result.text (standing self.old.table (E.told self.old.edge) (T.told self.old.store) self.old.journal) (standing self.new.table (E.told self.new.edge) (T.told self.new.store) self.new.journal) (T.holds self.old.store) (T.holds self.new.store) }
+        ensures { HostHears E.told T.told T.holds (option_and_then asked_in (request_at line.now))
+            result.refusal result.text self.old self.new }
     {
         match self.reader.request(alloc, line) {
             Ok(asked) => self.ask(alloc, asked),
@@ -43,7 +44,8 @@ impl<T: SettingStore, E: ChildEdge + SocketEdge, W: Write> Host<T, E, W> {
     /// What a client asks. The outside's answers are asked of the outside, whatever stands in the event.
     #[tactic(auto, using(crate::proofs::Heard::unheard))]
     fn ask(&mut self, alloc: Global, asked: Event) -> Reply
-        ensures { Hears (asked_in asked) result.refusal result.text (standing self.old.table (E.told self.old.edge) (T.told self.old.store) self.old.journal) (standing self.new.table (E.told self.new.edge) (T.told self.new.store) self.new.journal) (T.holds self.old.store) (T.holds self.new.store) }
+        ensures { HostHears E.told T.told T.holds (asked_in asked)
+            result.refusal result.text self.old self.new }
     {
         match asked {
             Event::Load { def, w, force, .. } => self.load(alloc, def.as_str(), w, force),
@@ -66,7 +68,8 @@ impl<T: SettingStore, E: ChildEdge + SocketEdge, W: Write> Host<T, E, W> {
 
     /// A load.
     fn load(&mut self, alloc: Global, def: &str, w: bool, force: bool) -> Reply
-        ensures { Hears (Some (events.Load def.now w force true true)) result.refusal result.text (standing self.old.table (E.told self.old.edge) (T.told self.old.store) self.old.journal) (standing self.new.table (E.told self.new.edge) (T.told self.new.store) self.new.journal) (T.holds self.old.store) (T.holds self.new.store) }
+        ensures { HostHears E.told T.told T.holds (Some (events.Load def.now w force true true))
+            result.refusal result.text self.old self.new }
     {
         let loaded = load(
             &mut self.table,
@@ -84,7 +87,8 @@ impl<T: SettingStore, E: ChildEdge + SocketEdge, W: Write> Host<T, E, W> {
 
     /// A setting; with `unload` also an unload.
     fn set(&mut self, alloc: Global, job: &str, disabled: bool, unload: bool) -> Reply
-        ensures { Hears (Some (told_set job.now disabled unload true)) result.refusal result.text (standing self.old.table (E.told self.old.edge) (T.told self.old.store) self.old.journal) (standing self.new.table (E.told self.new.edge) (T.told self.new.store) self.new.journal) (T.holds self.old.store) (T.holds self.new.store) }
+        ensures { HostHears E.told T.told T.holds (Some (told_set job.now disabled unload true))
+            result.refusal result.text self.old self.new }
     {
         let changed = set(
             &mut self.table,
@@ -102,7 +106,8 @@ impl<T: SettingStore, E: ChildEdge + SocketEdge, W: Write> Host<T, E, W> {
 
     /// An unload; with `w` the label is disabled too.
     fn unload(&mut self, alloc: Global, job: &str, w: bool) -> Reply
-        ensures { Hears (Some (events.Unload job.now w true)) result.refusal result.text (standing self.old.table (E.told self.old.edge) (T.told self.old.store) self.old.journal) (standing self.new.table (E.told self.new.edge) (T.told self.new.store) self.new.journal) (T.holds self.old.store) (T.holds self.new.store) }
+        ensures { HostHears E.told T.told T.holds (Some (events.Unload job.now w true))
+            result.refusal result.text self.old self.new }
     {
         if w {
             self.set(alloc, job, true, true)
@@ -113,7 +118,8 @@ impl<T: SettingStore, E: ChildEdge + SocketEdge, W: Write> Host<T, E, W> {
 
     /// The list of the loaded jobs.
     fn list(&mut self, alloc: Global) -> Reply
-        ensures { Hears (Some events.List) result.refusal result.text (standing self.old.table (E.told self.old.edge) (T.told self.old.store) self.old.journal) (standing self.new.table (E.told self.new.edge) (T.told self.new.store) self.new.journal) (T.holds self.old.store) (T.holds self.new.store) }
+        ensures { HostHears E.told T.told T.holds (Some events.List)
+            result.refusal result.text self.old self.new }
     {
         tell_numbers(&self.table);
         let text = list(&self.table, &mut self.journal, alloc);
@@ -122,7 +128,8 @@ impl<T: SettingStore, E: ChildEdge + SocketEdge, W: Write> Host<T, E, W> {
 
     /// What is known of one job.
     fn print(&mut self, alloc: Global, job: &str) -> Reply
-        ensures { Hears (Some (events.Print job.now)) result.refusal result.text (standing self.old.table (E.told self.old.edge) (T.told self.old.store) self.old.journal) (standing self.new.table (E.told self.new.edge) (T.told self.new.store) self.new.journal) (T.holds self.old.store) (T.holds self.new.store) }
+        ensures { HostHears E.told T.told T.holds (Some (events.Print job.now))
+            result.refusal result.text self.old self.new }
     {
         tell_numbers(&self.table);
         let text = print(&self.table, &mut self.journal, alloc, job);

@@ -4,7 +4,7 @@ ghost use Rattle.std.specs.Prelude.{◌≡◌, Some, true};
 ghost use Rattle.launcher_load.specs.LoadTurns.{is_memory};
 ghost use Rattle.launcher_turn.specs.Events.{is_clock};
 ghost use Rattle.launcher_turn.specs.Lines.{told_by, told_of};
-ghost use Rattle.launcher.specs.Hosts.{Hears, standing};
+ghost use Rattle.launcher.specs.Hosts.{HostHears};
 ghost use Rattle.launcher.specs.Inputs.{event_given, if_label, wants_memory};
 
 use crate::host::Host;
@@ -26,7 +26,8 @@ impl<T: SettingStore, E: ChildEdge + SocketEdge, W: Write> Host<T, E, W> {
     /// A line that is no request, or what happened under a name that is no label, is answered by BadRequest, and is no event.
     /// NoMemory comes only to a line or a reading of the clocks, before anything was carried out; it is no event either.
     pub fn turn(&mut self, alloc: Global, input: Input<'_>) -> Reply
-        ensures hears { Hears (event_given input.entry) result.refusal result.text (standing self.old.table (E.told self.old.edge) (T.told self.old.store) self.old.journal) (standing self.new.table (E.told self.new.edge) (T.told self.new.store) self.new.journal) (T.holds self.old.store) (T.holds self.new.store) }
+        ensures hears { HostHears E.told T.told T.holds (event_given input.entry)
+            result.refusal result.text self.old self.new }
         ensures memory { is_memory result.refusal ≡ true → wants_memory input.entry ≡ true }
     {
         let reply = self.hear(alloc, input);
@@ -36,7 +37,8 @@ impl<T: SettingStore, E: ChildEdge + SocketEdge, W: Write> Host<T, E, W> {
 
     /// The turn, without the flush.
     fn hear(&mut self, alloc: Global, input: Input<'_>) -> Reply
-        ensures hears { Hears (event_given input.entry) result.refusal result.text (standing self.old.table (E.told self.old.edge) (T.told self.old.store) self.old.journal) (standing self.new.table (E.told self.new.edge) (T.told self.new.store) self.new.journal) (T.holds self.old.store) (T.holds self.new.store) }
+        ensures hears { HostHears E.told T.told T.holds (event_given input.entry)
+            result.refusal result.text self.old self.new }
         ensures memory { is_memory result.refusal ≡ true → wants_memory input.entry ≡ true }
     {
         match input {
@@ -52,7 +54,8 @@ impl<T: SettingStore, E: ChildEdge + SocketEdge, W: Write> Host<T, E, W> {
 
     /// What happens to the job of this label. A name that is no label is answered by BadRequest.
     fn happen_to(&mut self, alloc: Global, job: &str, what: News) -> Reply
-        ensures hears { Hears (if_label job.now (told_of job.now what)) result.refusal result.text (standing self.old.table (E.told self.old.edge) (T.told self.old.store) self.old.journal) (standing self.new.table (E.told self.new.edge) (T.told self.new.store) self.new.journal) (T.holds self.old.store) (T.holds self.new.store) }
+        ensures hears { HostHears E.told T.told T.holds (if_label job.now (told_of job.now what))
+            result.refusal result.text self.old self.new }
         ensures memory { is_memory result.refusal ≡ true → ⊥ }
     {
         if is_label(job) {
@@ -64,7 +67,8 @@ impl<T: SettingStore, E: ChildEdge + SocketEdge, W: Write> Host<T, E, W> {
 
     /// What happens, where the outside is first asked nothing.
     pub(crate) fn happen(&mut self, alloc: Global, what: Happening<'_>) -> Reply
-        ensures hears { Hears (Some (told_by what.entry)) result.refusal result.text (standing self.old.table (E.told self.old.edge) (T.told self.old.store) self.old.journal) (standing self.new.table (E.told self.new.edge) (T.told self.new.store) self.new.journal) (T.holds self.old.store) (T.holds self.new.store) }
+        ensures hears { HostHears E.told T.told T.holds (Some (told_by what.entry))
+            result.refusal result.text self.old self.new }
         ensures memory { is_memory result.refusal ≡ true → is_clock what.entry ≡ true }
     {
         let answer = turn(

@@ -5,7 +5,7 @@ ghost use Rattle.std.specs.Borrow.{sem};
 ghost use Rattle.history_model.specs.declared.event.Setting.{Setting};
 ghost use Rattle.load_asking.specs.declared.store.StoreFault.{StoreFault};
 ghost use Rattle.event_journal.specs.Journals.{fresh, held, told, is_writing};
-ghost use Rattle.launcher.specs.Hosts.{IsNew, standing};
+ghost use Rattle.launcher.specs.Hosts.{IsNew, stands};
 ghost use Rattle.launcher.specs.Faults.{ComesOf, FaultOf};
 ghost use Rattle.launcher.specs.Lends.{lends_edge};
 
@@ -52,9 +52,12 @@ impl<T: SettingStore + Drop, E: ChildEdge + SocketEdge + Drop, W: Write + Drop> 
         edge: E,
         journal: Option<W>,
     ) -> Result<Host<T, E, W>, HostFault>
-        ensures new { IfOk result (λ host. IsNew header (E.told edge) (T.told store) (fresh (held W.contents journal) (is_some journal)) (standing host.table (E.told host.edge) (T.told host.store) host.journal) (T.holds store) (T.holds host.store)) }
+        ensures new { IfOk result (λ host. IsNew header (E.told edge) (T.told store)
+            (fresh (held W.contents journal) (is_some journal))
+            (stands E.told T.told host) (T.holds store) (T.holds host.store)) }
         ensures faults { FaultOf header result }
-        ensures comes { (answer : Result (List Setting) StoreFault) × (T.may_give store answer × ComesOf (λ host. host.table) header answer result) }
+        ensures comes { (answer : Result (List Setting) StoreFault)
+            × (T.may_give store answer × ComesOf (λ host. host.table) header answer result) }
     {
         let mut store = store;
         let settings = match store.all(alloc) {
@@ -87,7 +90,8 @@ impl<T: SettingStore + Drop, E: ChildEdge + SocketEdge + Drop, W: Write + Drop> 
         ensures store { result.1 ≡ self.store }
         ensures edge { result.2 ≡ self.edge }
         ensures journal { is_some result.3 ≡ is_writing self.journal }
-        ensures bytes { is_writing self.journal ≡ true → held W.contents result.3 ≡ self.journal.bytes }
+        ensures bytes { is_writing self.journal ≡ true →
+            held W.contents result.3 ≡ self.journal.bytes }
     {
         let Host {
             table,

@@ -1,4 +1,4 @@
-//! What a launcher is made of, as its header tells it.
+//! What a launcher is made of, as the header of its journal tells it.
 
 ghost use Rattle.std.specs.Prelude.{◌≡◌, IfErr, IfOk, is_some};
 ghost use Rattle.ctl_protocol.specs.HeaderLines.{header_line};
@@ -51,7 +51,8 @@ pub(crate) fn with_settings(header: Header, settings: Vec<Setting>) -> Header
 
 /// The journal with the header's line, if there is one.
 fn begun<W: Write>(alloc: Global, journal: Option<W>, header: &Header) -> Journal<W>
-    ensures { Grows (fresh (held W.contents journal) (is_some journal)) result (header_line header.now) }
+    ensures { Grows (fresh (held W.contents journal) (is_some journal)) result
+        (header_line header.now) }
 {
     match journal {
         Some(writer) => Journal::begin(alloc, writer, header),
@@ -73,7 +74,9 @@ pub(crate) fn make_inside<W: Write + Drop>(
     journal: Option<W>,
 ) -> Result<Inside<W>, HostFault>
     ensures opened { IfOk result (λ made. StandsOpened header made.table) }
-    ensures noted { IfOk result (λ made. Grows (fresh (held W.contents journal) (is_some journal)) made.journal (header_line header)) }
+    ensures noted { IfOk result (λ made.
+        Grows (fresh (held W.contents journal) (is_some journal)) made.journal
+        (header_line header)) }
     ensures faults { FaultOf header result }
     ensures fault { IfErr result (IsFaultWith header) }
 {

@@ -1,4 +1,4 @@
-//! The reply to an input.
+//! What a launcher replies to an input.
 
 ghost use Rattle.std.specs.Prelude.{◌≡◌, IfOk, Some, []};
 ghost use Rattle.std.specs.String.{string_bytes};

@@ -1,4 +1,4 @@
--- What the turns came to.
+-- What the turns of a launcher came to.
 use Rattle.std.proofs.Common.{List, Option}
 use Rattle.history_model.specs.declared.event.Setting.{Setting}
 use Rattle.ctl_protocol.specs.declared.header.Header.{Header}

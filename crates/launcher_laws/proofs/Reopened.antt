@@ -1,11 +1,11 @@
--- The store that was closed after the turns and is opened again.
+-- The store of settings that was closed after the turns and is opened again.
 use Rattle.std.proofs.Common.{◌≡◌, ℕ, List, Option}
 use Rattle.std.specs.Prelude.{reverse}
 use Rattle.sqlite.specs.State.{State, HasCleanDisk}
 use Rattle.history_model.specs.declared.event.Setting.{Setting}
 use Rattle.ctl_protocol.specs.declared.header.Header.{Header}
 use Rattle.order_edge.specs.Calls.{Entry}
-use Rattle.override_store.specs.Ours.{HoldsSettings, IsOpenedOn, rows_in}
+use Rattle.override_store.specs.OverrideStores.{HoldsSettings, IsOpenedOn, rows_in}
 use Rattle.override_store.specs.Settings.{HoldsEach, setting_in}
 use Rattle.override_store.proofs.AgainLemmas.{held_on, same_settings}
 use Rattle.load_asking.specs.Stores.{StoreCall}

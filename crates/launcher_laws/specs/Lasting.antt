@@ -1,4 +1,4 @@
--- What the turns of a launcher come to.
+-- What any turns of a launcher, one after another, come to.
 use Rattle.std.specs.Prelude.{◌≡◌, List, map}
 use Rattle.std.specs.List.{flat_map}
 use Rattle.history_model.specs.declared.event.Event as journal
@@ -9,9 +9,11 @@ use Rattle.job_table.specs.Kept.{KeepsState}
 use Rattle.table_opening.specs.Events.{event_of}
 use Rattle.launcher_laws.specs.Runs.{Moment, Turn, Part, AreTold, events_in, outcomes_in}
 
--- From the machine s the turns led to the last moment, by the events of their parts. The replies and the calls are the machine's, the table stands for
--- the machine that the events lead to, and the store holds that machine's settings.
-pub record Lasts {T : Type 0} (holds : T → List Setting → Type 0) (s : State) (turns : List (Turn T)) (last : Moment T) : Type 0 where
+-- From the machine s the turns led to the last moment, by the events of their parts. The replies
+-- and the calls are the machine's, the table stands for the machine that the events lead to, and
+-- the store holds that machine's settings.
+pub record Lasts {T : Type 0} (holds : T → List Setting → Type 0) (s : State)
+    (turns : List (Turn T)) (last : Moment T) : Type 0 where
   pub parts : List Part
   pub told : AreTold turns parts
   pub all : outcomes_in parts ≡ outcomes (map event_of (events_in parts)) s
@@ -19,5 +21,7 @@ pub record Lasts {T : Type 0} (holds : T → List Setting → Type 0) (s : State
   pub held : holds last.store (run (map event_of (events_in parts)) s).settings
 
 -- the settings of that machine
-abbrev pub settings_of : {T : Type 0} {holds : T → List Setting → Type 0} {s : State} {turns : List (Turn T)} {last : Moment T} → Lasts holds s turns last → List Setting
+abbrev pub settings_of :
+    {T : Type 0} {holds : T → List Setting → Type 0} {s : State} {turns : List (Turn T)}
+    {last : Moment T} → Lasts holds s turns last → List Setting
 settings_of {s = s} lasts = (run (map event_of (events_in lasts.parts)) s).settings

@@ -18,11 +18,15 @@ use Rattle.launcher_laws.specs.Tellable.{IsTold}
 abbrev pub outcome_texts : List Part → List ℕ
 outcome_texts parts = flat_map outcome_line (outcomes_in parts)
 
--- The journal's bytes are the line of the header and the lines of the events of these turns. Where each of them can be told, the
--- output of its lines are the outcomes of the turns, and so a replay of these bytes that ends well, as its contract says it, has written them.
-pub record IsReplayed {T : Type 0} (header : Header) (turns : List (Turn T)) (bytes : List ℕ) : Type 0 where
+-- The journal's bytes are the line of the header and the lines of the events of these turns. Where
+-- each of them can be told, the output of its lines are the outcomes of the turns, and so a replay
+-- of these bytes that ends well, as its contract says it, has written them.
+pub record IsReplayed {T : Type 0} (header : Header) (turns : List (Turn T))
+    (bytes : List ℕ) : Type 0 where
   pub parts : List Part
   pub told : AreTold turns parts
   pub lines : bytes ≡ header_line header ++ flat_map event_line (events_in parts)
-  pub output : AllByRecursion IsTold (events_in parts) → IsOutput (input_lines bytes) (Some (outcome_texts parts))
-  pub writes : AllByRecursion IsTold (events_in parts) → (rest held holds : Option (List ℕ)) → Answered IsOutput (Some bytes) rest held holds → Appends held holds (outcome_texts parts)
+  pub output : AllByRecursion IsTold (events_in parts) →
+      IsOutput (input_lines bytes) (Some (outcome_texts parts))
+  pub writes : AllByRecursion IsTold (events_in parts) → (rest held holds : Option (List ℕ)) →
+      Answered IsOutput (Some bytes) rest held holds → Appends held holds (outcome_texts parts)

@@ -22,7 +22,8 @@ pub record Moment (T : Type 0) : Type 0 where
   pub stands : Standing
   pub store : T
 
--- A turn: the event that came, before the outside was asked, or none; the reply, a refusal or words; and the moments before and after it.
+-- A turn: the event that came, before the outside was asked, or none; the reply, a refusal or
+-- words; and the moments before and after it.
 pub record Turn (T : Type 0) : Type 0 where
   pub event : Option journal.Event
   pub refusal : Option Refusal
@@ -30,32 +31,40 @@ pub record Turn (T : Type 0) : Type 0 where
   pub before : Moment T
   pub after : Moment T
 
--- Between two turns the outside may be asked other things, and the closing of the journal be told. The table and the store stay.
+-- Between two turns the outside may be asked other things, and the closing of the journal be told.
+-- The table and the store stay.
 pub record IsBetween {T : Type 0} (old new : Moment T) : Type 0 where
   pub table : new.stands.table ≡ old.stands.table
   pub store : new.store ≡ old.store
-  pub journal : (new.stands.journal ≡ old.stands.journal) ⊎ (new.stands.journal ≡ told old.stands.journal)
+  pub journal : (new.stands.journal ≡ old.stands.journal)
+      ⊎ (new.stands.journal ≡ told old.stands.journal)
 
 module _ {T : Type 0} (holds : T → List Setting → Type 0) where
   -- the turn was heard, as `Host::turn` promises
   abbrev pub WasHeard : Turn T → Type 0
-  WasHeard turn = Hears turn.event turn.refusal turn.words turn.before.stands turn.after.stands (holds turn.before.store) (holds turn.after.store)
+  WasHeard turn =
+      Hears turn.event turn.refusal turn.words turn.before.stands turn.after.stands
+      (holds turn.before.store) (holds turn.after.store)
 
   -- these turns, each heard, lead from the first moment to the last
   abbrev pub AreTurns : Moment T → List (Turn T) → Moment T → Type 0
   AreTurns first [] last = IsBetween first last
-  AreTurns first (turn ∷ turns) last = IsBetween first turn.before × WasHeard turn × AreTurns turn.after turns last
+  AreTurns first (turn ∷ turns) last =
+      IsBetween first turn.before × WasHeard turn × AreTurns turn.after turns last
 
 -- ---- what they did
 
 -- a line that is no request, and what found no memory, is no event
 abbrev pub IsNoEvent : {T : Type 0} → Turn T → Type 0
-IsNoEvent turn = (is_memory turn.refusal ≡ true) ⊎ ((turn.event ≡ None) × (turn.refusal ≡ Some BadRequest))
+IsNoEvent turn =
+    (is_memory turn.refusal ≡ true) ⊎ ((turn.event ≡ None) × (turn.refusal ≡ Some BadRequest))
 
--- The events of a turn, as the journal tells them, and their outcomes. The first event is the one that came, with what the outside
--- answered to it, and its outcome is the reply; the others are the answers to the orders. The orders in all outcomes are the calls that
--- were made, in order, each once, after what a load asks of its sockets.
-pub record AreOutcomesOf {T : Type 0} (turn : Turn T) (events : List journal.Event) (outs : List Outcome) : Type 0 where
+-- The events of a turn, as the journal tells them, and their outcomes. The first event is the one
+-- that came, with what the outside answered to it, and its outcome is the reply; the others are the
+-- answers to the orders. The orders in all outcomes are the calls that were made, in order, each
+-- once, after what a load asks of its sockets.
+pub record AreOutcomesOf {T : Type 0} (turn : Turn T) (events : List journal.Event)
+    (outs : List Outcome) : Type 0 where
   pub event : journal.Event
   pub came : turn.event ≡ Some event
   pub outside : Asked
@@ -80,7 +89,8 @@ Part = List journal.Event × List Outcome
 
 -- what is no event adds nothing
 abbrev pub IsToldBy : {T : Type 0} → Turn T → Part → Type 0
-IsToldBy turn part = (IsNoEvent turn × (part.0 ≡ []) × (part.1 ≡ [])) ⊎ AreOutcomesOf turn part.0 part.1
+IsToldBy turn part =
+    (IsNoEvent turn × (part.0 ≡ []) × (part.1 ≡ [])) ⊎ AreOutcomesOf turn part.0 part.1
 
 -- so each turn adds its part
 abbrev pub AreTold : {T : Type 0} → List (Turn T) → List Part → Type 0

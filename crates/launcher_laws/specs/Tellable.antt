@@ -20,7 +20,8 @@ pub record IsTold (e : Event) : Type 0 where
   pub tellable : is_tellable e ≡ true
   pub fit : AllByRecursion (λ m. IsFit m.1) (row_members e)
 
--- the header's settings are of labels, each once, in byte order, and all that it tells is such a text or number
+-- the header's settings are of labels, each once, in byte order, and all that it tells is such a
+-- text or number
 pub record IsToldHeader (h : Header) : Type 0 where
   pub is : IsHeader h
   pub fit : AllByRecursion (λ m. IsFit m.1) (plain_members h)

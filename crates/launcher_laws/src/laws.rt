@@ -8,8 +8,8 @@ ghost use Rattle.sqlite.specs.State.{HasCleanDisk};
 ghost use Rattle.history_model.specs.declared.event.Setting.{Setting};
 ghost use Rattle.ctl_protocol.specs.declared.header.Header.{Header};
 ghost use Rattle.order_edge.specs.Calls.{Entry};
-ghost use Rattle.override_store.specs.Ours.{HoldsSettings, IsOpenedOn, rows_in};
-ghost use Rattle.override_store.specs.Settings.{HoldsEach, setting_in};
+ghost use Rattle.override_store.specs.OverrideStores.{HoldsSettings, IsOpenedOn, rows_in};
+ghost use Rattle.override_store.specs.Settings.{HoldsEach, TellAlike};
 ghost use Rattle.load_asking.specs.Stores.{StoreCall};
 ghost use Rattle.stored_settings.specs.declared.StoredSettings.{StoredSettings as Stored};
 ghost use Rattle.event_journal.specs.declared.journal.Phase.TheVariants.{Open};
@@ -28,8 +28,11 @@ use stored_settings::StoredSettings;
 /// After any turns the table stands for the machine that the turns' events lead to, and the store holds that machine's settings. The
 /// replies and the calls were the machine's.
 pub fn the_store_holds_what_the_machine_sets<T: SettingStore>(store: &T)
-    ensures { (header : Header) (calls : Option (List Entry)) (stores : Option (List StoreCall)) (journal : Kept) (first last : Moment T) (turns : List (Turn T)) →
-        (new : IsNew header calls stores journal first.stands (T.holds store.now) (T.holds first.store)) → AreTurns T.holds first turns last →
+    ensures { (header : Header) (calls : Option (List Entry)) (stores : Option (List StoreCall))
+        (journal : Kept) (first last : Moment T) (turns : List (Turn T)) →
+        (new : IsNew header calls stores journal first.stands
+            (T.holds store.now) (T.holds first.store)) →
+        AreTurns T.holds first turns last →
         (list : List Setting) → T.holds store.now list → Lasts T.holds new.machine turns last }
 {
     let _ = store;
@@ -41,13 +44,20 @@ pub fn a_store_opened_again_has_the_last_settings<S: Alter, R: Alter>(
     store: &StoredSettings<S>,
     again: &OverrideStore<R>,
 )
-    ensures { (header : Header) (calls : Option (List Entry)) (stores : Option (List StoreCall)) (journal : Kept) (first last : Moment (Stored S)) (turns : List (Turn (Stored S))) →
-        (new : IsNew header calls stores journal first.stands (HoldsSettings (state S.Store store.now.store)) (HoldsSettings (state S.Store first.store.store))) →
+    ensures { (header : Header) (calls : Option (List Entry)) (stores : Option (List StoreCall))
+        (journal : Kept) (first last : Moment (Stored S)) (turns : List (Turn (Stored S))) →
+        (new : IsNew header calls stores journal first.stands
+        (HoldsSettings (state S.Store store.now.store))
+        (HoldsSettings (state S.Store first.store.store))) →
         AreTurns (λ (s : Stored S). HoldsSettings (state S.Store s.store)) first turns last →
         (list : List Setting) → HoldsSettings (state S.Store store.now.store) list →
-        IsOpenedOn (state S.Store last.store.store) (state R.Store again.now) → HasCleanDisk (state R.Store again.now) →
-        (listed : List Setting) → HoldsEach (rows_in (state R.Store again.now).now.trees) (reverse listed) →
-        (lasts : Lasts (λ (s : Stored S). HoldsSettings (state S.Store s.store)) new.machine turns last) × ((label : List ℕ) → setting_in (reverse listed) label ≡ setting_in (settings_of lasts) label) }
+        IsOpenedOn (state S.Store last.store.store) (state R.Store again.now) →
+        HasCleanDisk (state R.Store again.now) →
+        (listed : List Setting) →
+        HoldsEach (rows_in (state R.Store again.now).now.trees) (reverse listed) →
+        (lasts : Lasts (λ (s : Stored S). HoldsSettings (state S.Store s.store))
+            new.machine turns last)
+        × TellAlike (reverse listed) (settings_of lasts) }
 {
     let _ = store;
     let _ = again;
@@ -55,9 +65,13 @@ pub fn a_store_opened_again_has_the_last_settings<S: Alter, R: Alter>(
 
 /// A replay of the journal writes the replies and the orders of all turns, where no write of the journal was refused. It began empty.
 pub fn a_replay_writes_what_was_replied<T: SettingStore>(store: &T)
-    ensures { (header : Header) (calls : Option (List Entry)) (stores : Option (List StoreCall)) (first last : Moment T) (turns : List (Turn T)) (bytes : List ℕ) →
-        (new : IsNew header calls stores (fresh (Some []) true) first.stands (T.holds store.now) (T.holds first.store)) → AreTurns T.holds first turns last →
-        last.stands.journal.phase ≡ Open → last.stands.journal.bytes ≡ Some bytes → IsToldHeader (with_settings header new.settings) →
+    ensures { (header : Header) (calls : Option (List Entry)) (stores : Option (List StoreCall))
+        (first last : Moment T) (turns : List (Turn T)) (bytes : List ℕ) →
+        (new : IsNew header calls stores (fresh (Some []) true) first.stands
+            (T.holds store.now) (T.holds first.store)) →
+        AreTurns T.holds first turns last →
+        last.stands.journal.phase ≡ Open → last.stands.journal.bytes ≡ Some bytes →
+        IsToldHeader (with_settings header new.settings) →
         IsReplayed (with_settings header new.settings) turns bytes }
 {
     let _ = store;

@@ -1,4 +1,4 @@
--- The turn of a load.
+-- What a load leaves, from its parts.
 use Rattle.std.proofs.Common.{◌≡◌, ℕ, ◌≤◌, Bool, true, false, not, ◌&&◌, List, [], length, Option, Some, None, refl, sym, ap, subst, ◌∙◌, arith}
 use Rattle.std.specs.Prelude.{Ok, is_some, nat_lt, nat_le, if◌then◌else◌}
 use Rattle.std.specs.List.{list_any}
@@ -150,16 +150,3 @@ load_sets s bytes w force asked old d refusal admitted keeps answer unbound unst
     let e = load_of bytes w force asked.bind asked.store in
     ap (λ b. if b then s.settings else (step s e).settings) (ap is_memory answer ∙ not_memory d w asked.bind asked.store)
     ∙ load_settings s bytes d w force asked.bind asked.store admitted.read (admitted.left s asked.bind asked.store keeps) unbound unstored
-
--- a load that was refused sets nothing
-pub refused_sets : (s : State) (e : Event) (r : Refusal) → (is_memory (Some r) ≡ false → refusal_in s e ≡ Some r) → s.settings ≡ settings_after (Some r) s e
-refused_sets s e r is = go (is_memory (Some r)) refl where
-  go : (b : Bool) → is_memory (Some r) ≡ b → s.settings ≡ (if b then s.settings else (step s e).settings)
-  go true memory = refl
-  go false other = sym (ap (λ o. (step_by o s e).settings) (is other))
-
--- the text of a load that was made
-pub load_told : (s : State) (bytes : List ℕ) (w force bind store : Bool) (d : Described) → def_of bytes ≡ Ok d → refusal_in s (load_of bytes w force bind store) ≡ None →
-    (outcome s (load_of bytes w force bind store)).text ≡ load_text d.not_acted_on
-load_told s bytes w force bind store d read none =
-    ap (λ o. (outcome_by o s (load_of bytes w force bind store)).text) none ∙ ap (λ r. (outcome_by None s (Load (given_in r) w force bind store)).text) read

@@ -1,4 +1,4 @@
--- The turn of a setting.
+-- What a setting of a label leaves, from its parts.
 use Rattle.std.proofs.Common.{◌≡◌, ℕ, Bool, true, false, not, ◌||◌, List, [], ◌∷◌, Option, Some, None, refl, sym, ap, subst, ◌∙◌}
 use Rattle.history_model.specs.declared.Refusal.{Refusal}
 use Rattle.history_model.specs.declared.Refusal.TheVariants.{BadRequest}
@@ -31,20 +31,6 @@ same_set label true true store = refl
 same_set label false true store = refl
 same_set label true false store = refl
 same_set label false false store = refl
-
--- what the machine then sets is what was stored
-pub set_sets : (s : State) (label : Label) (disabled unload store : Bool) → refusal_in s (set_of label disabled unload store) ≡ refusal_stored true store →
-    (step s (set_of label disabled unload store)).settings ≡ set_if store label (disabled || unload) s.settings
-set_sets s label disabled unload store left = ap (λ o. (step_by o s (set_of label disabled unload store)).settings) left ∙ go disabled unload store where
-  go : (d u b : Bool) → (step_by (refusal_stored true b) s (set_of label d u b)).settings ≡ set_if b label (d || u) s.settings
-  go true true true = refl
-  go true true false = refl
-  go true false true = refl
-  go true false false = refl
-  go false true true = refl
-  go false true false = refl
-  go false false true = refl
-  go false false false = refl
 
 -- so the event of the setting that was made ready is the one that was asked for
 pub event_set : (ready_label label : Label) (said disabled gone unload store : Bool) → ready_label ≡ label → said ≡ (disabled || unload) → gone ≡ unload → set_of ready_label said gone store ≡ set_of label disabled unload store

@@ -12,7 +12,9 @@ told_load bytes w force asked = told.Load bytes w force asked.bind asked.store
 
 -- of `enable` or `disable`, or of an unload that disables the label
 abbrev pub told_set : Label → (disabled unload store : Bool) → journal.Event
-told_set label disabled unload store = if unload then told.Unload label true store else (if disabled then told.Disable label store else told.Enable label store)
+told_set label disabled unload store =
+    if unload then told.Unload label true store
+    else (if disabled then told.Disable label store else told.Enable label store)
 
 abbrev pub load_line : List ℕ → (w force : Bool) → Asked → List ℕ
 load_line bytes w force asked = event_line (told_load bytes w force asked)

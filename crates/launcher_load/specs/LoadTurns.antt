@@ -20,7 +20,7 @@ use Rattle.child_edge.specs.Calls.{Tells}
 use Rattle.order_edge.specs.Calls.{Entry}
 use Rattle.load_asking.specs.declared.asking.Asked.{Asked}
 use Rattle.load_asking.specs.Asking.{Asks}
-use Rattle.load_asking.specs.Stores.{StoreCall, AreTold}
+use Rattle.load_asking.specs.Stores.{StoreCall, AreTold, asked_to_set}
 use Rattle.event_journal.specs.Journals.{Kept, Grows}
 use Rattle.launcher_turn.specs.Turns.{IsLed, TurnsOf}
 use Rattle.launcher_load.specs.Lines.{load_line, set_line}
@@ -37,74 +37,105 @@ settings_after reply s e = if is_memory reply then s.settings else (step s e).se
 -- ---- what was asked
 
 -- neither the edge nor the store was asked, and the table stands for the states that it stood for
-pub record IsUntouched (old new : Table) (told told' : Option (List Entry)) (stored stored' : Option (List StoreCall)) : Type 0 where
+pub record IsUntouched (old new : Table) (told told' : Option (List Entry))
+    (stored stored' : Option (List StoreCall)) : Type 0 where
   pub same : IsSameFor old new
   pub tells : Tells told [] told'
   pub stores : AreTold stored [] stored'
 
 -- nothing was asked, and counts as answered well
-pub record AsksNothing (asked : Asked) (told told' : Option (List Entry)) (stored stored' : Option (List StoreCall)) : Type 0 where
+pub record AsksNothing (asked : Asked) (told told' : Option (List Entry))
+    (stored stored' : Option (List StoreCall)) : Type 0 where
   pub bind : asked.bind ≡ true
   pub store : asked.store ≡ true
   pub tells : Tells told [] told'
   pub stores : AreTold stored [] stored'
 
--- a load asks nothing, if the machine refuses it whatever the outside answers; if not, it asks as its definition says
-abbrev pub AsksFor : Option Refusal → Result Described Fault → ℕ → Bool → ℕ → Asked → Option (List Entry) → Option (List Entry) → Option (List StoreCall) → Option (List StoreCall) → Type 0
-AsksFor (Some refusal) read job w wall asked told told' stored stored' = AsksNothing asked told told' stored stored'
-AsksFor None (Err fault) job w wall asked told told' stored stored' = AsksNothing asked told told' stored stored'
-AsksFor None (Ok d) job w wall asked told told' stored stored' = Asks job d w wall asked told told' stored stored'
+-- a load asks nothing, if the machine refuses it whatever the outside answers; if not, it asks as
+-- its definition says
+abbrev pub AsksFor : Option Refusal → Result Described Fault → ℕ → Bool → ℕ → Asked →
+    Option (List Entry) → Option (List Entry) → Option (List StoreCall) → Option (List StoreCall) →
+    Type 0
+AsksFor (Some refusal) read job w wall asked told told' stored stored' =
+    AsksNothing asked told told' stored stored'
+AsksFor None (Err fault) job w wall asked told told' stored stored' =
+    AsksNothing asked told told' stored stored'
+AsksFor None (Ok d) job w wall asked told told' stored stored' =
+    Asks job d w wall asked told told' stored stored'
 
 -- so a setting asks the store, once
-abbrev pub AsksStore : Option Refusal → Label → Bool → ℕ → Bool → Option (List StoreCall) → Option (List StoreCall) → Type 0
-AsksStore (Some refusal) label disabled wall kept stored stored' = (kept ≡ true) × AreTold stored [] stored'
-AsksStore None label disabled wall kept stored stored' = AreTold stored (record { label = label; disabled = disabled; changed = wall; stored = kept } ∷ []) stored'
+abbrev pub AsksStore : Option Refusal → Label → Bool → ℕ → Bool → Option (List StoreCall) →
+    Option (List StoreCall) → Type 0
+AsksStore (Some refusal) label disabled wall kept stored stored' =
+    (kept ≡ true) × AreTold stored [] stored'
+AsksStore None label disabled wall kept stored stored' =
+    AreTold stored (asked_to_set label disabled wall kept ∷ []) stored'
 
 -- ---- whole turns
 
--- The turn of a load: first it asked the outside, in the reading's second, for the job with the number that it then has; the
--- load with these answers, and the answers to what it orders, are a turn of the machine, whose first line tells these answers.
-pub record LoadTurnOf (s : State) (bytes : List ℕ) (w force : Bool) (asked : Asked) (reply : Option Refusal) (new : Table)
-    (told told' : Option (List Entry)) (stored stored' : Option (List StoreCall)) (written written' : Kept) : Type 0 where
+-- The turn of a load: first it asked the outside, in the reading's second, for the job with the
+-- number that it then has; the load with these answers, and the answers to what it orders, are a
+-- turn of the machine, whose first line tells these answers.
+pub record LoadTurnOf (s : State) (bytes : List ℕ) (w force : Bool) (asked : Asked)
+    (reply : Option Refusal) (new : Table)
+    (told told' : Option (List Entry)) (stored stored' : Option (List StoreCall))
+    (written written' : Kept) : Type 0 where
   pub job : ℕ
   pub mid : Option (List Entry)
-  pub asks : AsksFor (refusal_in s (load_of bytes w force true true)) (def_of bytes) job w s.reading.wall asked told mid stored stored'
-  pub turn : TurnsOf s (load_of bytes w force asked.bind asked.store) (load_line bytes w force asked) reply new mid told' written written'
-  pub own : reply ≡ None → (d : Described) → def_of bytes ≡ Ok d → definition_of_number turn.names job ≡ Some d
+  pub asks : AsksFor (refusal_in s (load_of bytes w force true true))
+      (def_of bytes) job w s.reading.wall asked told mid stored stored'
+  pub turn : TurnsOf s (load_of bytes w force asked.bind asked.store)
+      (load_line bytes w force asked) reply new mid told' written written'
+  pub own : reply ≡ None → (d : Described) → def_of bytes ≡ Ok d →
+      definition_of_number turn.names job ≡ Some d
 
--- The turn of a setting: first the store was asked; the setting with its answer, and the answers to what it orders, are a turn
--- of the machine, whose first line tells this answer.
-pub record SetTurnOf (s : State) (label : Label) (disabled unload kept : Bool) (reply : Option Refusal) (new : Table)
-    (told told' : Option (List Entry)) (stored stored' : Option (List StoreCall)) (written written' : Kept) : Type 0 where
-  pub asks : AsksStore (refusal_in s (set_of label disabled unload true)) label (disabled || unload) s.reading.wall kept stored stored'
-  pub turn : TurnsOf s (set_of label disabled unload kept) (set_line label disabled unload kept) reply new told told' written written'
+-- The turn of a setting: first the store was asked; the setting with its answer, and the answers to
+-- what it orders, are a turn of the machine, whose first line tells this answer.
+pub record SetTurnOf (s : State) (label : Label) (disabled unload kept : Bool)
+    (reply : Option Refusal) (new : Table)
+    (told told' : Option (List Entry)) (stored stored' : Option (List StoreCall))
+    (written written' : Kept) : Type 0 where
+  pub asks : AsksStore (refusal_in s (set_of label disabled unload true)) label
+      (disabled || unload) s.reading.wall kept stored stored'
+  pub turn : TurnsOf s (set_of label disabled unload kept)
+      (set_line label disabled unload kept) reply new told told' written written'
 
 -- ---- on the way
 
 -- the rest of a turn whose first event was accepted, by the names of the table that it left
-pub record Finishes (s : State) (e : Event) (line : List ℕ) (names : List Name) (new : Table) (told told' : Option (List Entry)) (written written' : Kept) : Type 0 where
+pub record Finishes (s : State) (e : Event) (line : List ℕ) (names : List Name) (new : Table)
+    (told told' : Option (List Entry)) (written written' : Kept) : Type 0 where
   pub turn : TurnsOf s e line None new told told' written written'
   pub names_are : turn.names ≡ names
 
--- the table stands for the machine after an event that was accepted, whose orders it still has to give
+-- the table stands for the machine after an event that was accepted, whose orders it still has to
+-- give
 pub record HasTaken (s : State) (e : Event) (table : Table) : Type 0 where
   pub kept : KeepsState table (step s e)
   pub accepted : (outcome s e).refusal ≡ None
   pub orders : (outcome s e).orders ≡ acts_in table
 
 -- a load that was accepted is the first event of a turn, which knows the new job under its number
-pub record Makes (s : State) (e : Event) (line : List ℕ) (job : ℕ) (d : Described) (new : Table) (told told' : Option (List Entry)) (written written' : Kept) : Type 0 where
+pub record Makes (s : State) (e : Event) (line : List ℕ) (job : ℕ) (d : Described) (new : Table)
+    (told told' : Option (List Entry)) (written written' : Kept) : Type 0 where
   pub turn : TurnsOf s e line None new told told' written written'
   pub own : definition_of_number turn.names job ≡ Some d
 
--- the outside was asked about a load that was made ready, and its line was written; where the outside refused, nothing more
--- happened, and else the load was made
-pub record EndsLoad (ready : Ready) (w : Bool) (wall : ℕ) (asked : Asked) (refusal : Option Refusal) (line : List ℕ) (old new : Table)
-    (told told' : Option (List Entry)) (stored stored' : Option (List StoreCall)) (written written' : Kept) : Type 0 where
+-- the outside was asked about a load that was made ready, and its line was written; where the
+-- outside refused, nothing more happened, and else the load was made
+pub record EndsLoad (ready : Ready) (w : Bool) (wall : ℕ) (asked : Asked) (refusal : Option Refusal)
+    (line : List ℕ) (old new : Table)
+    (told told' : Option (List Entry)) (stored stored' : Option (List StoreCall))
+    (written written' : Kept) : Type 0 where
   pub mid : Option (List Entry)
   pub asks : Asks (number_in ready) (described_in ready) w wall asked told mid stored stored'
   pub answer : refusal ≡ refusal_outside (described_in ready) w asked.bind asked.store
-  pub refused : (r : Refusal) → refusal ≡ Some r → (new ≡ old) × (told' ≡ mid) × Grows written written' line
+  pub refused : (r : Refusal) → refusal ≡ Some r →
+      (new ≡ old) × (told' ≡ mid) × Grows written written' line
   pub made : refusal ≡ None → (s : State) (force bind store : Bool) → IsLed s → KeepsState old s
-      → refusal_in s (Load (Ok (given (described_in ready))) (is_some (setting_in ready)) force bind store) ≡ None
-      → Makes s (Load (Ok (given (described_in ready))) (is_some (setting_in ready)) force bind store) line (number_in ready) (described_in ready) new mid told' written written'
+      → refusal_in s
+      (Load (Ok (given (described_in ready))) (is_some (setting_in ready)) force bind store)
+      ≡ None
+      → Makes s
+      (Load (Ok (given (described_in ready))) (is_some (setting_in ready)) force bind store)
+      line (number_in ready) (described_in ready) new mid told' written written'

@@ -1,4 +1,4 @@
-//! The rest of a turn whose first event the table has taken in.
+//! The rest of a load or of a setting whose event the table has taken in.
 
 ghost use Rattle.std.specs.Prelude.{◌≡◌, ℕ, List, []};
 ghost use Rattle.history_model.specs.Machine.{State, Event};
@@ -25,8 +25,11 @@ pub(crate) fn finish<E: ChildEdge + SocketEdge, W: Write>(
     room: &mut Room,
 )
     requires { room.old.answers ≡ [] }
-    ensures { (before : Table) (s : State) (e : Event) (line : List ℕ) (written : Kept) → Grows written journal.old line → IsShort e → IsLed s → KeepsState before s → HasTaken s e table.old
-        → Finishes s e line table.old.names table.new (E.told edge.old) (E.told edge.new) written journal.new }
+    ensures { (before : Table) (s : State) (e : Event) (line : List ℕ) (written : Kept) →
+        Grows written journal.old line → IsShort e → IsLed s → KeepsState before s →
+        HasTaken s e table.old
+        → Finishes s e line table.old.names table.new
+        (E.told edge.old) (E.told edge.new) written journal.new }
 {
     carry_all(edge, &table.given(), &mut room.answers);
     settle(table, edge, journal, alloc, room);

@@ -12,6 +12,7 @@ ghost use Rattle.job_defs.specs.Definitions.{given};
 ghost use Rattle.job_table.specs.Kept.{KeepsState};
 ghost use Rattle.job_table.specs.Loads.{load_of, refusal_outside, IsReady, described_in, number_in, setting_in};
 ghost use Rattle.event_journal.specs.Journals.{Kept, Grows};
+ghost use Rattle.load_asking.specs.Stores.{HoldsAfter};
 ghost use Rattle.launcher_turn.specs.Turns.{IsLed, refusal_told};
 ghost use Rattle.launcher_load.specs.Lines.{load_line};
 ghost use Rattle.launcher_load.specs.LoadTurns.{LoadTurnOf, IsUntouched, Makes, EndsLoad, is_memory, settings_after};
@@ -73,9 +74,15 @@ fn make<E: ChildEdge + SocketEdge, W: Write>(
     requires ready { IsReady table.old ready }
     requires label { is_label (described_in ready).label ≡ true }
     requires empty { room.old.answers ≡ [] }
-    ensures { (s : State) (force bind store : Bool) (line : List ℕ) (written : Kept) → Grows written journal.old line → IsLed s → KeepsState table.old s
-        → refusal_in s (Load (Ok (given (described_in ready))) (is_some (setting_in ready)) force bind store) ≡ None
-        → Makes s (Load (Ok (given (described_in ready))) (is_some (setting_in ready)) force bind store) line (number_in ready) (described_in ready) table.new (E.told edge.old) (E.told edge.new) written journal.new }
+    ensures { (s : State) (force bind store : Bool) (line : List ℕ) (written : Kept) →
+        Grows written journal.old line → IsLed s → KeepsState table.old s
+        → refusal_in s
+        (Load (Ok (given (described_in ready))) (is_some (setting_in ready)) force bind store)
+        ≡ None
+        → Makes s
+        (Load (Ok (given (described_in ready))) (is_some (setting_in ready)) force bind store)
+        line (number_in ready) (described_in ready) table.new
+        (E.told edge.old) (E.told edge.new) written journal.new }
 {
     table.commit_load(ready);
     finish(table, edge, journal, alloc, room);
@@ -97,8 +104,13 @@ fn ask_and_make<E: ChildEdge + SocketEdge, T: SettingStore, W: Write>(
     requires ready { IsReady table.old ready }
     requires label { is_label (described_in ready).label ≡ true }
     requires empty { room.old.answers ≡ [] }
-    ensures ends { EndsLoad ready w table.old.reading.wall result.asked result.refusal (load_line def.now w force result.asked) table.old table.new (E.told edge.old) (E.told edge.new) (T.told store.old) (T.told store.new) journal.old journal.new }
-    ensures stored { (settings : List Held) → T.holds store.old settings → T.holds store.new (set_if (w && (result.asked.bind && result.asked.store)) (described_in ready).label false settings) }
+    ensures ends { EndsLoad ready w table.old.reading.wall result.asked result.refusal
+        (load_line def.now w force result.asked) table.old table.new
+        (E.told edge.old) (E.told edge.new)
+        (T.told store.old) (T.told store.new) journal.old journal.new }
+    ensures stored { HoldsAfter T.holds
+        (set_if (w && (result.asked.bind && result.asked.store)) (described_in ready).label false)
+        store.old store.new }
 {
     let changed = table.reading().wall;
     let asked = ask_outside(edge, store, ready.job(), ready.def(), w, changed);
@@ -113,7 +125,8 @@ fn ask_and_make<E: ChildEdge + SocketEdge, T: SettingStore, W: Write>(
 
 /// A load that was refused before the outside was asked.
 fn unasked(refusal: Refusal) -> Loaded
-    ensures { result ≡ record { asked = record { bind = true; store = true }; reply = Err refusal } }
+    ensures { result
+        ≡ record { asked = record { bind = true; store = true }; reply = Err refusal } }
 {
     Loaded {
         asked: Asked {
@@ -159,14 +172,21 @@ pub fn load<E: ChildEdge + SocketEdge, T: SettingStore, W: Write>(
     w: bool,
     force: bool,
 ) -> Loaded
-    ensures memory { is_memory (refusal_told result.reply) ≡ true → IsUntouched table.old table.new (E.told edge.old) (E.told edge.new) (T.told store.old) (T.told store.new) }
+    ensures memory { is_memory (refusal_told result.reply) ≡ true →
+        IsUntouched table.old table.new (E.told edge.old) (E.told edge.new)
+        (T.told store.old) (T.told store.new) }
     ensures silent { is_memory (refusal_told result.reply) ≡ true → journal.new ≡ journal.old }
-    ensures turn { is_memory (refusal_told result.reply) ≡ false → (s : State) → IsLed s → KeepsState table.old s
-        → LoadTurnOf s def.now w force result.asked (refusal_told result.reply) table.new (E.told edge.old) (E.told edge.new) (T.told store.old) (T.told store.new) journal.old journal.new }
+    ensures turn { is_memory (refusal_told result.reply) ≡ false → (s : State) → IsLed s →
+        KeepsState table.old s
+        → LoadTurnOf s def.now w force result.asked (refusal_told result.reply) table.new
+        (E.told edge.old) (E.told edge.new)
+        (T.told store.old) (T.told store.new) journal.old journal.new }
     ensures stored { (s : State) → KeepsState table.old s → T.holds store.old s.settings
-        → T.holds store.new (settings_after (refusal_told result.reply) s (load_of def.now w force result.asked.bind result.asked.store)) }
+        → T.holds store.new (settings_after (refusal_told result.reply) s
+        (load_of def.now w force result.asked.bind result.asked.store)) }
     ensures text { IfOk result.reply (λ text. (s : State) → KeepsState table.old s
-        → (outcome s (load_of def.now w force result.asked.bind result.asked.store)).text ≡ string_bytes text) }
+        → (outcome s (load_of def.now w force result.asked.bind result.asked.store)).text
+        ≡ string_bytes text) }
 {
     room.answers.clear();
     match table.prepare_load(alloc, def.as_bytes(), w, force) {

@@ -103,7 +103,9 @@ pub(crate) fn note_load_refused<W: Write>(
     force: bool,
     refusal: Refusal,
 )
-    ensures noted { is_memory (Some refusal) ≡ false → Grows journal.old journal.new (load_line def.now w force (record { bind = true; store = true })) }
+    ensures noted { is_memory (Some refusal) ≡ false →
+        Grows journal.old journal.new
+        (load_line def.now w force (record { bind = true; store = true })) }
     ensures silent { is_memory (Some refusal) ≡ true → journal.new ≡ journal.old }
 {
     if is_want(refusal) {
@@ -126,7 +128,8 @@ pub(crate) fn note_set_refused<W: Write>(
     unload: bool,
     refusal: Refusal,
 )
-    ensures noted { is_memory (Some refusal) ≡ false → Grows journal.old journal.new (set_line label.now disabled unload true) }
+    ensures noted { is_memory (Some refusal) ≡ false →
+        Grows journal.old journal.new (set_line label.now disabled unload true) }
     ensures silent { is_memory (Some refusal) ≡ true → journal.new ≡ journal.old }
 {
     if is_want(refusal) {

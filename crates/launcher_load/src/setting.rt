@@ -45,9 +45,11 @@ fn make<E: ChildEdge + SocketEdge, W: Write>(
 )
     requires ready { IsReadySet table.old ready }
     requires empty { room.old.answers ≡ [] }
-    ensures { (s : State) (store : Bool) (line : List ℕ) (written : Kept) → Grows written journal.old line → IsLed s → KeepsState table.old s
+    ensures { (s : State) (store : Bool) (line : List ℕ) (written : Kept) →
+        Grows written journal.old line → IsLed s → KeepsState table.old s
         → refusal_in s (set_of ready.setting.label ready.setting.disabled ready.unload store) ≡ None
-        → TurnsOf s (set_of ready.setting.label ready.setting.disabled ready.unload store) line None table.new (E.told edge.old) (E.told edge.new) written journal.new }
+        → TurnsOf s (set_of ready.setting.label ready.setting.disabled ready.unload store) line None
+        table.new (E.told edge.old) (E.told edge.new) written journal.new }
 {
     table.commit_set(ready);
     finish(table, edge, journal, alloc, room);
@@ -72,12 +74,18 @@ pub fn set<E: ChildEdge + SocketEdge, T: SettingStore, W: Write>(
     disabled: bool,
     unload: bool,
 ) -> Changed
-    ensures memory { is_memory (refusal_told result.reply) ≡ true → IsUntouched table.old table.new (E.told edge.old) (E.told edge.new) (T.told store.old) (T.told store.new) }
+    ensures memory { is_memory (refusal_told result.reply) ≡ true →
+        IsUntouched table.old table.new (E.told edge.old) (E.told edge.new)
+        (T.told store.old) (T.told store.new) }
     ensures silent { is_memory (refusal_told result.reply) ≡ true → journal.new ≡ journal.old }
-    ensures turn { is_memory (refusal_told result.reply) ≡ false → (s : State) → IsLed s → KeepsState table.old s
-        → SetTurnOf s label.now disabled unload result.stored (refusal_told result.reply) table.new (E.told edge.old) (E.told edge.new) (T.told store.old) (T.told store.new) journal.old journal.new }
+    ensures turn { is_memory (refusal_told result.reply) ≡ false → (s : State) → IsLed s →
+        KeepsState table.old s
+        → SetTurnOf s label.now disabled unload result.stored (refusal_told result.reply) table.new
+        (E.told edge.old) (E.told edge.new)
+        (T.told store.old) (T.told store.new) journal.old journal.new }
     ensures stored { (s : State) → KeepsState table.old s → T.holds store.old s.settings
-        → T.holds store.new (settings_after (refusal_told result.reply) s (set_of label.now disabled unload result.stored)) }
+        → T.holds store.new (settings_after (refusal_told result.reply) s
+        (set_of label.now disabled unload result.stored)) }
 {
     if !is_label(label) {
         note_set(journal, alloc, label, disabled, unload, true);

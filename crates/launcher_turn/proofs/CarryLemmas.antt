@@ -1,4 +1,4 @@
--- One more order is carried out.
+-- What holds once one more order was carried out on the outside.
 use Rattle.std.proofs.Common.{◌≡◌, ℕ, zero, suc, ◌+◌, ◌*◌, ◌<◌, ◌≤◌, Bool, true, false, ◌&&◌, List, [], ◌∷◌, ◌++◌, map, take, length, get_or, Option, Some, None, refl, sym, ap, subst, ◌∙◌, append_assoc, arith, length-append}
 use Rattle.std.specs.List.{list_all, cons_option}
 use Rattle.std.proofs.lemmas.List.{append-nil, map-append, take_more}
@@ -8,6 +8,7 @@ use Rattle.child_edge.specs.Calls.{Tells}
 use Rattle.order_edge.specs.declared.pending.Pending.{Pending}
 use Rattle.order_edge.specs.Calls.{Entry, call_of, calls_in, answer_in, answers_in, Carries}
 use Rattle.launcher_turn.specs.Turns.{Carried}
+use Rattle.launcher_turn.proofs.Both.{and-both}
 
 -- what is told one after another is told together
 pub Tells-append : (a b c : Option (List Entry)) (p q : List Entry) → Tells a p b → Tells b q c → Tells a (p ++ q) c
@@ -58,10 +59,6 @@ pub turn-more : (orders : List Order) (i : ℕ) (d : Order) (old mid new : List 
     Carried (take i orders) old mid a b → Carries (get_or orders i d) pending b c → IsKept pending mid new → Carried (take (i + 1) orders) old new a c
 turn-more orders i d old mid new pending a b c within before one kept =
     subst (λ os. Carried os old new a c) (sym (take_more orders i d within)) (carried-more (take i orders) (get_or orders i d) old mid new pending a b c before one kept)
-
-and-both : (a b : Bool) → (a && b) ≡ true → (a ≡ true) × (b ≡ true)
-and-both true b e = (refl, e)
-and-both false b e = cc
 
 pub all-at : {X : Type 0} (p : X → Bool) (xs : List X) (i : ℕ) (d : X) → i < length xs → list_all p xs ≡ true → p (get_or xs i d) ≡ true
 all-at p [] i d within all = absurd (omega (arith, within))

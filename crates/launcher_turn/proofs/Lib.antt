@@ -6,3 +6,4 @@ pub mod OneEvent
 pub mod SoFar
 pub mod Whole
 pub mod Stored
+pub mod Both

@@ -1,4 +1,4 @@
--- A line that was written, or for which the journal was closed.
+-- What the journal has after a line was written, or after it was closed at one.
 use Rattle.std.proofs.Common.{◌≡◌, ℕ, List, subst}
 use Rattle.std.specs.Prelude.{Result, Ok, Err, IfOk, OnErr}
 use Rattle.history_model.specs.declared.event.Event.{Event}

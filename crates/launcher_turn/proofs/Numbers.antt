@@ -24,6 +24,7 @@ use Rattle.order_edge.specs.Calls.{Entry, call_by, call_of, calls_in, answers_in
 use Rattle.history_model.specs.Turns.{Given, wanting}
 use Rattle.history_model.proofs.InOrder.{same_self}
 use Rattle.launcher_turn.specs.Turns.{AreTheirs}
+use Rattle.launcher_turn.proofs.Both.{and-both}
 
 self-number : (n : ℕ) → (n == n) ≡ true
 self-number n = grind arith
@@ -67,10 +68,6 @@ through names (row ∷ rows) named n d e = go (row.number == n) refl (through na
 pub named-next : (names : List Name) (before after : List Row) → AreNamed names before → AreNamed (names_of before) after → AreNamed names after
 named-next names before [] named next = tt
 named-next names before (row ∷ rows) named next = (through names before named row.number row.described next.0, named-next names before rows named next.1)
-
-and-both : (a b : Bool) → (a && b) ≡ true → (a ≡ true) × (b ≡ true)
-and-both true b e = (refl, e)
-and-both false b e = cc
 
 pub known-some : {X : Type 0} (o : Option X) → is_some o ≡ true → (x : X) × (o ≡ Some x)
 known-some None e = cc

@@ -1,4 +1,4 @@
--- One event of a turn.
+-- What one event of a launcher's turn leaves.
 use Rattle.std.proofs.Common.{◌≡◌, ◌≤◌, true, false, ◌&&◌, List, [], ◌∷◌, length, Option, Some, None, refl, sym, ap, subst, ◌∙◌}
 use Rattle.std.specs.Prelude.{Result, Ok, Err, IsOk, IfOk}
 use Rattle.std.proofs.lemmas.Bool.{false≢true}

@@ -1,4 +1,4 @@
--- A turn that has come some way.
+-- What holds in the middle of a launcher's turn, with some answers still to be made events.
 use Rattle.std.proofs.Common.{◌≡◌, ℕ, suc, ◌+◌, ◌*◌, ◌<◌, ◌≤◌, List, [], ◌∷◌, ◌++◌, map, take, drop, length, get_or, Option, refl, sym, ap, subst, ◌∙◌, append_assoc, arith, add-one, length-append, length-drop, drop-cons}
 use Rattle.std.proofs.lemmas.List.{append-nil, map-append, take_more, take_all, take-append-le, drop-append-le}
 use Rattle.history_model.specs.declared.Order.{Order}

@@ -1,4 +1,4 @@
--- The settings of the machine, after a turn.
+-- The settings of the machine, after a turn of the launcher.
 use Rattle.std.proofs.Common.{◌≡◌, ℕ, Bool, true, false, not, ◌&&◌, List, [], ◌∷◌, map, Option, Some, None, refl, sym, ap, ◌∙◌}
 use Rattle.std.specs.Prelude.{Ok}
 use Rattle.history_model.specs.declared.Refusal.{Refusal}
@@ -29,11 +29,6 @@ answers-settings names (p ∷ ps) s = answers-settings names ps (step s (event_i
 
 pub turn_settings : (s : State) (input : Event) (names : List Name) (entries : List Entry) → (run (input ∷ events_in names entries) s).settings ≡ (step s input).settings
 turn_settings s input names entries = answers-settings names (answers_in entries) (step s input)
-
-none-set : (w bind : Bool) (label : Label) (settings : List Setting) → settings ≡ set_if (w && (bind && false)) label false settings
-none-set true true label settings = refl
-none-set true false label settings = refl
-none-set false bind label settings = refl
 
 load-given : (s : State) (d : Described) (w force bind store : Bool) → refusal_in s (Load (Ok (given d)) w force bind store) ≡ refusal_outside d w bind store →
     (has_sockets d ≡ false → bind ≡ true) → ((w && bind) ≡ false → store ≡ true) → (step s (Load (Ok (given d)) w force bind store)).settings ≡ set_if (w && (bind && store)) d.label false s.settings

@@ -1,4 +1,4 @@
--- The lines of a turn in the journal.
+-- The lines that a turn of the launcher writes to the journal.
 use Rattle.std.specs.Prelude.{ℕ, true, false, List}
 use Rattle.std.specs.List.{flat_map}
 use Rattle.history_model.specs.declared.Answer.{Answer}

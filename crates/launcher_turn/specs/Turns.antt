@@ -1,4 +1,5 @@
--- A turn: one event, whose orders are carried out on the outside, and then each answer as the next event, first in first out.
+-- A turn: one event, whose orders are carried out on the outside, and then each answer as the next
+-- event, first in first out.
 use Rattle.std.specs.Prelude.{◌≡◌, ℕ, ◌+◌, ◌*◌, ◌≤◌, ◌<◌, true, List, [], ◌∷◌, ◌++◌, map, length, Option, Some, None, Result, Ok, Err}
 use Rattle.std.specs.List.{list_all, AllByRecursion}
 use Rattle.history_model.specs.declared.Order.{Order}
@@ -25,8 +26,10 @@ use Rattle.history_model.specs.Waits.{AreFresh, weight, weigh_given}
 
 -- ---- orders that are carried out
 
--- the orders were carried out one after another, each by its one call, and where there is room for them the answers are kept
-pub record Carried (orders : List Order) (old new : List Pending) (told told' : Option (List Entry)) : Type 0 where
+-- the orders were carried out one after another, each by its one call, and where there is room for
+-- them the answers are kept
+pub record Carried (orders : List Order) (old new : List Pending)
+    (told told' : Option (List Entry)) : Type 0 where
   pub entries : List Entry
   pub tells : Tells told entries told'
   pub calls : calls_in entries ≡ map call_of orders
@@ -50,9 +53,11 @@ event_in names pending = OfJob (label_of names pending.job) (Answered pending.an
 abbrev pub events_in : List Name → List Entry → List Event
 events_in names entries = map (event_in names) (answers_in entries)
 
--- A whole turn of the machine s. Its events are the input and then the answers of the calls, in the order of the calls. The calls
--- are the orders of all these events, in order, each once: so none is left out, and no answer is invented.
-pub record IsTurn (s : State) (input : Event) (names : List Name) (entries : List Entry) (new : Table) : Type 0 where
+-- A whole turn of the machine s. Its events are the input and then the answers of the calls, in the
+-- order of the calls. The calls are the orders of all these events, in order, each once: so none is
+-- left out, and no answer is invented.
+pub record IsTurn (s : State) (input : Event) (names : List Name) (entries : List Entry)
+    (new : Table) : Type 0 where
   pub orders : List Order
   pub calls : calls_in entries ≡ map call_of orders
   pub given : labelled names orders ≡ orders_in (input ∷ events_in names entries) s
@@ -66,12 +71,14 @@ AreTheirs names [] [] = Unit {0}
 AreTheirs names [] (pending ∷ rest) = ⊥
 AreTheirs names (given ∷ waits) [] = ⊥
 AreTheirs names (given ∷ waits) (pending ∷ rest) =
-    ((d : Described) × (definition_of_number names pending.job ≡ Some d) × (d.label ≡ given.0)) × (is_answer_to pending.answer given.1 ≡ true) × AreTheirs names waits rest
+    ((d : Described) × (definition_of_number names pending.job ≡ Some d) × (d.label ≡ given.0))
+    × (is_answer_to pending.answer given.1 ≡ true) × AreTheirs names waits rest
 
 -- the loaded jobs have the numbers that these names tell
 pub record AreNumbered (names : List Name) (table : Table) : Type 0 where
   pub once : IsOnce names
-  pub named : AllByRecursion (λ row. definition_of_number names row.number ≡ Some row.described) table.rows
+  pub named : AllByRecursion (λ row. definition_of_number names row.number ≡ Some row.described)
+      table.rows
 
 -- the machine as events lead to it
 pub record IsOrderly (s : State) : Type 0 where
@@ -79,8 +86,10 @@ pub record IsOrderly (s : State) : Type 0 where
   pub order : AreInOrder (labels_of s.jobs)
   pub short : AllByRecursion (λ label. length label ≤ 255) (labels_of s.jobs)
 
--- the table stands for a machine that has given these orders, whose answers are still to be made events
-pub record IsWaiting (table : Table) (s : State) (names : List Name) (waits : List Given) (pending : List Pending) : Type 0 where
+-- the table stands for a machine that has given these orders, whose answers are still to be made
+-- events
+pub record IsWaiting (table : Table) (s : State) (names : List Name) (waits : List Given)
+    (pending : List Pending) : Type 0 where
   pub keeps : KeepsState table s
   pub orderly : IsOrderly s
   pub fresh : AreFresh s.jobs waits
@@ -88,9 +97,10 @@ pub record IsWaiting (table : Table) (s : State) (names : List Name) (waits : Li
   pub numbers : AreNumbered names table
   pub theirs : AreTheirs names waits pending
 
--- One event happened, and this was its answer: its orders, by number, were carried out. Where it was accepted, the table's own
--- names stand for the jobs after it, and for those that left at it.
-pub record Begins (s : State) (e : Event) (reply : Option Refusal) (new : Table) (before after : List Pending) (told told' : Option (List Entry)) : Type 0 where
+-- One event happened, and this was its answer: its orders, by number, were carried out. Where it
+-- was accepted, the table's own names stand for the jobs after it, and for those that left at it.
+pub record Begins (s : State) (e : Event) (reply : Option Refusal) (new : Table)
+    (before after : List Pending) (told told' : Option (List Entry)) : Type 0 where
   pub orders : List Order
   pub carried : Carried orders before after told told'
   pub kept : KeepsState new (step s e)
@@ -99,29 +109,38 @@ pub record Begins (s : State) (e : Event) (reply : Option Refusal) (new : Table)
   pub labels : labelled new.names orders ≡ (outcome s e).orders
   pub known : list_all (is_known new.names) orders ≡ true
 
--- one event happened to jobs that were loaded: names that stand for the jobs before it do so after it, and the table's own are such
-pub record HappensTo (s : State) (e : Event) (reply : Option Refusal) (old new : Table) (before after : List Pending) (told told' : Option (List Entry)) : Type 0 where
+-- one event happened to jobs that were loaded: names that stand for the jobs before it do so after
+-- it, and the table's own are such
+pub record HappensTo (s : State) (e : Event) (reply : Option Refusal) (old new : Table)
+    (before after : List Pending) (told told' : Option (List Entry)) : Type 0 where
   pub begins : Begins s e reply new before after told told'
   pub loaded : reply ≡ None → AreNumbered new.names old
   pub given : (names : List Name) → AreNumbered names old →
-      AreNumbered names new × (labelled names begins.orders ≡ (outcome s e).orders) × (list_all (is_known names) begins.orders ≡ true)
+      AreNumbered names new × (labelled names begins.orders ≡ (outcome s e).orders)
+      × (list_all (is_known names) begins.orders ≡ true)
 
-abbrev pub Happens : Event → Option Refusal → Table → Table → List Pending → List Pending → Option (List Entry) → Option (List Entry) → Type 0
-Happens e reply old new before after told told' = (s : State) → KeepsState old s → HappensTo s e reply old new before after told told'
+abbrev pub Happens : Event → Option Refusal → Table → Table → List Pending → List Pending →
+    Option (List Entry) → Option (List Entry) → Type 0
+Happens e reply old new before after told told' =
+    (s : State) → KeepsState old s → HappensTo s e reply old new before after told told'
 
 -- one answer was made an event, and what it ordered waits behind the others
-pub record Handled (s : State) (names : List Name) (given : Given) (waits : List Given) (pending : Pending) (rest : List Pending) (new : Table)
-    (before after : List Pending) (told told' : Option (List Entry)) (written written' : Kept) : Type 0 where
+pub record Handled (s : State) (names : List Name) (given : Given) (waits : List Given)
+    (pending : Pending) (rest : List Pending) (new : Table)
+    (before after : List Pending) (told told' : Option (List Entry))
+    (written written' : Kept) : Type 0 where
   pub orders : List Order
   pub carried : Carried orders before after told told'
   pub ordered : labelled names orders ≡ (outcome s (event_in names pending)).orders
   pub waiting : (made : List Entry) → calls_in made ≡ map call_of orders →
-      IsWaiting new (step s (event_in names pending)) names (waits ++ wanting (outcome s (event_in names pending)).orders) (rest ++ answers_in made)
+      IsWaiting new (step s (event_in names pending)) names
+      (waits ++ wanting (outcome s (event_in names pending)).orders) (rest ++ answers_in made)
   pub noted : Grows written written' (answer_text names pending)
   pub lighter : weigh_given (wanting (outcome s (event_in names pending)).orders) < weight given.1
 
 -- each answer was made an event, and none is left; `made` are the calls of these events
-pub record Settled (s : State) (names : List Name) (before after : List Pending) (new : Table) (told told' : Option (List Entry)) (written written' : Kept) : Type 0 where
+pub record Settled (s : State) (names : List Name) (before after : List Pending) (new : Table)
+    (told told' : Option (List Entry)) (written written' : Kept) : Type 0 where
   pub made : List Entry
   pub tells : Tells told made told'
   pub all : after ≡ before ++ answers_in made
@@ -148,11 +167,12 @@ abbrev pub refusal_told : {A : Type 0} → Result A Refusal → Option Refusal
 refusal_told (Ok a) = None
 refusal_told (Err refusal) = Some refusal
 
--- For each machine that the table stood for: the edge was called as a turn of it says, and where it tells, it tells just these calls;
--- the table then stands for the machine after it, and the answer is the machine's to the input. The journal
--- grew by the lines of these events. The numbers in the calls are those of
--- the jobs that are loaded.
-pub record TurnsOf (s : State) (input : Event) (line : List ℕ) (reply : Option Refusal) (new : Table) (told told' : Option (List Entry)) (written written' : Kept) : Type 0 where
+-- For each machine that the table stood for: the edge was called as a turn of it says, and where it
+-- tells, it tells just these calls; the table then stands for the machine after it, and the answer
+-- is the machine's to the input. The journal grew by the lines of these events. The numbers in the
+-- calls are those of the jobs that are loaded.
+pub record TurnsOf (s : State) (input : Event) (line : List ℕ) (reply : Option Refusal)
+    (new : Table) (told told' : Option (List Entry)) (written written' : Kept) : Type 0 where
   pub names : List Name
   pub entries : List Entry
   pub tells : Tells told entries told'
@@ -163,9 +183,12 @@ pub record TurnsOf (s : State) (input : Event) (line : List ℕ) (reply : Option
   pub noted : Grows written written' (line ++ answer_texts names (answers_in entries))
 
 -- and they are those under which the jobs were loaded before it
-abbrev pub Turns : Event → List ℕ → Option Refusal → Table → Table → Option (List Entry) → Option (List Entry) → Kept → Kept → Type 0
-Turns input line reply old new told told' written written' = (s : State) → IsLed s → KeepsState old s →
-    (turn : TurnsOf s input line reply new told told' written written') × (reply ≡ None → AreNumbered turn.names old)
+abbrev pub Turns : Event → List ℕ → Option Refusal → Table → Table → Option (List Entry) →
+    Option (List Entry) → Kept → Kept → Type 0
+Turns input line reply old new told told' written written' =
+    (s : State) → IsLed s → KeepsState old s →
+    (turn : TurnsOf s input line reply new told told' written written')
+    × (reply ≡ None → AreNumbered turn.names old)
 
 -- nothing happened: the table stands for what it stood for, and no call was made
 pub record IsUntouched (old new : Table) (told told' : Option (List Entry)) : Type 0 where

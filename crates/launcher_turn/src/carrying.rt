@@ -1,4 +1,4 @@
-//! Carries out the orders of a step.
+//! Carries out on the outside what the table orders at one event.
 
 ghost use Rattle.std.specs.Prelude.{◌≡◌};
 ghost use Rattle.job_table.specs.Ends.{AreKnown};
@@ -18,7 +18,8 @@ pub fn carry_all<E: ChildEdge + SocketEdge>(
     answers: &mut AnswerQueue,
 )
     requires { AreKnown step.now }
-    ensures { Carried step.now.orders.now answers.old answers.new (E.told edge.old) (E.told edge.new) }
+    ensures { Carried step.now.orders.now answers.old answers.new
+        (E.told edge.old) (E.told edge.new) }
 {
     for order in step.orders {
         match carry(edge, *order, step.def(order.job)) {
@@ -36,7 +37,8 @@ pub(crate) fn carry_given<E: ChildEdge + SocketEdge>(
     answers: &mut AnswerQueue,
 ) -> Result<(), Refusal>
     requires { AreKnownIn given }
-    ensures carried { Carried (orders_given given.entry) answers.old answers.new (E.told edge.old) (E.told edge.new) }
+    ensures carried { Carried (orders_given given.entry) answers.old answers.new
+        (E.told edge.old) (E.told edge.new) }
     ensures answer { refusal_told result ≡ refusal_told given.entry }
 {
     match given {

@@ -1,4 +1,4 @@
-//! The journal's event of what happens.
+//! What happens to the launcher, as the event that its journal tells.
 
 ghost use Rattle.std.specs.Prelude.{◌≡◌, IfOk};
 ghost use Rattle.launcher_turn.specs.Lines.{told_by, told_of, told_answer};

@@ -48,9 +48,12 @@ pub fn print<W: Write>(
     alloc: Global,
     label: &str,
 ) -> Result<String, Refusal>
-    ensures text { IfOk result (λ text. IsToldText (PrintJob label.now) table.now (string_bytes text)) }
-    ensures refused { IfErr result (λ refusal. Tells refusal ((s : State) → KeepsState table.now s → refusal_in s (PrintJob label.now) ≡ Some refusal)) }
-    ensures noted { UnlessMemory result (Grows journal.old journal.new (event_line (told.Print label.now))) }
+    ensures text { IfOk result (λ text.
+        IsToldText (PrintJob label.now) table.now (string_bytes text)) }
+    ensures refused { IfErr result (λ refusal. Tells refusal ((s : State) →
+        KeepsState table.now s → refusal_in s (PrintJob label.now) ≡ Some refusal)) }
+    ensures noted { UnlessMemory result
+        (Grows journal.old journal.new (event_line (told.Print label.now))) }
     ensures silent { result ≡ Err NoMemory → journal.new ≡ journal.old }
 {
     match table.print(alloc, label) {

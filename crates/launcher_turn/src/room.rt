@@ -29,7 +29,8 @@ impl Model for AnswerQueue {
 
     ghost view = { λ q. q.answers.items };
 
-    ghost invariant = { λ q. (3 * 1024 ≤ vec_capacity q.answers) × (length q.answers.items ≤ 3 * 1024) };
+    ghost invariant = { λ q.
+        (3 * 1024 ≤ vec_capacity q.answers) × (length q.answers.items ≤ 3 * 1024) };
 }
 
 impl AnswerQueue {

@@ -1,4 +1,4 @@
-//! Makes each answer the next event, first in first out, until none is left.
+//! Makes each answer of the outside the next event, first in first out, until none is left.
 
 ghost use Rattle.std.specs.Prelude.{◌≤◌, ◌*◌, List, ◌∷◌};
 ghost use Rattle.history_model.specs.Machine.{State};
@@ -28,8 +28,11 @@ fn handle<E: ChildEdge + SocketEdge, W: Write>(
     pending: Pending,
     room: &mut Room,
 )
-    ensures { (s : State) (names : List Name) (given : Given) (waits : List Given) (rest : List Answered) → IsWaiting table.old s names (given ∷ waits) (pending ∷ rest)
-        → Handled s names given waits pending rest table.new room.old.answers room.new.answers (E.told edge.old) (E.told edge.new) journal.old journal.new }
+    ensures { (s : State) (names : List Name) (given : Given) (waits : List Given)
+        (rest : List Answered) →
+        IsWaiting table.old s names (given ∷ waits) (pending ∷ rest)
+        → Handled s names given waits pending rest table.new room.old.answers room.new.answers
+        (E.told edge.old) (E.told edge.new) journal.old journal.new }
 {
     room.label.copy(table.given().label(pending.job));
     let told = Happening::ToJob(room.label.as_str(), News::Answered(pending.answer));
@@ -46,8 +49,10 @@ pub fn settle<E: ChildEdge + SocketEdge, W: Write>(
     alloc: Global,
     room: &mut Room,
 )
-    ensures { (s : State) (names : List Name) (waits : List Given) → IsWaiting table.old s names waits room.old.answers → weigh_given waits ≤ 3 * 1024
-        → Settled s names room.old.answers room.new.answers table.new (E.told edge.old) (E.told edge.new) journal.old journal.new }
+    ensures { (s : State) (names : List Name) (waits : List Given) →
+        IsWaiting table.old s names waits room.old.answers → weigh_given waits ≤ 3 * 1024
+        → Settled s names room.old.answers room.new.answers table.new
+        (E.told edge.old) (E.told edge.new) journal.old journal.new }
 {
     let mut next = 0;
     while next < room.answers.len() {

@@ -23,8 +23,12 @@ pub(crate) fn tell<E: ChildEdge + SocketEdge>(
     what: Happening<'_>,
     answers: &mut AnswerQueue,
 ) -> Result<(), Refusal>
-    ensures happens { UnlessMemory result (Happens (event_of what.entry) (refusal_told result) table.old table.new answers.old answers.new (E.told edge.old) (E.told edge.new)) }
-    ensures memory { result ≡ Err NoMemory → (is_clock what.entry ≡ true) × IsUntouched table.old table.new (E.told edge.old) (E.told edge.new) }
+    ensures happens { UnlessMemory result
+        (Happens (event_of what.entry) (refusal_told result) table.old table.new
+        answers.old answers.new (E.told edge.old) (E.told edge.new)) }
+    ensures memory { result ≡ Err NoMemory →
+        (is_clock what.entry ≡ true) × IsUntouched table.old table.new
+        (E.told edge.old) (E.told edge.new) }
 {
     match what {
         Happening::Clock(at) => carry_given(edge, table.clock(alloc, at), answers),

@@ -1,4 +1,4 @@
-//! A whole turn: what happens, and then the answers to all that it orders.
+//! A whole turn of the launcher: what happens, and then the answers to all that it orders.
 
 ghost use Rattle.std.specs.Prelude.{◌≡◌, Err, true};
 ghost use Rattle.history_model.specs.declared.Refusal.TheVariants.{NoMemory};
@@ -33,8 +33,13 @@ pub fn turn<E: ChildEdge + SocketEdge, W: Write>(
     room: &mut Room,
     what: Happening<'_>,
 ) -> Result<(), Refusal>
-    ensures turn { UnlessMemory result (Turns (event_of what.entry) (event_line (told_by what.entry)) (refusal_told result) table.old table.new (E.told edge.old) (E.told edge.new) journal.old journal.new) }
-    ensures memory { result ≡ Err NoMemory → (is_clock what.entry ≡ true) × IsUntouched table.old table.new (E.told edge.old) (E.told edge.new) × (journal.new ≡ journal.old) }
+    ensures turn { UnlessMemory result
+        (Turns (event_of what.entry) (event_line (told_by what.entry))
+        (refusal_told result) table.old table.new
+        (E.told edge.old) (E.told edge.new) journal.old journal.new) }
+    ensures memory { result ≡ Err NoMemory →
+        (is_clock what.entry ≡ true) × IsUntouched table.old table.new
+        (E.told edge.old) (E.told edge.new) × (journal.new ≡ journal.old) }
 {
     room.answers.clear();
     match tell(table, edge, alloc, what, &mut room.answers) {

@@ -1,15 +1,16 @@
--- How long a round waits, in milliseconds.
+-- How long a round of the live loop waits, in milliseconds.
 use Rattle.std.specs.Prelude.{ℕ, ◌+◌, ◌^◌, ◌≤◌, Bool, true, false, List, [], ◌∷◌, Option, min, max}
 use Rattle.std.specs.Option.{ForSome}
 
--- How many quiet rounds there were since one in which something happened. The rounds stand newest first, each as whether
--- something happened in it.
+-- How many quiet rounds there were since one in which something happened. The rounds stand newest
+-- first, each as whether something happened in it.
 abbrev pub quiet_rounds : List Bool → ℕ
 quiet_rounds [] = 0
 quiet_rounds (true ∷ rounds) = 0
 quiet_rounds (false ∷ rounds) = quiet_rounds rounds + 1
 
--- the pause after these rounds: a millisecond, doubled by each quiet round, and at most a tenth of a second
+-- the pause after these rounds: a millisecond, doubled by each quiet round, and at most a tenth of
+-- a second
 abbrev pub pause_after : List Bool → ℕ
 pause_after rounds = min (2 ^ quiet_rounds rounds) 100
 
@@ -17,9 +18,11 @@ pause_after rounds = min (2 ^ quiet_rounds rounds) 100
 abbrev pub IsNotPast : ℕ → Option ℕ → ℕ → Type 0
 IsNotPast up moment wait = ForSome moment (λ m. up + wait ≤ max up m)
 
--- the longest wait that is within the pause, and goes past neither the next moment of the table nor the next look at paths
+-- the longest wait that is within the pause, and goes past neither the next moment of the table nor
+-- the next look at paths
 pub record IsLongestWait (pause up : ℕ) (moment look : Option ℕ) (wait : ℕ) : Type 0 where
   pub within : wait ≤ pause
   pub before_moment : IsNotPast up moment wait
   pub before_look : IsNotPast up look wait
-  pub longest : (other : ℕ) → other ≤ pause → IsNotPast up moment other → IsNotPast up look other → other ≤ wait
+  pub longest : (other : ℕ) → other ≤ pause → IsNotPast up moment other → IsNotPast up look other →
+      other ≤ wait

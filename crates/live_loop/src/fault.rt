@@ -1,4 +1,4 @@
-//! Why the loop can't go on.
+//! Why the live loop can't go on.
 
 use thiserror::Error;
 

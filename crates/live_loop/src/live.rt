@@ -1,4 +1,4 @@
-//! The launcher with what its loop waits on.
+//! The launcher with what its live loop waits on.
 
 use crate::fault::ServeFault;
 use crate::job_sockets::JobSockets;

@@ -1,4 +1,4 @@
-//! The rounds.
+//! The rounds of the live loop: what each does, one after the other.
 
 use crate::children::poll_children;
 use crate::fault::ServeFault;

@@ -1,4 +1,4 @@
-//! What the loop asks of its runtime.
+//! What the live loop asks of its runtime.
 
 use std::fs::{File, Files};
 use std::net::{Net, TcpListener, TcpStream};

@@ -1,4 +1,4 @@
-//! How long a round waits, in milliseconds.
+//! How long a round of the live loop waits, in milliseconds.
 
 ghost use Rattle.std.specs.Prelude.{◌≡◌, ◌≤◌, ◌∷◌, ℕ, Bool, List};
 ghost use Rattle.live_loop.specs.Waiting.{pause_after, IsNotPast, IsLongestWait};
@@ -12,7 +12,8 @@ pub(crate) const SHORTEST: u64 = 1;
 /// The pause after one round more, of the pause after those before it: a millisecond, doubled by each quiet round since one in
 /// which something happened, and at most a tenth of a second.
 pub fn next_pause(is_active: bool, pause: u64) -> u64
-    ensures { (rounds : List Bool) → pause ≡ pause_after rounds → result ≡ pause_after (is_active ∷ rounds) }
+    ensures { (rounds : List Bool) → pause ≡ pause_after rounds →
+        result ≡ pause_after (is_active ∷ rounds) }
 {
     if is_active {
         SHORTEST

@@ -1,4 +1,4 @@
--- What a load asks of the outside.
+-- What a load asks of the outside: sockets to be bound, and a setting to be stored.
 use Rattle.std.specs.Prelude.{◌≡◌, ℕ, Bool, true, false, not, ◌&&◌, List, [], ◌∷◌, Option, if◌then◌else◌}
 use Rattle.child_edge.specs.Calls.{Tells}
 use Rattle.child_edge.specs.declared.plain.EdgeCall.{EdgeCall}
@@ -21,15 +21,17 @@ is_done (At reading) = false
 is_done Refused = false
 is_done NoMemory = false
 
--- The calls of a load, with this answer to the bind: none for a job without sockets. Sockets that were bound are given up if
--- the store then refused.
+-- The calls of a load, with this answer to the bind: none for a job without sockets. Sockets that
+-- were bound are given up if the store then refused.
 abbrev pub load_entries : Bool → ℕ → Asked → Scripted → List (EdgeCall × Scripted)
 load_entries false job asked bound = []
-load_entries true job asked bound = (Bind job, bound) ∷ (if asked.bind && not asked.store then (Release job, Done) ∷ [] else [])
+load_entries true job asked bound =
+    (Bind job, bound) ∷ (if asked.bind && not asked.store then (Release job, Done) ∷ [] else [])
 
--- Each was asked once, in this order: the sockets, and if they are bound, with w, the setting. The answers are those that were
--- given; what was not asked counts as true.
-pub record Asks (job : ℕ) (d : Described) (w : Bool) (changed : ℕ) (asked : Asked) (told told' : Option (List (EdgeCall × Scripted)))
+-- Each was asked once, in this order: the sockets, and if they are bound, with w, the setting. The
+-- answers are those that were given; what was not asked counts as true.
+pub record Asks (job : ℕ) (d : Described) (w : Bool) (changed : ℕ) (asked : Asked)
+    (told told' : Option (List (EdgeCall × Scripted)))
     (stored stored' : Option (List StoreCall)) : Type 0 where
   pub bound : Scripted
   pub tells : Tells told (load_entries (has_sockets d) job asked bound) told'

@@ -1,7 +1,9 @@
 -- What is asked of the store of settings.
 use Rattle.std.specs.Prelude.{◌≡◌, ℕ, Bool, true, false, List, [], ◌∷◌, ◌++◌, Option, Some}
+use Rattle.history_model.specs.declared.event.Setting.{Setting}
 
--- a setting that the store was asked to keep, the second in which it was said, and whether it was stored
+-- a setting that the store was asked to keep, the second in which it was said, and whether it was
+-- stored
 pub record StoreCall : Type 0 where
   pub label : List ℕ
   pub disabled : Bool
@@ -11,9 +13,21 @@ pub record StoreCall : Type 0 where
 -- if the calls are known afterwards, they were known before, and these are new
 abbrev pub AreTold : Option (List StoreCall) → List StoreCall → Option (List StoreCall) → Type 0
 AreTold old calls new =
-    (after : List StoreCall) → new ≡ Some after → (before : List StoreCall) × (old ≡ Some before) × (after ≡ before ++ calls)
+    (after : List StoreCall) → new ≡ Some after →
+    (before : List StoreCall) × (old ≡ Some before) × (after ≡ before ++ calls)
+
+-- the store was asked to keep this, and answered so
+abbrev pub asked_to_set : List ℕ → Bool → ℕ → Bool → StoreCall
+asked_to_set label disabled changed stored =
+    record { label = label; disabled = disabled; changed = changed; stored = stored }
+
+-- each list of settings that the store held before, it holds after, changed by this
+abbrev pub HoldsAfter :
+    {S : Type 0} → (S → List Setting → Type 0) → (List Setting → List Setting) → S → S → Type 0
+HoldsAfter Holds change old new =
+    (settings : List Setting) → Holds old settings → Holds new (change settings)
 
 -- that a label is enabled is asked once, if it is wanted
 abbrev pub store_calls : Bool → List ℕ → ℕ → Bool → List StoreCall
 store_calls false label changed stored = []
-store_calls true label changed stored = record { label = label; disabled = false; changed = changed; stored = stored } ∷ []
+store_calls true label changed stored = asked_to_set label false changed stored ∷ []

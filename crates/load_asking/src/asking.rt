@@ -1,11 +1,10 @@
-//! The two questions, in order.
+//! The two questions that a load asks of the outside, in order: for sockets, and for a setting.
 
-ghost use Rattle.std.specs.Prelude.{◌≡◌, ◌≤◌, ◌&&◌, List, true, false};
-ghost use Rattle.history_model.specs.declared.event.Setting.{Setting as Held};
+ghost use Rattle.std.specs.Prelude.{◌≡◌, ◌≤◌, ◌&&◌, true, false};
 ghost use Rattle.history_model.specs.Labels.{is_label};
 ghost use Rattle.history_model.specs.Step.{set_if};
 ghost use Rattle.load_asking.specs.Asking.{Asks};
-ghost use Rattle.load_asking.specs.Stores.{AreTold, store_calls};
+ghost use Rattle.load_asking.specs.Stores.{AreTold, HoldsAfter, store_calls};
 
 use crate::SettingStore;
 use child_edge::SocketEdge;
@@ -25,9 +24,11 @@ pub struct Asked {
 fn ask_store<T: SettingStore>(store: &mut T, label: &str, w: bool, changed: u64) -> bool
     requires label { is_label label.now ≡ true }
     requires second { changed ≤ 250000000000 }
-    ensures told { AreTold (T.told store.old) (store_calls w label.now changed result) (T.told store.new) }
+    ensures told { AreTold (T.told store.old)
+        (store_calls w label.now changed result) (T.told store.new) }
     ensures unasked { w ≡ false → result ≡ true }
-    ensures stored { (settings : List Held) → T.holds store.old settings → T.holds store.new (set_if (w && result) label.now false settings) }
+    ensures stored { HoldsAfter T.holds
+        (set_if (w && result) label.now false) store.old store.new }
 {
     if w {
         store.set(label, false, changed)
@@ -48,8 +49,10 @@ pub fn ask_outside<E: SocketEdge, T: SettingStore>(
 ) -> Asked
     requires label { is_label def.now.label ≡ true }
     requires second { changed ≤ 250000000000 }
-    ensures asked { Asks job def.now w changed result (E.told edge.old) (E.told edge.new) (T.told store.old) (T.told store.new) }
-    ensures stored { (settings : List Held) → T.holds store.old settings → T.holds store.new (set_if (w && (result.bind && result.store)) def.now.label false settings) }
+    ensures asked { Asks job def.now w changed result
+        (E.told edge.old) (E.told edge.new) (T.told store.old) (T.told store.new) }
+    ensures stored { HoldsAfter T.holds
+        (set_if (w && (result.bind && result.store)) def.now.label false) store.old store.new }
 {
     if !def.has_sockets() {
         let store = ask_store(store, def.label(), w, changed);

@@ -4,7 +4,7 @@ ghost use Rattle.std.specs.Prelude.{◌≡◌, ◌≤◌, List, [], ◌∷◌, O
 ghost use Rattle.history_model.specs.declared.event.Setting.{Setting as Held};
 ghost use Rattle.history_model.specs.Labels.{is_label};
 ghost use Rattle.history_model.specs.Step.{set_if};
-ghost use Rattle.load_asking.specs.Stores.{StoreCall, AreTold};
+ghost use Rattle.load_asking.specs.Stores.{StoreCall, AreTold, HoldsAfter, asked_to_set};
 
 use history_model::Setting;
 use std::alloc::Global;
@@ -36,13 +36,18 @@ pub trait SettingStore {
     fn set(&mut self, label: &str, disabled: bool, changed: u64) -> bool
         requires label { is_label label.now ≡ true }
         requires second { changed ≤ 250000000000 }
-        ensures told { AreTold (Self.told self.old) (record { label = label.now; disabled = disabled; changed = changed; stored = result } ∷ []) (Self.told self.new) }
-        ensures stored { (settings : List Held) → Self.holds self.old settings → Self.holds self.new (set_if result label.now disabled settings) };
+        ensures told { AreTold (Self.told self.old)
+            (asked_to_set label.now disabled changed result ∷ []) (Self.told self.new) }
+        ensures stored { HoldsAfter Self.holds
+            (set_if result label.now disabled) self.old self.new };
 
     /// The settings that it holds, the last of a label deciding. Refused as `StoreFault` says. Nothing is changed by it.
     fn all(&mut self, alloc: Global) -> Result<Vec<Setting>, StoreFault>
         ensures told { AreTold (Self.told self.old) [] (Self.told self.new) }
-        ensures same { (settings : List Held) → Self.holds self.old settings → Self.holds self.new settings }
-        ensures answers { MatchResult result (λ all. Self.may_give self.old (Ok all.items)) (λ fault. Self.may_give self.old (Err fault)) }
-        ensures gives { IfOk result (λ all. (settings : List Held) → Self.holds self.old settings → Self.holds self.new (reverse all.items)) };
+        ensures same { HoldsAfter Self.holds (λ settings. settings) self.old self.new }
+        ensures answers { MatchResult result
+            (λ all. Self.may_give self.old (Ok all.items))
+            (λ fault. Self.may_give self.old (Err fault)) }
+        ensures gives { IfOk result (λ all.
+            HoldsAfter Self.holds (λ _. reverse all.items) self.old self.new) };
 }

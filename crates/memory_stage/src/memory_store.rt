@@ -45,7 +45,8 @@ impl MemoryStore {
 
     /// Copies of what it holds.
     fn copies(&self, alloc: Global) -> Result<Vec<Setting>, StoreFault>
-        ensures { MatchResult result (λ all. all.items ≡ self.now.held.items) (λ fault. fault ≡ StoreFault.NoMemory) }
+        ensures { MatchResult result (λ all. all.items ≡ self.now.held.items)
+            (λ fault. fault ≡ StoreFault.NoMemory) }
     {
         let mut all = Vec::new(alloc);
         for setting in &self.held {
@@ -60,7 +61,8 @@ impl MemoryStore {
 }
 
 fn copied(alloc: Global, setting: &Setting) -> Result<Setting, StoreFault>
-    ensures { MatchResult result (λ copy. copy ≡ setting.now) (λ fault. fault ≡ StoreFault.NoMemory) }
+    ensures { MatchResult result (λ copy. copy ≡ setting.now)
+        (λ fault. fault ≡ StoreFault.NoMemory) }
 {
     match Text::copy_of(alloc, setting.label.as_str()) {
         Ok(label) => Ok(Setting {

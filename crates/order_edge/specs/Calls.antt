@@ -51,7 +51,8 @@ abbrev pub calls_in : List Entry → List EdgeCall
 calls_in entries = map (λ entry. entry.0) entries
 
 -- the order is carried out by its one call, and the answer is that call's
-pub record Carries (order : Order) (pending : Option Pending) (old new : Option (List Entry)) : Type 0 where
+pub record Carries (order : Order) (pending : Option Pending)
+    (old new : Option (List Entry)) : Type 0 where
   pub answer : Scripted
   pub tells : Tells old ((call_of order, answer) ∷ []) new
   pub gives : pending ≡ answer_in (call_of order, answer)

@@ -15,7 +15,7 @@ use Rattle.sqlite_schema.specs.declared.command.Conflict.TheVariants.{Replace}
 use Rattle.sqlite_schema.specs.declared.schema.Keys.{Keys}
 use Rattle.sqlite_rules.specs.Lists.{Has}
 use Rattle.sqlite.specs.Rows.{Written, TriesEach, joined}
-use Rattle.override_store.specs.Rows.{HasRow, IsNamed}
+use Rattle.override_store.specs.SettingRows.{HasRow, IsNamed}
 use Rattle.override_store.proofs.RowLemmas.{kept, next_id, same_bytes, same_text}
 use Rattle.override_store.proofs.PutLemmas.{task, source, split, ended, still_shaped, has_replaced}
 

@@ -5,7 +5,7 @@ use Rattle.sqlite_disk.specs.Disk.{MoreFaults}
 use Rattle.sqlite.specs.Effect.{Database}
 use Rattle.sqlite.specs.State.{State, HasCleanDisk, Survives}
 use Rattle.history_model.specs.declared.event.Setting.{Setting}
-use Rattle.override_store.specs.Ours.{HoldsNow, HoldsSettings, IsOurs, rows_in}
+use Rattle.override_store.specs.OverrideStores.{HoldsNow, HoldsSettings, IsOurs, rows_in}
 use Rattle.override_store.specs.Settings.{HoldsEach}
 
 module _ {old new : State} {Commits : Trees → Type 0} (survives : Survives old new Commits) (was_open : HasCleanDisk new → IsTrue new.is_open → IsTrue old.is_open) where

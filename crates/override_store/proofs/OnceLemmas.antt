@@ -1,5 +1,5 @@
 -- A list of the rows has each label once.
-use Rattle.std.proofs.Common.{◌≡◌, inl, inr, ℕ, List, [], ◌∷◌, map, Bool, true, false, Ordering, Less, Equal, Greater, refl, sym, ap, subst, ◌∙◌, true≢false}
+use Rattle.std.proofs.Common.{◌≡◌, inl, inr, ℕ, List, [], ◌∷◌, map, Bool, false, Ordering, Less, Equal, Greater, refl, sym, ap, subst, ◌∙◌, true≢false}
 use Rattle.std.specs.List.{AllByRecursion, AllZip, IsDistinct}
 use Rattle.std.specs.Ordering.{is_eq, ordering_reverse}
 use Rattle.std.specs.Cmp.Lexicographic.{same_text}
@@ -17,7 +17,7 @@ use Rattle.sqlite.specs.Effect.{Database}
 use Rattle.sqlite.specs.Schema.{Schema}
 use Rattle.sqlite_catalog.specs.Listing.{IsSound}
 use Rattle.history_model.specs.Labels.{is_same}
-use Rattle.override_store.specs.Ours.{AreOurs, rows_in}
+use Rattle.override_store.specs.OverrideStores.{AreOurs, rows_in}
 use Rattle.override_store.specs.Settings.{shown, Lists}
 use Rattle.override_store.proofs.RowLemmas.{equal_is, text_is}
 use Rattle.override_store.proofs.TypedLemmas.{seconds_alone, seconds_labelled}

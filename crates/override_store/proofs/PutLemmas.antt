@@ -22,7 +22,7 @@ use Rattle.sqlite.specs.Rows.{Written, Task, Puts, Clears, Tries, TriesEach, men
 use Rattle.sqlite.specs.Tree.{Trees, put_row}
 use Rattle.sqlite.proofs.Callers.{one_step}
 use Rattle.override_store.specs.Tables.{settings, both_schema}
-use Rattle.override_store.specs.Rows.{HasRow}
+use Rattle.override_store.specs.SettingRows.{HasRow}
 use Rattle.override_store.proofs.RowLemmas.{kept, next_id, puts}
 
 -- a part that gave a value did not stop on the way

@@ -11,7 +11,7 @@ use Rattle.history_model.specs.declared.event.Setting.{Setting}
 use Rattle.history_model.specs.Labels.{Label, is_same}
 use Rattle.history_model.specs.Machine.{sets}
 use Rattle.history_model.specs.Search.{first}
-use Rattle.override_store.specs.Rows.{Says, Sets, AreSame, IsFlag}
+use Rattle.override_store.specs.SettingRows.{Says, Sets, AreSame, IsFlag}
 use Rattle.override_store.specs.Settings.{HoldsEach, setting_in, ListsSettings, IsEntry, shown}
 use Rattle.override_store.proofs.RowLemmas.{same_text as text_inside}
 use Rattle.override_store.proofs.PermutationLemmas.{has_permuted}

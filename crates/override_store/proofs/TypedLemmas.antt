@@ -23,8 +23,8 @@ use Rattle.sqlite_trees.specs.declared.store.Shape.TheVariants as shape
 use Rattle.sqlite_trees.specs.View.{is_int, IsShaped}
 use Rattle.override_store.specs.Tables.{overrides, settings, both_schema}
 use Rattle.sqlite.specs.Effect.{Database}
-use Rattle.override_store.specs.Rows.{Says, IsFlag}
-use Rattle.override_store.specs.Ours.{AreOurs, rows_in}
+use Rattle.override_store.specs.SettingRows.{Says, IsFlag}
+use Rattle.override_store.specs.OverrideStores.{AreOurs, rows_in}
 use Rattle.override_store.proofs.RowLemmas.{equal_texts}
 
 of_text : (v : Value) → is_null v ≡ false → is_of kind.Text v ≡ true → (t : List ℕ) × (v ≡ Text t)

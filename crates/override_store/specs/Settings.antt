@@ -1,5 +1,5 @@
--- What `all` and `changes` list, and the tie to a list of settings.
-use Rattle.std.specs.Prelude.{◌≡◌, ◌↔◌, ℕ, Bool, false, List, [], ◌∷◌, map, Option, Some, option_map, pos, string_bytes, String, IsUtf8, IsTrue}
+-- Settings as a store lists them, and the tie of its rows to a list of settings.
+use Rattle.std.specs.Prelude.{◌≡◌, ◌↔◌, ℕ, Bool, false, List, [], ◌∷◌, map, Any, Option, Some, option_map, pos, string_bytes, String, IsUtf8, IsTrue}
 use Rattle.std.specs.List.{AllZip, filter}
 use Rattle.std.specs.declared.alloc.Global.{Global}
 use Rattle.std.specs.List.Sorted.{IsPermutation, IsSorted, IsSortedByKey}
@@ -12,7 +12,7 @@ use Rattle.history_model.specs.declared.event.Setting.{Setting}
 use Rattle.history_model.specs.Search.{first}
 use Rattle.history_model.specs.Labels.{Label, is_label}
 use Rattle.history_model.specs.Machine.{sets}
-use Rattle.override_store.specs.Rows.{IsFlag, Says}
+use Rattle.override_store.specs.SettingRows.{IsFlag, Says}
 
 -- what the query shows of a row
 abbrev pub shown : Row → Row
@@ -23,6 +23,7 @@ pub record IsSortedList (rows answer : List Row) : Type 0 where
   pub same : IsPermutation (map shown rows) answer
   pub sorted : IsSorted (λ x y. value_cmp (column x 0) (column y 0)) answer
 
+-- a label, and the second of its change
 abbrev pub Change : Type 0
 Change = List ℕ × ℕ
 
@@ -39,29 +40,60 @@ abbrev pub IsChange : Row → Change → Type 0
 IsChange row change = IsOf row change.0 × (column row 2 ≡ Int (pos change.1))
 
 -- each row once, by rising bytes of the labels
-pub record Lists {A : Type 0} (label_of : A → List ℕ) (Reads : Row → A → Type 0) (rows : List Row) (all : List A) : Type 0 where
+pub record Lists {A : Type 0} (label_of : A → List ℕ) (Reads : Row → A → Type 0)
+    (rows : List Row) (all : List A) : Type 0 where
   pub answer : List Row
   pub same : IsPermutation (map shown rows) answer
   pub each : AllZip Reads answer all
   pub rising : IsSortedByKey label_of (slice_cmp nat_cmp) all
 
+-- each row once, as its setting
 abbrev pub ListsSettings : List Row → List Setting → Type 0
 ListsSettings = Lists (λ (s : Setting). s.label) IsEntry
 
+-- each row once, as its change
 abbrev pub ListsChanges : List Row → List Change → Type 0
 ListsChanges = Lists (λ (c : Change). c.0) IsChange
 
+-- what `changes` gives, as contracts see it
 abbrev pub change_of : String Global × ℕ → Change
 change_of e = (string_bytes e.0, e.1)
+
+-- the labels of a list that `all` gives, and of one that `changes` gives
+abbrev pub labels_set : List Setting → List Label
+labels_set settings = map (λ (s : Setting). s.label) settings
+
+abbrev pub labels_changed : List Change → List Label
+labels_changed changes = map (λ (c : Change). c.0) changes
 
 -- the value is no label that is text
 abbrev pub IsForeign : Value → Type 0
 IsForeign v = (t : List ℕ) → v ≡ Text t → IsUtf8 t → is_label t ≡ false
 
+-- a stored row has such a name
+abbrev pub HasForeign : List Row → Type 0
+HasForeign rows = Any (λ row. IsForeign (column row 1)) rows
+
+-- a row of the query's answer has such a name
+abbrev pub HasForeignAnswer : List Row → Type 0
+HasForeignAnswer answer = Any (λ row. IsForeign (column row 0)) answer
+
 -- the label's last setting in a list that has the newest first
 abbrev pub setting_in : List Setting → Label → Option Bool
-setting_in settings label = option_map (λ (s : Setting). s.disabled) (first (filter (sets label) settings))
+setting_in settings label =
+    option_map (λ (s : Setting). s.disabled) (first (filter (sets label) settings))
 
 -- the rows hold the last setting of each label in the list, and no other
 abbrev pub HoldsEach : List Row → List Setting → Type 0
-HoldsEach rows settings = (label : Label) (disabled : Bool) → (setting_in settings label ≡ Some disabled) ↔ Says rows label disabled
+HoldsEach rows settings =
+    (label : Label) (disabled : Bool) →
+    (setting_in settings label ≡ Some disabled) ↔ Says rows label disabled
+
+-- what the rows held, and this setting, they hold now
+abbrev pub HoldsOneMore : List Row → List Row → Setting → Type 0
+HoldsOneMore old new setting =
+    (settings : List Setting) → HoldsEach old settings → HoldsEach new (setting ∷ settings)
+
+-- both lists have the same last setting of each label
+abbrev pub TellAlike : List Setting → List Setting → Type 0
+TellAlike one other = (label : Label) → setting_in one label ≡ setting_in other label

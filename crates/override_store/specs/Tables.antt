@@ -1,4 +1,4 @@
--- The two tables of a store, and the schemas that a database of ours may have.
+-- The two tables of a store of settings, and the schemas that its database may have.
 use Rattle.std.specs.Prelude.{ℕ, true, false, [], ◌∷◌, None, codes, pos, List}
 use Rattle.sqlite.specs.Collation.TheVariants.{Binary}
 use Rattle.sqlite.specs.declared.types.Value.TheVariants.{Null, Int}
@@ -14,15 +14,31 @@ use Rattle.sqlite_catalog.specs.Listing.{automatic}
 
 -- label TEXT NOT NULL
 abbrev pub label_column : Column
-label_column = record { name = codes "label"; kind = Text; is_strict = true; not_null = true; default = Null; collation = Binary }
+label_column = record {
+  name = codes "label";
+  kind = Text;
+  is_strict = true;
+  not_null = true;
+  default = Null;
+  collation = Binary;
+}
 
 -- an INTEGER NOT NULL of this name
 abbrev pub whole_column : List ℕ → Column
-whole_column name = record { name = name; kind = Integer; is_strict = true; not_null = true; default = Null; collation = Binary }
+whole_column name = record {
+  name = name;
+  kind = Integer;
+  is_strict = true;
+  not_null = true;
+  default = Null;
+  collation = Binary;
+}
 
 -- disabled IN (0, 1)
 abbrev pub is_bit : Term
-is_bit = op2 Or (op2 (Compare Eq Binary) (col 1 2) (lit (Int (pos 0)))) (op2 (Compare Eq Binary) (col 1 2) (lit (Int (pos 1))))
+is_bit =
+    op2 Or (op2 (Compare Eq Binary) (col 1 2) (lit (Int (pos 0))))
+    (op2 (Compare Eq Binary) (col 1 2) (lit (Int (pos 1))))
 
 -- changed >= 0
 abbrev pub is_second : Term
@@ -47,19 +63,32 @@ table_of name columns checks tree = record {
 
 -- the table of the first version
 abbrev pub overrides : ℕ → Table
-overrides = table_of (codes "overrides") (label_column ∷ whole_column (codes "disabled") ∷ []) (is_bit ∷ [])
+overrides =
+    table_of (codes "overrides") (label_column ∷ whole_column (codes "disabled") ∷ []) (is_bit ∷ [])
 
 -- the table that settings are written to, each with the second of its change
 abbrev pub settings : ℕ → Table
-settings = table_of (codes "settings") (label_column ∷ whole_column (codes "disabled") ∷ whole_column (codes "changed") ∷ []) (is_bit ∷ is_second ∷ [])
+settings =
+    table_of (codes "settings")
+    (label_column ∷ whole_column (codes "disabled") ∷ whole_column (codes "changed") ∷ [])
+    (is_bit ∷ is_second ∷ [])
 
+-- that of a database without tables
 abbrev pub no_schema : Schema
 no_schema = record { tables = []; indexes = []; views = [] }
 
 -- the first version's
 abbrev pub first_schema : Schema
-first_schema = record { tables = overrides 0 ∷ []; indexes = automatic (overrides 0) 0 (1 ∷ []) 1 ∷ []; views = [] }
+first_schema = record {
+  tables = overrides 0 ∷ [];
+  indexes = automatic (overrides 0) 0 (1 ∷ []) 1 ∷ [];
+  views = [];
+}
 
 -- both tables, each with the index of its key
 abbrev pub both_schema : Schema
-both_schema = record { tables = overrides 0 ∷ settings 2 ∷ []; indexes = automatic (overrides 0) 0 (1 ∷ []) 1 ∷ automatic (settings 2) 0 (1 ∷ []) 3 ∷ []; views = [] }
+both_schema = record {
+  tables = overrides 0 ∷ settings 2 ∷ [];
+  indexes = automatic (overrides 0) 0 (1 ∷ []) 1 ∷ automatic (settings 2) 0 (1 ∷ []) 3 ∷ [];
+  views = [];
+}

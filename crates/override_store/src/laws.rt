@@ -1,15 +1,15 @@
 //! What holds of each store that is opened again, by the clauses of the calls alone: of `close_on` and `open_on`, of
 //! `close_files`, `open_files` and `open_on`, and of `all`. The functions do nothing: their contracts are the laws.
 
-ghost use Rattle.std.specs.Prelude.{◌≡◌, List, reverse, ℕ};
+ghost use Rattle.std.specs.Prelude.{◌≡◌, List, reverse};
 ghost use Rattle.sqlite.specs.Closing.{IsCopied};
 ghost use Rattle.sqlite.specs.Files.{Finds, file_state};
 ghost use Rattle.sqlite.specs.Held.{state};
 ghost use Rattle.sqlite.specs.State.{HasCleanDisk};
 ghost use Rattle.sqlite_wal.specs.Reads.{AreClean};
 ghost use Rattle.history_model.specs.declared.event.Setting.{Setting};
-ghost use Rattle.override_store.specs.Ours.{HoldsNow, HoldsSettings, IsOpenedOn, rows_in};
-ghost use Rattle.override_store.specs.Settings.{HoldsEach, setting_in};
+ghost use Rattle.override_store.specs.OverrideStores.{HoldsNow, IsOpenedOn, HoldsOn, rows_now};
+ghost use Rattle.override_store.specs.Settings.{HoldsEach, TellAlike};
 
 use crate::OverrideStore;
 use sqlite::{Alter, Connection, FileStore};
@@ -20,8 +20,8 @@ pub fn a_store_opened_again_holds_the_same<S: Alter, R: Alter>(
     store: &OverrideStore<S>,
     again: &OverrideStore<R>,
 )
-    ensures { IsOpenedOn (state S.Store store.now) (state R.Store again.now) → (settings : List Setting) → HoldsSettings (state S.Store store.now) settings →
-        HasCleanDisk (state R.Store again.now) → HoldsNow (state R.Store again.now) settings }
+    ensures { IsOpenedOn (state S.Store store.now) (state R.Store again.now) →
+        HoldsOn (state S.Store store.now) (state R.Store again.now) }
 {
     let _ = store;
     let _ = again;
@@ -35,9 +35,10 @@ pub fn a_store_over_its_files_holds_the_same<D: Disk>(
     conn: &Connection<FileStore<D>>,
     again: &OverrideStore<FileStore<D>>,
 )
-    ensures { (AreClean D.Disk files.now.log files.now.db → IsCopied store.now files.now) → (HasCleanDisk (file_state conn.now) → Finds files.now conn.now) →
-        IsOpenedOn (file_state conn.now) (file_state again.now) → (settings : List Setting) → HoldsSettings (file_state store.now) settings →
-        HasCleanDisk (file_state again.now) → HoldsNow (file_state again.now) settings }
+    ensures { (AreClean D.Disk files.now.log files.now.db → IsCopied store.now files.now) →
+        (HasCleanDisk (file_state conn.now) → Finds files.now conn.now) →
+        IsOpenedOn (file_state conn.now) (file_state again.now) →
+        HoldsOn (file_state store.now) (file_state again.now) }
 {
     let _ = store;
     let _ = files;
@@ -47,8 +48,9 @@ pub fn a_store_over_its_files_holds_the_same<D: Disk>(
 
 /// Of each label, a list that `all` gives tells the setting that the store holds.
 pub fn what_all_lists_is_what_is_held<S: Alter>(store: &OverrideStore<S>)
-    ensures { (settings listed : List Setting) → HoldsNow (state S.Store store.now) settings → HoldsEach (rows_in (state S.Store store.now).now.trees) (reverse listed) →
-        (label : List ℕ) → setting_in (reverse listed) label ≡ setting_in settings label }
+    ensures { (settings listed : List Setting) → HoldsNow (state S.Store store.now) settings →
+        HoldsEach (rows_now (state S.Store store.now)) (reverse listed) →
+        TellAlike (reverse listed) settings }
 {
     let _ = store;
 }

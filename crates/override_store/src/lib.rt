@@ -1,19 +1,17 @@
 //! The settings that an administrator made of labels, enabled or disabled, kept in a database so that they last.
 #![tactic(auto)]
 
-ghost use Rattle.std.specs.Prelude.{◌≡◌, ◌≢◌, ◌⊎◌, ◌↔◌, ◌≤◌, Err, IfErr, IfOk, IsErr, IsTrue, List, OnErr, OnOk, Any, ◌∷◌, false, map, reverse, ℕ};
+ghost use Rattle.std.specs.Prelude.{◌≡◌, ◌≢◌, ◌⊎◌, ◌↔◌, ◌≤◌, Err, IfErr, IfOk, IsErr, IsTrue, List, OnErr, OnOk, ◌∷◌, false, map, reverse};
 ghost use Rattle.std.specs.List.{IsDistinct};
 ghost use Rattle.sqlite.specs.Held.{state};
-ghost use Rattle.sqlite.specs.Order.{column};
 ghost use Rattle.sqlite.specs.State.{HasCleanDisk, Survives};
 ghost use Rattle.sqlite_disk.specs.Disk.{MoreFaults};
 ghost use Rattle.sqlite.specs.Tree.{Trees};
-ghost use Rattle.sqlite.specs.View.{IsClean, doubt};
+ghost use Rattle.sqlite.specs.View.{IsClean};
 ghost use Rattle.history_model.specs.Labels.{is_label, is_same};
 ghost use Rattle.history_model.specs.declared.event.Setting.{Setting};
-ghost use Rattle.override_store.specs.Ours.{AreFit, Carries, HoldsAs, HoldsSetting, HoldsSettings, IsOurs, rows_in};
-ghost use Rattle.override_store.specs.Rows.{Sets, Stamps};
-ghost use Rattle.override_store.specs.Settings.{Change, HoldsEach, IsForeign, ListsChanges, ListsSettings, change_of, setting_in};
+ghost use Rattle.override_store.specs.OverrideStores.{AreFit, HoldsAs, HoldsSetting, HoldsSettings, IsOurs, Between, FromOurs, IsOpenedOn, LeavesAll, LeavesOr, OpensNone, SetsOne, StaysOurs, rows_now};
+ghost use Rattle.override_store.specs.Settings.{HoldsEach, ListsChanges, ListsSettings, change_of, HasForeign, HoldsOneMore, TellAlike, labels_changed, labels_set};
 
 pub mod again;
 mod batch;
@@ -40,7 +38,8 @@ pub enum StoreFault {
 }
 
 fn fault(error: Error) -> StoreFault
-    ensures memory { result ≡ StoreFault.NoMemory ↔ (error ≡ Error.SqliteFailure ErrorCode.OutOfMemory) }
+    ensures memory { result ≡ StoreFault.NoMemory
+        ↔ (error ≡ Error.SqliteFailure ErrorCode.OutOfMemory) }
     ensures other { result ≢ StoreFault.Foreign }
 {
     match error {
@@ -76,12 +75,12 @@ impl<S: Alter + Drop> OverrideStore<S> {
         alloc: Global,
         conn: Connection<S>,
     ) -> Result<OverrideStore<S>, (StoreFault, S)>
-        ensures opened { IfOk result (λ s. HasCleanDisk (state S.Store s) → AreFit (state S.Store conn).committed.trees → IsOurs (state S.Store s)) }
-        ensures rows { IfOk result (λ s. HasCleanDisk (state S.Store s) → Carries (state S.Store conn).committed.trees (state S.Store s).now.trees) }
-        ensures clean { IfOk result (λ s. doubt (state S.Store conn).is_clean ≤ doubt (state S.Store s).is_clean) }
-        ensures was_open { IfOk result (λ s. HasCleanDisk (state S.Store s) → IsTrue (state S.Store conn).is_open) }
-        ensures crash { IfOk result (λ s. HasCleanDisk (state S.Store s) → AreFit (state S.Store conn).committed.trees → (db : Trees) → (state S.Store s).may_leave db → db ≡ (state S.Store s).now.trees) }
-        ensures left { IfErr result (λ e. IsClean (S.Store.view e.1) → AreFit (state S.Store conn).committed.trees → (db : Trees) → S.Store.recovers e.1 db → (state S.Store conn).may_leave db ⊎ HoldsAs (state S.Store conn).committed.trees db) }
+        ensures opened { IfOk result (λ s. IsOpenedOn (state S.Store conn) (state S.Store s)) }
+        ensures crash { IfOk result (λ s. HasCleanDisk (state S.Store s) →
+            AreFit (state S.Store conn).committed.trees → LeavesAll (state S.Store s)) }
+        ensures left { IfErr result (λ e. IsClean (S.Store.view e.1) →
+            AreFit (state S.Store conn).committed.trees → (db : Trees) → S.Store.recovers e.1 db →
+            (state S.Store conn).may_leave db ⊎ HoldsAs (state S.Store conn).committed.trees db) }
         ensures known { IfErr result (λ e. e.0 ≢ StoreFault.Foreign) }
     {
         let mut conn = match open::renewed(alloc, conn) {
@@ -96,11 +95,9 @@ impl<S: Alter + Drop> OverrideStore<S> {
 
     /// As `open_or_give`, but a refusal drops the connection.
     pub fn open_on(alloc: Global, conn: Connection<S>) -> Result<OverrideStore<S>, StoreFault>
-        ensures opened { IfOk result (λ s. HasCleanDisk (state S.Store s) → AreFit (state S.Store conn).committed.trees → IsOurs (state S.Store s)) }
-        ensures rows { IfOk result (λ s. HasCleanDisk (state S.Store s) → Carries (state S.Store conn).committed.trees (state S.Store s).now.trees) }
-        ensures clean { IfOk result (λ s. doubt (state S.Store conn).is_clean ≤ doubt (state S.Store s).is_clean) }
-        ensures was_open { IfOk result (λ s. HasCleanDisk (state S.Store s) → IsTrue (state S.Store conn).is_open) }
-        ensures crash { IfOk result (λ s. HasCleanDisk (state S.Store s) → AreFit (state S.Store conn).committed.trees → (db : Trees) → (state S.Store s).may_leave db → db ≡ (state S.Store s).now.trees) }
+        ensures opened { IfOk result (λ s. IsOpenedOn (state S.Store conn) (state S.Store s)) }
+        ensures crash { IfOk result (λ s. HasCleanDisk (state S.Store s) →
+            AreFit (state S.Store conn).committed.trees → LeavesAll (state S.Store s)) }
         ensures known { IfErr result (λ e. e ≢ StoreFault.Foreign) }
     {
         match OverrideStore::open_or_give(alloc, conn) {
@@ -119,15 +116,26 @@ impl<S: Alter> OverrideStore<S> {
     pub fn set(&mut self, label: &str, disabled: bool, changed: u64) -> Result<(), StoreFault>
         requires label { IsTrue (is_label label.now) }
         requires second { changed ≤ 250000000000 }
-        ensures ok { HasCleanDisk (state S.Store self.new) → IsOurs (state S.Store self.old) → OnOk result (IsOurs (state S.Store self.new) × Sets (rows_in (state S.Store self.old).now.trees) (rows_in (state S.Store self.new).now.trees) label.now disabled × Stamps (rows_in (state S.Store self.old).now.trees) (rows_in (state S.Store self.new).now.trees) label.now changed) }
-        ensures newest { HasCleanDisk (state S.Store self.new) → IsOurs (state S.Store self.old) → OnOk result ((settings : List Setting) → HoldsEach (rows_in (state S.Store self.old).now.trees) settings → HoldsEach (rows_in (state S.Store self.new).now.trees) (record { label = label.now; disabled = disabled } ∷ settings)) }
-        ensures err { HasCleanDisk (state S.Store self.new) → IsOurs (state S.Store self.old) → IsTrue (state S.Store self.new).is_open → OnErr result (IsOurs (state S.Store self.new) × ((state S.Store self.new).now ≡ (state S.Store self.old).now)) }
-        ensures mode { HasCleanDisk (state S.Store self.new) → IsOurs (state S.Store self.old) → (state S.Store self.new).in_transaction ≡ false }
-        ensures shut { HasCleanDisk (state S.Store self.new) → IsOurs (state S.Store self.old) → (state S.Store self.new).is_open ≡ false → IsErr result × MoreFaults (state S.Store self.old).faults (state S.Store self.new).faults × ((db : Trees) → (state S.Store self.new).may_leave db → (state S.Store self.old).may_leave db ⊎ HoldsSetting (state S.Store self.old) db label.now disabled changed) }
-        ensures was_open { HasCleanDisk (state S.Store self.new) → IsTrue (state S.Store self.new).is_open → IsTrue (state S.Store self.old).is_open }
-        ensures holds { (settings : List Setting) → HoldsSettings (state S.Store self.old) settings → OnOk result (HoldsSettings (state S.Store self.new) (record { label = label.now; disabled = disabled } ∷ settings)) × OnErr result (HoldsSettings (state S.Store self.new) settings) }
-        ensures crash { Survives (state S.Store self.old) (state S.Store self.new) (λ db. IsOurs (state S.Store self.old) → HoldsSetting (state S.Store self.old) db label.now disabled changed) }
-        ensures lasts { HasCleanDisk (state S.Store self.new) → IsOurs (state S.Store self.old) → OnOk result ((db : Trees) → (state S.Store self.new).may_leave db → db ≡ (state S.Store self.new).now.trees) }
+        ensures ok { FromOurs S.Store self.old self.new (λ old new.
+            OnOk result (SetsOne old new label.now disabled changed)) }
+        ensures newest { FromOurs S.Store self.old self.new (λ old new.
+            OnOk result (HoldsOneMore (rows_now old) (rows_now new)
+            (record { label = label.now; disabled = disabled }))) }
+        ensures err { FromOurs S.Store self.old self.new (λ old new.
+            IsTrue new.is_open → OnErr result (StaysOurs old new)) }
+        ensures mode { FromOurs S.Store self.old self.new (λ _ new. new.in_transaction ≡ false) }
+        ensures shut { FromOurs S.Store self.old self.new (λ old new. new.is_open ≡ false →
+            IsErr result × MoreFaults old.faults new.faults
+            × LeavesOr old new (λ db. HoldsSetting old db label.now disabled changed)) }
+        ensures was_open { Between S.Store self.old self.new OpensNone }
+        ensures holds { Between S.Store self.old self.new (λ old new.
+            (settings : List Setting) → HoldsSettings old settings →
+            OnOk result (HoldsSettings new
+            (record { label = label.now; disabled = disabled } ∷ settings))
+            × OnErr result (HoldsSettings new settings)) }
+        ensures crash { Between S.Store self.old self.new (λ old new. Survives old new (λ db.
+            IsOurs old → HoldsSetting old db label.now disabled changed)) }
+        ensures lasts { FromOurs S.Store self.old self.new (λ _ new. OnOk result (LeavesAll new)) }
         ensures known { IfErr result (λ e. e ≢ StoreFault.Foreign) }
     {
         statements::put(&mut self.conn, label, disabled, changed)
@@ -137,16 +145,25 @@ impl<S: Alter> OverrideStore<S> {
     ///
     /// `NoMemory` and `Refused`, and `Foreign` where a stored name is no label. Nothing is changed by it.
     pub fn all(&mut self, alloc: Global) -> Result<Vec<Setting>, StoreFault>
-        ensures ok { HasCleanDisk (state S.Store self.new) → IsOurs (state S.Store self.old) → IfOk result (λ all. ListsSettings (rows_in (state S.Store self.old).now.trees) all.items) }
-        ensures each { HasCleanDisk (state S.Store self.new) → IsOurs (state S.Store self.old) → IfOk result (λ all. HoldsEach (rows_in (state S.Store self.old).now.trees) (reverse all.items)) }
-        ensures once { HasCleanDisk (state S.Store self.new) → IsOurs (state S.Store self.old) → IfOk result (λ all. IsDistinct is_same (map (λ (s : Setting). s.label) all.items)) }
-        ensures foreign { HasCleanDisk (state S.Store self.new) → IsOurs (state S.Store self.old) → result ≡ Err StoreFault.Foreign → Any (λ row. IsForeign (column row 1)) (rows_in (state S.Store self.old).now.trees) }
-        ensures same { HasCleanDisk (state S.Store self.new) → IsOurs (state S.Store self.old) → IsTrue (state S.Store self.new).is_open → IsOurs (state S.Store self.new) × ((state S.Store self.new).now ≡ (state S.Store self.old).now) }
-        ensures mode { HasCleanDisk (state S.Store self.new) → IsOurs (state S.Store self.old) → (state S.Store self.new).in_transaction ≡ false }
-        ensures was_open { HasCleanDisk (state S.Store self.new) → IsTrue (state S.Store self.new).is_open → IsTrue (state S.Store self.old).is_open }
-        ensures holds { (settings : List Setting) → HoldsSettings (state S.Store self.old) settings → HoldsSettings (state S.Store self.new) settings }
-        ensures told { HasCleanDisk (state S.Store self.new) → (settings : List Setting) → HoldsSettings (state S.Store self.old) settings → IfOk result (λ all. (label : List ℕ) → setting_in (reverse all.items) label ≡ setting_in settings label) }
-        ensures crash { Survives (state S.Store self.old) (state S.Store self.new) (λ _. IsOurs (state S.Store self.old) → ⊥) }
+        ensures ok { FromOurs S.Store self.old self.new (λ old _.
+            IfOk result (λ all. ListsSettings (rows_now old) all.items)) }
+        ensures each { FromOurs S.Store self.old self.new (λ old _.
+            IfOk result (λ all. HoldsEach (rows_now old) (reverse all.items))) }
+        ensures once { FromOurs S.Store self.old self.new (λ _ _.
+            IfOk result (λ all. IsDistinct is_same (labels_set all.items))) }
+        ensures foreign { FromOurs S.Store self.old self.new (λ old _.
+            result ≡ Err StoreFault.Foreign → HasForeign (rows_now old)) }
+        ensures same { FromOurs S.Store self.old self.new (λ old new.
+            IsTrue new.is_open → StaysOurs old new) }
+        ensures mode { FromOurs S.Store self.old self.new (λ _ new. new.in_transaction ≡ false) }
+        ensures was_open { Between S.Store self.old self.new OpensNone }
+        ensures holds { Between S.Store self.old self.new (λ old new.
+            (settings : List Setting) → HoldsSettings old settings → HoldsSettings new settings) }
+        ensures told { Between S.Store self.old self.new (λ old new. HasCleanDisk new →
+            (settings : List Setting) → HoldsSettings old settings →
+            IfOk result (λ all. TellAlike (reverse all.items) settings)) }
+        ensures crash { Between S.Store self.old self.new (λ old new.
+            Survives old new (λ _. IsOurs old → ⊥)) }
     {
         let rows = statements::read(&mut self.conn)?;
         lists::entries(alloc, rows.as_slice())
@@ -157,14 +174,20 @@ impl<S: Alter> OverrideStore<S> {
     ///
     /// Refused as `all` is.
     pub fn changes(&mut self, alloc: Global) -> Result<Vec<(String, u64)>, StoreFault>
-        ensures ok { HasCleanDisk (state S.Store self.new) → IsOurs (state S.Store self.old) → IfOk result (λ all. ListsChanges (rows_in (state S.Store self.old).now.trees) (map change_of all.items)) }
-        ensures once { HasCleanDisk (state S.Store self.new) → IsOurs (state S.Store self.old) → IfOk result (λ all. IsDistinct is_same (map (λ (c : Change). c.0) (map change_of all.items))) }
-        ensures foreign { HasCleanDisk (state S.Store self.new) → IsOurs (state S.Store self.old) → result ≡ Err StoreFault.Foreign → Any (λ row. IsForeign (column row 1)) (rows_in (state S.Store self.old).now.trees) }
-        ensures same { HasCleanDisk (state S.Store self.new) → IsOurs (state S.Store self.old) → IsTrue (state S.Store self.new).is_open → IsOurs (state S.Store self.new) × ((state S.Store self.new).now ≡ (state S.Store self.old).now) }
-        ensures mode { HasCleanDisk (state S.Store self.new) → IsOurs (state S.Store self.old) → (state S.Store self.new).in_transaction ≡ false }
-        ensures was_open { HasCleanDisk (state S.Store self.new) → IsTrue (state S.Store self.new).is_open → IsTrue (state S.Store self.old).is_open }
-        ensures holds { (settings : List Setting) → HoldsSettings (state S.Store self.old) settings → HoldsSettings (state S.Store self.new) settings }
-        ensures crash { Survives (state S.Store self.old) (state S.Store self.new) (λ _. IsOurs (state S.Store self.old) → ⊥) }
+        ensures ok { FromOurs S.Store self.old self.new (λ old _.
+            IfOk result (λ all. ListsChanges (rows_now old) (map change_of all.items))) }
+        ensures once { FromOurs S.Store self.old self.new (λ _ _.
+            IfOk result (λ all. IsDistinct is_same (labels_changed (map change_of all.items)))) }
+        ensures foreign { FromOurs S.Store self.old self.new (λ old _.
+            result ≡ Err StoreFault.Foreign → HasForeign (rows_now old)) }
+        ensures same { FromOurs S.Store self.old self.new (λ old new.
+            IsTrue new.is_open → StaysOurs old new) }
+        ensures mode { FromOurs S.Store self.old self.new (λ _ new. new.in_transaction ≡ false) }
+        ensures was_open { Between S.Store self.old self.new OpensNone }
+        ensures holds { Between S.Store self.old self.new (λ old new.
+            (settings : List Setting) → HoldsSettings old settings → HoldsSettings new settings) }
+        ensures crash { Between S.Store self.old self.new (λ old new.
+            Survives old new (λ _. IsOurs old → ⊥)) }
     {
         let rows = statements::read(&mut self.conn)?;
         lists::changes(alloc, rows.as_slice())

@@ -1,9 +1,9 @@
 //! The rows of a query as settings, and as seconds.
 
-ghost use Rattle.std.specs.Prelude.{◌≡◌, ◌<◌, All, Any, Err, IfOk, IsTrue, length, map, string_bytes};
+ghost use Rattle.std.specs.Prelude.{◌≡◌, ◌<◌, All, Err, IfOk, length, map, string_bytes};
 ghost use Rattle.std.specs.List.{AllZip};
 ghost use Rattle.sqlite.specs.Order.{column};
-ghost use Rattle.override_store.specs.Settings.{IsChange, IsEntry, IsForeign, IsOf, change_of};
+ghost use Rattle.override_store.specs.Settings.{IsChange, IsEntry, IsForeign, IsOf, change_of, HasForeignAnswer};
 
 use crate::{StoreFault, fault};
 use history_model::{Setting, Text};
@@ -13,7 +13,8 @@ use std::alloc::Global;
 
 fn stored_label(row: &Row) -> Result<String, StoreFault>
     ensures ok { IfOk result (λ s. IsOf row.now (string_bytes s)) }
-    ensures foreign { 0 < length row.now → result ≡ Err StoreFault.Foreign → IsForeign (column row.now 0) }
+    ensures foreign { 0 < length row.now →
+        result ≡ Err StoreFault.Foreign → IsForeign (column row.now 0) }
 {
     let label: String = match row.get(0) {
         Ok(label) => label,
@@ -28,7 +29,8 @@ fn stored_label(row: &Row) -> Result<String, StoreFault>
 
 fn entry(row: &Row) -> Result<Setting, StoreFault>
     ensures ok { IfOk result (λ s. IsEntry row.now s) }
-    ensures foreign { 0 < length row.now → result ≡ Err StoreFault.Foreign → IsForeign (column row.now 0) }
+    ensures foreign { 0 < length row.now →
+        result ≡ Err StoreFault.Foreign → IsForeign (column row.now 0) }
 {
     let label = stored_label(row)?;
     match row.get(1) {
@@ -42,7 +44,8 @@ fn entry(row: &Row) -> Result<Setting, StoreFault>
 
 fn change(row: &Row) -> Result<(String, u64), StoreFault>
     ensures ok { IfOk result (λ c. IsChange row.now (change_of c)) }
-    ensures foreign { 0 < length row.now → result ≡ Err StoreFault.Foreign → IsForeign (column row.now 0) }
+    ensures foreign { 0 < length row.now →
+        result ≡ Err StoreFault.Foreign → IsForeign (column row.now 0) }
 {
     let label = stored_label(row)?;
     match row.get(2) {
@@ -53,7 +56,8 @@ fn change(row: &Row) -> Result<(String, u64), StoreFault>
 
 pub(crate) fn entries(alloc: Global, rows: &[Row]) -> Result<Vec<Setting>, StoreFault>
     ensures ok { IfOk result (λ all. AllZip IsEntry rows.now all.items) }
-    ensures foreign { All (λ row. 0 < length row) rows.now → result ≡ Err StoreFault.Foreign → Any (λ row. IsForeign (column row 0)) rows.now }
+    ensures foreign { All (λ row. 0 < length row) rows.now →
+        result ≡ Err StoreFault.Foreign → HasForeignAnswer rows.now }
 {
     let mut all = Vec::new(alloc);
     for row in rows {
@@ -68,7 +72,8 @@ pub(crate) fn entries(alloc: Global, rows: &[Row]) -> Result<Vec<Setting>, Store
 
 pub(crate) fn changes(alloc: Global, rows: &[Row]) -> Result<Vec<(String, u64)>, StoreFault>
     ensures ok { IfOk result (λ all. AllZip IsChange rows.now (map change_of all.items)) }
-    ensures foreign { All (λ row. 0 < length row) rows.now → result ≡ Err StoreFault.Foreign → Any (λ row. IsForeign (column row 0)) rows.now }
+    ensures foreign { All (λ row. 0 < length row) rows.now →
+        result ≡ Err StoreFault.Foreign → HasForeignAnswer rows.now }
 {
     let mut all = Vec::new(alloc);
     for row in rows {

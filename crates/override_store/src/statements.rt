@@ -1,11 +1,8 @@
 //! The statement that sets a label, and the query that lists the labels.
 
 ghost use Rattle.std.specs.Prelude.{◌≡◌, ◌≢◌, ◌≤◌, IfErr, IfOk, IsTrue, OnErr, OnOk, false};
-ghost use Rattle.sqlite.specs.Held.{state};
 ghost use Rattle.sqlite.specs.State.{HasCleanDisk, Survives};
-ghost use Rattle.sqlite.specs.Tree.{Trees};
-ghost use Rattle.override_store.specs.Ours.{HoldsSetting, IsOurs, rows_in};
-ghost use Rattle.override_store.specs.Rows.{Sets, Stamps};
+ghost use Rattle.override_store.specs.OverrideStores.{HoldsSetting, IsOurs, Between, FromOurs, LeavesAll, OpensNone, SetsOne, StaysOurs, rows_now};
 ghost use Rattle.override_store.specs.Settings.{IsSortedList};
 
 use crate::{StoreFault, fault};
@@ -18,12 +15,15 @@ pub(crate) fn put<S: Alter>(
     changed: u64,
 ) -> Result<(), StoreFault>
     requires second { changed ≤ 250000000000 }
-    ensures ok { HasCleanDisk (state S.Store conn.new) → IsOurs (state S.Store conn.old) → OnOk result (IsOurs (state S.Store conn.new) × Sets (rows_in (state S.Store conn.old).now.trees) (rows_in (state S.Store conn.new).now.trees) label.now disabled × Stamps (rows_in (state S.Store conn.old).now.trees) (rows_in (state S.Store conn.new).now.trees) label.now changed) }
-    ensures err { HasCleanDisk (state S.Store conn.new) → IsOurs (state S.Store conn.old) → IsTrue (state S.Store conn.new).is_open → OnErr result (IsOurs (state S.Store conn.new) × ((state S.Store conn.new).now ≡ (state S.Store conn.old).now)) }
-    ensures mode { HasCleanDisk (state S.Store conn.new) → IsOurs (state S.Store conn.old) → (state S.Store conn.new).in_transaction ≡ false }
-    ensures was_open { HasCleanDisk (state S.Store conn.new) → IsTrue (state S.Store conn.new).is_open → IsTrue (state S.Store conn.old).is_open }
-    ensures crash { Survives (state S.Store conn.old) (state S.Store conn.new) (λ db. IsOurs (state S.Store conn.old) → HoldsSetting (state S.Store conn.old) db label.now disabled changed) }
-    ensures lasts { HasCleanDisk (state S.Store conn.new) → IsOurs (state S.Store conn.old) → OnOk result ((db : Trees) → (state S.Store conn.new).may_leave db → db ≡ (state S.Store conn.new).now.trees) }
+    ensures ok { FromOurs S.Store conn.old conn.new (λ old new.
+        OnOk result (SetsOne old new label.now disabled changed)) }
+    ensures err { FromOurs S.Store conn.old conn.new (λ old new.
+        IsTrue new.is_open → OnErr result (StaysOurs old new)) }
+    ensures mode { FromOurs S.Store conn.old conn.new (λ _ new. new.in_transaction ≡ false) }
+    ensures was_open { Between S.Store conn.old conn.new OpensNone }
+    ensures crash { Between S.Store conn.old conn.new (λ old new. Survives old new (λ db.
+        IsOurs old → HoldsSetting old db label.now disabled changed)) }
+    ensures lasts { FromOurs S.Store conn.old conn.new (λ _ new. OnOk result (LeavesAll new)) }
     ensures known { IfErr result (λ e. e ≢ StoreFault.Foreign) }
 {
     match conn.execute(
@@ -36,12 +36,16 @@ pub(crate) fn put<S: Alter>(
 }
 
 pub(crate) fn read<S: Alter>(conn: &mut Connection<S>) -> Result<Vec<Row>, StoreFault>
-    ensures ok { HasCleanDisk (state S.Store conn.new) → IsOurs (state S.Store conn.old) → IfOk result (λ rows. IsSortedList (rows_in (state S.Store conn.old).now.trees) rows.items) }
-    ensures same { HasCleanDisk (state S.Store conn.new) → IsOurs (state S.Store conn.old) → IsTrue (state S.Store conn.new).is_open → IsOurs (state S.Store conn.new) × ((state S.Store conn.new).now ≡ (state S.Store conn.old).now) }
-    ensures mode { HasCleanDisk (state S.Store conn.new) → IsOurs (state S.Store conn.old) → (state S.Store conn.new).in_transaction ≡ false }
-    ensures ran { HasCleanDisk (state S.Store conn.new) → OnOk result (IsTrue (state S.Store conn.old).is_open) }
-    ensures was_open { HasCleanDisk (state S.Store conn.new) → IsTrue (state S.Store conn.new).is_open → IsTrue (state S.Store conn.old).is_open }
-    ensures crash { Survives (state S.Store conn.old) (state S.Store conn.new) (λ _. IsOurs (state S.Store conn.old) → ⊥) }
+    ensures ok { FromOurs S.Store conn.old conn.new (λ old _.
+        IfOk result (λ rows. IsSortedList (rows_now old) rows.items)) }
+    ensures same { FromOurs S.Store conn.old conn.new (λ old new.
+        IsTrue new.is_open → StaysOurs old new) }
+    ensures mode { FromOurs S.Store conn.old conn.new (λ _ new. new.in_transaction ≡ false) }
+    ensures ran { Between S.Store conn.old conn.new (λ old new.
+        HasCleanDisk new → OnOk result (IsTrue old.is_open)) }
+    ensures was_open { Between S.Store conn.old conn.new OpensNone }
+    ensures crash { Between S.Store conn.old conn.new (λ old new.
+        Survives old new (λ _. IsOurs old → ⊥)) }
     ensures known { IfErr result (λ e. e ≢ StoreFault.Foreign) }
 {
     match conn.query_all(

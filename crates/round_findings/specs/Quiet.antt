@@ -16,8 +16,8 @@ is_reached up (Some moment) = nat_le moment up
 abbrev pub is_minute_crossed : ℕ → ℕ → Bool
 is_minute_crossed before wall = list_any (λ minute. true) (crossed before wall)
 
--- A reading may change something since the last one: some job's next moment is reached, or some job has calendar entries and
--- a civil minute is crossed, or the wall clock was set back.
+-- A reading may change something since the last one: some job's next moment is reached, or some job
+-- has calendar entries and a civil minute is crossed, or the wall clock was set back.
 abbrev pub may_change : List Job → Reading → Reading → Bool
 may_change jobs last at =
     list_any (λ job. is_reached at.up (next_moment job.past)) jobs

@@ -1,6 +1,6 @@
-//! What a round finds, handed to the launcher one by one.
+//! What a round of the live loop finds, handed to the launcher one by one.
 
-use crate::quiet::is_wanted;
+use crate::quiet::is_news;
 use child_edge::{ChildEdge, ClockEdge, SocketEdge};
 use control_socket::Answers;
 use ctl_protocol::{LineReader, ReadFault};
@@ -114,7 +114,7 @@ impl<T: SettingStore, E: ChildEdge + SocketEdge, W: Write> Inputs<T, E, W> {
         if let Ok(at) = self.host.edge().read() {
             self.at = at;
         }
-        if is_wanted(self.host.table(), self.at) {
+        if is_news(self.host.table(), self.at) {
             self.tell_time(alloc);
         }
     }

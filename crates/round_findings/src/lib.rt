@@ -8,4 +8,4 @@ mod quiet;
 
 pub use inputs::Inputs;
 pub use paths::Sights;
-pub use quiet::is_wanted;
+pub use quiet::is_news;

@@ -1,4 +1,4 @@
-//! The listed paths, each looked at once a second.
+//! The paths that jobs list, each looked at once a second.
 
 use crate::inputs::Inputs;
 use child_edge::{ChildEdge, PathEdge, SocketEdge};

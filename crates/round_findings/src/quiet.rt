@@ -14,8 +14,9 @@ use job_table::JobTable;
 
 /// Whether the reading may change something since the table's last one: a job's next moment is reached, or some job has
 /// calendar entries and a civil minute is crossed, or the wall clock was set back. It takes no memory.
-pub fn is_wanted(table: &JobTable, at: Reading) -> bool
-    ensures { (s : State) → KeepsState table.now s → result ≡ may_change s.jobs table.now.reading at }
+pub fn is_news(table: &JobTable, at: Reading) -> bool
+    ensures { (s : State) → KeepsState table.now s →
+        result ≡ may_change s.jobs table.now.reading at }
 {
     let last = table.reading();
     let is_due = is_reached(table.next_up(), at.up);
@@ -27,7 +28,8 @@ pub fn is_wanted(table: &JobTable, at: Reading) -> bool
 
 // The least of all jobs' moments stands for them all.
 fn is_reached(moment: Option<u64>, up: u64) -> bool
-    ensures { (jobs : List Job) → IsNextUp jobs moment → result ≡ list_any (λ job. has_come up (next_moment job.past)) jobs }
+    ensures { (jobs : List Job) → IsNextUp jobs moment →
+        result ≡ list_any (λ job. has_come up (next_moment job.past)) jobs }
 {
     match moment {
         None => false,

@@ -2,11 +2,9 @@
 //! store that is opened again.
 #![tactic(auto)]
 
-ghost use Rattle.std.specs.Prelude.{IfOk, List, None, reverse};
-ghost use Rattle.history_model.specs.declared.event.Setting.{Setting as Held};
+ghost use Rattle.std.specs.Prelude.{IfOk, None, reverse};
 ghost use Rattle.sqlite.specs.Held.{state};
-ghost use Rattle.sqlite.specs.State.{HasCleanDisk};
-ghost use Rattle.override_store.specs.Ours.{AreFit, HoldsNow, HoldsSettings};
+ghost use Rattle.override_store.specs.OverrideStores.{AreFit, HoldsOn, HoldsSettings};
 
 use history_model::Setting;
 use load_asking::{self, SettingStore};
@@ -58,7 +56,8 @@ pub fn opened<S: Alter + Drop>(
     alloc: Global,
     conn: Connection<S>,
 ) -> Result<(StoredSettings<S>, Vec<Setting>), StoreFault>
-    ensures holds { IfOk result (λ r. AreFit (state S.Store conn).committed.trees → HoldsSettings (state S.Store r.0.store) (reverse r.1.items)) }
+    ensures holds { IfOk result (λ r. AreFit (state S.Store conn).committed.trees →
+        HoldsSettings (state S.Store r.0.store) (reverse r.1.items)) }
 {
     let mut store = OverrideStore::open_on(alloc, conn)?;
     let all = store.all(alloc)?;
@@ -71,7 +70,8 @@ pub fn again<S: Alter + Drop>(
     alloc: Global,
     settings: StoredSettings<S>,
 ) -> Result<StoredSettings<S>, StoreFault>
-    ensures holds { IfOk result (λ r. (list : List Held) → HoldsSettings (state S.Store settings.store) list → HasCleanDisk (state S.Store r.store) → HoldsNow (state S.Store r.store) list) }
+    ensures holds { IfOk result (λ r.
+        HoldsOn (state S.Store settings.store) (state S.Store r.store)) }
 {
     let StoredSettings { store } = settings;
     let store = on_connection(alloc, store)?;

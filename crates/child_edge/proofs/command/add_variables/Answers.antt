@@ -1,7 +1,8 @@
+-- The answers to the goals of `command::add_variables`.
 use Rattle.std.proofs.Common.{◌≡◌, ◌+◌, [], ◌∷◌, ◌++◌, take, rules, sym, ap, ◌∙◌}
 use Rattle.std.proofs.lemmas.List.{take_more}
 use Rattle.std.specs.Process.{command_var}
-use Rattle.child_edge.specs.Launch.{said_after}
+use Rattle.child_edge.specs.Command.{said_after}
 use Rattle.child_edge.proofs.VariableLemmas.{said_after-snoc}
 use Rattle.child_edge.proofs.command.add_variables.Goals as goal
 

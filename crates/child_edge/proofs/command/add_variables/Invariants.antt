@@ -1,6 +1,7 @@
+-- The invariants of the loop of `command::add_variables`.
 use Rattle.std.proofs.Common.{◌≡◌, ℕ, List, take}
 use Rattle.std.specs.Process.{command_var, SameProgramAndArgs, SameDir}
-use Rattle.child_edge.specs.Launch.{said_after}
+use Rattle.child_edge.specs.Command.{said_after}
 use Rattle.child_edge.proofs.command.add_variables.Given as goal
 
 -- the variables so far were set, and nothing else changed

@@ -1,3 +1,4 @@
+-- The invariants of the loop of `command::add_words`.
 use Rattle.std.proofs.Common.{◌≡◌, ◌++◌, take}
 use Rattle.std.specs.Process.{command_program, command_args, SameEnv, SameDir}
 use Rattle.child_edge.proofs.command.add_words.Given as goal

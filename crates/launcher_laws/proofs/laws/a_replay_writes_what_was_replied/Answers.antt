@@ -1,3 +1,4 @@
+-- The answers to the goals of `laws::a_replay_writes_what_was_replied`.
 use Rattle.launcher_laws.proofs.Replayed.{replayed}
 use Rattle.launcher_laws.proofs.laws.a_replay_writes_what_was_replied.Goals as goal
 

@@ -1,3 +1,4 @@
+-- The answers to the goals of `laws::a_store_opened_again_has_the_last_settings`.
 use Rattle.sqlite.specs.Held.{state}
 use Rattle.stored_settings.specs.declared.StoredSettings.{StoredSettings}
 use Rattle.launcher_laws.proofs.Reopened.{reopened}

@@ -1,3 +1,4 @@
+-- The invariants of the loop of `carrying::carry_all`.
 use Rattle.std.proofs.Common.{take}
 use Rattle.launcher_turn.specs.Turns.{Carried}
 use Rattle.launcher_turn.proofs.carrying.carry_all.Given as goal

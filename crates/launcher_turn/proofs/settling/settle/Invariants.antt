@@ -1,3 +1,4 @@
+-- The invariants of the loop of `settling::settle`.
 use Rattle.std.proofs.Common.{◌≤◌, ◌*◌, ◌-◌, List}
 use Rattle.history_model.specs.Machine.{State}
 use Rattle.history_model.specs.Turns.{Given}

@@ -1,3 +1,4 @@
+-- The answers to the goals of `OverrideStore::changes`.
 use Rattle.std.proofs.Common.{map}
 use Rattle.override_store.specs.Settings.{Change, IsChange, IsForeign, change_of}
 use Rattle.override_store.proofs.AnswerLemmas.{listed_as, if_ok, answer_long, any_shown}

@@ -1,3 +1,4 @@
+-- The answers to the goals of `again::all_again`.
 use Rattle.std.proofs.Common.{arith, reverse}
 use Rattle.sqlite.specs.Held.{state}
 use Rattle.sqlite.specs.State.{HasCleanDisk}

@@ -1,3 +1,4 @@
+-- The answers to the goals of `laws::a_store_over_its_files_holds_the_same`.
 use Rattle.std.proofs.Common.{arith}
 use Rattle.sqlite.specs.Files.{file_state}
 use Rattle.sqlite.specs.State.{HasCleanDisk}

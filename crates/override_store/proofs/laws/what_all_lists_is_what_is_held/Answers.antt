@@ -1,6 +1,7 @@
+-- The answers to the goals of `laws::what_all_lists_is_what_is_held`.
 use Rattle.std.proofs.Common.{reverse}
 use Rattle.sqlite.specs.Held.{state}
-use Rattle.override_store.specs.Ours.{rows_in}
+use Rattle.override_store.specs.OverrideStores.{rows_in}
 use Rattle.override_store.proofs.AgainLemmas.{same_settings}
 use Rattle.override_store.proofs.laws.what_all_lists_is_what_is_held.Goals as goal
 

@@ -1,3 +1,4 @@
+-- The invariants of the loop of `lists::changes`.
 use Rattle.std.proofs.Common.{map, take}
 use Rattle.std.specs.List.{AllZip}
 use Rattle.override_store.specs.Settings.{IsChange, change_of}

@@ -1,3 +1,4 @@
+-- The answers to the goals of `lists::entries`.
 use Rattle.std.proofs.Common.{take, ◌++◌, [], ◌∷◌, sym, ap, subst₂, ◌∙◌, ◌+◌, ◌≡◌}
 use Rattle.std.specs.List.{AllZip}
 use Rattle.std.proofs.lemmas.List.{take_more}

@@ -1,3 +1,4 @@
+-- The invariants of the loop of `lists::entries`.
 use Rattle.std.proofs.Common.{take}
 use Rattle.std.specs.List.{AllZip}
 use Rattle.override_store.specs.Settings.{IsEntry}

@@ -1,9 +1,10 @@
+-- The answers to the goals of `open::open_tables`.
 use Rattle.std.proofs.Common.{sym, subst}
 use Rattle.sqlite.specs.Held.{state}
 use Rattle.sqlite.specs.Tree.{Trees}
 use Rattle.sqlite.proofs.StateLemmas.{survives_weaker}
-use Rattle.override_store.specs.Ours.{rows_in}
-use Rattle.override_store.specs.Rows.{Moves}
+use Rattle.override_store.specs.OverrideStores.{rows_in}
+use Rattle.override_store.specs.SettingRows.{Moves}
 use Rattle.override_store.proofs.AnswerLemmas.{on_ok}
 use Rattle.override_store.proofs.OpenLemmas.{opens}
 use Rattle.override_store.proofs.open.open_tables.Goals as goal

@@ -1,3 +1,4 @@
+-- The answers to the goals of `statements::put`.
 use Rattle.std.proofs.Common.{ap, ◌∙◌, arith, w64}
 use Rattle.std.proofs.lemmas.Int.{to_z_pos}
 use Rattle.sqlite.specs.Held.{state}

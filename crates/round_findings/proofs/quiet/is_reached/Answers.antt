@@ -1,3 +1,4 @@
+-- The answers to the goals of `quiet::is_reached`.
 use Rattle.std.proofs.Common.{sym, ap, ◌∙◌}
 use Rattle.round_findings.specs.Quiet.{is_reached as has_reached}
 use Rattle.round_findings.proofs.Reached.{reached}

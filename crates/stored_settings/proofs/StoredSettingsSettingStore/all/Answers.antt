@@ -1,3 +1,4 @@
+-- The answers to the goals of `StoredSettingsSettingStore::all`.
 use Rattle.std.proofs.Common.{reverse}
 use Rattle.stored_settings.proofs.StoredSettingsSettingStore.all.Goals as goal
 

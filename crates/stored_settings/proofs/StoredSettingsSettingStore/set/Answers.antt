@@ -1,3 +1,4 @@
+-- The answers to the goals of `StoredSettingsSettingStore::set`.
 use Rattle.stored_settings.proofs.StoredSettingsSettingStore.set.Goals as goal
 
 pub returns-in-Ok : goal.returns-in-Ok

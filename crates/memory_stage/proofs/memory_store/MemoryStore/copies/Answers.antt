@@ -1,3 +1,4 @@
+-- The answers to the goals of `memory_store::MemoryStore::copies`.
 use Rattle.std.proofs.Common.{◌+◌, ◌≤◌, length, take, ◌++◌, [], ◌∷◌, sym, ap, subst, ◌∙◌}
 use Rattle.std.proofs.lemmas.List.{take_more, take_all}
 use Rattle.memory_stage.proofs.memory_store.MemoryStore.copies.Goals as goal

@@ -1,3 +1,4 @@
+-- The invariants of the loop of `memory_store::MemoryStore::copies`.
 use Rattle.std.proofs.Common.{◌≡◌, take}
 use Rattle.memory_stage.proofs.memory_store.MemoryStore.copies.Given as goal
 

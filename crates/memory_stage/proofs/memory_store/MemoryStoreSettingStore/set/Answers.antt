@@ -1,3 +1,4 @@
+-- The answers to the goals of `memory_store::MemoryStoreSettingStore::set`.
 use Rattle.memory_stage.proofs.memory_store.MemoryStoreSettingStore.set.Goals as goal
 
 -- it tells nothing

@@ -1,4 +1,4 @@
--- An edge in memory: its script gives the answers, in order, and it lists the calls that it can hold.
+-- An edge in memory: its script gives the answers, and it lists the calls that it can hold.
 use Rattle.std.specs.Prelude.{ℕ, ◌+◌, List, [], ◌∷◌, ◌++◌, Option, Some, None, Bool, true, false, ◌&&◌, if◌then◌else◌, nat_lt, length, slice_get}
 use Rattle.child_edge.specs.declared.plain.EdgeCall.{EdgeCall}
 use Rattle.child_edge.specs.declared.plain.EdgeCall.TheVariants.{Start, Term, Kill, Poll, Bind, Close, Release, Look, Clock}
@@ -6,8 +6,8 @@ use Rattle.child_edge.specs.declared.plain.Scripted.{Scripted}
 use Rattle.child_edge.specs.declared.plain.Scripted.TheVariants.{Started, Done, Running, Over, Seen, At, Refused, NoMemory}
 use Rattle.child_edge.specs.Calls.{one_more}
 
--- The script, how many of its answers were given, the calls with their answers, how many of them there is room for,
--- whether all calls that were made are among them, and the count of failures.
+-- The script, how many of its answers were given, the calls with their answers, how many of them
+-- there is room for, whether all calls that were made are among them, and the count of failures.
 pub record Memory : Type 0 where
   pub script : List Scripted
   pub given : ℕ
@@ -15,6 +15,17 @@ pub record Memory : Type 0 where
   pub room : ℕ
   pub is_telling : Bool
   pub failures : ℕ
+
+-- an edge that answers by this script, and was not called yet
+abbrev pub uncalled : List Scripted → ℕ → Memory
+uncalled script room = record {
+  script = script;
+  given = 0;
+  calls = [];
+  room = room;
+  is_telling = true;
+  failures = 0;
+}
 
 -- what the edge tells
 abbrev pub told_by : Memory → Option (List (EdgeCall × Scripted))
@@ -24,7 +35,7 @@ told_by m = if m.is_telling then Some m.calls else None
 abbrev pub has_room : Memory → Bool
 has_room m = m.is_telling && nat_lt (length m.calls) m.room
 
--- The answer is of the call's kind. A process id is at least 1.
+-- the answer is one to a poll
 abbrev pub is_poll : Scripted → Bool
 is_poll Running = true
 is_poll (Over ended) = true
@@ -35,6 +46,7 @@ is_poll (At reading) = false
 is_poll Refused = false
 is_poll NoMemory = false
 
+-- to a start, whose process id is at least 1
 abbrev pub is_start : Scripted → Bool
 is_start (Started pid) = nat_lt 0 pid
 is_start Running = false
@@ -45,6 +57,7 @@ is_start (At reading) = false
 is_start Refused = false
 is_start NoMemory = false
 
+-- to what is done or not
 abbrev pub is_done : Scripted → Bool
 is_done Done = true
 is_done (Started pid) = false
@@ -55,6 +68,7 @@ is_done (At reading) = false
 is_done Refused = false
 is_done NoMemory = false
 
+-- to a look
 abbrev pub is_seen : Scripted → Bool
 is_seen (Seen seen) = true
 is_seen (Started pid) = false
@@ -65,6 +79,7 @@ is_seen (At reading) = false
 is_seen Refused = false
 is_seen NoMemory = false
 
+-- to a reading of the clocks
 abbrev pub is_reading : Scripted → Bool
 is_reading (At reading) = true
 is_reading (Started pid) = false
@@ -75,6 +90,7 @@ is_reading (Seen seen) = false
 is_reading Refused = false
 is_reading NoMemory = false
 
+-- the answer is of the call's kind
 abbrev pub takes : EdgeCall → Scripted → Bool
 takes (Start job run conn) a = is_start a
 takes (Term job run) a = is_done a
@@ -97,11 +113,13 @@ refusal_of (Seen seen) = Refused
 refusal_of (At reading) = Refused
 refusal_of Refused = Refused
 
+-- what the script's next answer is to the call
 abbrev pub answer_to : EdgeCall → Option Scripted → Scripted
 answer_to call None = Refused
 answer_to call (Some a) = if takes call a then a else refusal_of a
 
--- The call is answered by the script's next answer. Where there is none, or no room to list the call, it is refused.
+-- The call is answered by the script's next answer. If there is none, or no room to list the call,
+-- it is refused.
 abbrev pub answer_of : EdgeCall → Memory → Scripted
 answer_of call m = if has_room m then answer_to call (slice_get m.script m.given) else Refused
 
@@ -116,14 +134,26 @@ counted (Over ended) n = n
 counted (Seen seen) n = n
 counted (At reading) n = n
 
--- the edge after it gave a call the script's next answer: as given, or as the refusal that it is to the call
+-- the edge after it gave a call the script's next answer: as given, or as the refusal that it is to
+-- the call
 abbrev pub entered : EdgeCall → Scripted → Memory → Memory
-entered call a m = record m { given = m.given + 1; calls = m.calls ++ (call, a) ∷ []; failures = counted a m.failures }
+entered call a m = record m {
+  given = m.given + 1;
+  calls = m.calls ++ (call, a) ∷ [];
+  failures = counted a m.failures;
+}
 
--- the edge after a call that takes an answer of the script: it is listed with its answer, or the edge tells no more
+-- the edge after a call that it refused and could not list: it tells no more
+abbrev pub untold : Memory → Memory
+untold m = record m { is_telling = false; failures = one_more m.failures }
+
+-- the edge after a call that takes an answer of the script: it is listed with its answer, if there
+-- is room
 abbrev pub after_call : EdgeCall → Memory → Memory
-after_call call m = if has_room m then entered call (answer_of call m) m else record m { is_telling = false; failures = one_more m.failures }
+after_call call m = if has_room m then entered call (answer_of call m) m else untold m
 
 -- the edge after a call that takes none, and is done
 abbrev pub after_done : EdgeCall → Memory → Memory
-after_done call m = if has_room m then record m { calls = m.calls ++ (call, Done) ∷ [] } else record m { is_telling = false }
+after_done call m =
+    if has_room m then record m { calls = m.calls ++ (call, Done) ∷ [] }
+    else record m { is_telling = false }

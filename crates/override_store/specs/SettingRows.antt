@@ -1,4 +1,5 @@
--- What the rows of a table say of labels. A row has its rowid, the label, whether it is disabled, and the second.
+-- What stored rows say of the settings of labels. A row has its rowid, the label, whether it is
+-- disabled, and the second.
 use Rattle.std.specs.Prelude.{◌≡◌, ◌≢◌, ◌⊎◌, ◌↔◌, ⊤, ℕ, ℤ, Bool, not, List, pos}
 use Rattle.std.specs.Ordering.{int_eq}
 use Rattle.sqlite.specs.declared.types.Value.{Value}
@@ -17,6 +18,7 @@ pub record HasRow (rows : List Row) (label : List ℕ) (Holds : Row → Type 0) 
   pub label_is : column row 1 ≡ Text label
   pub holds : Holds row
 
+-- the label has a row
 abbrev pub IsNamed : List Row → List ℕ → Type 0
 IsNamed rows label = HasRow rows label (λ _. ⊤)
 
@@ -24,22 +26,33 @@ IsNamed rows label = HasRow rows label (λ _. ⊤)
 abbrev pub Says : List Row → List ℕ → Bool → Type 0
 Says rows label disabled = HasRow rows label (λ row. IsFlag (column row 2) disabled)
 
+-- no label has two settings
+abbrev pub HasOneSetting : List Row → Type 0
+HasOneSetting rows = (label : List ℕ) (a b : Bool) → Says rows label a → Says rows label b → a ≡ b
+
 -- the label's setting was changed in this second of Unix time
 abbrev pub IsStamped : List Row → List ℕ → ℕ → Type 0
 IsStamped rows label second = HasRow rows label (λ row. column row 3 ≡ Int (pos second))
 
 -- the label gets this setting, and each other label keeps its own
 abbrev pub Sets : List Row → List Row → List ℕ → Bool → Type 0
-Sets old new label disabled = (l : List ℕ) (d : Bool) → Says new l d ↔ (((l ≡ label) × (d ≡ disabled)) ⊎ ((l ≢ label) × Says old l d))
+Sets old new label disabled =
+    (l : List ℕ) (d : Bool) →
+    Says new l d ↔ (((l ≡ label) × (d ≡ disabled)) ⊎ ((l ≢ label) × Says old l d))
 
 -- the label gets this second, and each other label keeps its own
 abbrev pub Stamps : List Row → List Row → List ℕ → ℕ → Type 0
-Stamps old new label second = (l : List ℕ) (s : ℕ) → IsStamped new l s ↔ (((l ≡ label) × (s ≡ second)) ⊎ ((l ≢ label) × IsStamped old l s))
+Stamps old new label second =
+    (l : List ℕ) (s : ℕ) →
+    IsStamped new l s ↔ (((l ≡ label) × (s ≡ second)) ⊎ ((l ≢ label) × IsStamped old l s))
 
 -- a label's setting is its row of the first table, with second 0, or else that of the second table
 pub record Moves (firsts seconds news : List Row) : Type 0 where
-  pub says : (l : List ℕ) (d : Bool) → Says news l d ↔ (Says firsts l d ⊎ (¬ IsNamed firsts l × Says seconds l d))
-  pub stamped : (l : List ℕ) (s : ℕ) → IsStamped news l s ↔ ((IsNamed firsts l × (s ≡ 0)) ⊎ (¬ IsNamed firsts l × IsStamped seconds l s))
+  pub says : (l : List ℕ) (d : Bool) →
+      Says news l d ↔ (Says firsts l d ⊎ (¬ IsNamed firsts l × Says seconds l d))
+  pub stamped : (l : List ℕ) (s : ℕ) →
+      IsStamped news l s
+      ↔ ((IsNamed firsts l × (s ≡ 0)) ⊎ (¬ IsNamed firsts l × IsStamped seconds l s))
 
 -- the same settings, of the same seconds
 pub record AreSame (old new : List Row) : Type 0 where

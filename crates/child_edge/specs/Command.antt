@@ -1,0 +1,18 @@
+-- What a child's command has in its environment beside what the launcher has.
+use Rattle.std.specs.Prelude.{◌≡◌, ℕ, List, fold, bytes_eq, Option, Some, if◌then◌else◌}
+use Rattle.job_defs.specs.declared.parts.Variable.{Variable}
+
+-- what is said of a name, if anything: its value, or that it has none
+abbrev pub Said : Type 0
+Said = Option (Option (List ℕ))
+
+-- what is said of a name once these variables were set in order, where `before` was said: the last
+-- variable of the name counts, and nothing is said of a name that none has
+abbrev pub said_after : List ℕ → Said → List Variable → Said
+said_after name before variables =
+    fold (λ said v. if bytes_eq v.name name then Some (Some v.value) else said) before variables
+
+-- of each name is said what these variables say, set in order
+abbrev pub SetsVariables : List Variable → (List ℕ → Said) → (List ℕ → Said) → Type 0
+SetsVariables variables old new =
+    (name : List ℕ) → new name ≡ said_after name (old name) variables
