@@ -33,7 +33,7 @@ wanted-after path obs (s ∷ ss) = ap (λ l. wanted_of s ∷ l) (wanted-after pa
 
 pub holds-by : (t : History) → conditions_hold t ≡ holds_by (kept_of t)
 holds-by t =
-    rw any-seen (λ (state : List ℕ × Bool). presence_holds state.1) (λ state. last_seen state.0 t) (definition_of t).path_state refl
+    rw (any-seen (λ (state : List ℕ × Bool). presence_holds state.1) (λ state. last_seen state.0 t) (definition_of t).path_state) refl
 
 pub kept-Saw : (t : History) (path : List ℕ) (obs : Obs) →
     kept_of (Saw path obs ∷ t) ≡ record (kept_of t) { seen = seen_after (λ (state : List ℕ × Bool). state.0) (kept_of t).path_state path obs (kept_of t).seen }
