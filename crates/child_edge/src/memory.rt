@@ -34,12 +34,12 @@ impl Model for MemoryEdge {
     ghost Value = { Memory };
 
     ghost view = { λ e. record {
-        script = e.script.items;
-        given = e.given;
-        calls = e.calls.items;
-        room = e.room;
-        is_telling = e.is_telling;
-        failures = e.failures;
+      script = e.script.items;
+      given = e.given;
+      calls = e.calls.items;
+      room = e.room;
+      is_telling = e.is_telling;
+      failures = e.failures;
     } };
 
     ghost invariant = { λ e. (e.room ≤ vec_capacity e.calls) × (e.given ≤ length e.calls.items) };

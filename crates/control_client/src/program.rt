@@ -20,8 +20,8 @@ pub const USAGE: u8 = 64;
 /// What is done with each file.
 #[derive(Clone, Copy)]
 enum Deed {
-    Load { write: bool, force: bool },
-    Unload { write: bool },
+    Load { writes_setting: bool, force: bool },
+    Unload { writes_setting: bool },
 }
 
 /// What the words come to.
@@ -33,11 +33,20 @@ enum Task {
 fn task_of(command: Command) -> Task {
     match command {
         Command::Load {
-            write,
+            writes_setting,
             force,
             paths,
-        } => Task::Files(Deed::Load { write, force }, paths),
-        Command::Unload { write, paths } => Task::Files(Deed::Unload { write }, paths),
+        } => Task::Files(
+            Deed::Load {
+                writes_setting,
+                force,
+            },
+            paths,
+        ),
+        Command::Unload {
+            writes_setting,
+            paths,
+        } => Task::Files(Deed::Unload { writes_setting }, paths),
         Command::Start { label } => Task::Request(Event::Start { job: label }),
         Command::Stop { label } => Task::Request(Event::Stop { job: label }),
         Command::Enable { label } => Task::Request(Event::Enable {
@@ -48,9 +57,9 @@ fn task_of(command: Command) -> Task {
             job: label,
             store: true,
         }),
-        Command::Kickstart { kill, label } => Task::Request(Event::Kickstart {
+        Command::Kickstart { kills_first, label } => Task::Request(Event::Kickstart {
             job: label,
-            k: kill,
+            kills_first,
         }),
         Command::List => Task::Request(Event::List),
         Command::Print { label } => Task::Request(Event::Print { job: label }),
@@ -151,7 +160,10 @@ fn hand_in_one<R: Net + Files + Print + Eprint>(
 
 fn event_for<R: Files>(rt: &R, alloc: Global, deed: Deed, path: &str) -> Result<Event, Fault> {
     match deed {
-        Deed::Load { write, force } => load_event(rt, alloc, path, write, force),
-        Deed::Unload { write } => unload_event(rt, alloc, path, write),
+        Deed::Load {
+            writes_setting,
+            force,
+        } => load_event(rt, alloc, path, writes_setting, force),
+        Deed::Unload { writes_setting } => unload_event(rt, alloc, path, writes_setting),
     }
 }

@@ -15,14 +15,14 @@ pub(crate) fn load_event<R: Files>(
     rt: &R,
     alloc: Global,
     path: &str,
-    write: bool,
+    writes_setting: bool,
     force: bool,
 ) -> Result<Event, Fault> {
     let bytes = read_file(rt, alloc, path)?;
     let def = text_of(bytes)?;
     Ok(Event::Load {
         def,
-        w: write,
+        writes_setting,
         force,
         bind: true,
         store: true,
@@ -35,14 +35,14 @@ pub(crate) fn unload_event<R: Files>(
     rt: &R,
     alloc: Global,
     path: &str,
-    write: bool,
+    writes_setting: bool,
 ) -> Result<Event, Fault> {
     let bytes = read_file(rt, alloc, path)?;
     let text = text_of(bytes)?;
     let job = label_of(alloc, &text)?;
     Ok(Event::Unload {
         job,
-        w: write,
+        writes_setting,
         store: true,
     })
 }

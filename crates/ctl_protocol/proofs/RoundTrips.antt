@@ -58,11 +58,11 @@ named job h = rw (label_alone job h) (kept (is_label job) job h)
 
 pub told_back : (e : Event) → is_tellable e ≡ true → event_row (event_object forms.Event e) ≡ Some e
 unfolding event_row told_row asked_row load_row unload_row job_row target_row setting_row kickstart_row bare_row clock_row sight_keys has_saw_keys saw_row connection_row pid_key spawned_row run_row answer_row byte_key end_key ended_row text_key number_key flag_key flag_or label_key target_key has_only
-told_back (events.Load def w force bind store) h = refl
-told_back (events.Unload job w store) h = rw (kept (is_label job) job h) refl
+told_back (events.Load def writes_setting force bind store) h = refl
+told_back (events.Unload job writes_setting store) h = rw (kept (is_label job) job h) refl
 told_back (events.Start job) h = rw (kept (is_label job) job h) refl
 told_back (events.Stop job) h = rw (kept (is_label job) job h) refl
-told_back (events.Kickstart job k) h = rw (named job h) refl
+told_back (events.Kickstart job kills_first) h = rw (named job h) refl
 told_back (events.Enable job store) h = rw (named job h) refl
 told_back (events.Disable job store) h = rw (named job h) refl
 told_back events.List h = refl
@@ -85,14 +85,14 @@ told_back (events.WaitRefused job run) h = rw (kept (is_label job) job h) refl
 
 pub asked_back : (e : Event) → is_request e ≡ true → request_row (event_object forms.Request e) ≡ Some e
 unfolding request_row asked_row load_row unload_row job_row target_row setting_row kickstart_row bare_row text_key flag_or label_key target_key has_only
-asked_back (events.Load def w force true true) h = refl
-asked_back (events.Load def w force false store) h = absurd (true≢false (sym h))
-asked_back (events.Load def w force true false) h = absurd (true≢false (sym h))
-asked_back (events.Unload job w true) h = rw (kept (is_label job) job (left_of (is_label job) _ h)) refl
-asked_back (events.Unload job w false) h = absurd (true≢false (sym (right_of (is_label job) _ h)))
+asked_back (events.Load def writes_setting force true true) h = refl
+asked_back (events.Load def writes_setting force false store) h = absurd (true≢false (sym h))
+asked_back (events.Load def writes_setting force true false) h = absurd (true≢false (sym h))
+asked_back (events.Unload job writes_setting true) h = rw (kept (is_label job) job (left_of (is_label job) _ h)) refl
+asked_back (events.Unload job writes_setting false) h = absurd (true≢false (sym (right_of (is_label job) _ h)))
 asked_back (events.Start job) h = rw (kept (is_label job) job h) refl
 asked_back (events.Stop job) h = rw (kept (is_label job) job h) refl
-asked_back (events.Kickstart job k) h = rw (named job h) refl
+asked_back (events.Kickstart job kills_first) h = rw (named job h) refl
 asked_back (events.Enable job true) h = rw (named job (left_of (is_label job) _ h)) refl
 asked_back (events.Enable job false) h = absurd (true≢false (sym (right_of (is_label job) _ h)))
 asked_back (events.Disable job true) h = rw (named job (left_of (is_label job) _ h)) refl

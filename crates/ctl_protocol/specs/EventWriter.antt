@@ -13,11 +13,11 @@ use Rattle.ctl_protocol.specs.Objects.{Plain, text, flag, count, with_members, l
 
 -- the name that stands under the tag
 abbrev pub name_of : Event → List ℕ
-name_of (events.Load def w force bind store) = codes "load"
-name_of (events.Unload job w store) = codes "unload"
+name_of (events.Load def writes_setting force bind store) = codes "load"
+name_of (events.Unload job writes_setting store) = codes "unload"
 name_of (events.Start job) = codes "start"
 name_of (events.Stop job) = codes "stop"
-name_of (events.Kickstart job k) = codes "kickstart"
+name_of (events.Kickstart job kills_first) = codes "kickstart"
 name_of (events.Enable job store) = codes "enable"
 name_of (events.Disable job store) = codes "disable"
 name_of events.List = codes "list"
@@ -57,12 +57,13 @@ end_member (Signal n) = (codes "signal", count n)
 
 -- the keys of its row, but for the tag and the answers
 abbrev pub row_members : Event → List (List ℕ × Plain)
-row_members (events.Load def w force bind store) =
-    (codes "F", flag force) ∷ (codes "def", text def) ∷ (codes "w", flag w) ∷ []
-row_members (events.Unload job w store) = of_job job ∷ (codes "w", flag w) ∷ []
+row_members (events.Load def writes_setting force bind store) =
+    (codes "F", flag force) ∷ (codes "def", text def) ∷ (codes "w", flag writes_setting) ∷ []
+row_members (events.Unload job writes_setting store) =
+    of_job job ∷ (codes "w", flag writes_setting) ∷ []
 row_members (events.Start job) = of_job job ∷ []
 row_members (events.Stop job) = of_job job ∷ []
-row_members (events.Kickstart job k) = of_job job ∷ (codes "k", flag k) ∷ []
+row_members (events.Kickstart job kills_first) = of_job job ∷ (codes "k", flag kills_first) ∷ []
 row_members (events.Enable job store) = of_job job ∷ []
 row_members (events.Disable job store) = of_job job ∷ []
 row_members events.List = []
@@ -84,9 +85,9 @@ row_members (events.WaitRefused job run) = of_run job run
 
 -- what the outside answered
 abbrev pub answer_members : Event → List (List ℕ × Plain)
-answer_members (events.Load def w force bind store) =
+answer_members (events.Load def writes_setting force bind store) =
     (codes "bind", flag bind) ∷ (codes "store", flag store) ∷ []
-answer_members (events.Unload job w store) = (codes "store", flag store) ∷ []
+answer_members (events.Unload job writes_setting store) = (codes "store", flag store) ∷ []
 answer_members (events.Enable job store) = (codes "store", flag store) ∷ []
 answer_members (events.Disable job store) = (codes "store", flag store) ∷ []
 answer_members _ = []
@@ -119,11 +120,11 @@ is_byte_end (Signal n) = nat_lt n 256
 
 -- the job is a label, and each number is one of its row
 abbrev pub is_tellable : Event → Bool
-is_tellable (events.Load def w force bind store) = true
-is_tellable (events.Unload job w store) = is_label job
+is_tellable (events.Load def writes_setting force bind store) = true
+is_tellable (events.Unload job writes_setting store) = is_label job
 is_tellable (events.Start job) = is_label job
 is_tellable (events.Stop job) = is_label job
-is_tellable (events.Kickstart job k) = is_label job
+is_tellable (events.Kickstart job kills_first) = is_label job
 is_tellable (events.Enable job store) = is_label job
 is_tellable (events.Disable job store) = is_label job
 is_tellable events.List = true
@@ -142,11 +143,11 @@ is_tellable (events.WaitRefused job run) = is_label job
 
 -- what a client may ask, with answers that count as given
 abbrev pub is_request : Event → Bool
-is_request (events.Load def w force bind store) = bind && store
-is_request (events.Unload job w store) = is_label job && store
+is_request (events.Load def writes_setting force bind store) = bind && store
+is_request (events.Unload job writes_setting store) = is_label job && store
 is_request (events.Start job) = is_label job
 is_request (events.Stop job) = is_label job
-is_request (events.Kickstart job k) = is_label job
+is_request (events.Kickstart job kills_first) = is_label job
 is_request (events.Enable job store) = is_label job && store
 is_request (events.Disable job store) = is_label job && store
 is_request events.List = true

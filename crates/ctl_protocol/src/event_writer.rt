@@ -165,10 +165,18 @@ fn spawned_value(
     row_value(alloc, form, "spawned", &row, &[])
 }
 
-fn kickstart_value(alloc: Global, form: Form, job: &Text, k: bool) -> Result<Value, AllocError>
-    ensures { IfOk result (λ v. view v ≡ event_object form (events.Kickstart job.now k)) }
+fn kickstart_value(
+    alloc: Global,
+    form: Form,
+    job: &Text,
+    kills_first: bool,
+) -> Result<Value, AllocError>
+    ensures { IfOk result (λ v. view v ≡ event_object form (events.Kickstart job.now kills_first)) }
 {
-    let row = [("job", Cell::Text(job.as_str())), ("k", Cell::Flag(k))];
+    let row = [
+        ("job", Cell::Text(job.as_str())),
+        ("k", Cell::Flag(kills_first)),
+    ];
     row_value(alloc, form, "kickstart", &row, &[])
 }
 
@@ -176,12 +184,16 @@ fn unload_value(
     alloc: Global,
     form: Form,
     job: &Text,
-    w: bool,
+    writes_setting: bool,
     store: bool,
 ) -> Result<Value, AllocError>
-    ensures { IfOk result (λ v. view v ≡ event_object form (events.Unload job.now w store)) }
+    ensures { IfOk result (λ v. view v
+        ≡ event_object form (events.Unload job.now writes_setting store)) }
 {
-    let row = [("job", Cell::Text(job.as_str())), ("w", Cell::Flag(w))];
+    let row = [
+        ("job", Cell::Text(job.as_str())),
+        ("w", Cell::Flag(writes_setting)),
+    ];
     row_value(alloc, form, "unload", &row, &[("store", store)])
 }
 
@@ -192,7 +204,7 @@ fn event_value(alloc: Global, form: Form, event: &Event) -> Result<Value, AllocE
     match event {
         Event::Load {
             def,
-            w,
+            writes_setting,
             force,
             bind,
             store,
@@ -200,15 +212,19 @@ fn event_value(alloc: Global, form: Form, event: &Event) -> Result<Value, AllocE
             let row = [
                 ("F", Cell::Flag(*force)),
                 ("def", Cell::Text(def.as_str())),
-                ("w", Cell::Flag(*w)),
+                ("w", Cell::Flag(*writes_setting)),
             ];
             let answers = [("bind", *bind), ("store", *store)];
             row_value(alloc, form, "load", &row, &answers)
         }
-        Event::Unload { job, w, store } => unload_value(alloc, form, job, *w, *store),
+        Event::Unload {
+            job,
+            writes_setting,
+            store,
+        } => unload_value(alloc, form, job, *writes_setting, *store),
         Event::Start { job } => job_value(alloc, form, "start", job),
         Event::Stop { job } => job_value(alloc, form, "stop", job),
-        Event::Kickstart { job, k } => kickstart_value(alloc, form, job, *k),
+        Event::Kickstart { job, kills_first } => kickstart_value(alloc, form, job, *kills_first),
         Event::Enable { job, store } => setting_value(alloc, form, "enable", job, *store),
         Event::Disable { job, store } => setting_value(alloc, form, "disable", job, *store),
         Event::List => row_value(alloc, form, "list", &[], &[]),

@@ -22,7 +22,8 @@ pub(crate) fn string_text(alloc: Global, said: &str) -> Result<Vec<u8>, AllocErr
 
 /// Adds these pieces to the text.
 fn add_all(text: &mut Vec<u8>, pieces: &[&[u8]]) -> Result<(), AllocError>
-    ensures { OnOk result (text.new.items ≡ text.old.items ++ flat_map (λ piece. piece.now) pieces.now) }
+    ensures { OnOk result (text.new.items
+        ≡ text.old.items ++ flat_map (λ piece. piece.now) pieces.now) }
 {
     for piece in pieces {
         text.extend_from_slice(piece)?;
@@ -42,7 +43,8 @@ fn add_comma(text: &mut Vec<u8>, later: bool) -> Result<(), AllocError>
 
 /// Adds an order: its members in byte order of keys.
 fn add_order(alloc: Global, text: &mut Vec<u8>, job: &str, act: Act) -> Result<(), AllocError>
-    ensures { OnOk result (text.new.items ≡ text.old.items ++ compact_text (plain_object (order_members (job.now, act)))) }
+    ensures { OnOk result (text.new.items
+        ≡ text.old.items ++ compact_text (plain_object (order_members (job.now, act)))) }
 {
     let label = string_text(alloc, job)?;
     let job = label.as_slice();
@@ -121,7 +123,8 @@ fn add_order(alloc: Global, text: &mut Vec<u8>, job: &str, act: Act) -> Result<(
 
 /// The text of a list of orders.
 pub(crate) fn orders_text(alloc: Global, orders: &[(&str, Act)]) -> Result<Vec<u8>, AllocError>
-    ensures { IfOk result (λ text. text.items ≡ compact_text (array (orders_data (orders_of orders.now)))) }
+    ensures { IfOk result (λ text. text.items
+        ≡ compact_text (array (orders_data (orders_of orders.now)))) }
 {
     let mut text = Vec::with_capacity(alloc, 64)?;
     text.push(b'[')?;

@@ -26,19 +26,19 @@ has_load_keys form d =
 unfoldable pub load_row : Form → Data → Option Event
 load_row form d = if has_load_keys form d then (do
   def ← text_key (codes "def") d
-  w ← flag_or (codes "w") false d
+  writes_setting ← flag_or (codes "w") false d
   force ← flag_or (codes "F") false d
   bind ← flag_or (codes "bind") true d
   store ← flag_or (codes "store") true d
-  Some (events.Load def w force bind store)) else None
+  Some (events.Load def writes_setting force bind store)) else None
 
 -- `unload`: the label `job`; the flag `w` (false); the answer `store` (true)
 unfoldable pub unload_row : Form → Data → Option Event
 unload_row form d = if has_only form (codes "job" ∷ codes "w" ∷ []) (codes "store" ∷ []) d then (do
   job ← label_key (codes "job") d
-  w ← flag_or (codes "w") false d
+  writes_setting ← flag_or (codes "w") false d
   store ← flag_or (codes "store") true d
-  Some (events.Unload job w store)) else None
+  Some (events.Unload job writes_setting store)) else None
 
 -- `start` and `stop`: the label `job`
 unfoldable pub job_row : Form → Data → Option (List ℕ)
@@ -60,8 +60,8 @@ setting_row form d = if has_only form (codes "job" ∷ []) (codes "store" ∷ []
 unfoldable pub kickstart_row : Form → Data → Option Event
 kickstart_row form d = if has_only form (codes "job" ∷ codes "k" ∷ []) [] d then (do
   job ← target_key (codes "job") d
-  k ← flag_or (codes "k") false d
-  Some (events.Kickstart job k)) else None
+  kills_first ← flag_or (codes "k") false d
+  Some (events.Kickstart job kills_first)) else None
 
 -- `list` and `shutdown`: no key beside the tag
 unfoldable pub bare_row : Event → Form → Data → Option Event

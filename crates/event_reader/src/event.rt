@@ -23,14 +23,14 @@ fn load_in(alloc: Global, form: Form, line: &Line<'_>) -> Result<Event, ReadFaul
         return Err(ReadFault::BadRequest);
     }
     let def = text_in(line, "def")?;
-    let w = flag_or_in(line, "w", false)?;
+    let writes_setting = flag_or_in(line, "w", false)?;
     let force = flag_or_in(line, "F", false)?;
     let bind = flag_or_in(line, "bind", true)?;
     let store = flag_or_in(line, "store", true)?;
     let def = Text::copy_of(alloc, def)?;
     Ok(Event::Load {
         def,
-        w,
+        writes_setting,
         force,
         bind,
         store,
@@ -45,9 +45,13 @@ fn unload_in(alloc: Global, form: Form, line: &Line<'_>) -> Result<Event, ReadFa
         return Err(ReadFault::BadRequest);
     }
     let job = label_in(alloc, line, "job")?;
-    let w = flag_or_in(line, "w", false)?;
+    let writes_setting = flag_or_in(line, "w", false)?;
     let store = flag_or_in(line, "store", true)?;
-    Ok(Event::Unload { job, w, store })
+    Ok(Event::Unload {
+        job,
+        writes_setting,
+        store,
+    })
 }
 
 #[tactic(auto, unfolding(crate::specs::EventLines::job_row))]
@@ -90,8 +94,8 @@ fn kickstart_in(alloc: Global, form: Form, line: &Line<'_>) -> Result<Event, Rea
         return Err(ReadFault::BadRequest);
     }
     let job = target_in(alloc, line, "job")?;
-    let k = flag_or_in(line, "k", false)?;
-    Ok(Event::Kickstart { job, k })
+    let kills_first = flag_or_in(line, "k", false)?;
+    Ok(Event::Kickstart { job, kills_first })
 }
 
 #[tactic(auto, unfolding(crate::specs::EventLines::bare_row))]

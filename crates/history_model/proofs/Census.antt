@@ -123,7 +123,7 @@ told-living (RunEnded run how) t told accepted lawful =
     rw (ended-living t run how (run, fact.pid) refl one.1, one.1) refl
 told-living (Asked Start) t told accepted lawful = refl
 told-living (Asked Stop) t told accepted lawful = refl
-told-living (Asked (Kickstart strikes)) t told accepted lawful = refl
+told-living (Asked (Kickstart kills_first)) t told accepted lawful = refl
 told-living (Came conn) t told accepted lawful = refl
 told-living (Left conn) t told accepted lawful = refl
 told-living (Answered (SpawnRefused run)) t told accepted lawful = refl
@@ -152,9 +152,9 @@ told-one l x at (job ∷ []) own few all told accepted = go (is_of l job) refl o
 balance : (l : Label) (s : State) (e : Event) → IsGood s → length (filter (is_of l) s.jobs) ≤ 1 → concerns l e ≡ true → refusal_in s e ≡ None →
     ones (is_start_of l e) + length (alive (filter (is_of l) s.jobs)) ≡ ones (is_finish_of l e) + length (alive (taken (only l s) e).jobs)
 balance l s Unreadable good few named accepted = cc
-balance l s (Load (Err fault) w force bind store) good few named accepted = cc
-balance l s (Load (Ok given) w force bind store) good few named accepted = rw (absent l s given w force bind store named accepted) refl
-balance l s (UnloadJob m w store) good few named accepted = rw (alive-told_one m (Asked Unload) (λ job. refl) (filter (is_of l) s.jobs)) refl
+balance l s (Load (Err fault) writes_setting force bind store) good few named accepted = cc
+balance l s (Load (Ok given) writes_setting force bind store) good few named accepted = rw (absent l s given writes_setting force bind store named accepted) refl
+balance l s (UnloadJob m writes_setting store) good few named accepted = rw (alive-told_one m (Asked Unload) (λ job. refl) (filter (is_of l) s.jobs)) refl
 balance l s (Set m disabled store) good few named accepted = refl
 balance l s ListJobs good few named accepted = cc
 balance l s (PrintJob m) good few named accepted = refl

@@ -47,7 +47,7 @@ read up = Tick (read_at up)
 
 -- a load with the options -w and -F and the outside's answers
 abbrev pub load_as : Bool → Bool → Bool → Bool → Label → Definition → Event
-load_as w force bind store label d = Load (Ok (record { label = label; definition = d; ignored = [] })) w force bind store
+load_as writes_setting force bind store label d = Load (Ok (record { label = label; definition = d; ignored = [] })) writes_setting force bind store
 
 -- a load without options
 abbrev pub load : Label → Definition → Event

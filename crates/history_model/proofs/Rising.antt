@@ -12,9 +12,9 @@ use Rattle.history_model.proofs.Standing.{refused-None}
 
 taken-later : (s : State) (e : Event) → refusal_in s e ≡ None → s.reading.up ≤ (taken s e).reading.up
 taken-later s Unreadable accepted = cc
-taken-later s (Load (Err fault) w force bind store) accepted = omega arith
-taken-later s (Load (Ok given) w force bind store) accepted = omega arith
-taken-later s (UnloadJob label w store) accepted = omega arith
+taken-later s (Load (Err fault) writes_setting force bind store) accepted = omega arith
+taken-later s (Load (Ok given) writes_setting force bind store) accepted = omega arith
+taken-later s (UnloadJob label writes_setting store) accepted = omega arith
 taken-later s (Set label disabled store) accepted = omega arith
 taken-later s ListJobs accepted = omega arith
 taken-later s (PrintJob label) accepted = omega arith

@@ -37,8 +37,8 @@ length-with_job new (job ∷ jobs) = go (is_before new.label job.label) (length-
   go true rest = refl
   go false rest = ap (λ n. suc n) rest
 
-has-room : (s : State) (label : Label) (d : Definition) (w force bind store : Bool) → refusal_of_load s label d w force bind store ≡ None → length s.jobs < 1024
-has-room s label d w force bind store accepted =
+has-room : (s : State) (label : Label) (d : Definition) (writes_setting force bind store : Bool) → refusal_of_load s label d writes_setting force bind store ≡ None → length s.jobs < 1024
+has-room s label d writes_setting force bind store accepted =
     let open_still = refused-None s.is_shutting_down ShuttingDown _ accepted in
     let absent = or_else-None (refusal_there (past_of s label)) _ open_still.1 in
     let few = refused-None (not (nat_lt (length s.jobs) 1024)) TooManyJobs _ absent.1 in
@@ -47,11 +47,11 @@ has-room s label d w force bind store accepted =
 
 within-taken : (s : State) (e : Event) → refusal_in s e ≡ None → length s.jobs ≤ 1024 → length (taken s e).jobs ≤ 1024
 within-taken s Unreadable accepted few = few
-within-taken s (Load (Err fault) w force bind store) accepted few = few
-within-taken s (Load (Ok given) w force bind store) accepted few =
-    let room = has-room s given.label given.definition w force bind store accepted in
+within-taken s (Load (Err fault) writes_setting force bind store) accepted few = few
+within-taken s (Load (Ok given) writes_setting force bind store) accepted few =
+    let room = has-room s given.label given.definition writes_setting force bind store accepted in
     omega (arith, length-with_job (record { label = given.label; past = Loaded given.definition s.reading ∷ [] }) s.jobs, room)
-within-taken s (UnloadJob label w store) accepted few = omega (arith, length-told_one label (Asked Unload) s.jobs)
+within-taken s (UnloadJob label writes_setting store) accepted few = omega (arith, length-told_one label (Asked Unload) s.jobs)
 within-taken s (Set label disabled store) accepted few = few
 within-taken s ListJobs accepted few = few
 within-taken s (PrintJob label) accepted few = few

@@ -73,9 +73,9 @@ facts_after (Asked Start) up f = fired_by (not (is_busy_by f) || f.stops) f
 facts_after (Asked Stop) up f = record f { stops = is_busy_by f }
 facts_after (Asked Unload) up f = record f { stops = is_busy_by f; removes = true }
 facts_after (Asked Shutdown) up f = record f { stops = is_busy_by f; removes = true }
-facts_after (Asked (Kickstart strikes)) up f =
-    record (fired_by (strikes || (not (is_busy_by f) || f.stops)) f)
-    { strikes = is_busy_by f && strikes || f.strikes }
+facts_after (Asked (Kickstart kills_first)) up f =
+    record (fired_by (kills_first || (not (is_busy_by f) || f.stops)) f)
+    { strikes = is_busy_by f && kills_first || f.strikes }
 facts_after (Ordered (Spawn run conn)) up f = record f {
   run_count = run;
   awaited_act = Some (Spawn run conn);

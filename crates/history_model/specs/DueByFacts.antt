@@ -99,7 +99,7 @@ refusal_by (Asked Stop) now f =
     if f.removes then Some Removing else unless (is_busy_by f) NotRunning
 refusal_by (Asked Unload) now f = unless (not f.removes) Removing
 refusal_by (Asked Shutdown) now f = None
-refusal_by (Asked (Kickstart strikes)) now f = unless (not f.removes) Removing
+refusal_by (Asked (Kickstart kills_first)) now f = unless (not f.removes) Removing
 refusal_by (Came conn) now f =
     if f.removes then Some Removing
     else if not f.definition.has_sockets || is_number_used f.last_number conn then Some Stale

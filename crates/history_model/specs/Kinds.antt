@@ -134,7 +134,7 @@ is_stop _ = false
 
 -- a client asked for the end of the run at once: kickstart -k
 abbrev pub is_strike : Item → Bool
-is_strike (Asked (Kickstart strikes)) = strikes
+is_strike (Asked (Kickstart kills_first)) = kills_first
 is_strike _ = false
 
 -- a client asked that the job be removed: unload or shutdown

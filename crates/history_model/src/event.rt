@@ -14,18 +14,19 @@ pub struct Setting {
 /// are the outside's answers; they count only where a load has sockets, and where a setting is written.
 #[derive(Drop)]
 pub enum Event {
-    /// A definition's JSON text is handed in. `w` also enables the label; with `force` a disabled one is loaded too.
+    /// A definition's JSON text is handed in. `writes_setting` also enables the label; with `force` a disabled one is loaded
+    /// too.
     Load {
         def: Text,
-        w: bool,
+        writes_setting: bool,
         force: bool,
         bind: bool,
         store: bool,
     },
-    /// The job is to be removed; with `w` its label is also disabled.
+    /// The job is to be removed; with `writes_setting` its label is also disabled.
     Unload {
         job: Text,
-        w: bool,
+        writes_setting: bool,
         store: bool,
     },
     /// A demand, unless the job runs.
@@ -36,10 +37,10 @@ pub enum Event {
     Stop {
         job: Text,
     },
-    /// A start; with `k` also an end of the present run by KILL.
+    /// A start; with `kills_first` also an end of the present run by KILL.
     Kickstart {
         job: Text,
-        k: bool,
+        kills_first: bool,
     },
     /// The label is to be loaded from now on, whatever its definition says.
     Enable {

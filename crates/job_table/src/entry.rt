@@ -83,9 +83,14 @@ impl Entry {
         requires before_in_range { before.up ≤ MAX_UP }
         requires in_range { now.up ≤ MAX_UP }
         requires room { vec_len orders.old + 66 ≤ vec_capacity orders.old }
-        ensures visit { IsVisit before now (item_for news.entry self.old.def) self.old self.new orders.old.items orders.new.items }
-        ensures decided { self.new.core.decided ≡ cond self.new.has_left self.old.core.decided ((self.old.core.decided + 1) % 2 ^ 64) }
-        ensures known { (names : List Name) → is_some (definition_of_number names self.old.number) ≡ true → list_all (is_known names) orders.old.items ≡ true → list_all (is_known names) orders.new.items ≡ true }
+        ensures visit { IsVisit before now (item_for news.entry self.old.def)
+            self.old self.new orders.old.items orders.new.items }
+        ensures decided { self.new.core.decided
+            ≡ cond self.new.has_left self.old.core.decided ((self.old.core.decided + 1) % 2 ^ 64) }
+        ensures known { (names : List Name) →
+            is_some (definition_of_number names self.old.number) ≡ true →
+            list_all (is_known names) orders.old.items ≡ true →
+            list_all (is_known names) orders.new.items ≡ true }
         ensures name { name self.new ≡ name self.old }
         ensures count { vec_len orders.new ≤ vec_len orders.old + 66 }
         ensures capacity { vec_capacity orders.new ≡ vec_capacity orders.old }
@@ -100,11 +105,17 @@ impl Entry {
         requires room { vec_len orders.old + 66 ≤ vec_capacity orders.old }
         ensures orders { (past : History) → Keeps self.old.core.facts past → now ≡ clock.now past →
             orders.new.items ≡ orders.old.items ++ numbered self.old.number (acts_of past) }
-        ensures left { (past : History) → Keeps self.old.core.facts past → now ≡ clock.now past → self.new.has_left ≡ is_gone past }
-        ensures kept { (past : History) → Keeps self.old.core.facts past → now ≡ clock.now past → is_gone past ≡ false →
+        ensures left { (past : History) → Keeps self.old.core.facts past → now ≡ clock.now past →
+            self.new.has_left ≡ is_gone past }
+        ensures kept { (past : History) → Keeps self.old.core.facts past → now ≡ clock.now past →
+            is_gone past ≡ false →
             Keeps self.new.core.facts (ordered (due past) past) }
-        ensures decided { self.new.core.decided ≡ cond self.new.has_left self.old.core.decided ((self.old.core.decided + 1) % 2 ^ 64) }
-        ensures known { (names : List Name) → is_some (definition_of_number names self.old.number) ≡ true → list_all (is_known names) orders.old.items ≡ true → list_all (is_known names) orders.new.items ≡ true }
+        ensures decided { self.new.core.decided
+            ≡ cond self.new.has_left self.old.core.decided ((self.old.core.decided + 1) % 2 ^ 64) }
+        ensures known { (names : List Name) →
+            is_some (definition_of_number names self.old.number) ≡ true →
+            list_all (is_known names) orders.old.items ≡ true →
+            list_all (is_known names) orders.new.items ≡ true }
         ensures name { name self.new ≡ name self.old }
         ensures count { vec_len orders.new ≤ vec_len orders.old + 66 }
         ensures capacity { vec_capacity orders.new ≡ vec_capacity orders.old }
@@ -124,8 +135,13 @@ impl Entry {
     fn leave(&self, orders: &mut Vec<Order>)
         requires room { vec_len orders.old + 66 ≤ vec_capacity orders.old }
         ensures orders { (past : History) → Keeps self.now.core.facts past →
-            orders.new.items ≡ orders.old.items ++ numbered self.now.number (map Act.Close (waiting past) ++ Act.Gone ∷ []) }
-        ensures known { (names : List Name) → is_some (definition_of_number names self.now.number) ≡ true → list_all (is_known names) orders.old.items ≡ true → list_all (is_known names) orders.new.items ≡ true }
+            orders.new.items
+            ≡ orders.old.items
+            ++ numbered self.now.number (map Act.Close (waiting past) ++ Act.Gone ∷ []) }
+        ensures known { (names : List Name) →
+            is_some (definition_of_number names self.now.number) ≡ true →
+            list_all (is_known names) orders.old.items ≡ true →
+            list_all (is_known names) orders.new.items ≡ true }
         ensures count { vec_len orders.new ≤ vec_len orders.old + 66 }
         ensures capacity { vec_capacity orders.new ≡ vec_capacity orders.old }
     {

@@ -29,7 +29,8 @@ impl Jobs {
     /// The definition of the job with this number, which is that of a job.
     pub fn def(&self, job: JobNo) -> &Def
         requires placed { ArePlaced self.now.index.places.items self.now.entries.items }
-        requires known { is_some (definition_of_number (map name self.now.entries.items) job) ≡ true }
+        requires known { is_some (definition_of_number (map name self.now.entries.items) job)
+            ≡ true }
         ensures { definition_of_number (map name self.now.entries.items) job ≡ Some result.now }
     {
         match place_of_number(&self.entries, &self.index.places, job) {

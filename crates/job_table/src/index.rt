@@ -21,7 +21,9 @@ pub fn remake(timers: &mut TimerHeap, places: &mut [u32], entries: &[Entry], at:
     requires few { length entries.now ≤ 1024 }
     requires in_range { at.up ≤ MAX_UP }
     requires space { HaveRoom timers.old (map name entries.now) }
-    requires fits { (number : ℕ) → is_some (definition_of_number (map name entries.now) number) ≡ true → number < length places.old }
+    requires fits { (number : ℕ) →
+        is_some (definition_of_number (map name entries.now) number) ≡ true →
+        number < length places.old }
     requires alone { AreAlone timers.old (map name entries.now) }
     ensures timed { AreTimed timers.new at.up entries.now }
     ensures placed { ArePlaced places.new entries.now }
@@ -41,7 +43,9 @@ pub fn remake(timers: &mut TimerHeap, places: &mut [u32], entries: &[Entry], at:
 pub fn place_all(places: &mut [u32], entries: &[Entry])
     requires once { IsOnce (map name entries.now) }
     requires few { length entries.now ≤ 1024 }
-    requires fits { (number : ℕ) → is_some (definition_of_number (map name entries.now) number) ≡ true → number < length places.old }
+    requires fits { (number : ℕ) →
+        is_some (definition_of_number (map name entries.now) number) ≡ true →
+        number < length places.old }
     ensures placed { ArePlaced places.new entries.now }
     ensures length { length places.new ≡ length places.old }
 {

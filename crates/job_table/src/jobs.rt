@@ -105,14 +105,21 @@ impl Jobs {
         requires sound { IsSound self.old }
         requires stay { AllStay self.old.entries.items }
         requires silent { reading_in (item_of event) ≡ None }
-        ensures answer { (jobs : List Job) → KeepsJobs self.old.reading (rows self.old.entries.items) jobs →
-            refusal_told result ≡ refusal_at (past_in (first (filter (is_of label.now) jobs))) (item_of event.entry) }
-        ensures place { IfOk result (λ place. IsHandedAt label.now place self.old.entries.items self.new.entries.items) }
-        ensures kept { (jobs : List Job) → KeepsJobs self.old.reading (rows self.old.entries.items) jobs →
-            OnOk result (KeepsJobs self.old.reading (rows self.new.entries.items) (told_one label.now (item_of event.entry) jobs)) }
+        ensures answer { (jobs : List Job) →
+            KeepsJobs self.old.reading (rows self.old.entries.items) jobs →
+            refusal_told result
+            ≡ refusal_at (past_in (first (filter (is_of label.now) jobs))) (item_of event.entry) }
+        ensures place { IfOk result (λ place.
+            IsHandedAt label.now place self.old.entries.items self.new.entries.items) }
+        ensures kept { (jobs : List Job) →
+            KeepsJobs self.old.reading (rows self.old.entries.items) jobs →
+            OnOk result
+            (KeepsJobs self.old.reading (rows self.new.entries.items)
+            (told_one label.now (item_of event.entry) jobs)) }
         ensures rows { OnErr result (rows self.new.entries.items ≡ rows self.old.entries.items) }
         ensures names { map name self.new.entries.items ≡ map name self.old.entries.items }
-        ensures counts { counts (rows self.new.entries.items) ≡ counts (rows self.old.entries.items) }
+        ensures counts { counts (rows self.new.entries.items)
+            ≡ counts (rows self.old.entries.items) }
         ensures memory { NeedsNoMemory result }
         ensures sound { IsSound self.new }
         ensures stay { AllStay self.new.entries.items }
@@ -138,14 +145,23 @@ impl Jobs {
         requires inside { ForSome (told_at news) (λ place. place < length self.old.entries.items) }
         requires placed { ArePlaced self.old.index.places.items self.old.entries.items }
         requires timed { AreTimedBut news self.old }
-        ensures kept { (jobs : List Job) (item : Job → Option Item) → AreFor news.entry item (rows self.old.entries.items) jobs → IsAccepted self.old.reading item →
-            RestBut news.entry 0 (rows self.old.entries.items) jobs → KeepsJobs self.old.reading (rows self.old.entries.items) jobs →
-            KeepsJobs self.old.reading (rows self.new.entries.items) (filter_map stays (told item jobs)) }
-        ensures orders { (jobs : List Job) (item : Job → Option Item) → AreFor news.entry item (rows self.old.entries.items) jobs → IsAccepted self.old.reading item →
-            RestBut news.entry 0 (rows self.old.entries.items) jobs → KeepsJobs self.old.reading (rows self.old.entries.items) jobs →
-            labelled (map name self.new.entries.items) self.new.orders.items ≡ flat_map orders_of (told item jobs) }
+        ensures kept { (jobs : List Job) (item : Job → Option Item) →
+            AreFor news.entry item (rows self.old.entries.items) jobs →
+            IsAccepted self.old.reading item →
+            RestBut news.entry 0 (rows self.old.entries.items) jobs →
+            KeepsJobs self.old.reading (rows self.old.entries.items) jobs →
+            KeepsJobs self.old.reading (rows self.new.entries.items)
+            (filter_map stays (told item jobs)) }
+        ensures orders { (jobs : List Job) (item : Job → Option Item) →
+            AreFor news.entry item (rows self.old.entries.items) jobs →
+            IsAccepted self.old.reading item →
+            RestBut news.entry 0 (rows self.old.entries.items) jobs →
+            KeepsJobs self.old.reading (rows self.old.entries.items) jobs →
+            labelled (map name self.new.entries.items) self.new.orders.items
+            ≡ flat_map orders_of (told item jobs) }
         ensures names { map name self.new.entries.items ≡ map name self.old.entries.items }
-        ensures counted { IsCounted (counts (rows self.old.entries.items)) (rows self.new.entries.items) self.new.visited }
+        ensures counted { IsCounted (counts (rows self.old.entries.items))
+            (rows self.new.entries.items) self.new.visited }
         ensures spared { SparesBut news.entry self.old.entries.items self.new.entries.items }
         ensures whole { IsWhole self.new }
         ensures alike { IsAlike self.old self.new }

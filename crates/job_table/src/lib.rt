@@ -116,8 +116,12 @@ impl JobTable {
         zone: Zone,
         overrides: Vec<Setting>,
     ) -> Result<JobTable, Refusal>
-        ensures opened { IfOk result (λ table. KeepsState table (opened (record { reading = reading; zone = minute_at zone; overrides = overrides.items }))) }
-        ensures refused { MatchResult result (λ _. opening_refusal reading overrides.items ≡ None) (λ refusal. opening_refusal reading overrides.items ≡ Some refusal) }
+        ensures opened { IfOk result (λ table.
+            KeepsState table
+            (opened
+            (record { reading = reading; zone = minute_at zone; overrides = overrides.items }))) }
+        ensures refused { MatchResult result (λ _. opening_refusal reading overrides.items
+            ≡ None) (λ refusal. opening_refusal reading overrides.items ≡ Some refusal) }
     {
         let jobs = Jobs::new(alloc, reading, zone, overrides)?;
         Ok(JobTable { jobs })
@@ -186,15 +190,18 @@ impl JobTable {
         Ok(self.given())
     }
 
-    /// Starts the job; with `k` its child is first ended by KILL, as `kickstart -k` of launchctl(1). Refusals: BadRequest (no
-    /// label), NoSuchJob, Removing.
-    pub fn kickstart(&mut self, label: &str, k: bool) -> Result<Step<'_>, Refusal>
-        ensures answer { IsAnswer (OfJob label.now (Asked (Ask.Kickstart k))) self.old result }
+    /// Starts the job; with `kills_first` its child is first ended by KILL, as `kickstart -k` of launchctl(1). Refusals:
+    /// BadRequest (no label), NoSuchJob, Removing.
+    pub fn kickstart(&mut self, label: &str, kills_first: bool) -> Result<Step<'_>, Refusal>
+        ensures answer { IsAnswer (OfJob label.now (Asked (Ask.Kickstart kills_first)))
+            self.old result }
         ensures memory { NeedsNoMemory result }
         ensures known { IfOk result AreKnown }
-        ensures* kept { sem 𝓛 (GoesOn self.entry result (OfJob label.now (Asked (Ask.Kickstart k)))) }
+        ensures* kept { sem 𝓛
+            (GoesOn self.entry result (OfJob label.now (Asked (Ask.Kickstart kills_first)))) }
     {
-        self.jobs.tell(label, JobEvent::Asked(Ask::Kickstart(k)))?;
+        self.jobs
+            .tell(label, JobEvent::Asked(Ask::Kickstart(kills_first)))?;
         Ok(self.given())
     }
 
@@ -224,10 +231,12 @@ impl JobTable {
     /// The spawn of a run went well, under this process id. Refusals: BadRequest (no label, or an id of 0), NoSuchJob, Stale
     /// (this answer is not awaited).
     pub fn spawned(&mut self, label: &str, run: u64, pid: u32) -> Result<Step<'_>, Refusal>
-        ensures answer { IsAnswer (OfJob label.now (Answered (answers.Spawned run pid))) self.old result }
+        ensures answer { IsAnswer (OfJob label.now (Answered (answers.Spawned run pid)))
+            self.old result }
         ensures memory { NeedsNoMemory result }
         ensures known { IfOk result AreKnown }
-        ensures* kept { sem 𝓛 (GoesOn self.entry result (OfJob label.now (Answered (answers.Spawned run pid)))) }
+        ensures* kept { sem 𝓛
+            (GoesOn self.entry result (OfJob label.now (Answered (answers.Spawned run pid)))) }
     {
         self.jobs
             .tell(label, JobEvent::Answered(Answer::Spawned { run, pid }))?;
@@ -237,10 +246,12 @@ impl JobTable {
     /// The spawn of a run was refused. Its demand stays, and the next spawn waits at least a second. Refusals: BadRequest (no
     /// label), NoSuchJob, Stale (this answer is not awaited).
     pub fn spawn_refused(&mut self, label: &str, run: u64) -> Result<Step<'_>, Refusal>
-        ensures answer { IsAnswer (OfJob label.now (Answered (answers.SpawnRefused run))) self.old result }
+        ensures answer { IsAnswer (OfJob label.now (Answered (answers.SpawnRefused run)))
+            self.old result }
         ensures memory { NeedsNoMemory result }
         ensures known { IfOk result AreKnown }
-        ensures* kept { sem 𝓛 (GoesOn self.entry result (OfJob label.now (Answered (answers.SpawnRefused run)))) }
+        ensures* kept { sem 𝓛
+            (GoesOn self.entry result (OfJob label.now (Answered (answers.SpawnRefused run)))) }
     {
         self.jobs
             .tell(label, JobEvent::Answered(Answer::SpawnRefused { run }))?;
@@ -249,10 +260,12 @@ impl JobTable {
 
     /// TERM was given to a run, or refused. Refusals: BadRequest (no label), NoSuchJob, Stale (this answer is not awaited).
     pub fn term_answered(&mut self, label: &str, run: u64, ok: bool) -> Result<Step<'_>, Refusal>
-        ensures answer { IsAnswer (OfJob label.now (Answered (answers.Termed run ok))) self.old result }
+        ensures answer { IsAnswer (OfJob label.now (Answered (answers.Termed run ok)))
+            self.old result }
         ensures memory { NeedsNoMemory result }
         ensures known { IfOk result AreKnown }
-        ensures* kept { sem 𝓛 (GoesOn self.entry result (OfJob label.now (Answered (answers.Termed run ok)))) }
+        ensures* kept { sem 𝓛
+            (GoesOn self.entry result (OfJob label.now (Answered (answers.Termed run ok)))) }
     {
         self.jobs
             .tell(label, JobEvent::Answered(Answer::Termed { run, ok }))?;
@@ -261,10 +274,12 @@ impl JobTable {
 
     /// KILL was given to a run, or refused. Refusals: BadRequest (no label), NoSuchJob, Stale (this answer is not awaited).
     pub fn kill_answered(&mut self, label: &str, run: u64, ok: bool) -> Result<Step<'_>, Refusal>
-        ensures answer { IsAnswer (OfJob label.now (Answered (answers.Killed run ok))) self.old result }
+        ensures answer { IsAnswer (OfJob label.now (Answered (answers.Killed run ok)))
+            self.old result }
         ensures memory { NeedsNoMemory result }
         ensures known { IfOk result AreKnown }
-        ensures* kept { sem 𝓛 (GoesOn self.entry result (OfJob label.now (Answered (answers.Killed run ok)))) }
+        ensures* kept { sem 𝓛
+            (GoesOn self.entry result (OfJob label.now (Answered (answers.Killed run ok)))) }
     {
         self.jobs
             .tell(label, JobEvent::Answered(Answer::Killed { run, ok }))?;
@@ -309,7 +324,8 @@ impl JobTable {
     /// Removes the job once its child has ended, as `unload` of launchctl(1) without `-w`: no setting is written. Refusals:
     /// BadRequest (no label), NoSuchJob, Removing.
     pub fn unload(&mut self, label: &str) -> Result<Step<'_>, Refusal>
-        ensures answer { (store : Bool) → IsAnswer (UnloadJob label.now false store) self.old result }
+        ensures answer { (store : Bool) →
+            IsAnswer (UnloadJob label.now false store) self.old result }
         ensures memory { NeedsNoMemory result }
         ensures known { IfOk result AreKnown }
         ensures* kept { sem 𝓛 (GoesOn self.entry result (UnloadJob label.now false true)) }
@@ -358,8 +374,10 @@ impl JobTable {
     /// The text of `print` of launchctl(1): what one job is doing, its runs and its last end, and whether it is disabled.
     /// Refusals: BadRequest (no label), NoSuchJob; NoMemory.
     pub fn print(&self, alloc: Global, label: &str) -> Result<String, Refusal>
-        ensures text { IfOk result (λ text. IsToldText (PrintJob label.now) self.now (string_bytes text)) }
-        ensures refused { IfErr result (λ refusal. Tells refusal ((s : State) → KeepsState self.now s → refusal_in s (PrintJob label.now) ≡ Some refusal)) }
+        ensures text { IfOk result (λ text.
+            IsToldText (PrintJob label.now) self.now (string_bytes text)) }
+        ensures refused { IfErr result (λ refusal. Tells refusal ((s : State) →
+            KeepsState self.now s → refusal_in s (PrintJob label.now) ≡ Some refusal)) }
     {
         self.jobs.print(alloc, label)
     }

@@ -38,21 +38,31 @@ pub fn visit_ready(
     requires stay { AllStay entries.old }
     requires few { length entries.old ≤ 1024 }
     requires room { vec_len orders.old + 66 * length entries.old ≤ vec_capacity orders.old }
-    requires inside { (place moment : ℕ) → moment_in ready.old place ≡ Some moment → place < length entries.old }
+    requires inside { (place moment : ℕ) → moment_in ready.old place ≡ Some moment →
+        place < length entries.old }
     requires marks { (place moment : ℕ) → moment_in ready.old place ≡ Some moment → moment ≡ 0 }
     requires spared { AreSpared ready.old before news 0 entries.old }
     requires once { IsOnce (map name entries.old) }
     requires numbers { HaveRoom timers.old (map name entries.old) }
-    requires timed { (place : ℕ) (entry : Entry) → slice_get entries.old place ≡ Some entry → is_spared ready.old place ≡ true → moment_in timers.old entry.number ≡ moment_for entry now.up }
+    requires timed { (place : ℕ) (entry : Entry) → slice_get entries.old place ≡ Some entry →
+        is_spared ready.old place ≡ true →
+        moment_in timers.old entry.number ≡ moment_for entry now.up }
     requires alone { AreAlone timers.old (map name entries.old) }
-    ensures kept { (jobs : List Job) (item : Job → Option Item) → AreFor news.entry item (rows entries.old) jobs → IsAccepted before item → AreAtRest ready.old 0 (told item jobs) →
-        KeepsJobs before (rows entries.old) jobs → KeepsJobs now (rows entries.new) (filter_map job_stays (told item jobs)) }
-    ensures orders { (jobs : List Job) (item : Job → Option Item) → AreFor news.entry item (rows entries.old) jobs → IsAccepted before item → AreAtRest ready.old 0 (told item jobs) →
-        KeepsJobs before (rows entries.old) jobs → orders.new.items ≡ orders.old.items ++ numbered_all (rows entries.old) (told item jobs) }
+    ensures kept { (jobs : List Job) (item : Job → Option Item) →
+        AreFor news.entry item (rows entries.old) jobs → IsAccepted before item →
+        AreAtRest ready.old 0 (told item jobs) →
+        KeepsJobs before (rows entries.old) jobs →
+        KeepsJobs now (rows entries.new) (filter_map job_stays (told item jobs)) }
+    ensures orders { (jobs : List Job) (item : Job → Option Item) →
+        AreFor news.entry item (rows entries.old) jobs → IsAccepted before item →
+        AreAtRest ready.old 0 (told item jobs) →
+        KeepsJobs before (rows entries.old) jobs →
+        orders.new.items ≡ orders.old.items ++ numbered_all (rows entries.old) (told item jobs) }
     ensures visited { result.0 ≡ count_visited ready.old 0 entries.new }
     ensures stay { result.1 ≡ true → AllStay entries.new }
     ensures asked { AreVisitedOnce ready.old 0 entries.old entries.new }
-    ensures known { (names : List Name) → list_all (is_named names) entries.old ≡ true → list_all (is_known names) orders.old.items ≡ true →
+    ensures known { (names : List Name) → list_all (is_named names) entries.old ≡ true →
+        list_all (is_known names) orders.old.items ≡ true →
         list_all (is_known names) orders.new.items ≡ true }
     ensures names { map name entries.new ≡ map name entries.old }
     ensures capacity { vec_capacity orders.new ≡ vec_capacity orders.old }

@@ -42,7 +42,8 @@ impl WantedMinutes {
 
     /// Takes in those of one more calendar.
     pub fn add(&mut self, calendar: &[Due])
-        ensures { (minute : ℕ) → is_wanted self.new minute ≡ (is_wanted self.old minute || wants calendar.now minute) }
+        ensures { (minute : ℕ) →
+            is_wanted self.new minute ≡ (is_wanted self.old minute || wants calendar.now minute) }
     {
         for due in calendar {
             self.add_minute(due.minute);
@@ -50,7 +51,8 @@ impl WantedMinutes {
     }
 
     fn add_minute(&mut self, wanted: Option<u8>)
-        ensures { (minute : ℕ) → is_wanted self.new minute ≡ (is_wanted self.old minute || allows wanted minute) }
+        ensures { (minute : ℕ) →
+            is_wanted self.new minute ≡ (is_wanted self.old minute || allows wanted minute) }
     {
         match wanted {
             Some(value) => self.flags[value as usize] = true,

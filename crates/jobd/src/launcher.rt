@@ -28,7 +28,7 @@ fn asked(alloc: Global, table: &mut JobTable, event: Event) -> Result<Vec<u8>, A
     match event {
         Event::Load {
             def,
-            w,
+            writes_setting,
             force,
             bind,
             store,
@@ -37,20 +37,24 @@ fn asked(alloc: Global, table: &mut JobTable, event: Event) -> Result<Vec<u8>, A
             table,
             def.as_str(),
             LoadWords {
-                w,
+                writes_setting,
                 force,
                 bind,
                 store,
             },
         ),
-        Event::Unload { job, w, store } => loads::unload(alloc, table, job.as_str(), w, store),
+        Event::Unload {
+            job,
+            writes_setting,
+            store,
+        } => loads::unload(alloc, table, job.as_str(), writes_setting, store),
         Event::Start { job } => happened(alloc, table, job.as_str(), JobEvent::Asked(Ask::Start)),
         Event::Stop { job } => happened(alloc, table, job.as_str(), JobEvent::Asked(Ask::Stop)),
-        Event::Kickstart { job, k } => happened(
+        Event::Kickstart { job, kills_first } => happened(
             alloc,
             table,
             job.as_str(),
-            JobEvent::Asked(Ask::Kickstart(k)),
+            JobEvent::Asked(Ask::Kickstart(kills_first)),
         ),
         Event::Enable { job, store } => loads::set_disabled(
             alloc,

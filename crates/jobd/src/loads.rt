@@ -14,12 +14,12 @@ use std::alloc::{AllocError, Global};
 
 /// What the outside refuses of a load: the sockets of a job that has any, then the store, where a setting is written.
 fn refused_outside(def: &Def, words: LoadWords) -> Option<Refusal>
-    ensures { result ≡ refusal_outside def.now words.w words.bind words.store }
+    ensures { result ≡ refusal_outside def.now words.writes_setting words.bind words.store }
 {
     if def.has_sockets() && !words.bind {
         return Some(Refusal::SocketRefused);
     }
-    if words.w && !words.store {
+    if words.writes_setting && !words.store {
         return Some(Refusal::StoreRefused);
     }
     None
@@ -33,10 +33,10 @@ pub(crate) fn load(
     words: LoadWords,
 ) -> Result<Vec<u8>, AllocError>
     ensures { IfOk result (λ line. IsAnswered
-        (load_of def.now words.w words.force words.bind words.store)
+        (load_of def.now words.writes_setting words.force words.bind words.store)
         table.old table.new line.items) }
 {
-    match table.prepare_load(alloc, def.as_bytes(), words.w, words.force) {
+    match table.prepare_load(alloc, def.as_bytes(), words.writes_setting, words.force) {
         Ok(ready) => {
             if let Some(refusal) = refused_outside(ready.def(), words) {
                 return refused_line(alloc, refusal);
@@ -53,7 +53,7 @@ pub(crate) fn load(
 /// The words of a load, and what the outside answers to it.
 #[derive(Clone, Copy)]
 pub(crate) struct LoadWords {
-    pub(crate) w: bool,
+    pub(crate) writes_setting: bool,
     pub(crate) force: bool,
     pub(crate) bind: bool,
     pub(crate) store: bool,
@@ -98,18 +98,18 @@ pub(crate) fn set_disabled(
     set(alloc, table, job, disabled, false, store)
 }
 
-/// The job is to be removed, with `w` its label disabled too.
+/// The job is to be removed, with `writes_setting` its label disabled too.
 pub(crate) fn unload(
     alloc: Global,
     table: &mut JobTable,
     job: &str,
-    w: bool,
+    writes_setting: bool,
     store: bool,
 ) -> Result<Vec<u8>, AllocError>
-    ensures { IfOk result (λ line. IsAnswered (UnloadJob job.now w store)
+    ensures { IfOk result (λ line. IsAnswered (UnloadJob job.now writes_setting store)
         table.old table.new line.items) }
 {
-    if w {
+    if writes_setting {
         set(alloc, table, job, true, true, store)
     } else {
         answer_line(alloc, table.unload(job))

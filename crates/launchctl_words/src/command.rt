@@ -37,15 +37,15 @@ impl Paths {
 /// What the control program is asked to do. A label is that of launchctl(1)'s `label`; a target names one too.
 #[derive(Drop)]
 pub enum Command {
-    /// Hand in each definition; `write` also enables its label, `force` loads a disabled one too.
+    /// Hand in each definition; `writes_setting` also enables its label, `force` loads a disabled one too.
     Load {
-        write: bool,
+        writes_setting: bool,
         force: bool,
         paths: Paths,
     },
-    /// Remove the job of each definition; `write` also disables its label.
+    /// Remove the job of each definition; `writes_setting` also disables its label.
     Unload {
-        write: bool,
+        writes_setting: bool,
         paths: Paths,
     },
     Start {
@@ -60,9 +60,9 @@ pub enum Command {
     Disable {
         label: Text,
     },
-    /// Start the job now; with `kill` its running child is ended by KILL first.
+    /// Start the job now; with `kills_first` its running child is ended by KILL first.
     Kickstart {
-        kill: bool,
+        kills_first: bool,
         label: Text,
     },
     List,

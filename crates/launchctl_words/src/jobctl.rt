@@ -24,20 +24,23 @@ fn read_files(
     ensures { IfOk result (λ command. command ≡ files_meant name.now (rows_in found.now)) }
 {
     if name == "load" {
-        let write = is_set(found, "write");
+        let writes_setting = is_set(found, "write");
         let force = is_set(found, "force");
         match values_of(alloc, found, "paths")? {
             Some(paths) => Ok(Some(Command::Load {
-                write,
+                writes_setting,
                 force,
                 paths,
             })),
             None => Ok(None),
         }
     } else if name == "unload" {
-        let write = is_set(found, "write");
+        let writes_setting = is_set(found, "write");
         match values_of(alloc, found, "paths")? {
-            Some(paths) => Ok(Some(Command::Unload { write, paths })),
+            Some(paths) => Ok(Some(Command::Unload {
+                writes_setting,
+                paths,
+            })),
             None => Ok(None),
         }
     } else {
@@ -130,9 +133,9 @@ fn read_targets(
     ensures { IfOk result (λ command. command ≡ spec.targets_meant name.now (rows_in found.now)) }
 {
     if name == "kickstart" {
-        let kill = is_set(found, "kill");
+        let kills_first = is_set(found, "kill");
         match target_in(alloc, found)? {
-            Some(label) => Ok(Some(Command::Kickstart { kill, label })),
+            Some(label) => Ok(Some(Command::Kickstart { kills_first, label })),
             None => Ok(None),
         }
     } else if name == "print" {

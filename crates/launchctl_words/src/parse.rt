@@ -17,7 +17,8 @@ pub fn parse<'a>(
         IfOk result (λ m. IsFound (app_of command.entry) (map string_bytes words.entry.now) m) }
     ensures usage { is_simple_and_free (app_of command.entry) ≡ true
         → IfErr result (λ e. e ≡ WordFault.Usage
-        → is_none_left (fault_of (app_of command.entry) (map string_bytes words.entry.now)) ≡ false) }
+        → is_none_left (fault_of (app_of command.entry) (map string_bytes words.entry.now))
+        ≡ false) }
 {
     match command.try_get_matches_from(words) {
         Ok(matches) => Ok(matches),

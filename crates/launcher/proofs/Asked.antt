@@ -31,18 +31,18 @@ use Rattle.launcher.proofs.Heard.{no_call, no_store, hears, spared, wordless, se
 
 -- ---- loads and settings
 
-pub loaded : (bytes : List ℕ) (w force : Bool) (asked : Asked) (refusal : Option Refusal) (words : List ℕ) (old new : Standing) (before after : List Setting → Type 0) →
+pub loaded : (bytes : List ℕ) (writes_setting force : Bool) (asked : Asked) (refusal : Option Refusal) (words : List ℕ) (old new : Standing) (before after : List Setting → Type 0) →
     (is_memory refusal ≡ true → IsUntouched old.table new.table old.calls new.calls old.stores new.stores) → (is_memory refusal ≡ true → new.journal ≡ old.journal) →
-    (is_memory refusal ≡ false → (s : State) → IsLed s → KeepsState old.table s → LoadTurnOf s bytes w force asked refusal new.table old.calls new.calls old.stores new.stores old.journal new.journal) →
-    ((s : State) → KeepsState old.table s → before s.settings → after (settings_after refusal s (load_of bytes w force asked.bind asked.store))) →
-    (refusal ≡ None → (s : State) → KeepsState old.table s → (outcome s (load_of bytes w force asked.bind asked.store)).text ≡ words) →
-    Hears (Some (told.Load bytes w force true true)) refusal words old new before after
-loaded bytes w force asked refusal words old new before after untouched silent turned stored text =
-    hears (told.Load bytes w force true true) refusal words old new before after
+    (is_memory refusal ≡ false → (s : State) → IsLed s → KeepsState old.table s → LoadTurnOf s bytes writes_setting force asked refusal new.table old.calls new.calls old.stores new.stores old.journal new.journal) →
+    ((s : State) → KeepsState old.table s → before s.settings → after (settings_after refusal s (load_of bytes writes_setting force asked.bind asked.store))) →
+    (refusal ≡ None → (s : State) → KeepsState old.table s → (outcome s (load_of bytes writes_setting force asked.bind asked.store)).text ≡ words) →
+    Hears (Some (told.Load bytes writes_setting force true true)) refusal words old new before after
+loaded bytes writes_setting force asked refusal words old new before after untouched silent turned stored text =
+    hears (told.Load bytes writes_setting force true true) refusal words old new before after
     (λ memory. record {
       untouched = untouched memory;
       silent = subst (λ (x : Kept). Grows old.journal x []) (sym (silent memory)) (grows_nothing old.journal);
-      stored = λ s keeps holds. unsettled after refusal s (load_of bytes w force asked.bind asked.store) memory (stored s keeps holds);
+      stored = λ s keeps holds. unsettled after refusal s (load_of bytes writes_setting force asked.bind asked.store) memory (stored s keeps holds);
     })
     (λ other s led keeps.
     let turn = turned other s led keeps in
@@ -54,7 +54,7 @@ loaded bytes w force asked refusal words old new before after untouched silent t
       turn = turn.turn;
       own = turn.own;
       text = λ none. text none s keeps;
-      stored = λ holds. settled after refusal s (load_of bytes w force asked.bind asked.store) other (stored s keeps holds);
+      stored = λ holds. settled after refusal s (load_of bytes writes_setting force asked.bind asked.store) other (stored s keeps holds);
     })
 
 -- a turn of a setting, under each of its names

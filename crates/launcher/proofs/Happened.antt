@@ -50,7 +50,7 @@ same_answer label (answers.Killed run ok) = refl
 same_news : (label : Label) (n : News) → answered well (told_of label n) ≡ told_of label n
 same_news label news.Start = refl
 same_news label news.Stop = refl
-same_news label (news.Kickstart k) = refl
+same_news label (news.Kickstart kills_first) = refl
 same_news label (news.Came conn) = refl
 same_news label (news.Left conn) = refl
 same_news label (news.Ended run how) = refl
@@ -73,7 +73,7 @@ answer_event label (answers.Killed run ok) = refl
 news_event : (label : Label) (n : News) → event_of (told_of label n) ≡ OfJob label (item_told n)
 news_event label news.Start = refl
 news_event label news.Stop = refl
-news_event label (news.Kickstart k) = refl
+news_event label (news.Kickstart kills_first) = refl
 news_event label (news.Came conn) = refl
 news_event label (news.Left conn) = refl
 news_event label (news.Ended run how) = refl
@@ -99,7 +99,7 @@ module _ (s : State) (a : Option (List Entry)) (t : Option (List StoreCall)) whe
   asks_news : (label : Label) (n : News) → AsksOutside s (told_of label n) 0 well a a t t
   asks_news label news.Start = record { bind = refl; store = refl; tells = no_call a; stores = no_store t }
   asks_news label news.Stop = record { bind = refl; store = refl; tells = no_call a; stores = no_store t }
-  asks_news label (news.Kickstart k) = record { bind = refl; store = refl; tells = no_call a; stores = no_store t }
+  asks_news label (news.Kickstart kills_first) = record { bind = refl; store = refl; tells = no_call a; stores = no_store t }
   asks_news label (news.Came conn) = record { bind = refl; store = refl; tells = no_call a; stores = no_store t }
   asks_news label (news.Left conn) = record { bind = refl; store = refl; tells = no_call a; stores = no_store t }
   asks_news label (news.Ended run how) = record { bind = refl; store = refl; tells = no_call a; stores = no_store t }
@@ -122,7 +122,7 @@ own_answer label (answers.Killed run ok) names = tt
 own_news : (label : Label) (n : News) (names : List Name) → IsOwn (told_of label n) names 0
 own_news label news.Start names = tt
 own_news label news.Stop names = tt
-own_news label (news.Kickstart k) names = tt
+own_news label (news.Kickstart kills_first) names = tt
 own_news label (news.Came conn) names = tt
 own_news label (news.Left conn) names = tt
 own_news label (news.Ended run how) names = tt

@@ -64,9 +64,9 @@ AsksSetting s label disabled unload asked calls mid stores stores' =
 -- are the calls once this was asked.
 abbrev pub AsksOutside : State → journal.Event → ℕ → Asked → Option (List Entry) →
     Option (List Entry) → Option (List StoreCall) → Option (List StoreCall) → Type 0
-AsksOutside s (told.Load def w force bind store) job asked calls mid stores stores' =
-    AsksFor (refusal_in s (load_of def w force true true))
-    (def_of def) job w s.reading.wall asked calls mid stores stores'
+AsksOutside s (told.Load def writes_setting force bind store) job asked calls mid stores stores' =
+    AsksFor (refusal_in s (load_of def writes_setting force true true))
+    (def_of def) job writes_setting s.reading.wall asked calls mid stores stores'
 AsksOutside s (told.Unload label true store) job asked calls mid stores stores' =
     AsksSetting s label true true asked calls mid stores stores'
 AsksOutside s (told.Enable label store) job asked calls mid stores stores' =
@@ -77,7 +77,7 @@ AsksOutside s _ job asked calls mid stores stores' = AsksNothing asked calls mid
 
 -- a load asked for the job with the number that it then has
 abbrev pub IsOwn : journal.Event → List Name → ℕ → Type 0
-IsOwn (told.Load def w force bind store) names job =
+IsOwn (told.Load def writes_setting force bind store) names job =
     (d : Described) → def_of def ≡ Ok d → definition_of_number names job ≡ Some d
 IsOwn _ names job = Unit {0}
 

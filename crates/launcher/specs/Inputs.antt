@@ -11,11 +11,12 @@ use Rattle.launcher.specs.declared.input.Input.TheVariants as inputs
 -- what a client may ask, with the outside's answers as given; whatever else a line could tell is no
 -- request
 abbrev pub asked_in : journal.Event → Option journal.Event
-asked_in (told.Load def w force bind store) = Some (told.Load def w force true true)
-asked_in (told.Unload job w store) = Some (told.Unload job w true)
+asked_in (told.Load def writes_setting force bind store) =
+    Some (told.Load def writes_setting force true true)
+asked_in (told.Unload job writes_setting store) = Some (told.Unload job writes_setting true)
 asked_in (told.Start job) = Some (told.Start job)
 asked_in (told.Stop job) = Some (told.Stop job)
-asked_in (told.Kickstart job k) = Some (told.Kickstart job k)
+asked_in (told.Kickstart job kills_first) = Some (told.Kickstart job kills_first)
 asked_in (told.Enable job store) = Some (told.Enable job true)
 asked_in (told.Disable job store) = Some (told.Disable job true)
 asked_in told.List = Some told.List
@@ -48,8 +49,9 @@ event_given (inputs.WaitRefused job run) = if_label job.now (told.WaitRefused jo
 
 -- the event with what the outside answered to it
 abbrev pub answered : Asked → journal.Event → journal.Event
-answered asked (told.Load def w force bind store) = told.Load def w force asked.bind asked.store
-answered asked (told.Unload job w store) = told.Unload job w asked.store
+answered asked (told.Load def writes_setting force bind store) =
+    told.Load def writes_setting force asked.bind asked.store
+answered asked (told.Unload job writes_setting store) = told.Unload job writes_setting asked.store
 answered asked (told.Enable job store) = told.Enable job asked.store
 answered asked (told.Disable job store) = told.Disable job asked.store
 answered asked event = event

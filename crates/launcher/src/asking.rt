@@ -48,14 +48,26 @@ impl<T: SettingStore, E: ChildEdge + SocketEdge, W: Write> Host<T, E, W> {
             result.refusal result.text self.old self.new }
     {
         match asked {
-            Event::Load { def, w, force, .. } => self.load(alloc, def.as_str(), w, force),
-            Event::Unload { job, w, .. } => self.unload(alloc, job.as_str(), w),
+            Event::Load {
+                def,
+                writes_setting,
+                force,
+                ..
+            } => self.load(alloc, def.as_str(), writes_setting, force),
+            Event::Unload {
+                job,
+                writes_setting,
+                ..
+            } => self.unload(alloc, job.as_str(), writes_setting),
             Event::Start { job } => {
                 self.happen(alloc, Happening::ToJob(job.as_str(), News::Start))
             }
             Event::Stop { job } => self.happen(alloc, Happening::ToJob(job.as_str(), News::Stop)),
-            Event::Kickstart { job, k } => {
-                self.happen(alloc, Happening::ToJob(job.as_str(), News::Kickstart(k)))
+            Event::Kickstart { job, kills_first } => {
+                self.happen(
+                    alloc,
+                    Happening::ToJob(job.as_str(), News::Kickstart(kills_first)),
+                )
             }
             Event::Enable { job, .. } => self.set(alloc, job.as_str(), false, false),
             Event::Disable { job, .. } => self.set(alloc, job.as_str(), true, false),
@@ -67,8 +79,9 @@ impl<T: SettingStore, E: ChildEdge + SocketEdge, W: Write> Host<T, E, W> {
     }
 
     /// A load.
-    fn load(&mut self, alloc: Global, def: &str, w: bool, force: bool) -> Reply
-        ensures { HostHears E.told T.told T.holds (Some (events.Load def.now w force true true))
+    fn load(&mut self, alloc: Global, def: &str, writes_setting: bool, force: bool) -> Reply
+        ensures { HostHears E.told T.told T.holds
+            (Some (events.Load def.now writes_setting force true true))
             result.refusal result.text self.old self.new }
     {
         let loaded = load(
@@ -79,7 +92,7 @@ impl<T: SettingStore, E: ChildEdge + SocketEdge, W: Write> Host<T, E, W> {
             alloc,
             &mut self.room,
             def,
-            w,
+            writes_setting,
             force,
         );
         told(alloc, loaded.reply)
@@ -104,12 +117,12 @@ impl<T: SettingStore, E: ChildEdge + SocketEdge, W: Write> Host<T, E, W> {
         done(alloc, changed.reply)
     }
 
-    /// An unload; with `w` the label is disabled too.
-    fn unload(&mut self, alloc: Global, job: &str, w: bool) -> Reply
-        ensures { HostHears E.told T.told T.holds (Some (events.Unload job.now w true))
+    /// An unload; with `writes_setting` the label is disabled too.
+    fn unload(&mut self, alloc: Global, job: &str, writes_setting: bool) -> Reply
+        ensures { HostHears E.told T.told T.holds (Some (events.Unload job.now writes_setting true))
             result.refusal result.text self.old self.new }
     {
-        if w {
+        if writes_setting {
             self.set(alloc, job, true, true)
         } else {
             self.happen(alloc, Happening::Unload(job))

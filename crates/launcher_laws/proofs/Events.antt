@@ -41,11 +41,11 @@ plain_keys (m ∷ more) h = let p = and_parts (are_ascii m.0) (are_plain more) h
 -- ---- events
 
 plain_name : (e : Event) → are_ascii (name_of e) ≡ true
-plain_name (events.Load def w force bind store) = refl
-plain_name (events.Unload job w store) = refl
+plain_name (events.Load def writes_setting force bind store) = refl
+plain_name (events.Unload job writes_setting store) = refl
 plain_name (events.Start job) = refl
 plain_name (events.Stop job) = refl
-plain_name (events.Kickstart job k) = refl
+plain_name (events.Kickstart job kills_first) = refl
 plain_name (events.Enable job store) = refl
 plain_name (events.Disable job store) = refl
 plain_name events.List = refl
@@ -63,11 +63,11 @@ plain_name (events.Ended job run how) = refl
 plain_name (events.WaitRefused job run) = refl
 
 plain_rows : (e : Event) → (are_plain (row_members e) ≡ true) × (are_plain (answer_members e) ≡ true)
-plain_rows (events.Load def w force bind store) = (refl, refl)
-plain_rows (events.Unload job w store) = (refl, refl)
+plain_rows (events.Load def writes_setting force bind store) = (refl, refl)
+plain_rows (events.Unload job writes_setting store) = (refl, refl)
 plain_rows (events.Start job) = (refl, refl)
 plain_rows (events.Stop job) = (refl, refl)
-plain_rows (events.Kickstart job k) = (refl, refl)
+plain_rows (events.Kickstart job kills_first) = (refl, refl)
 plain_rows (events.Enable job store) = (refl, refl)
 plain_rows (events.Disable job store) = (refl, refl)
 plain_rows events.List = (refl, refl)
@@ -86,11 +86,11 @@ plain_rows (events.Ended job run (Signal n)) = (refl, refl)
 plain_rows (events.WaitRefused job run) = (refl, refl)
 
 answers_fit : (e : Event) → AllByRecursion (λ m. IsFit m.1) (answer_members e)
-answers_fit (events.Load def w force bind store) = (tt, (tt, tt))
-answers_fit (events.Unload job w store) = (tt, tt)
+answers_fit (events.Load def writes_setting force bind store) = (tt, (tt, tt))
+answers_fit (events.Unload job writes_setting store) = (tt, tt)
 answers_fit (events.Start job) = tt
 answers_fit (events.Stop job) = tt
-answers_fit (events.Kickstart job k) = tt
+answers_fit (events.Kickstart job kills_first) = tt
 answers_fit (events.Enable job store) = (tt, tt)
 answers_fit (events.Disable job store) = (tt, tt)
 answers_fit events.List = tt
@@ -109,11 +109,11 @@ answers_fit (events.WaitRefused job run) = tt
 
 -- the keys of a line are written in order
 in_order : (e : Event) → again (event_object forms.Event e) ≡ event_object forms.Event e
-in_order (events.Load def w force bind store) = refl
-in_order (events.Unload job w store) = refl
+in_order (events.Load def writes_setting force bind store) = refl
+in_order (events.Unload job writes_setting store) = refl
 in_order (events.Start job) = refl
 in_order (events.Stop job) = refl
-in_order (events.Kickstart job k) = refl
+in_order (events.Kickstart job kills_first) = refl
 in_order (events.Enable job store) = refl
 in_order (events.Disable job store) = refl
 in_order events.List = refl

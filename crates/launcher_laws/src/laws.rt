@@ -31,7 +31,7 @@ pub fn the_store_holds_what_the_machine_sets<T: SettingStore>(store: &T)
     ensures { (header : Header) (calls : Option (List Entry)) (stores : Option (List StoreCall))
         (journal : Kept) (first last : Moment T) (turns : List (Turn T)) →
         (new : IsNew header calls stores journal first.stands
-            (T.holds store.now) (T.holds first.store)) →
+        (T.holds store.now) (T.holds first.store)) →
         AreTurns T.holds first turns last →
         (list : List Setting) → T.holds store.now list → Lasts T.holds new.machine turns last }
 {
@@ -56,7 +56,7 @@ pub fn a_store_opened_again_has_the_last_settings<S: Alter, R: Alter>(
         (listed : List Setting) →
         HoldsEach (rows_in (state R.Store again.now).now.trees) (reverse listed) →
         (lasts : Lasts (λ (s : Stored S). HoldsSettings (state S.Store s.store))
-            new.machine turns last)
+        new.machine turns last)
         × TellAlike (reverse listed) (settings_of lasts) }
 {
     let _ = store;
@@ -68,7 +68,7 @@ pub fn a_replay_writes_what_was_replied<T: SettingStore>(store: &T)
     ensures { (header : Header) (calls : Option (List Entry)) (stores : Option (List StoreCall))
         (first last : Moment T) (turns : List (Turn T)) (bytes : List ℕ) →
         (new : IsNew header calls stores (fresh (Some []) true) first.stands
-            (T.holds store.now) (T.holds first.store)) →
+        (T.holds store.now) (T.holds first.store)) →
         AreTurns T.holds first turns last →
         last.stands.journal.phase ≡ Open → last.stands.journal.bytes ≡ Some bytes →
         IsToldHeader (with_settings header new.settings) →

@@ -48,8 +48,8 @@ told_unless NoMemory P h other = cc
 told_unless _ P h other = h
 
 -- nothing is refused where the outside answers well
-pub well_answered : (d : Described) (w : Bool) → refusal_outside d w true true ≡ None
-well_answered d w = go (has_sockets d) w where
+pub well_answered : (d : Described) (writes_setting : Bool) → refusal_outside d writes_setting true true ≡ None
+well_answered d writes_setting = go (has_sockets d) writes_setting where
   go : (h v : Bool) → refused_if (h && not true) SocketRefused (refusal_stored v true) ≡ None
   go true true = refl
   go true false = refl
@@ -57,8 +57,8 @@ well_answered d w = go (has_sockets d) w where
   go false false = refl
 
 -- the outside doesn't answer that memory ran out
-pub not_memory : (d : Described) (w bind store : Bool) → is_memory (refusal_outside d w bind store) ≡ false
-not_memory d w bind store = go (has_sockets d && not bind) (w && not store) where
+pub not_memory : (d : Described) (writes_setting bind store : Bool) → is_memory (refusal_outside d writes_setting bind store) ≡ false
+not_memory d writes_setting bind store = go (has_sockets d && not bind) (writes_setting && not store) where
   go : (p q : Bool) → is_memory (refused_if p SocketRefused (refused_if q StoreRefused None)) ≡ false
   go true q = refl
   go false true = refl
@@ -92,37 +92,37 @@ nothing_done s e line new r a k n is noted keeps led = record {
 }
 
 -- a load that was refused before the outside was asked
-pub never_asked : (s : State) (bytes : List ℕ) (w force : Bool) (r : Refusal) (new : Table) (a : Option (List Entry)) (t : Option (List StoreCall)) (k n : Kept) →
-    ((bind store : Bool) → refusal_in s (load_of bytes w force bind store) ≡ Some r) → Grows k n (load_line bytes w force (record { bind = true; store = true })) → KeepsState new s → IsLed s →
-    LoadTurnOf s bytes w force (record { bind = true; store = true }) (Some r) new a a t t k n
-never_asked s bytes w force r new a t k n is noted keeps led = record {
+pub never_asked : (s : State) (bytes : List ℕ) (writes_setting force : Bool) (r : Refusal) (new : Table) (a : Option (List Entry)) (t : Option (List StoreCall)) (k n : Kept) →
+    ((bind store : Bool) → refusal_in s (load_of bytes writes_setting force bind store) ≡ Some r) → Grows k n (load_line bytes writes_setting force (record { bind = true; store = true })) → KeepsState new s → IsLed s →
+    LoadTurnOf s bytes writes_setting force (record { bind = true; store = true }) (Some r) new a a t t k n
+never_asked s bytes writes_setting force r new a t k n is noted keeps led = record {
   job = 0;
   mid = a;
-  asks = subst (λ o. AsksFor o (def_of bytes) 0 w s.reading.wall (record { bind = true; store = true }) a a t t) (sym (is true true))
+  asks = subst (λ o. AsksFor o (def_of bytes) 0 writes_setting s.reading.wall (record { bind = true; store = true }) a a t t) (sym (is true true))
       (record { bind = refl; store = refl; tells = none_told a; stores = no_store_told t });
-  turn = nothing_done s (load_of bytes w force true true) (load_line bytes w force (record { bind = true; store = true })) new r a k n (is true true) noted keeps led;
+  turn = nothing_done s (load_of bytes writes_setting force true true) (load_line bytes writes_setting force (record { bind = true; store = true })) new r a k n (is true true) noted keeps led;
   own = λ none. let no : Some r ≡ None = none in cc;
 }
 
-module _ (s : State) (bytes : List ℕ) (w force : Bool) (asked : Asked) (old mid new : Table) (ready : Ready) (a c : Option (List Entry)) (t u : Option (List StoreCall)) (k n : Kept)
-    (admitted : IsAdmitted old bytes w force (described_in ready)) (setting : is_some (setting_in ready) ≡ w) (same : IsSameFor old mid) (led : IsLed s) (keeps : KeepsState old s) where
-  as_read : Load (Ok (given (described_in ready))) (is_some (setting_in ready)) force asked.bind asked.store ≡ load_of bytes w force asked.bind asked.store
+module _ (s : State) (bytes : List ℕ) (writes_setting force : Bool) (asked : Asked) (old mid new : Table) (ready : Ready) (a c : Option (List Entry)) (t u : Option (List StoreCall)) (k n : Kept)
+    (admitted : IsAdmitted old bytes writes_setting force (described_in ready)) (setting : is_some (setting_in ready) ≡ writes_setting) (same : IsSameFor old mid) (led : IsLed s) (keeps : KeepsState old s) where
+  as_read : Load (Ok (given (described_in ready))) (is_some (setting_in ready)) force asked.bind asked.store ≡ load_of bytes writes_setting force asked.bind asked.store
   as_read = λ i. Load (given_in (sym admitted.read i)) (setting i) force asked.bind asked.store
 
-  asks_for : (middle : Option (List Entry)) → Asks (number_in ready) (described_in ready) w mid.reading.wall asked a middle t u →
-      AsksFor (refusal_in s (load_of bytes w force true true)) (def_of bytes) (number_in ready) w s.reading.wall asked a middle t u
+  asks_for : (middle : Option (List Entry)) → Asks (number_in ready) (described_in ready) writes_setting mid.reading.wall asked a middle t u →
+      AsksFor (refusal_in s (load_of bytes writes_setting force true true)) (def_of bytes) (number_in ready) writes_setting s.reading.wall asked a middle t u
   asks_for middle asks =
-      subst (λ o. AsksFor o (def_of bytes) (number_in ready) w s.reading.wall asked a middle t u) (sym (admitted.left s true true keeps ∙ well_answered (described_in ready) w))
-      (subst (λ d. AsksFor None d (number_in ready) w s.reading.wall asked a middle t u) (sym admitted.read)
-      (subst (λ n. Asks (number_in ready) (described_in ready) w n asked a middle t u) (ap (λ r. r.wall) (same s keeps).reading) asks))
+      subst (λ o. AsksFor o (def_of bytes) (number_in ready) writes_setting s.reading.wall asked a middle t u) (sym (admitted.left s true true keeps ∙ well_answered (described_in ready) writes_setting))
+      (subst (λ d. AsksFor None d (number_in ready) writes_setting s.reading.wall asked a middle t u) (sym admitted.read)
+      (subst (λ n. Asks (number_in ready) (described_in ready) writes_setting n asked a middle t u) (ap (λ r. r.wall) (same s keeps).reading) asks))
 
   -- a load that the outside was asked about
-  pub load_ended : (refusal : Option Refusal) → EndsLoad ready w mid.reading.wall asked refusal (load_line bytes w force asked) mid new a c t u k n →
-      LoadTurnOf s bytes w force asked refusal new a c t u k n
+  pub load_ended : (refusal : Option Refusal) → EndsLoad ready writes_setting mid.reading.wall asked refusal (load_line bytes writes_setting force asked) mid new a c t u k n →
+      LoadTurnOf s bytes writes_setting force asked refusal new a c t u k n
   load_ended None ends =
-      let none : refusal_in s (load_of bytes w force asked.bind asked.store) ≡ None = admitted.left s asked.bind asked.store keeps ∙ sym ends.answer in
+      let none : refusal_in s (load_of bytes writes_setting force asked.bind asked.store) ≡ None = admitted.left s asked.bind asked.store keeps ∙ sym ends.answer in
       let first = ends.made refl s force asked.bind asked.store led (same s keeps) (ap (refusal_in s) as_read ∙ none) in
-      let made = subst (λ (x : Event). Makes s x (load_line bytes w force asked) (number_in ready) (described_in ready) new ends.mid c k n) as_read first in
+      let made = subst (λ (x : Event). Makes s x (load_line bytes writes_setting force asked) (number_in ready) (described_in ready) new ends.mid c k n) as_read first in
       record {
         job = number_in ready;
         mid = ends.mid;
@@ -131,22 +131,22 @@ module _ (s : State) (bytes : List ℕ) (w force : Bool) (asked : Asked) (old mi
         own = λ is d read. let both : Ok (described_in ready) ≡ Ok d = sym admitted.read ∙ read in made.own ∙ (cc);
       }
   load_ended (Some r) ends =
-      let refused : refusal_in s (load_of bytes w force asked.bind asked.store) ≡ Some r = admitted.left s asked.bind asked.store keeps ∙ sym ends.answer in
+      let refused : refusal_in s (load_of bytes writes_setting force asked.bind asked.store) ≡ Some r = admitted.left s asked.bind asked.store keeps ∙ sym ends.answer in
       let left = ends.refused r refl in
       record {
         job = number_in ready;
         mid = ends.mid;
         asks = asks_for ends.mid ends.asks;
-        turn = subst (λ x. TurnsOf s (load_of bytes w force asked.bind asked.store) (load_line bytes w force asked) (Some r) new ends.mid x k n) (sym left.1)
-            (nothing_done s (load_of bytes w force asked.bind asked.store) (load_line bytes w force asked) new r ends.mid k n refused left.2 (subst (λ x. KeepsState x s) (sym left.0) (same s keeps)) led);
+        turn = subst (λ x. TurnsOf s (load_of bytes writes_setting force asked.bind asked.store) (load_line bytes writes_setting force asked) (Some r) new ends.mid x k n) (sym left.1)
+            (nothing_done s (load_of bytes writes_setting force asked.bind asked.store) (load_line bytes writes_setting force asked) new r ends.mid k n refused left.2 (subst (λ x. KeepsState x s) (sym left.0) (same s keeps)) led);
         own = λ none. let no : Some r ≡ None = none in cc;
       }
 
 -- what the machine then sets is what was stored
-pub load_sets : (s : State) (bytes : List ℕ) (w force : Bool) (asked : Asked) (old : Table) (d : Described) (refusal : Option Refusal) → IsAdmitted old bytes w force d → KeepsState old s →
-    refusal ≡ refusal_outside d w asked.bind asked.store → (has_sockets d ≡ false → asked.bind ≡ true) → ((w && asked.bind) ≡ false → asked.store ≡ true) →
-    settings_after refusal s (load_of bytes w force asked.bind asked.store) ≡ set_if (w && (asked.bind && asked.store)) d.label false s.settings
-load_sets s bytes w force asked old d refusal admitted keeps answer unbound unstored =
-    let e = load_of bytes w force asked.bind asked.store in
-    ap (λ b. if b then s.settings else (step s e).settings) (ap is_memory answer ∙ not_memory d w asked.bind asked.store)
-    ∙ load_settings s bytes d w force asked.bind asked.store admitted.read (admitted.left s asked.bind asked.store keeps) unbound unstored
+pub load_sets : (s : State) (bytes : List ℕ) (writes_setting force : Bool) (asked : Asked) (old : Table) (d : Described) (refusal : Option Refusal) → IsAdmitted old bytes writes_setting force d → KeepsState old s →
+    refusal ≡ refusal_outside d writes_setting asked.bind asked.store → (has_sockets d ≡ false → asked.bind ≡ true) → ((writes_setting && asked.bind) ≡ false → asked.store ≡ true) →
+    settings_after refusal s (load_of bytes writes_setting force asked.bind asked.store) ≡ set_if (writes_setting && (asked.bind && asked.store)) d.label false s.settings
+load_sets s bytes writes_setting force asked old d refusal admitted keeps answer unbound unstored =
+    let e = load_of bytes writes_setting force asked.bind asked.store in
+    ap (λ b. if b then s.settings else (step s e).settings) (ap is_memory answer ∙ not_memory d writes_setting asked.bind asked.store)
+    ∙ load_settings s bytes d writes_setting force asked.bind asked.store admitted.read (admitted.left s asked.bind asked.store keeps) unbound unstored

@@ -7,8 +7,9 @@ use Rattle.ctl_protocol.specs.EventWriter.{event_line}
 use Rattle.load_asking.specs.declared.asking.Asked.{Asked}
 
 -- the journal's event of a load of a definition's bytes, with what the outside answered
-abbrev pub told_load : List ℕ → (w force : Bool) → Asked → journal.Event
-told_load bytes w force asked = told.Load bytes w force asked.bind asked.store
+abbrev pub told_load : List ℕ → (writes_setting force : Bool) → Asked → journal.Event
+told_load bytes writes_setting force asked =
+    told.Load bytes writes_setting force asked.bind asked.store
 
 -- of `enable` or `disable`, or of an unload that disables the label
 abbrev pub told_set : Label → (disabled unload store : Bool) → journal.Event
@@ -16,8 +17,8 @@ told_set label disabled unload store =
     if unload then told.Unload label true store
     else (if disabled then told.Disable label store else told.Enable label store)
 
-abbrev pub load_line : List ℕ → (w force : Bool) → Asked → List ℕ
-load_line bytes w force asked = event_line (told_load bytes w force asked)
+abbrev pub load_line : List ℕ → (writes_setting force : Bool) → Asked → List ℕ
+load_line bytes writes_setting force asked = event_line (told_load bytes writes_setting force asked)
 
 abbrev pub set_line : Label → (disabled unload store : Bool) → List ℕ
 set_line label disabled unload store = event_line (told_set label disabled unload store)

@@ -76,16 +76,16 @@ AsksStore None label disabled wall kept stored stored' =
 -- The turn of a load: first it asked the outside, in the reading's second, for the job with the
 -- number that it then has; the load with these answers, and the answers to what it orders, are a
 -- turn of the machine, whose first line tells these answers.
-pub record LoadTurnOf (s : State) (bytes : List ℕ) (w force : Bool) (asked : Asked)
+pub record LoadTurnOf (s : State) (bytes : List ℕ) (writes_setting force : Bool) (asked : Asked)
     (reply : Option Refusal) (new : Table)
     (told told' : Option (List Entry)) (stored stored' : Option (List StoreCall))
     (written written' : Kept) : Type 0 where
   pub job : ℕ
   pub mid : Option (List Entry)
-  pub asks : AsksFor (refusal_in s (load_of bytes w force true true))
-      (def_of bytes) job w s.reading.wall asked told mid stored stored'
-  pub turn : TurnsOf s (load_of bytes w force asked.bind asked.store)
-      (load_line bytes w force asked) reply new mid told' written written'
+  pub asks : AsksFor (refusal_in s (load_of bytes writes_setting force true true))
+      (def_of bytes) job writes_setting s.reading.wall asked told mid stored stored'
+  pub turn : TurnsOf s (load_of bytes writes_setting force asked.bind asked.store)
+      (load_line bytes writes_setting force asked) reply new mid told' written written'
   pub own : reply ≡ None → (d : Described) → def_of bytes ≡ Ok d →
       definition_of_number turn.names job ≡ Some d
 
@@ -123,13 +123,14 @@ pub record Makes (s : State) (e : Event) (line : List ℕ) (job : ℕ) (d : Desc
 
 -- the outside was asked about a load that was made ready, and its line was written; where the
 -- outside refused, nothing more happened, and else the load was made
-pub record EndsLoad (ready : Ready) (w : Bool) (wall : ℕ) (asked : Asked) (refusal : Option Refusal)
-    (line : List ℕ) (old new : Table)
+pub record EndsLoad (ready : Ready) (writes_setting : Bool) (wall : ℕ) (asked : Asked)
+    (refusal : Option Refusal) (line : List ℕ) (old new : Table)
     (told told' : Option (List Entry)) (stored stored' : Option (List StoreCall))
     (written written' : Kept) : Type 0 where
   pub mid : Option (List Entry)
-  pub asks : Asks (number_in ready) (described_in ready) w wall asked told mid stored stored'
-  pub answer : refusal ≡ refusal_outside (described_in ready) w asked.bind asked.store
+  pub asks : Asks (number_in ready) (described_in ready) writes_setting wall asked told mid
+      stored stored'
+  pub answer : refusal ≡ refusal_outside (described_in ready) writes_setting asked.bind asked.store
   pub refused : (r : Refusal) → refusal ≡ Some r →
       (new ≡ old) × (told' ≡ mid) × Grows written written' line
   pub made : refusal ≡ None → (s : State) (force bind store : Bool) → IsLed s → KeepsState old s

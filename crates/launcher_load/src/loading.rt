@@ -47,13 +47,13 @@ struct Answered {
 }
 
 /// What the outside refuses of a load: the sockets of a job that has any, then the store, where a setting is written.
-fn refused_outside(def: &Def, w: bool, asked: Asked) -> Option<Refusal>
-    ensures { result ≡ refusal_outside def.now w asked.bind asked.store }
+fn refused_outside(def: &Def, writes_setting: bool, asked: Asked) -> Option<Refusal>
+    ensures { result ≡ refusal_outside def.now writes_setting asked.bind asked.store }
 {
     if def.has_sockets() && !asked.bind {
         return Some(Refusal::SocketRefused);
     }
-    if w && !asked.store {
+    if writes_setting && !asked.store {
         return Some(Refusal::StoreRefused);
     }
     None
@@ -98,24 +98,32 @@ fn ask_and_make<E: ChildEdge + SocketEdge, T: SettingStore, W: Write>(
     room: &mut Room,
     ready: Ready,
     def: &str,
-    w: bool,
+    writes_setting: bool,
     force: bool,
 ) -> Answered
     requires ready { IsReady table.old ready }
     requires label { is_label (described_in ready).label ≡ true }
     requires empty { room.old.answers ≡ [] }
-    ensures ends { EndsLoad ready w table.old.reading.wall result.asked result.refusal
-        (load_line def.now w force result.asked) table.old table.new
+    ensures ends { EndsLoad ready writes_setting table.old.reading.wall result.asked result.refusal
+        (load_line def.now writes_setting force result.asked) table.old table.new
         (E.told edge.old) (E.told edge.new)
         (T.told store.old) (T.told store.new) journal.old journal.new }
     ensures stored { HoldsAfter T.holds
-        (set_if (w && (result.asked.bind && result.asked.store)) (described_in ready).label false)
+        (set_if (writes_setting && (result.asked.bind && result.asked.store))
+        (described_in ready).label false)
         store.old store.new }
 {
     let changed = table.reading().wall;
-    let asked = ask_outside(edge, store, ready.job(), ready.def(), w, changed);
-    note_load(journal, alloc, def, w, force, asked);
-    let refusal = refused_outside(ready.def(), w, asked);
+    let asked = ask_outside(
+        edge,
+        store,
+        ready.job(),
+        ready.def(),
+        writes_setting,
+        changed,
+    );
+    note_load(journal, alloc, def, writes_setting, force, asked);
+    let refusal = refused_outside(ready.def(), writes_setting, asked);
     match refusal {
         Some(_) => discard(ready),
         None => make(table, edge, journal, alloc, room, ready),
@@ -153,10 +161,10 @@ fn reply_to(answered: Answered, text: String) -> Loaded
     }
 }
 
-/// A turn that begins with a load, as `load` of launchctl(1): with `w` its label is also enabled, with `force` a disabled
-/// one is loaded too. All memory is taken before the outside is asked, but for that of the journal's lines: want of it closes
-/// the journal and changes nothing else. The journal gets the line of the load with what the outside answered, also where it
-/// is refused, and then the line of each answer.
+/// A turn that begins with a load, as `load` of launchctl(1): with `writes_setting` its label is also enabled, with `force`
+/// a disabled one is loaded too. All memory is taken before the outside is asked, but for that of the journal's lines: want
+/// of it closes the journal and changes nothing else. The journal gets the line of the load with what the outside answered,
+/// also where it is refused, and then the line of each answer.
 ///
 /// Refusals, in this order: ShuttingDown, BadDefinition, Removing or AlreadyLoaded, TooManyJobs (1,024), Disabled; NoMemory;
 /// SocketRefused, where the sockets were not bound, StoreRefused, where the setting was not stored: what was bound is then
@@ -169,7 +177,7 @@ pub fn load<E: ChildEdge + SocketEdge, T: SettingStore, W: Write>(
     alloc: Global,
     room: &mut Room,
     def: &str,
-    w: bool,
+    writes_setting: bool,
     force: bool,
 ) -> Loaded
     ensures memory { is_memory (refusal_told result.reply) ≡ true →
@@ -178,22 +186,33 @@ pub fn load<E: ChildEdge + SocketEdge, T: SettingStore, W: Write>(
     ensures silent { is_memory (refusal_told result.reply) ≡ true → journal.new ≡ journal.old }
     ensures turn { is_memory (refusal_told result.reply) ≡ false → (s : State) → IsLed s →
         KeepsState table.old s
-        → LoadTurnOf s def.now w force result.asked (refusal_told result.reply) table.new
+        → LoadTurnOf s def.now writes_setting force result.asked (refusal_told result.reply)
+        table.new
         (E.told edge.old) (E.told edge.new)
         (T.told store.old) (T.told store.new) journal.old journal.new }
     ensures stored { (s : State) → KeepsState table.old s → T.holds store.old s.settings
         → T.holds store.new (settings_after (refusal_told result.reply) s
-        (load_of def.now w force result.asked.bind result.asked.store)) }
+        (load_of def.now writes_setting force result.asked.bind result.asked.store)) }
     ensures text { IfOk result.reply (λ text. (s : State) → KeepsState table.old s
-        → (outcome s (load_of def.now w force result.asked.bind result.asked.store)).text
+        → (outcome s
+        (load_of def.now writes_setting force result.asked.bind result.asked.store)).text
         ≡ string_bytes text) }
 {
     room.answers.clear();
-    match table.prepare_load(alloc, def.as_bytes(), w, force) {
+    match table.prepare_load(alloc, def.as_bytes(), writes_setting, force) {
         Ok(ready) => match loaded(alloc, ready.def().not_acted_on()) {
             Ok(text) => {
                 let ended = ask_and_make(
-                    table, edge, store, journal, alloc, room, ready, def, w, force,
+                    table,
+                    edge,
+                    store,
+                    journal,
+                    alloc,
+                    room,
+                    ready,
+                    def,
+                    writes_setting,
+                    force,
                 );
                 reply_to(ended, text)
             }
@@ -203,7 +222,7 @@ pub fn load<E: ChildEdge + SocketEdge, T: SettingStore, W: Write>(
             }
         },
         Err(refusal) => {
-            note_load_refused(journal, alloc, def, w, force, refusal);
+            note_load_refused(journal, alloc, def, writes_setting, force, refusal);
             unasked(refusal)
         }
     }

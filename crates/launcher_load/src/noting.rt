@@ -15,16 +15,16 @@ use std::io::Write;
 fn load_event(
     alloc: Global,
     def: &str,
-    w: bool,
+    writes_setting: bool,
     force: bool,
     asked: Asked,
 ) -> Result<Event, AllocError>
-    ensures { IfOk result (λ event. event ≡ told_load def.now w force asked) }
+    ensures { IfOk result (λ event. event ≡ told_load def.now writes_setting force asked) }
 {
     let def = Text::copy_of(alloc, def)?;
     Ok(Event::Load {
         def,
-        w,
+        writes_setting,
         force,
         bind: asked.bind,
         store: asked.store,
@@ -45,7 +45,7 @@ fn set_event(
     if unload {
         return Ok(Event::Unload {
             job,
-            w: true,
+            writes_setting: true,
             store,
         });
     }
@@ -60,13 +60,13 @@ pub(crate) fn note_load<W: Write>(
     journal: &mut Journal<W>,
     alloc: Global,
     def: &str,
-    w: bool,
+    writes_setting: bool,
     force: bool,
     asked: Asked,
 )
-    ensures { Grows journal.old journal.new (load_line def.now w force asked) }
+    ensures { Grows journal.old journal.new (load_line def.now writes_setting force asked) }
 {
-    journal.note_made(alloc, load_event(alloc, def, w, force, asked));
+    journal.note_made(alloc, load_event(alloc, def, writes_setting, force, asked));
 }
 
 /// Writes the line of a setting with this answer. Want of memory for it closes the journal.
@@ -99,13 +99,13 @@ pub(crate) fn note_load_refused<W: Write>(
     journal: &mut Journal<W>,
     alloc: Global,
     def: &str,
-    w: bool,
+    writes_setting: bool,
     force: bool,
     refusal: Refusal,
 )
     ensures noted { is_memory (Some refusal) ≡ false →
         Grows journal.old journal.new
-        (load_line def.now w force (record { bind = true; store = true })) }
+        (load_line def.now writes_setting force (record { bind = true; store = true })) }
     ensures silent { is_memory (Some refusal) ≡ true → journal.new ≡ journal.old }
 {
     if is_want(refusal) {
@@ -115,7 +115,7 @@ pub(crate) fn note_load_refused<W: Write>(
         bind: true,
         store: true,
     };
-    note_load(journal, alloc, def, w, force, asked);
+    note_load(journal, alloc, def, writes_setting, force, asked);
 }
 
 /// Writes the line of a setting that was refused before the store was asked. One that found no memory is no event and gets no

@@ -30,13 +30,13 @@ answers-settings names (p ∷ ps) s = answers-settings names ps (step s (event_i
 pub turn_settings : (s : State) (input : Event) (names : List Name) (entries : List Entry) → (run (input ∷ events_in names entries) s).settings ≡ (step s input).settings
 turn_settings s input names entries = answers-settings names (answers_in entries) (step s input)
 
-load-given : (s : State) (d : Described) (w force bind store : Bool) → refusal_in s (Load (Ok (given d)) w force bind store) ≡ refusal_outside d w bind store →
-    (has_sockets d ≡ false → bind ≡ true) → ((w && bind) ≡ false → store ≡ true) → (step s (Load (Ok (given d)) w force bind store)).settings ≡ set_if (w && (bind && store)) d.label false s.settings
-load-given s d w force bind store left unasked unstored =
-    ap (λ o. (step_by o s (Load (Ok (given d)) w force bind store)).settings) left ∙ go (has_sockets d) refl w bind store unasked unstored where
-      go : (h : Bool) → has_sockets d ≡ h → (w bind store : Bool) → (has_sockets d ≡ false → bind ≡ true) → ((w && bind) ≡ false → store ≡ true) →
-          (step_by (refused_if (h && not bind) SocketRefused (refusal_stored w store)) s (Load (Ok (given d)) w force bind store)).settings ≡ set_if (w && (bind && store)) d.label false s.settings
-      go true is w false store unasked unstored = quiet w where
+load-given : (s : State) (d : Described) (writes_setting force bind store : Bool) → refusal_in s (Load (Ok (given d)) writes_setting force bind store) ≡ refusal_outside d writes_setting bind store →
+    (has_sockets d ≡ false → bind ≡ true) → ((writes_setting && bind) ≡ false → store ≡ true) → (step s (Load (Ok (given d)) writes_setting force bind store)).settings ≡ set_if (writes_setting && (bind && store)) d.label false s.settings
+load-given s d writes_setting force bind store left unasked unstored =
+    ap (λ o. (step_by o s (Load (Ok (given d)) writes_setting force bind store)).settings) left ∙ go (has_sockets d) refl writes_setting bind store unasked unstored where
+      go : (h : Bool) → has_sockets d ≡ h → (writes_setting bind store : Bool) → (has_sockets d ≡ false → bind ≡ true) → ((writes_setting && bind) ≡ false → store ≡ true) →
+          (step_by (refused_if (h && not bind) SocketRefused (refusal_stored writes_setting store)) s (Load (Ok (given d)) writes_setting force bind store)).settings ≡ set_if (writes_setting && (bind && store)) d.label false s.settings
+      go true is writes_setting false store unasked unstored = quiet writes_setting where
         quiet : (v : Bool) → s.settings ≡ set_if (v && false) d.label false s.settings
         quiet true = refl
         quiet false = refl
@@ -46,14 +46,14 @@ load-given s d w force bind store left unasked unstored =
       go false is true true true unasked unstored = refl
       go false is true true false unasked unstored = refl
       go false is false true store unasked unstored = refl
-      go false is w false store unasked unstored = let no : false ≡ true = unasked is in cc
+      go false is writes_setting false store unasked unstored = let no : false ≡ true = unasked is in cc
 
-pub load_settings : (s : State) (bytes : List ℕ) (d : Described) (w force bind store : Bool) → def_of bytes ≡ Ok d → refusal_in s (load_of bytes w force bind store) ≡ refusal_outside d w bind store →
-    (has_sockets d ≡ false → bind ≡ true) → ((w && bind) ≡ false → store ≡ true) →
-    (step s (load_of bytes w force bind store)).settings ≡ set_if (w && (bind && store)) d.label false s.settings
-load_settings s bytes d w force bind store read left unasked unstored =
-    ap (λ r. (step s (Load (given_in r) w force bind store)).settings) read
-    ∙ load-given s d w force bind store (ap (λ r. refusal_in s (Load (given_in r) w force bind store)) (sym read) ∙ left) unasked unstored
+pub load_settings : (s : State) (bytes : List ℕ) (d : Described) (writes_setting force bind store : Bool) → def_of bytes ≡ Ok d → refusal_in s (load_of bytes writes_setting force bind store) ≡ refusal_outside d writes_setting bind store →
+    (has_sockets d ≡ false → bind ≡ true) → ((writes_setting && bind) ≡ false → store ≡ true) →
+    (step s (load_of bytes writes_setting force bind store)).settings ≡ set_if (writes_setting && (bind && store)) d.label false s.settings
+load_settings s bytes d writes_setting force bind store read left unasked unstored =
+    ap (λ r. (step s (Load (given_in r) writes_setting force bind store)).settings) read
+    ∙ load-given s d writes_setting force bind store (ap (λ r. refusal_in s (Load (given_in r) writes_setting force bind store)) (sym read) ∙ left) unasked unstored
 
 pub set_settings : (s : State) (label : Label) (disabled store : Bool) → refusal_in s (Set label disabled store) ≡ refusal_stored true store →
     (step s (Set label disabled store)).settings ≡ set_if store label disabled s.settings

@@ -47,9 +47,9 @@ AreShort jobs = AllByRecursion (λ (l : Label). length l ≤ 255) (labels_of job
 
 taken-short : (s : State) (e : Event) → IsShort e → AreShort s.jobs → AreShort (taken s e).jobs
 taken-short s Unreadable is short = short
-taken-short s (Load (Err fault) w force bind store) is short = short
-taken-short s (Load (Ok given) w force bind store) is short = all-with (λ (l : Label). length l ≤ 255) (record { label = given.label; past = Loaded given.definition s.reading ∷ [] }) is s.jobs short
-taken-short s (UnloadJob label w store) is short = subst (AllByRecursion (λ (l : Label). length l ≤ 255)) (sym (told_one-labels label (Asked Unload) s.jobs)) short
+taken-short s (Load (Err fault) writes_setting force bind store) is short = short
+taken-short s (Load (Ok given) writes_setting force bind store) is short = all-with (λ (l : Label). length l ≤ 255) (record { label = given.label; past = Loaded given.definition s.reading ∷ [] }) is s.jobs short
+taken-short s (UnloadJob label writes_setting store) is short = subst (AllByRecursion (λ (l : Label). length l ≤ 255)) (sym (told_one-labels label (Asked Unload) s.jobs)) short
 taken-short s (Set label disabled store) is short = short
 taken-short s ListJobs is short = short
 taken-short s (PrintJob label) is short = short

@@ -12,7 +12,7 @@ use Rattle.launcher_turn.specs.declared.happening.Happening.TheVariants as happe
 abbrev pub item_told : News → Item
 item_told news.Start = Asked asks.Start
 item_told news.Stop = Asked asks.Stop
-item_told (news.Kickstart k) = Asked (asks.Kickstart k)
+item_told (news.Kickstart kills_first) = Asked (asks.Kickstart kills_first)
 item_told (news.Came conn) = Came conn
 item_told (news.Left conn) = Left conn
 item_told (news.Ended run how) = RunEnded run how

@@ -25,7 +25,7 @@ told_answer job (answers.Killed run ok) = told.Killed job run ok
 abbrev pub told_of : Label → News → journal.Event
 told_of job news.Start = told.Start job
 told_of job news.Stop = told.Stop job
-told_of job (news.Kickstart k) = told.Kickstart job k
+told_of job (news.Kickstart kills_first) = told.Kickstart job kills_first
 told_of job (news.Came conn) = told.Came job conn
 told_of job (news.Left conn) = told.Left job conn
 told_of job (news.Ended run how) = told.Ended job run how

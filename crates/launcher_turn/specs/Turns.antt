@@ -160,7 +160,7 @@ pub record IsLed (s : State) : Type 0 where
 
 -- a load names a label that is not too long
 abbrev pub IsShort : Event → Type 0
-IsShort (Load (Ok given) w force bind store) = length given.label ≤ 255
+IsShort (Load (Ok given) writes_setting force bind store) = length given.label ≤ 255
 IsShort _ = Unit {0}
 
 abbrev pub refusal_told : {A : Type 0} → Result A Refusal → Option Refusal

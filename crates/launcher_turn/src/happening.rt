@@ -53,7 +53,7 @@ pub(crate) fn job_event(news: News) -> JobEvent<'static>
     match news {
         News::Start => JobEvent::Asked(Ask::Start),
         News::Stop => JobEvent::Asked(Ask::Stop),
-        News::Kickstart(k) => JobEvent::Asked(Ask::Kickstart(k)),
+        News::Kickstart(kills_first) => JobEvent::Asked(Ask::Kickstart(kills_first)),
         News::Came(conn) => JobEvent::Came(conn),
         News::Left(conn) => JobEvent::Left(conn),
         News::Ended(run, how) => JobEvent::Ended(run, how),

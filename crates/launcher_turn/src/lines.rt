@@ -26,7 +26,7 @@ fn job_line(job: Text, news: News) -> Event
     match news {
         News::Start => Event::Start { job },
         News::Stop => Event::Stop { job },
-        News::Kickstart(k) => Event::Kickstart { job, k },
+        News::Kickstart(kills_first) => Event::Kickstart { job, kills_first },
         News::Came(conn) => Event::Came { job, conn },
         News::Left(conn) => Event::Left { job, conn },
         News::Ended(run, how) => Event::Ended { job, run, how },
@@ -53,7 +53,7 @@ pub(crate) fn event_made(alloc: Global, what: Happening<'_>) -> Result<Event, Al
             let job = Text::copy_of(alloc, label)?;
             Ok(Event::Unload {
                 job,
-                w: false,
+                writes_setting: false,
                 store: true,
             })
         }

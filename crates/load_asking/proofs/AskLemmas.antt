@@ -39,44 +39,44 @@ and-false : (b : Bool) → (b && false) ≡ false
 and-false true = refl
 and-false false = refl
 
-module _ (job : ℕ) (d : Described) (w : Bool) (changed : ℕ) (a b c : Entries) (s t : Option (List StoreCall)) where
-  -- once the sockets are bound, or if there are none, the store is asked as w says
-  store_asked : (store : Bool) → AreTold s (store_calls w d.label changed store) t → AreTold s (store_calls (w && true) d.label changed store) t
-  store_asked store told = subst (λ v. AreTold s (store_calls v d.label changed store) t) (sym (and-true w)) told
+module _ (job : ℕ) (d : Described) (writes_setting : Bool) (changed : ℕ) (a b c : Entries) (s t : Option (List StoreCall)) where
+  -- once the sockets are bound, or if there are none, the store is asked as writes_setting says
+  store_asked : (store : Bool) → AreTold s (store_calls writes_setting d.label changed store) t → AreTold s (store_calls (writes_setting && true) d.label changed store) t
+  store_asked store told = subst (λ v. AreTold s (store_calls v d.label changed store) t) (sym (and-true writes_setting)) told
 
   -- a job without sockets
-  pub without : (store : Bool) → has_sockets d ≡ false → (w ≡ false → store ≡ true) → AreTold s (store_calls w d.label changed store) t →
-      Asks job d w changed (record { bind = true; store = store }) a a s t
+  pub without : (store : Bool) → has_sockets d ≡ false → (writes_setting ≡ false → store ≡ true) → AreTold s (store_calls writes_setting d.label changed store) t →
+      Asks job d writes_setting changed (record { bind = true; store = store }) a a s t
   without store none unasked told = record {
     bound = Done;
     tells = subst (λ v. Tells a (load_entries v job (record { bind = true; store = store }) Done) a) (sym none) (Tells-none a);
     stores = store_asked store told;
     bind = sym (ap (λ v. if v then true else true) none);
-    store = λ e. unasked (sym (and-true w) ∙ e);
+    store = λ e. unasked (sym (and-true writes_setting) ∙ e);
   }
 
   -- a bind that went well, and a store that did not refuse
-  pub stored : (store : Bool) → has_sockets d ≡ true → store ≡ true → (w ≡ false → store ≡ true) → AreTold s (store_calls w d.label changed store) t →
-      Tells a ((Bind job, Done) ∷ []) b → Asks job d w changed (record { bind = true; store = store }) a b s t
+  pub stored : (store : Bool) → has_sockets d ≡ true → store ≡ true → (writes_setting ≡ false → store ≡ true) → AreTold s (store_calls writes_setting d.label changed store) t →
+      Tells a ((Bind job, Done) ∷ []) b → Asks job d writes_setting changed (record { bind = true; store = store }) a b s t
   stored store some is unasked told tells = record {
     bound = Done;
     tells = subst (λ v. Tells a (load_entries v job (record { bind = true; store = store }) Done) b) (sym some)
         (subst (λ v. Tells a ((Bind job, Done) ∷ (if not v then (Release job, Done) ∷ [] else [])) b) (sym is) tells);
     stores = store_asked store told;
     bind = sym (ap (λ v. if v then true else true) some);
-    store = λ e. unasked (sym (and-true w) ∙ e);
+    store = λ e. unasked (sym (and-true writes_setting) ∙ e);
   }
 
   -- a bind that went well, and a store that refused
-  pub released : (store : Bool) → has_sockets d ≡ true → store ≡ false → (w ≡ false → store ≡ true) → AreTold s (store_calls w d.label changed store) t →
-      Tells a ((Bind job, Done) ∷ []) b → Tells b ((Release job, Done) ∷ []) c → Asks job d w changed (record { bind = true; store = store }) a c s t
+  pub released : (store : Bool) → has_sockets d ≡ true → store ≡ false → (writes_setting ≡ false → store ≡ true) → AreTold s (store_calls writes_setting d.label changed store) t →
+      Tells a ((Bind job, Done) ∷ []) b → Tells b ((Release job, Done) ∷ []) c → Asks job d writes_setting changed (record { bind = true; store = store }) a c s t
   released store some is unasked told first second = record {
     bound = Done;
     tells = subst (λ v. Tells a (load_entries v job (record { bind = true; store = store }) Done) c) (sym some)
         (subst (λ v. Tells a ((Bind job, Done) ∷ (if not v then (Release job, Done) ∷ [] else [])) c) (sym is) (Tells-append a b c ((Bind job, Done) ∷ []) ((Release job, Done) ∷ []) first second));
     stores = store_asked store told;
     bind = sym (ap (λ v. if v then true else true) some);
-    store = λ e. unasked (sym (and-true w) ∙ e);
+    store = λ e. unasked (sym (and-true writes_setting) ∙ e);
   }
 
 -- a bind that was refused
@@ -84,12 +84,12 @@ fault-not-done : (fault : EdgeFault) → is_done (fault_answer fault) ≡ false
 fault-not-done faults.NoMemory = refl
 fault-not-done faults.Refused = refl
 
-pub unbound : (job : ℕ) (d : Described) (w : Bool) (changed : ℕ) (fault : EdgeFault) (a b : Entries) (s : Option (List StoreCall)) → has_sockets d ≡ true →
-    Tells a ((Bind job, fault_answer fault) ∷ []) b → Asks job d w changed (record { bind = false; store = true }) a b s s
-unbound job d w changed fault a b s some tells = record {
+pub unbound : (job : ℕ) (d : Described) (writes_setting : Bool) (changed : ℕ) (fault : EdgeFault) (a b : Entries) (s : Option (List StoreCall)) → has_sockets d ≡ true →
+    Tells a ((Bind job, fault_answer fault) ∷ []) b → Asks job d writes_setting changed (record { bind = false; store = true }) a b s s
+unbound job d writes_setting changed fault a b s some tells = record {
   bound = fault_answer fault;
   tells = subst (λ v. Tells a (load_entries v job (record { bind = false; store = true }) (fault_answer fault)) b) (sym some) tells;
-  stores = subst (λ v. AreTold s (store_calls v d.label changed true) s) (sym (and-false w)) (told_none s);
+  stores = subst (λ v. AreTold s (store_calls v d.label changed true) s) (sym (and-false writes_setting)) (told_none s);
   bind = sym (ap (λ v. if v then is_done (fault_answer fault) else true) some ∙ fault-not-done fault);
   store = λ e. refl;
 }

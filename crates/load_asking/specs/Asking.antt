@@ -28,13 +28,14 @@ load_entries false job asked bound = []
 load_entries true job asked bound =
     (Bind job, bound) ∷ (if asked.bind && not asked.store then (Release job, Done) ∷ [] else [])
 
--- Each was asked once, in this order: the sockets, and if they are bound, with w, the setting. The
--- answers are those that were given; what was not asked counts as true.
-pub record Asks (job : ℕ) (d : Described) (w : Bool) (changed : ℕ) (asked : Asked)
+-- Each was asked once, in this order: the sockets; then, if they are bound and a setting is to be
+-- written, the store. The answers are those that were given; what was not asked counts as true.
+pub record Asks (job : ℕ) (d : Described) (writes_setting : Bool) (changed : ℕ) (asked : Asked)
     (told told' : Option (List (EdgeCall × Scripted)))
     (stored stored' : Option (List StoreCall)) : Type 0 where
   pub bound : Scripted
   pub tells : Tells told (load_entries (has_sockets d) job asked bound) told'
-  pub stores : AreTold stored (store_calls (w && asked.bind) d.label changed asked.store) stored'
+  pub stores : AreTold stored
+      (store_calls (writes_setting && asked.bind) d.label changed asked.store) stored'
   pub bind : asked.bind ≡ (if has_sockets d then is_done bound else true)
-  pub store : (w && asked.bind) ≡ false → asked.store ≡ true
+  pub store : (writes_setting && asked.bind) ≡ false → asked.store ≡ true

@@ -21,41 +21,47 @@ pub struct Asked {
 }
 
 /// Stores that the label is enabled, if that is wanted. Tells whether it was stored; what is not wanted counts as stored.
-fn ask_store<T: SettingStore>(store: &mut T, label: &str, w: bool, changed: u64) -> bool
+fn ask_store<T: SettingStore>(
+    store: &mut T,
+    label: &str,
+    writes_setting: bool,
+    changed: u64,
+) -> bool
     requires label { is_label label.now ≡ true }
     requires second { changed ≤ 250000000000 }
     ensures told { AreTold (T.told store.old)
-        (store_calls w label.now changed result) (T.told store.new) }
-    ensures unasked { w ≡ false → result ≡ true }
+        (store_calls writes_setting label.now changed result) (T.told store.new) }
+    ensures unasked { writes_setting ≡ false → result ≡ true }
     ensures stored { HoldsAfter T.holds
-        (set_if (w && result) label.now false) store.old store.new }
+        (set_if (writes_setting && result) label.now false) store.old store.new }
 {
-    if w {
+    if writes_setting {
         store.set(label, false, changed)
     } else {
         true
     }
 }
 
-/// Binds the job's sockets, if it has any; then, with `w`, stores that its label is enabled since `changed`, a second of Unix
-/// time. Sockets that can't be bound end it there. If the store refuses, the sockets are given up again.
+/// Binds the job's sockets, if it has any; then, with `writes_setting`, stores that its label is enabled since `changed`, a
+/// second of Unix time. Sockets that can't be bound end it there. If the store refuses, the sockets are given up again.
 pub fn ask_outside<E: SocketEdge, T: SettingStore>(
     edge: &mut E,
     store: &mut T,
     job: JobNo,
     def: &Def,
-    w: bool,
+    writes_setting: bool,
     changed: u64,
 ) -> Asked
     requires label { is_label def.now.label ≡ true }
     requires second { changed ≤ 250000000000 }
-    ensures asked { Asks job def.now w changed result
+    ensures asked { Asks job def.now writes_setting changed result
         (E.told edge.old) (E.told edge.new) (T.told store.old) (T.told store.new) }
     ensures stored { HoldsAfter T.holds
-        (set_if (w && (result.bind && result.store)) def.now.label false) store.old store.new }
+        (set_if (writes_setting && (result.bind && result.store)) def.now.label false)
+        store.old store.new }
 {
     if !def.has_sockets() {
-        let store = ask_store(store, def.label(), w, changed);
+        let store = ask_store(store, def.label(), writes_setting, changed);
         return Asked { bind: true, store };
     }
     match edge.bind(job, def) {
@@ -67,7 +73,7 @@ pub fn ask_outside<E: SocketEdge, T: SettingStore>(
             };
         }
     }
-    let stored = ask_store(store, def.label(), w, changed);
+    let stored = ask_store(store, def.label(), writes_setting, changed);
     if !stored {
         edge.release(job);
     }

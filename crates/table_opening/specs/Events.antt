@@ -11,11 +11,12 @@ use Rattle.ctl_protocol.specs.EventLines.{event_at}
 
 -- the machine's event; a load's definition is what its text reads as
 abbrev pub event_of : journal.Event → Event
-event_of (told.Load def w force bind store) = load_of def w force bind store
-event_of (told.Unload job w store) = UnloadJob job w store
+event_of (told.Load def writes_setting force bind store) =
+    load_of def writes_setting force bind store
+event_of (told.Unload job writes_setting store) = UnloadJob job writes_setting store
 event_of (told.Start job) = OfJob job (Asked Start)
 event_of (told.Stop job) = OfJob job (Asked Stop)
-event_of (told.Kickstart job k) = OfJob job (Asked (Kickstart k))
+event_of (told.Kickstart job kills_first) = OfJob job (Asked (Kickstart kills_first))
 event_of (told.Enable job store) = Set job false store
 event_of (told.Disable job store) = Set job true store
 event_of told.List = ListJobs

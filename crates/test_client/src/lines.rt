@@ -16,7 +16,7 @@ fn letters(alloc: Global, count: usize) -> Result<Text, AllocError> {
 fn load(alloc: Global, count: usize) -> Result<Event, AllocError> {
     Ok(Event::Load {
         def: letters(alloc, count)?,
-        w: false,
+        writes_setting: false,
         force: false,
         bind: true,
         store: true,

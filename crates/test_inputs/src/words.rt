@@ -35,22 +35,25 @@ fn with_label(alloc: Global, name: &str, label: &str) -> Result<String, AllocErr
 fn told(alloc: Global, command: &Command) -> Result<String, AllocError> {
     match command {
         Command::Load {
-            write,
+            writes_setting,
             force,
             paths,
         } => {
-            let mut text = format!(in alloc; "load {write} {force}")?;
+            let mut text = format!(in alloc; "load {writes_setting} {force}")?;
             add_paths(&mut text, paths)?;
             Ok(text)
         }
-        Command::Unload { write, paths } => {
-            let mut text = format!(in alloc; "unload {write}")?;
+        Command::Unload {
+            writes_setting,
+            paths,
+        } => {
+            let mut text = format!(in alloc; "unload {writes_setting}")?;
             add_paths(&mut text, paths)?;
             Ok(text)
         }
-        Command::Kickstart { kill, label } => {
+        Command::Kickstart { kills_first, label } => {
             let label = label.as_str();
-            format!(in alloc; "kickstart {kill} {label}")
+            format!(in alloc; "kickstart {kills_first} {label}")
         }
         Command::Start { label } => with_label(alloc, "start", label.as_str()),
         Command::Stop { label } => with_label(alloc, "stop", label.as_str()),

@@ -95,7 +95,7 @@ pub fn set_stage(
 }
 
 /// Loads a definition.
-pub fn load_on(alloc: Global, stage: &mut Stage, definition: &str, w: bool) -> Loaded {
+pub fn load_on(alloc: Global, stage: &mut Stage, definition: &str, writes_setting: bool) -> Loaded {
     load(
         &mut stage.table,
         &mut stage.edge,
@@ -104,7 +104,7 @@ pub fn load_on(alloc: Global, stage: &mut Stage, definition: &str, w: bool) -> L
         alloc,
         &mut stage.room,
         definition,
-        w,
+        writes_setting,
         false,
     )
 }

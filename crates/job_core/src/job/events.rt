@@ -90,9 +90,9 @@ impl Job {
         }
         match ask {
             Ask::Start => self.started(false),
-            Ask::Kickstart(strikes) => {
-                self.started(strikes);
-                if strikes && self.is_busy() {
+            Ask::Kickstart(kills_first) => {
+                self.started(kills_first);
+                if kills_first && self.is_busy() {
                     self.ending.struck();
                 }
             }

@@ -16,11 +16,11 @@ returns-in-None-clause-ends g c =
     let stored' = g.T.SettingStore.told c.ask_outside-asked.new.store in
     record {
       mid = mid;
-      asks = subst (λ j. Asks j (described_in ready) c.args.w c.args.table.now.reading.wall asked told mid stored stored') c.job.ensures
-          (subst (λ d. Asks c.job.result d c.args.w c.args.table.now.reading.wall asked told mid stored stored') c.def.ensures
-          (subst (λ n. Asks c.job.result c.def.result.now c.args.w n asked told mid stored stored') (ap (λ r. r.wall) c.reading-changed.ensures.last) c.ask_outside-asked.ensures.asked));
-      answer = c.refused_outside-refusal.ensures ∙ ap (λ d. refusal_outside d c.args.w asked.bind asked.store) c.def-2.ensures;
+      asks = subst (λ j. Asks j (described_in ready) c.args.writes_setting c.args.table.now.reading.wall asked told mid stored stored') c.job.ensures
+          (subst (λ d. Asks c.job.result d c.args.writes_setting c.args.table.now.reading.wall asked told mid stored stored') c.def.ensures
+          (subst (λ n. Asks c.job.result c.def.result.now c.args.writes_setting n asked told mid stored stored') (ap (λ r. r.wall) c.reading-changed.ensures.last) c.ask_outside-asked.ensures.asked));
+      answer = c.refused_outside-refusal.ensures ∙ ap (λ d. refusal_outside d c.args.writes_setting asked.bind asked.store) c.def-2.ensures;
       refused = λ r some. clash c.refused_outside-refusal.result r c.in-None.is some;
       made = λ none s force bind store led keeps left.
-          c.make.ensures s force bind store (load_line c.args.def.now c.args.w c.args.force asked) c.args.journal.now c.note_load.ensures led keeps left;
+          c.make.ensures s force bind store (load_line c.args.def.now c.args.writes_setting c.args.force asked) c.args.journal.now c.note_load.ensures led keeps left;
     }

@@ -5,4 +5,4 @@ use Rattle.launcher_load.proofs.noting.note_load.Goals as goal
 
 pub returns : goal.returns
 returns g c =
-    made-line (told_load c.args.def.now c.args.w c.args.force c.args.asked) c.load_event.result _ _ c.load_event.ensures c.note_made.ensures.ok c.note_made.ensures.err
+    made-line (told_load c.args.def.now c.args.writes_setting c.args.force c.args.asked) c.load_event.result _ _ c.load_event.ensures c.note_made.ensures.ok c.note_made.ensures.err

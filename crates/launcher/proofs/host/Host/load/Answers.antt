@@ -18,7 +18,7 @@ returns g c =
     let new = standing c.load-loaded.new.table (g.E.Edge.told c.load-loaded.new.edge) (g.T.SettingStore.told c.load-loaded.new.store) c.load-loaded.new.journal in
     let before = g.T.SettingStore.holds c.args.self.now.store in
     let after = g.T.SettingStore.holds c.load-loaded.new.store in
-    as_replied (Some (events.Load c.args.def.now c.args.w c.args.force true true)) c.told.result.refusal (refusal_told did.reply) c.told.result.text c.told.result.text old new before after c.told.ensures.refusal refl
-    (loaded c.args.def.now c.args.w c.args.force did.asked (refusal_told did.reply) c.told.result.text old new before after c.load-loaded.ensures.memory c.load-loaded.ensures.silent c.load-loaded.ensures.turn
+    as_replied (Some (events.Load c.args.def.now c.args.writes_setting c.args.force true true)) c.told.result.refusal (refusal_told did.reply) c.told.result.text c.told.result.text old new before after c.told.ensures.refusal refl
+    (loaded c.args.def.now c.args.writes_setting c.args.force did.asked (refusal_told did.reply) c.told.result.text old new before after c.load-loaded.ensures.memory c.load-loaded.ensures.silent c.load-loaded.ensures.turn
     c.load-loaded.ensures.stored
-    (load_words string_bytes did.reply c.told.result.text (λ s. KeepsState old.table s) (λ s. (outcome s (load_of c.args.def.now c.args.w c.args.force did.asked.bind did.asked.store)).text) c.load-loaded.ensures.text c.told.ensures.text))
+    (load_words string_bytes did.reply c.told.result.text (λ s. KeepsState old.table s) (λ s. (outcome s (load_of c.args.def.now c.args.writes_setting c.args.force did.asked.bind did.asked.store)).text) c.load-loaded.ensures.text c.told.ensures.text))
