@@ -20,7 +20,7 @@ use Rattle.history_model.specs.Step.{acts_of, orders_of, told, with_item}
 use Rattle.history_model.specs.Skipping.{IsLater}
 use Rattle.job_table.proofs.Skipping.{skipped, skipped-due}
 use Rattle.history_model.proofs.Sparing.{next-same}
-use Rattle.job_table.specs.Rows.{Name, IsOnce, definition_of_number, label_of}
+use Rattle.job_table.specs.Tables.{Name, IsOnce, definition_of_number, label_of}
 use Rattle.job_table.specs.Kept.{KeepsJob, KeepsJobs, IsAtRest, numbered, numbered_all, labelled}
 use Rattle.job_table.specs.Counts.{counts, count_in, next_count, went_up, is_near, IsCounted}
 use Rattle.job_table.specs.Entries.{row, name, rows, AllStay}

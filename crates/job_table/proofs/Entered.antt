@@ -1,7 +1,7 @@
 -- A new job stands among the others, which rest.
-use Rattle.std.proofs.Common.{◌≡◌, ◌≢◌, ℕ, zero, suc, ◌+◌, ◌*◌, ◌==◌, ◌<◌, ◌≤◌, Bool, true, false, ◌||◌, cond, List, [], ◌∷◌, ◌++◌, map, take, drop, length, Option, Some, None, refl, sym, ap, ◌∙◌, subst, arith}
+use Rattle.std.proofs.Common.{◌≡◌, ◌≢◌, ℕ, zero, suc, ◌+◌, ◌==◌, ◌<◌, ◌≤◌, Bool, true, false, ◌||◌, cond, List, [], ◌∷◌, ◌++◌, map, take, drop, length, Option, Some, None, refl, sym, ap, ◌∙◌, subst, arith}
 use Rattle.std.specs.Prelude.{slice_get, unwrap_or}
-use Rattle.std.specs.List.{position, list_all, AllByRecursion}
+use Rattle.std.specs.List.{position, list_all, list_any, AllByRecursion}
 use Rattle.std.specs.Global.{Vec}
 use Rattle.std.specs.Vec.{vec_capacity, vec_len}
 use Rattle.std.proofs.lemmas.Bool.Decides.{nat_tests}
@@ -13,13 +13,14 @@ use Rattle.history_model.specs.Labels.{Label, is_same}
 use Rattle.history_model.specs.Machine.{Job}
 use Rattle.history_model.specs.Step.{with_job}
 use Rattle.history_model.specs.WholeLaws.{AreInOrder}
-use Rattle.job_table.specs.Rows.{Row, IsOnce, is_known, labels_in}
+use Rattle.job_table.specs.Tables.{Row, IsOnce, is_known, labels_in}
 use Rattle.job_table.specs.Kept.{KeepsJob, KeepsJobs, IsAtRest}
 use Rattle.job_table.specs.Entries.{row, name, has_label, is_above, place_for, entered}
 use Rattle.job_table.specs.Index.{moment_for, IsNamed, IsIndexed}
 use Rattle.job_table.specs.Loads.{IsReady}
 use Rattle.job_table.specs.Minutes.{is_some_entry, some_calendar}
-use Rattle.job_table.specs.Wanted.{is_wanted, wants, some_wants}
+use Rattle.job_table.specs.Triggers.{under, listed_in, AreOrdered}
+use Rattle.job_table.specs.declared.trigger.Listed.{Listed}
 use Rattle.job_table.specs.News.{is_touched}
 use Rattle.job_table.specs.Sound.{seen, AreHeld, AreFree, IsSound}
 use Rattle.job_table.specs.Touched.{AreTimedBut, RestBut}
@@ -31,7 +32,7 @@ use Rattle.job_table.proofs.Firsts.{IsFirstWhere, NonePasses, first-where, none-
 use Rattle.job_table.proofs.Entering.{once-placed, is-other, held-placed, before-job, calendars-placed}
 use Rattle.job_table.proofs.Growing.{index-placed}
 use Rattle.job_table.proofs.Releasing.{free-placed}
-use Rattle.job_table.proofs.Wanting.{wanted-placed}
+use Rattle.job_table.proofs.Triggering.{exact-placed}
 use Rattle.job_table.proofs.Ordering.{order-placed}
 use Rattle.job_table.proofs.Touched.{rest-each}
 
@@ -109,8 +110,9 @@ rest-entered at new job this rs es jobs (Some k) keeps is rests =
 pub entered-sound : (old new : Jobs) (ready : Ready) → IsSound old → IsReady (seen old) ready → new.reading ≡ old.reading → new.entries.items ≡ entered ready.entry old.entries.items →
     vec_len new.entries ≡ vec_len old.entries + 1 → new.orders ≡ old.orders → get old.numbers old.numbers.vacant_key ≡ None → Updates old.numbers new.numbers old.numbers.vacant_key (Some tt) →
     new.index ≡ old.index → new.has_calendars ≡ (old.has_calendars || is_some_entry ready.entry.def.calendar) →
-    ((minute : ℕ) → is_wanted new.wanted minute ≡ (is_wanted old.wanted minute || wants ready.entry.def.calendar minute)) → IsSound new
-entered-sound old new ready sound is reading entries count orders vacant numbers index calendars wanted =
+    ((test : Listed → Bool) → list_any test new.triggers.items ≡ (list_any test old.triggers.items || list_any (λ trigger. test (under ready.entry.number trigger)) ready.triggers.items)) →
+    AreOrdered new.triggers.items → IsSound new
+entered-sound old new ready sound is reading entries count orders vacant numbers index calendars exact listed =
     let es = old.entries.items in
     let own = ready.entry in
     let k = place_for own.def.label es in
@@ -131,8 +133,12 @@ entered-sound old new ready sound is reading entries count orders vacant numbers
           (index-placed old.index own es k (subst (λ n. n < room_of old.index.timers) (sym is.number) is.moments)
           (subst (λ n. n < length old.index.places.items) (sym is.number) is.numbered) (let marks = is.marks in omega (arith, marks)) sound.named));
       calendars = calendars ∙ ap (λ b. b || is_some_entry own.def.calendar) sound.calendars ∙ sym (calendars-placed own es k) ∙ ap (λ all. some_calendar (map name all)) (sym entries);
-      wanted = λ minute. wanted minute ∙ ap (λ b. b || wants own.def.calendar minute) (sound.wanted minute) ∙ sym (wanted-placed minute own es k)
-          ∙ ap (λ all. some_wants (map name all) minute) (sym entries);
+      listed = record {
+        exact = subst (λ all. (test : Listed → Bool) → list_any test new.triggers.items ≡ list_any test (listed_in (map name all))) (sym entries)
+            (exact-placed old.triggers.items new.triggers.items own es k sound.listed.exact
+            (λ test. exact test ∙ ap (λ ts. list_any test old.triggers.items || list_any (λ trigger. test (under own.number trigger)) ts) is.touches));
+        order = listed;
+      };
       order = subst (λ all. AreInOrder (labels_in (map name all))) (sym entries) (order-placed own es is.absent sound.order);
     }
 
@@ -155,7 +161,7 @@ replaced-sound t places long sound = record {
     marks = sound.named.marks;
   };
   calendars = sound.calendars;
-  wanted = sound.wanted;
+  listed = sound.listed;
   order = sound.order;
 }
 

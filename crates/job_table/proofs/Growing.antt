@@ -5,7 +5,7 @@ use Rattle.std.specs.List.{filter}
 use Rattle.std.proofs.lemmas.Bool.Decides.{nat_tests}
 use Rattle.timer_heap.specs.Timers.{moment_in, room, KeepsMoments}
 use Rattle.history_model.specs.Coming.{next_by}
-use Rattle.job_table.specs.Rows.{Row, Name, definition_of_number}
+use Rattle.job_table.specs.Tables.{Row, Name, definition_of_number}
 use Rattle.job_table.specs.Entries.{row, rows, name, stays, AllStay}
 use Rattle.job_table.specs.Index.{moment_for, AreTimed, AreAlone, ArePlaced, IsNamed, IsIndexOf}
 use Rattle.job_table.specs.declared.entry.Entry.{Entry}

@@ -33,6 +33,7 @@ pub mod Touched
 pub mod Minutes
 pub mod Withdrawing
 pub mod Entered
-pub mod Wanting
 pub mod Finding
 pub mod Ordering
+pub mod Ranking
+pub mod Triggering

@@ -1,7 +1,7 @@
 -- The numbers of the loaded jobs, before an event and after it.
 use Rattle.std.proofs.Common.{◌≡◌, ℕ, zero, suc, ◌==◌, Bool, true, false, cond, List, [], ◌∷◌, ◌++◌, map, take, drop, Some, refl, sym, ap, ◌∙◌, arith}
 use Rattle.std.specs.List.{AllByRecursion}
-use Rattle.job_table.specs.Rows.{Name, IsOther, IsOnce, Row, definition_of_number}
+use Rattle.job_table.specs.Tables.{Name, IsOther, IsOnce, Row, definition_of_number}
 use Rattle.job_table.specs.Entries.{row, name, rows, AllStay}
 use Rattle.job_table.specs.Numbers.{names_of, IsNumbered}
 use Rattle.job_table.specs.Sound.{seen, IsSound}

@@ -12,7 +12,7 @@ use Rattle.std.proofs.lemmas.Option.{slice_get_within, slice_get-get_or, get_or_
 use Rattle.history_model.specs.Labels.{Label, is_same, is_less, is_before}
 use Rattle.history_model.specs.WholeLaws.{AreInOrder}
 use Rattle.history_model.proofs.Standing.{all-implied}
-use Rattle.job_table.specs.Rows.{labels_in}
+use Rattle.job_table.specs.Tables.{labels_in}
 use Rattle.job_table.specs.Entries.{name, stays, has_label, is_above, is_here}
 use Rattle.job_table.specs.Loads.{IsAbsent}
 use Rattle.job_table.specs.declared.entry.Entry.{Entry}
@@ -26,18 +26,18 @@ reversed a b Equal e later differ = cc
 reversed a b Greater e later differ = rw (nat_list_cmp_total.antisymm b a, e) refl
 
 -- of two labels that differ one is before the other
-after : (a b : Label) → is_before a b ≡ false → is_same a b ≡ false → is_before b a ≡ true
+pub after : (a b : Label) → is_before a b ≡ false → is_same a b ≡ false → is_before b a ≡ true
 after a b not_before differ = reversed a b (slice_cmp nat_cmp a b) refl not_before (sym (texts_ties a b) ∙ differ)
 
 unless : (b : Bool) → (b ≡ true → ⊥) → b ≡ false
 unless true clash = absurd (clash refl)
 unless false clash = refl
 
-not-true : (b : Bool) → not b ≡ true → b ≡ false
+pub not-true : (b : Bool) → not b ≡ true → b ≡ false
 not-true true e = cc
 not-true false e = refl
 
-not-false : (b : Bool) → not b ≡ false → b ≡ true
+pub not-false : (b : Bool) → not b ≡ false → b ≡ true
 not-false true e = refl
 not-false false e = cc
 
@@ -49,7 +49,7 @@ ahead label [] all j y at = cc
 ahead label (e ∷ es) all zero y at = let same : e ≡ y = cc in subst (λ x. is_before label x.def.label ≡ true) same all.0
 ahead label (e ∷ es) all (suc j) y at = ahead label es all.1 j y at
 
-in-order : (es : List Entry) → AreInOrder (labels_in (map name es)) → (i j : ℕ) (x y : Entry) → i < j → slice_get es i ≡ Some x → slice_get es j ≡ Some y →
+pub in-order : (es : List Entry) → AreInOrder (labels_in (map name es)) → (i j : ℕ) (x y : Entry) → i < j → slice_get es i ≡ Some x → slice_get es j ≡ Some y →
     is_before x.def.label y.def.label ≡ true
 in-order [] order i j x y less first second = cc
 in-order (e ∷ es) order zero zero x y less first second = absurd (omega (arith, less))

@@ -1,10 +1,10 @@
 -- The jobs that the news do not touch have nothing to do, and are left as they are.
 use Rattle.std.proofs.Common.{◌≡◌, ◌≢◌, ℕ, zero, suc, ◌+◌, ◌==◌, ◌<◌, Bool, true, false, not, ◌||◌, cond, List, [], ◌∷◌, map, length, get_or, Option, Some, None, refl, sym, ap, ◌∙◌, subst, arith, Bor}
-use Rattle.std.specs.Prelude.{slice_get, slice_set, is_none, if◌then◌else◌, Result, Ok, Err, OnOk, IfOk}
+use Rattle.std.specs.Prelude.{slice_get, slice_set, if◌then◌else◌, Result, Ok, Err, OnOk, IfOk}
 use Rattle.std.specs.List.{position, filter, filter_map, flat_map, AllByRecursion}
 use Rattle.std.proofs.lemmas.Bool.Decides.{nat_tests}
 use Rattle.std.proofs.lemmas.Option.{slice_get_within}
-use Rattle.timer_heap.specs.Timers.{Timers, moment_in, Updates}
+use Rattle.timer_heap.specs.Timers.{Timers, moment_in}
 use Rattle.history_model.specs.declared.Reading.{Reading as Moment}
 use Rattle.history_model.specs.Items.{Item, Saw, History}
 use Rattle.history_model.specs.declared.Obs.{Obs}
@@ -13,11 +13,11 @@ use Rattle.history_model.specs.Labels.{Label, is_same}
 use Rattle.history_model.specs.declared.Refusal.{Refusal}
 use Rattle.history_model.specs.Search.{first}
 use Rattle.history_model.specs.Keeps.{reply}
-use Rattle.history_model.specs.Machine.{State, Job, is_of, past_in, sets}
+use Rattle.history_model.specs.Machine.{State, Job, is_of, past_in}
 use Rattle.history_model.specs.Step.{lists, told, told as told_of, told_one, with_item, stays, orders_of}
 use Rattle.job_defs.specs.Definitions.{definition}
 use Rattle.job_defs.specs.Described.{Described}
-use Rattle.job_table.specs.Rows.{Row, Name, IsOther, IsOnce}
+use Rattle.job_table.specs.Tables.{Row, Name, IsOther, IsOnce}
 use Rattle.job_table.specs.Kept.{KeepsJobs, KeepsState, IsAtRest, labelled}
 use Rattle.job_table.specs.Sound.{seen}
 use Rattle.job_table.specs.Alike.{IsAlike}
@@ -35,7 +35,7 @@ use Rattle.job_table.proofs.Lists.{or-false}
 use Rattle.job_table.proofs.Telling.{told-as, told-nothing}
 use Rattle.job_table.specs.declared.entry.Entry.{Entry}
 use Rattle.job_table.specs.declared.jobs.Jobs.{Jobs}
-use Rattle.job_table.proofs.Timing.{get-at, set-same, set-other}
+use Rattle.job_table.proofs.Timing.{set-same, set-other}
 use Rattle.job_table.proofs.Firsts.{IsFirstWhere, first-where, within-where}
 use Rattle.job_table.proofs.Places.{IsFirstAt, rows-all}
 use Rattle.job_table.proofs.Advancing.{name-get}
@@ -44,58 +44,6 @@ use Rattle.job_table.proofs.Handing.{IsHead, alike-state, own-jobs, asked-so}
 use Rattle.job_table.proofs.Setting.{is-label}
 use Rattle.job_table.proofs.Seeking.{same-self}
 use Rattle.job_table.proofs.Entering.{same-false}
-
-none-else : (o : Option ℕ) → ((x : ℕ) → o ≡ Some x → ⊥) → is_none o ≡ true
-none-else None never = refl
-none-else (Some x) never = absurd (never x refl)
-
--- ---- the marks
-
--- the jobs that were passed have a mark where the test passes
-abbrev pub ArePassed : (Entry → Bool) → List Entry → Timers → ℕ → Type 0
-ArePassed p es ready i = (place : ℕ) (entry : Entry) → slice_get es place ≡ Some entry → place < i → is_spared ready place ≡ not (p entry)
-
-abbrev pub AreMarksBelow : Timers → ℕ → Type 0
-AreMarksBelow ready i = (place moment : ℕ) → moment_in ready place ≡ Some moment → (moment ≡ 0) × (place < i)
-
-module _ (p : Entry → Bool) (es : List Entry) (ready later : Timers) (i : ℕ) (e : Entry) (within : i < length es) (is : e ≡ get_or es i e) where
-  here : slice_get es i ≡ Some e
-  here = get-at es i e within is
-
-  unmarked : AreMarksBelow ready i → is_spared ready i ≡ true
-  unmarked marks = none-else (moment_in ready i) (λ moment there. (let low = (marks i moment there).1 in let clash : ⊥ = omega (arith, low) in clash))
-
-  pub passed-more : (b : Bool) → b ≡ p e → (b ≡ true → Updates ready later i (Some 0)) → (b ≡ false → later ≡ ready) → AreMarksBelow ready i → ArePassed p es ready i → ArePassed p es later (i + 1)
-  passed-more b among sets stays marks before place entry at low = go (place == i) refl where
-    go : (s : Bool) → (place == i) ≡ s → is_spared later place ≡ not (p entry)
-    go true equal =
-        let same : place ≡ i = grind (arith, nat_tests, equal) in
-        let found : Some e ≡ Some entry = sym here ∙ ap (slice_get es) (sym same) ∙ at in
-        let entry_is : e ≡ entry = cc in
-        ap (is_spared later) same ∙ by b among sets stays ∙ ap (λ x. not (p x)) entry_is where
-          by : (b : Bool) → b ≡ p e → (b ≡ true → Updates ready later i (Some 0)) → (b ≡ false → later ≡ ready) → is_spared later i ≡ not (p e)
-          by true among sets stays = ap is_none (sets refl).changed ∙ ap not among
-          by false among sets stays = ap (λ r. is_spared r i) (stays refl) ∙ unmarked marks ∙ ap not among
-    go false other =
-        let differ : place ≢ i = (λ same. (let clash : ⊥ = grind (arith, nat_tests, other, same) in clash)) in
-        kept b sets stays ∙ before place entry at (omega (arith, low, differ)) where
-          kept : (b : Bool) → (b ≡ true → Updates ready later i (Some 0)) → (b ≡ false → later ≡ ready) → is_spared later place ≡ is_spared ready place
-          kept true sets stays = ap is_none ((sets refl).others place (λ same. (let clash : ⊥ = grind (arith, nat_tests, other, same) in clash)))
-          kept false sets stays = ap (λ r. is_spared r place) (stays refl)
-
-  pub marks-more : (b : Bool) → (b ≡ true → Updates ready later i (Some 0)) → (b ≡ false → later ≡ ready) → AreMarksBelow ready i → AreMarksBelow later (i + 1)
-  marks-more false sets stays before place moment at =
-      let old = before place moment (ap (λ r. moment_in r place) (sym (stays refl)) ∙ at) in
-      let low = old.1 in (old.0, omega (arith, low))
-  marks-more true sets stays before place moment at = go (place == i) refl where
-    go : (s : Bool) → (place == i) ≡ s → (moment ≡ 0) × (place < i + 1)
-    go true equal =
-        let same : place ≡ i = grind (arith, nat_tests, equal) in
-        let zero_moment : Some 0 ≡ Some moment = sym (sets refl).changed ∙ ap (moment_in later) (sym same) ∙ at in
-        (cc zero_moment, omega (arith, same))
-    go false other =
-        let old = before place moment (sym ((sets refl).others place (λ same. (let clash : ⊥ = grind (arith, nat_tests, other, same) in clash))) ∙ at) in
-        let low = old.1 in (old.0, omega (arith, low))
 
 -- ---- a job that the news do not touch
 

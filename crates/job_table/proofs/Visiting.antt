@@ -15,7 +15,7 @@ use Rattle.history_model.specs.Keeps.{Keeps, ordered}
 use Rattle.history_model.specs.Machine.{Job}
 use Rattle.history_model.specs.Step.{acts_of, listed, stays, told, with_item}
 use Rattle.job_defs.specs.Definitions.{definition}
-use Rattle.job_table.specs.Rows.{Row}
+use Rattle.job_table.specs.Tables.{Row}
 use Rattle.job_table.specs.Kept.{KeepsJob, KeepsJobs, IsAtRest, numbered, numbered_all}
 use Rattle.job_table.specs.Counts.{next_count}
 use Rattle.job_table.specs.Entries.{row, name, rows, AllStay}

@@ -9,7 +9,7 @@ use Rattle.history_model.specs.Moments.{next_moment}
 use Rattle.history_model.specs.Coming.{next_by}
 use Rattle.history_model.specs.Machine.{Job}
 use Rattle.history_model.proofs.Coming.{next-by}
-use Rattle.job_table.specs.Rows.{Row}
+use Rattle.job_table.specs.Tables.{Row}
 use Rattle.job_table.specs.Kept.{KeepsJob, KeepsJobs}
 use Rattle.job_table.specs.Entries.{row, rows, name}
 use Rattle.job_table.specs.Index.{AreTimed, AreAlone, moment_for}

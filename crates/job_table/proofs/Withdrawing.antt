@@ -8,7 +8,7 @@ use Rattle.history_model.specs.Labels.{Label}
 use Rattle.history_model.specs.Machine.{State, UnloadJob}
 use Rattle.history_model.specs.Acceptance.{refusal_in}
 use Rattle.history_model.specs.Step.{Outcome, asked, step, step_by, outcome, outcome_by, orders_of}
-use Rattle.job_table.specs.Rows.{Table}
+use Rattle.job_table.specs.Tables.{Table}
 use Rattle.job_table.specs.Kept.{KeepsState, labelled, acts_in}
 use Rattle.job_table.specs.Changes.{withdrawn}
 use Rattle.job_table.specs.Entries.{rows, name}

@@ -2,7 +2,7 @@
 use Rattle.std.specs.Prelude.{◌≡◌, ℕ, ◌<◌, ◌≤◌, Bool, true, cond, List, length, map, Option, Some, None, is_some, slice_get, slice_index_or}
 use Rattle.timer_heap.specs.Timers.{Timers, moment_in, room}
 use Rattle.history_model.specs.Coming.{next_by}
-use Rattle.job_table.specs.Rows.{Name, definition_of_number}
+use Rattle.job_table.specs.Tables.{Name, definition_of_number}
 use Rattle.std.specs.Prelude.{false}
 use Rattle.std.specs.List.{list_any}
 use Rattle.history_model.specs.declared.Reading.{Reading}
@@ -21,28 +21,35 @@ moment_for e up = cond e.has_left None (next_by e.core.facts up)
 
 -- each job's number has its moment
 abbrev pub AreTimed : Timers → ℕ → List Entry → Type 0
-AreTimed timers up es = (k : ℕ) (e : Entry) → slice_get es k ≡ Some e → moment_in timers e.number ≡ moment_for e up
+AreTimed timers up es =
+    (k : ℕ) (e : Entry) → slice_get es k ≡ Some e → moment_in timers e.number ≡ moment_for e up
 
 -- no number has a moment that is no job's
 abbrev pub AreAlone : Timers → List Name → Type 0
-AreAlone timers names = (number moment : ℕ) → moment_in timers number ≡ Some moment → is_some (definition_of_number names number) ≡ true
+AreAlone timers names =
+    (number moment : ℕ) → moment_in timers number ≡ Some moment →
+        is_some (definition_of_number names number) ≡ true
 
 -- there is room for each job's moment
 abbrev pub HaveRoom : Timers → List Name → Type 0
-HaveRoom timers names = (number : ℕ) → is_some (definition_of_number names number) ≡ true → number < room timers
+HaveRoom timers names =
+    (number : ℕ) → is_some (definition_of_number names number) ≡ true → number < room timers
 
 abbrev pub place_in : List ℕ → ℕ → ℕ
 place_in places number = slice_index_or places number 0
 
 -- each job's number has its place
 abbrev pub ArePlaced : List ℕ → List Entry → Type 0
-ArePlaced places es = (k : ℕ) (e : Entry) → slice_get es k ≡ Some e → (e.number < length places) × (place_in places e.number ≡ k)
+ArePlaced places es =
+    (k : ℕ) (e : Entry) → slice_get es k ≡ Some e → (e.number < length places)
+        × (place_in places e.number ≡ k)
 
 -- what of the index goes by names alone
 pub record IsNamed (index : Index) (names : List Name) : Type 0 where
   pub alone : AreAlone index.timers names
   pub space : HaveRoom index.timers names
-  pub fits : (number : ℕ) → is_some (definition_of_number names number) ≡ true → number < length index.places.items
+  pub fits : (number : ℕ) → is_some (definition_of_number names number) ≡ true →
+      number < length index.places.items
   pub empty : (place : ℕ) → moment_in index.ready place ≡ None
   pub marks : length names ≤ room index.ready
 
@@ -61,7 +68,8 @@ IsIndexed t = IsIndexOf t.index t.reading.up t.entries.items
 
 -- some entry has no Minute, or that of one of these minutes
 abbrev pub is_minute_among : List Due → List CivilMinute → Bool
-is_minute_among calendar minutes = list_any (λ minute. list_any (λ entry. allows entry.minute minute.minute) calendar) minutes
+is_minute_among calendar minutes =
+    list_any (λ minute. list_any (λ entry. allows entry.minute minute.minute) calendar) minutes
 
 -- no moment of the job is reached, and none of its minutes is among these
 pub record IsSpare (before at : Reading) (minutes : List CivilMinute) (e : Entry) : Type 0 where

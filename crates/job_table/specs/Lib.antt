@@ -1,9 +1,9 @@
-pub mod Rows
+pub mod Tables
 pub mod Kept
 pub mod Outcomes
 pub mod Counts
 pub mod Minutes
-pub mod Wanted
+pub mod Triggers
 pub mod Entries
 pub mod Sound
 pub mod Alike

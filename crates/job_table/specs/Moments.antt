@@ -1,5 +1,5 @@
--- When time alone may next make an order due, over all loaded jobs (launchd.plist(5): StartInterval, ThrottleInterval,
--- ExitTimeOut; StartCalendarInterval).
+-- When time alone may next make an order due, over all loaded jobs (launchd.plist(5):
+-- StartInterval, ThrottleInterval, ExitTimeOut; StartCalendarInterval).
 use Rattle.std.specs.Prelude.{◌≡◌, ◌≤◌, ℕ, ◌==◌, Bool, true, false, List, Option, Some, None}
 use Rattle.std.specs.List.{list_any, AllByRecursion}
 use Rattle.std.specs.Option.{ForSome}
@@ -17,7 +17,8 @@ is_moment m (Some n) = n == m
 abbrev pub IsNextUp : List Job → Option ℕ → Type 0
 IsNextUp jobs None = AllByRecursion (λ job. next_moment job.past ≡ None) jobs
 IsNextUp jobs (Some m) =
-    (list_any (λ job. is_moment m (next_moment job.past)) jobs ≡ true) × AllByRecursion (λ job. ForSome (next_moment job.past) (λ n. m ≤ n)) jobs
+    (list_any (λ job. is_moment m (next_moment job.past)) jobs ≡ true)
+        × AllByRecursion (λ job. ForSome (next_moment job.past) (λ n. m ≤ n)) jobs
 
 -- some job has calendar entries
 abbrev pub have_calendars : List Job → Bool

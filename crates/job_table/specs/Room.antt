@@ -4,7 +4,7 @@ use Rattle.std.specs.List.{position}
 use Rattle.history_model.specs.declared.event.Setting.{Setting}
 use Rattle.history_model.specs.Labels.{Label}
 use Rattle.history_model.specs.Machine.{sets}
-use Rattle.job_table.specs.Rows.{Table}
+use Rattle.job_table.specs.Tables.{Table}
 
 -- one more, unless the new one takes the place of one
 abbrev pub one_more : Option ℕ → ℕ → ℕ
@@ -19,7 +19,8 @@ abbrev pub held_after : Option Setting → List Setting → ℕ
 held_after None settings = length settings
 held_after (Some setting) settings = held_with setting.label settings
 
--- no memory was taken: there is room for as many jobs, orders, settings and numbers as before, and in the index of moments too
+-- no memory was taken: there is room for as many jobs, orders, settings, numbers, moments, marks,
+-- places and triggers as before
 pub record HasSameRoom (old new : Table) : Type 0 where
   pub jobs : new.reserved.jobs ≡ old.reserved.jobs
   pub orders : new.reserved.orders ≡ old.reserved.orders
@@ -28,3 +29,4 @@ pub record HasSameRoom (old new : Table) : Type 0 where
   pub moments : new.reserved.moments ≡ old.reserved.moments
   pub marks : new.reserved.marks ≡ old.reserved.marks
   pub places : new.reserved.places ≡ old.reserved.places
+  pub triggers : new.reserved.triggers ≡ old.reserved.triggers

@@ -47,7 +47,12 @@ impl Jobs {
             &mut self.index.ready,
             at.up,
         );
-        mark_minutes(&self.entries, minutes, &self.wanted, &mut self.index.ready);
+        mark_minutes(
+            &self.triggers,
+            minutes,
+            &self.index.places,
+            &mut self.index.ready,
+        );
         let (visited, all_stay) = visit_ready(
             &mut self.entries,
             &mut self.index.ready,

@@ -14,11 +14,11 @@ ghost use Rattle.history_model.specs.Clock as clock;
 ghost use Rattle.job_defs.specs.Definitions.{definition, path_wish};
 ghost use Rattle.job_core.specs.Events.{item_of};
 ghost use Rattle.job_table.specs.Kept.{numbered};
-ghost use Rattle.job_table.specs.News.{item_for, concerns, told_at};
+ghost use Rattle.job_table.specs.News.{item_for};
 ghost use Rattle.job_table.specs.Telling.{IsTold};
 ghost use Rattle.job_table.specs.Visiting.{IsVisit};
 ghost use Rattle.job_table.specs.Entries.{row, name};
-ghost use Rattle.job_table.specs.Rows.{Name, definition_of_number, is_known};
+ghost use Rattle.job_table.specs.Tables.{Name, definition_of_number, is_known};
 ghost use Rattle.std.specs.Prelude.{List, is_some, true};
 ghost use Rattle.std.specs.List.{list_all};
 
@@ -157,27 +157,6 @@ impl Entry {
             job: self.number,
             act: Act::Gone,
         });
-    }
-}
-
-/// Whether a job with this definition is told something.
-pub fn concerns(news: News<'_>, def: &Def) -> bool
-    ensures { result ≡ concerns news.entry def.now }
-{
-    match news {
-        News::Told(_) => false,
-        News::Shutdown | News::Reading(_, _) => true,
-        News::Sight(path, _) => lists(def, path),
-    }
-}
-
-/// The place of the job that was told already.
-pub fn told_at(news: News<'_>) -> Option<usize>
-    ensures { result ≡ told_at news.entry }
-{
-    match news {
-        News::Told(place) => Some(place),
-        News::Shutdown | News::Reading(_, _) | News::Sight(_, _) => None,
     }
 }
 

@@ -4,7 +4,7 @@ ghost use Rattle.std.specs.Prelude.{◌≡◌, ◌≤◌, ◌<◌, ◌+◌, ℕ,
 ghost use Rattle.std.specs.Prelude.{is_some, true};
 ghost use Rattle.timer_heap.specs.Timers.{room};
 ghost use Rattle.history_model.specs.declared.TheConstants.{MAX_UP};
-ghost use Rattle.job_table.specs.Rows.{IsOnce, definition_of_number};
+ghost use Rattle.job_table.specs.Tables.{IsOnce, definition_of_number};
 ghost use Rattle.job_table.specs.Entries.{name};
 ghost use Rattle.job_table.specs.Index.{AreAlone, AreTimed, ArePlaced, HaveRoom, IsIndexOf};
 

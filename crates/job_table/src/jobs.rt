@@ -27,8 +27,9 @@ use crate::find::place_of;
 use crate::index::remake;
 use crate::mark::mark_touched;
 use crate::scan::{has_calendars, release, tidy};
+use crate::trigger::Listed;
+use crate::triggers::forget;
 use crate::visit::visit_ready;
-use crate::wanted::WantedMinutes;
 use calendar_due::Zone;
 use history_model::{Order, Reading, Refusal, Setting};
 use job_core::JobEvent;
@@ -52,8 +53,8 @@ pub struct Jobs {
     pub all_stay: bool,
     /// A job that is loaded, or that left at the last event, has calendar entries.
     pub has_calendars: bool,
-    /// The minutes that the calendars of those jobs want.
-    pub wanted: WantedMinutes,
+    /// What touches those jobs, in order.
+    pub triggers: Vec<Listed>,
 }
 
 /// What finds the jobs that an event touches.
@@ -88,6 +89,7 @@ impl Jobs {
             return;
         }
         release(&self.entries, &mut self.numbers);
+        forget(&mut self.triggers, &self.index.places, &self.entries);
         tidy(&mut self.entries);
         remake(
             &mut self.index.timers,
@@ -96,7 +98,6 @@ impl Jobs {
             self.reading,
         );
         self.has_calendars = has_calendars(&self.entries);
-        self.wanted = WantedMinutes::of(&self.entries);
         self.all_stay = true;
     }
 
@@ -167,7 +168,13 @@ impl Jobs {
         ensures alike { IsAlike self.old self.new }
         ensures room { HasSameRoom (seen self.old) (seen self.new) }
     {
-        mark_touched(&self.entries, news, &mut self.index.ready);
+        mark_touched(
+            &self.entries,
+            news,
+            &self.triggers,
+            &self.index.places,
+            &mut self.index.ready,
+        );
         let (visited, all_stay) = visit_ready(
             &mut self.entries,
             &mut self.index.ready,

@@ -30,8 +30,9 @@ mod questions;
 mod scan;
 mod settings;
 mod texts;
+mod trigger;
+mod triggers;
 mod visit;
-mod wanted;
 
 use calendar_due::Zone;
 pub use changing::NewSetting;
@@ -51,7 +52,7 @@ pub struct JobTable {
 }
 
 impl Model for JobTable {
-    ghost use Rattle.job_table.specs.Rows.{Table};
+    ghost use Rattle.job_table.specs.Tables.{Table};
 
     ghost Value = { Table };
 
@@ -74,7 +75,7 @@ pub struct Step<'a> {
 
 impl<'a> Step<'a> {
     ghost use Rattle.std.specs.Prelude.{is_some};
-    ghost use Rattle.job_table.specs.Rows.{label_of, definition_of_number};
+    ghost use Rattle.job_table.specs.Tables.{label_of, definition_of_number};
     ghost use Rattle.job_table.specs.Ends.{names_in};
 
     /// The label of the job with this number, also of one that just left; the empty text for a number that no job has.

@@ -14,7 +14,7 @@ ghost use Rattle.history_model.specs.Step.{stays as job_stays, told};
 ghost use Rattle.job_table.specs.Kept.{KeepsJobs, numbered_all};
 ghost use Rattle.job_table.specs.Telling.{AreFor, IsAccepted, present_with};
 ghost use Rattle.job_table.specs.Visiting.{is_spared, AreSpared, AreAtRest, AreVisitedOnce, count_visited};
-ghost use Rattle.job_table.specs.Rows.{Name, IsOnce, is_known};
+ghost use Rattle.job_table.specs.Tables.{Name, IsOnce, is_known};
 ghost use Rattle.job_table.specs.Entries.{is_named, rows, name, AllStay};
 
 use crate::entry::{Entry, News};

@@ -10,7 +10,7 @@ use Rattle.history_model.specs.Labels.{Label}
 use Rattle.history_model.specs.Machine.{State, Event, ListJobs, PrintJob}
 use Rattle.history_model.specs.Acceptance.{refusal_in}
 use Rattle.history_model.specs.Step.{Outcome, outcome, step, step_by}
-use Rattle.job_table.specs.Rows.{Table}
+use Rattle.job_table.specs.Tables.{Table}
 use Rattle.job_table.specs.Kept.{KeepsState}
 use Rattle.job_table.specs.Loads.{load_of}
 use Rattle.job_table.specs.Changes.{set_of}

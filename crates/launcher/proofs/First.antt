@@ -16,7 +16,7 @@ use Rattle.calendar_due.specs.Offsets.{shown_by}
 use Rattle.ctl_protocol.specs.declared.header.Header.{Header}
 use Rattle.ctl_protocol.specs.HeaderLines.{header_line}
 use Rattle.job_table.specs.Opening.{opening_refusal}
-use Rattle.job_table.specs.Rows.{Table}
+use Rattle.job_table.specs.Tables.{Table}
 use Rattle.order_edge.specs.Calls.{Entry}
 use Rattle.load_asking.specs.declared.store.StoreFault.{StoreFault}
 use Rattle.load_asking.specs.declared.store.StoreFault.TheVariants as answers

@@ -13,7 +13,7 @@ use Rattle.history_model.specs.Machine.{State, Event, OfJob}
 use Rattle.history_model.specs.Acceptance.{refusal_in}
 use Rattle.history_model.specs.Step.{outcome, step, step_by}
 use Rattle.history_model.specs.Texts.{text_after}
-use Rattle.job_table.specs.Rows.{Table, Name}
+use Rattle.job_table.specs.Tables.{Table, Name}
 use Rattle.job_table.specs.Kept.{KeepsState}
 use Rattle.job_table.specs.Outcomes.{UnlessMemory}
 use Rattle.order_edge.specs.Calls.{Entry}

@@ -10,7 +10,7 @@ use Rattle.history_model.specs.Machine.{State, Event}
 use Rattle.history_model.specs.Acceptance.{refusal_in}
 use Rattle.history_model.specs.Step.{outcome, outcome_by, step}
 use Rattle.history_model.specs.Texts.{text_after}
-use Rattle.job_table.specs.Rows.{Table}
+use Rattle.job_table.specs.Tables.{Table}
 use Rattle.job_table.specs.Kept.{KeepsState}
 use Rattle.child_edge.specs.Calls.{Tells}
 use Rattle.order_edge.specs.Calls.{Entry, answers_in}

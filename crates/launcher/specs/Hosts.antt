@@ -14,7 +14,7 @@ use Rattle.job_defs.specs.Table.{def_of}
 use Rattle.ctl_protocol.specs.declared.header.Header.{Header}
 use Rattle.ctl_protocol.specs.EventWriter.{event_line}
 use Rattle.ctl_protocol.specs.HeaderLines.{header_line}
-use Rattle.job_table.specs.Rows.{Table, Name, definition_of_number}
+use Rattle.job_table.specs.Tables.{Table, Name, definition_of_number}
 use Rattle.job_table.specs.Kept.{KeepsState}
 use Rattle.job_table.specs.Loads.{load_of}
 use Rattle.job_table.specs.Changes.{set_of}

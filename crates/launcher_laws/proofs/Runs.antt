@@ -13,7 +13,7 @@ use Rattle.history_model.specs.Items.{Answered}
 use Rattle.history_model.specs.Labels.{Label}
 use Rattle.history_model.specs.Machine.{State, Event, OfJob}
 use Rattle.history_model.specs.Step.{Outcome, outcome, step, run, outcomes}
-use Rattle.job_table.specs.Rows.{Table, Name, label_of}
+use Rattle.job_table.specs.Tables.{Table, Name, label_of}
 use Rattle.job_table.specs.Kept.{KeepsState}
 use Rattle.order_edge.specs.declared.pending.Pending.{Pending}
 use Rattle.order_edge.specs.Calls.{answers_in}

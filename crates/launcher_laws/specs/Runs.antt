@@ -7,7 +7,7 @@ use Rattle.history_model.specs.declared.Order.{Order}
 use Rattle.history_model.specs.declared.event.Event as journal
 use Rattle.history_model.specs.declared.event.Setting.{Setting}
 use Rattle.history_model.specs.Step.{Outcome}
-use Rattle.job_table.specs.Rows.{Name}
+use Rattle.job_table.specs.Tables.{Name}
 use Rattle.job_table.specs.Kept.{labelled}
 use Rattle.child_edge.specs.Calls.{Tells}
 use Rattle.order_edge.specs.Calls.{Entry, call_of, calls_in}

@@ -14,7 +14,7 @@ use Rattle.history_model.specs.Texts.{load_text}
 use Rattle.job_defs.specs.Described.{Described}
 use Rattle.job_defs.specs.Definitions.{given, has_sockets}
 use Rattle.job_defs.specs.Table.{def_of}
-use Rattle.job_table.specs.Rows.{Table}
+use Rattle.job_table.specs.Tables.{Table}
 use Rattle.job_table.specs.Kept.{KeepsState}
 use Rattle.job_table.specs.Loads.{IsAdmitted, load_of, given_in, refusal_outside, described_in, number_in, setting_in}
 use Rattle.job_table.specs.Outcomes.{IsSameFor, Tells as TellsRefusal}

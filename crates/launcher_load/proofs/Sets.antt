@@ -10,7 +10,7 @@ use Rattle.history_model.specs.Machine.{State, past_of}
 use Rattle.history_model.specs.Acceptance.{refusal_in, refusal_at, refusal_stored, refused_if}
 use Rattle.history_model.specs.Step.{step, step_by, set_if}
 use Rattle.job_table.specs.Changes.{set_of}
-use Rattle.job_table.specs.Rows.{Table}
+use Rattle.job_table.specs.Tables.{Table}
 use Rattle.job_table.specs.Kept.{KeepsState}
 use Rattle.order_edge.specs.Calls.{Entry}
 use Rattle.load_asking.specs.Stores.{StoreCall, AreTold}

@@ -2,7 +2,7 @@
 use Rattle.std.proofs.Common.{◌≡◌, ℕ, true, List, [], Option, None, refl, sym, ap, subst, ◌∙◌}
 use Rattle.std.specs.List.{list_all}
 use Rattle.history_model.specs.Machine.{State, Event}
-use Rattle.job_table.specs.Rows.{Table, is_known}
+use Rattle.job_table.specs.Tables.{Table, is_known}
 use Rattle.job_table.specs.Kept.{KeepsState, labelled, acts_in}
 use Rattle.job_table.specs.Ends.{AreKnown, acts_of, names_in}
 use Rattle.job_table.specs.Numbers.{IsNumbered}

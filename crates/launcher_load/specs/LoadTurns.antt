@@ -10,7 +10,7 @@ use Rattle.history_model.specs.Step.{outcome, step}
 use Rattle.job_defs.specs.Described.{Described}
 use Rattle.job_defs.specs.Definitions.{given}
 use Rattle.job_defs.specs.Table.{def_of}
-use Rattle.job_table.specs.Rows.{Table, Name, definition_of_number}
+use Rattle.job_table.specs.Tables.{Table, Name, definition_of_number}
 use Rattle.job_table.specs.Kept.{KeepsState, acts_in}
 use Rattle.job_table.specs.Loads.{load_of, refusal_outside, described_in, number_in, setting_in}
 use Rattle.job_table.specs.declared.loading.Ready.{Ready}

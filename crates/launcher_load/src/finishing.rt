@@ -2,7 +2,7 @@
 
 ghost use Rattle.std.specs.Prelude.{◌≡◌, ℕ, List, []};
 ghost use Rattle.history_model.specs.Machine.{State, Event};
-ghost use Rattle.job_table.specs.Rows.{Table};
+ghost use Rattle.job_table.specs.Tables.{Table};
 ghost use Rattle.job_table.specs.Kept.{KeepsState};
 ghost use Rattle.event_journal.specs.Journals.{Kept, Grows};
 ghost use Rattle.launcher_turn.specs.Turns.{IsLed, IsShort};

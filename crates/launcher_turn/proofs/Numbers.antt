@@ -14,7 +14,7 @@ use Rattle.history_model.specs.Labels.{Label, is_same}
 use Rattle.history_model.specs.Machine.{Job, is_of, past_in}
 use Rattle.history_model.specs.WholeLaws.{labels_of}
 use Rattle.job_defs.specs.Described.{Described}
-use Rattle.job_table.specs.Rows.{Row, Name, IsOther, IsOnce, is_known, label_of, definition_of_number}
+use Rattle.job_table.specs.Tables.{Row, Name, IsOther, IsOnce, is_known, label_of, definition_of_number}
 use Rattle.job_table.specs.Kept.{KeepsJobs, labelled}
 use Rattle.job_table.specs.Numbers.{name_of, names_of}
 use Rattle.child_edge.specs.declared.plain.Scripted.{Scripted}

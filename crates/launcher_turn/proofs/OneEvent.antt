@@ -15,7 +15,7 @@ use Rattle.history_model.specs.Acceptance.{refusal_in}
 use Rattle.history_model.specs.Step.{outcome, step, step_by, told_one}
 use Rattle.history_model.specs.WholeLaws.{labels_of}
 use Rattle.history_model.proofs.Standing.{Rests, IsGood}
-use Rattle.job_table.specs.Rows.{Row, Table, Name, IsOnce, is_known, label_of, definition_of_number}
+use Rattle.job_table.specs.Tables.{Row, Table, Name, IsOnce, is_known, label_of, definition_of_number}
 use Rattle.job_table.specs.Kept.{KeepsJobs, KeepsState, IsAtRest, labelled}
 use Rattle.job_table.specs.Outcomes.{IsNext, IsNextUnless, UnlessMemory}
 use Rattle.history_model.specs.declared.Refusal.TheVariants.{NoMemory}

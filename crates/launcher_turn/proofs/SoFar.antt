@@ -4,7 +4,7 @@ use Rattle.std.proofs.lemmas.List.{append-nil, map-append, take_more, take_all, 
 use Rattle.history_model.specs.declared.Order.{Order}
 use Rattle.history_model.specs.Machine.{State, Event}
 use Rattle.history_model.specs.Step.{outcome, step, run, orders_in}
-use Rattle.job_table.specs.Rows.{Table, Name}
+use Rattle.job_table.specs.Tables.{Table, Name}
 use Rattle.job_table.specs.Kept.{KeepsState, labelled}
 use Rattle.child_edge.specs.Calls.{Tells}
 use Rattle.order_edge.specs.declared.pending.Pending.{Pending}

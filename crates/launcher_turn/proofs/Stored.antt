@@ -11,7 +11,7 @@ use Rattle.history_model.specs.Step.{set_if, step, step_by, run}
 use Rattle.job_defs.specs.Described.{Described}
 use Rattle.job_defs.specs.Definitions.{has_sockets, given}
 use Rattle.job_defs.specs.Table.{def_of}
-use Rattle.job_table.specs.Rows.{Name}
+use Rattle.job_table.specs.Tables.{Name}
 use Rattle.job_table.specs.Loads.{load_of, given_in, refusal_outside}
 use Rattle.order_edge.specs.declared.pending.Pending.{Pending}
 use Rattle.order_edge.specs.Calls.{Entry, answers_in}

@@ -16,7 +16,7 @@ use Rattle.history_model.specs.Acceptance.{refusal_in}
 use Rattle.history_model.specs.Step.{outcome, outcome_by, step, step_by, taken, told, sight_of, run, orders_in}
 use Rattle.history_model.specs.WholeLaws.{labels_of}
 use Rattle.history_model.proofs.Standing.{good-step}
-use Rattle.job_table.specs.Rows.{Table, Name, label_of}
+use Rattle.job_table.specs.Tables.{Table, Name, label_of}
 use Rattle.job_table.specs.Kept.{KeepsState, labelled}
 use Rattle.job_table.specs.Outcomes.{UnlessMemory}
 use Rattle.history_model.specs.declared.Refusal.TheVariants.{NoMemory}

@@ -7,7 +7,7 @@ use Rattle.history_model.specs.declared.event.Event as journal
 use Rattle.history_model.specs.declared.event.Event.TheVariants as told
 use Rattle.history_model.specs.Labels.{Label}
 use Rattle.ctl_protocol.specs.EventWriter.{event_line}
-use Rattle.job_table.specs.Rows.{Name, label_of}
+use Rattle.job_table.specs.Tables.{Name, label_of}
 use Rattle.order_edge.specs.declared.pending.Pending.{Pending}
 use Rattle.launcher_turn.specs.declared.happening.News.{News}
 use Rattle.launcher_turn.specs.declared.happening.News.TheVariants as news

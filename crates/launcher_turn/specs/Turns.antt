@@ -11,7 +11,7 @@ use Rattle.history_model.specs.Machine.{State, Event, Load, OfJob}
 use Rattle.history_model.specs.Step.{outcome, step, run, orders_in}
 use Rattle.history_model.specs.WholeLaws.{AreInOrder, labels_of}
 use Rattle.job_defs.specs.Described.{Described}
-use Rattle.job_table.specs.Rows.{Table, Name, IsOnce, is_known, label_of, definition_of_number}
+use Rattle.job_table.specs.Tables.{Table, Name, IsOnce, is_known, label_of, definition_of_number}
 use Rattle.job_table.specs.Kept.{KeepsState, labelled}
 use Rattle.job_table.specs.Outcomes.{IsSameFor}
 use Rattle.job_table.specs.Ends.{AreKnown}

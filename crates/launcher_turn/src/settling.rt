@@ -4,7 +4,7 @@ ghost use Rattle.std.specs.Prelude.{◌≤◌, ◌*◌, List, ◌∷◌};
 ghost use Rattle.history_model.specs.Machine.{State};
 ghost use Rattle.history_model.specs.Turns.{Given};
 ghost use Rattle.history_model.specs.Waits.{weigh_given};
-ghost use Rattle.job_table.specs.Rows.{Name};
+ghost use Rattle.job_table.specs.Tables.{Name};
 ghost use Rattle.order_edge.specs.declared.pending.Pending.{Pending as Answered};
 ghost use Rattle.launcher_turn.specs.Turns.{IsWaiting, Handled, Settled};
 

@@ -15,7 +15,7 @@ use Rattle.calendar_due.specs.Offsets.{Offsets}
 use Rattle.calendar_due.specs.Rules.{offsets, minute_at}
 use Rattle.calendar_due.specs.Zone.{IsBadFile, IsOfTable}
 use Rattle.calendar_due.proofs.RuleLemmas.{agrees-not-bad}
-use Rattle.job_table.specs.Rows.{Table}
+use Rattle.job_table.specs.Tables.{Table}
 use Rattle.job_table.specs.Kept.{KeepsState}
 use Rattle.job_table.specs.Opening.{opening_refusal}
 use Rattle.ctl_protocol.specs.declared.header.Header.{Header}

@@ -11,7 +11,7 @@ use Rattle.calendar_due.specs.declared.zone.Zone.{Zone}
 use Rattle.calendar_due.specs.Offsets.{Offsets, always, shown_by}
 use Rattle.calendar_due.specs.Rules.{offsets}
 use Rattle.calendar_due.specs.Zone.{IsOfRule, IsOfTable, IsBadFile}
-use Rattle.job_table.specs.Rows.{Table}
+use Rattle.job_table.specs.Tables.{Table}
 use Rattle.job_table.specs.Kept.{KeepsState}
 use Rattle.job_table.specs.Opening.{opening_refusal}
 use Rattle.ctl_protocol.specs.declared.header.Header.{Header}

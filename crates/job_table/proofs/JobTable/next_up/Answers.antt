@@ -5,7 +5,7 @@ use Rattle.job_table.specs.Kept.{KeepsJobs, KeepsState}
 use Rattle.job_table.specs.Entries.{rows}
 use Rattle.job_table.specs.Index.{AreTimed}
 use Rattle.job_table.specs.Moments.{IsNextUp}
-use Rattle.job_table.specs.Rows.{Table}
+use Rattle.job_table.specs.Tables.{Table}
 use Rattle.job_table.specs.Sound.{seen}
 use Rattle.job_table.specs.declared.jobs.Jobs.{Jobs}
 use Rattle.timer_heap.specs.Timers.{IsLeast}

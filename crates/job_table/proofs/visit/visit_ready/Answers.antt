@@ -10,7 +10,7 @@ use Rattle.job_table.proofs.Lists.{set-map}
 use Rattle.job_table.proofs.Places.{stay-set}
 use Rattle.job_table.proofs.Known.{named-at, all-named}
 use Rattle.job_table.proofs.Timing.{retimed, alone-after}
-use Rattle.job_table.specs.Rows.{IsOnce, definition_of_number}
+use Rattle.job_table.specs.Tables.{IsOnce, definition_of_number}
 use Rattle.job_table.specs.Index.{moment_for}
 use Rattle.job_table.proofs.Visiting.{IsWalked, skip-to, visit-one, walk-over}
 use Rattle.job_table.proofs.visit.visit_ready.Goals as goal

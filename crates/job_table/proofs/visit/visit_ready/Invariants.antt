@@ -3,7 +3,7 @@ use Rattle.std.proofs.Common.{◌≡◌, true, ◌-◌, ◌+◌, ◌*◌, ◌≤
 use Rattle.std.specs.List.{list_all}
 use Rattle.std.specs.Vec.{vec_capacity, vec_len}
 use Rattle.timer_heap.specs.Timers.{moment_in, room}
-use Rattle.job_table.specs.Rows.{Name, is_known}
+use Rattle.job_table.specs.Tables.{Name, is_known}
 use Rattle.job_table.specs.Entries.{is_named, name, AllStay}
 use Rattle.job_table.specs.Index.{AreAlone}
 use Rattle.job_table.specs.Visiting.{is_spared}

@@ -1,6 +1,6 @@
 -- The answer goes to the job that its number stands for.
 use Rattle.std.proofs.Common.{ap, ◌∙◌}
-use Rattle.job_table.specs.Rows.{label_of}
+use Rattle.job_table.specs.Tables.{label_of}
 use Rattle.launcher_turn.specs.Turns.{refusal_told}
 use Rattle.launcher_turn.proofs.OneEvent.{handled, taken-in}
 use Rattle.launcher_turn.specs.Lines.{told_answer}

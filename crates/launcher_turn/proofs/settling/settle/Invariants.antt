@@ -3,7 +3,7 @@ use Rattle.std.proofs.Common.{◌≤◌, ◌*◌, ◌-◌, List}
 use Rattle.history_model.specs.Machine.{State}
 use Rattle.history_model.specs.Turns.{Given}
 use Rattle.history_model.specs.Waits.{weigh_given}
-use Rattle.job_table.specs.Rows.{Name}
+use Rattle.job_table.specs.Tables.{Name}
 use Rattle.launcher_turn.specs.Turns.{IsWaiting}
 use Rattle.launcher_turn.proofs.SoFar.{IsSoFar}
 use Rattle.launcher_turn.proofs.settling.settle.Given as goal

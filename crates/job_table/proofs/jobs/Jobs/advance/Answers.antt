@@ -14,12 +14,13 @@ use Rattle.history_model.specs.Refusals.{is_clock_refused}
 use Rattle.history_model.specs.Acceptance.{refused_if}
 use Rattle.history_model.specs.Machine.{State, Job, Tick}
 use Rattle.history_model.specs.Step.{told, stays}
-use Rattle.job_table.specs.Rows.{IsOnce, is_known}
+use Rattle.job_table.specs.Tables.{IsOnce, is_known}
 use Rattle.job_table.specs.Kept.{KeepsJobs, KeepsState, numbered_all}
 use Rattle.job_table.specs.Counts.{counts, count_in, IsCounted}
-use Rattle.job_table.specs.Wanted.{AreWanted}
+use Rattle.job_table.specs.Triggers.{AreListed, AreOrdered}
+use Rattle.job_table.proofs.Minutes.{have-marks}
 use Rattle.job_table.specs.Entries.{name, rows, AllStay, is_named}
-use Rattle.job_table.specs.Index.{AreTimed, AreAlone, HaveRoom, place_in}
+use Rattle.job_table.specs.Index.{AreTimed, AreAlone, ArePlaced, HaveRoom, place_in}
 use Rattle.job_table.specs.Marking.{HavePlaces}
 use Rattle.job_table.specs.Minutes.{has_calendars, some_calendar}
 use Rattle.job_table.specs.Outcomes.{given_by}
@@ -39,7 +40,7 @@ use Rattle.job_table.proofs.Numbering.{names-begun}
 use Rattle.job_table.proofs.Growing.{named-of}
 use Rattle.job_table.proofs.Touching.{spared-count, marks-touch}
 use Rattle.history_model.specs.WholeLaws.{AreInOrder}
-use Rattle.job_table.specs.Rows.{labels_in}
+use Rattle.job_table.specs.Tables.{labels_in}
 use Rattle.job_table.proofs.jobs.Jobs.advance.Goals as goal
 
 or-first : (a b : Bool) → (a || b) ≡ false → a ≡ false
@@ -65,22 +66,41 @@ mark_due-requires-clause-places c =
     subst (λ ps. HavePlaces old.index.timers ps old.index.ready) (sym c.deref.ensures.value)
     (have-places old.entries.items old.index.timers old.index.places.items old.index.ready c.requires.indexed.alone c.requires.indexed.placed c.requires.indexed.marks)
 
+pub mark_minutes-requires-clause-order : goal.mark_minutes-requires-clause-order
+mark_minutes-requires-clause-order c = subst AreOrdered (sym c.deref-2.ensures.value) c.requires.sound.listed.order
+
+pub mark_minutes-requires-clause-places : goal.mark_minutes-requires-clause-places
+mark_minutes-requires-clause-places c =
+    let fits = c.requires.indexed.marks in
+    let same = c.mark_due.ensures.room in
+    have-marks c.deref-3.result.now c.args.self.now.entries.items c.deref-2.result.now c.mark_due.new.ready (subst (λ ps. ArePlaced ps c.args.self.now.entries.items) (sym c.deref-3.ensures.value) c.requires.indexed.placed)
+    (subst (λ ls. AreListed ls (map name c.args.self.now.entries.items)) (sym c.deref-2.ensures.value) c.requires.sound.listed) (omega (arith, fits, same))
+
 pub visit_ready-visited-requires-clause-inside : goal.visit_ready-visited-requires-clause-inside
 visit_ready-visited-requires-clause-inside c =
     let old = c.args.self.now in
     let indexed = c.requires.indexed in
-    let m = are-marked old.entries.items c.deref-2.result.now c.args.at c.args.minutes.now old.index.timers c.mark_due.new.timers old.index.places.items c.deref.result.now c.mark_due.new.ready c.mark_minutes.new.ready
-    c.deref.ensures.value c.deref-2.ensures.value c.mark_due.ensures.marked c.mark_due.ensures.marks c.mark_minutes.ensures.spared c.mark_minutes.ensures.marks in
+    let m = are-marked old.entries.items c.args.self.now.entries.items c.args.at c.args.minutes.now old.index.timers c.mark_due.new.timers old.index.places.items c.deref.result.now c.mark_due.new.ready c.mark_minutes.new.ready
+    c.deref.ensures.value refl c.mark_due.ensures.marked c.mark_due.ensures.marks (c.mark_minutes.ensures.spared c.args.self.now.entries.items (subst (λ ls. AreListed ls (map name c.args.self.now.entries.items)) (sym c.deref-2.ensures.value) c.requires.sound.listed) (subst (λ ps. ArePlaced ps c.args.self.now.entries.items) (sym c.deref-3.ensures.value) c.requires.indexed.placed)) (c.mark_minutes.ensures.marks c.args.self.now.entries.items (subst (λ ls. AreListed ls (map name c.args.self.now.entries.items)) (sym c.deref-2.ensures.value) c.requires.sound.listed) (subst (λ ps. ArePlaced ps c.args.self.now.entries.items) (sym c.deref-3.ensures.value) c.requires.indexed.placed)) in
     λ place moment there. subst (λ xs. place < length xs) (sym c.deref_mut.ensures.value)
     (mark-at old.entries.items c.requires.stay old.reading c.args.at c.args.minutes.now old.index.timers c.mark_due.new.timers old.index.places.items c.mark_due.new.ready c.mark_minutes.new.ready
     indexed.timed indexed.alone indexed.placed m.marked m.reached m.spared m.minute place moment there).1
+
+pub visit_ready-visited-requires-clause-marks : goal.visit_ready-visited-requires-clause-marks
+visit_ready-visited-requires-clause-marks c =
+    let old = c.args.self.now in
+    let indexed = c.requires.indexed in
+    let m = are-marked old.entries.items c.args.self.now.entries.items c.args.at c.args.minutes.now old.index.timers c.mark_due.new.timers old.index.places.items c.deref.result.now c.mark_due.new.ready c.mark_minutes.new.ready
+    c.deref.ensures.value refl c.mark_due.ensures.marked c.mark_due.ensures.marks (c.mark_minutes.ensures.spared c.args.self.now.entries.items (subst (λ ls. AreListed ls (map name c.args.self.now.entries.items)) (sym c.deref-2.ensures.value) c.requires.sound.listed) (subst (λ ps. ArePlaced ps c.args.self.now.entries.items) (sym c.deref-3.ensures.value) c.requires.indexed.placed)) (c.mark_minutes.ensures.marks c.args.self.now.entries.items (subst (λ ls. AreListed ls (map name c.args.self.now.entries.items)) (sym c.deref-2.ensures.value) c.requires.sound.listed) (subst (λ ps. ArePlaced ps c.args.self.now.entries.items) (sym c.deref-3.ensures.value) c.requires.indexed.placed)) in
+    λ place moment there. (mark-at old.entries.items c.requires.stay old.reading c.args.at c.args.minutes.now old.index.timers c.mark_due.new.timers old.index.places.items c.mark_due.new.ready c.mark_minutes.new.ready
+    indexed.timed indexed.alone indexed.placed m.marked m.reached m.spared m.minute place moment there).0
 
 pub visit_ready-visited-requires-clause-spared : goal.visit_ready-visited-requires-clause-spared
 visit_ready-visited-requires-clause-spared c =
     let old = c.args.self.now in
     let indexed = c.requires.indexed in
-    let m = are-marked old.entries.items c.deref-2.result.now c.args.at c.args.minutes.now old.index.timers c.mark_due.new.timers old.index.places.items c.deref.result.now c.mark_due.new.ready c.mark_minutes.new.ready
-    c.deref.ensures.value c.deref-2.ensures.value c.mark_due.ensures.marked c.mark_due.ensures.marks c.mark_minutes.ensures.spared c.mark_minutes.ensures.marks in
+    let m = are-marked old.entries.items c.args.self.now.entries.items c.args.at c.args.minutes.now old.index.timers c.mark_due.new.timers old.index.places.items c.deref.result.now c.mark_due.new.ready c.mark_minutes.new.ready
+    c.deref.ensures.value refl c.mark_due.ensures.marked c.mark_due.ensures.marks (c.mark_minutes.ensures.spared c.args.self.now.entries.items (subst (λ ls. AreListed ls (map name c.args.self.now.entries.items)) (sym c.deref-2.ensures.value) c.requires.sound.listed) (subst (λ ps. ArePlaced ps c.args.self.now.entries.items) (sym c.deref-3.ensures.value) c.requires.indexed.placed)) (c.mark_minutes.ensures.marks c.args.self.now.entries.items (subst (λ ls. AreListed ls (map name c.args.self.now.entries.items)) (sym c.deref-2.ensures.value) c.requires.sound.listed) (subst (λ ps. ArePlaced ps c.args.self.now.entries.items) (sym c.deref-3.ensures.value) c.requires.indexed.placed)) in
     subst (AreSpared c.mark_minutes.new.ready old.reading (news.Reading c.args.at c.args.minutes) 0) (sym c.deref_mut.ensures.value)
     (spared-all old.reading c.args.at c.args.minutes (later old.reading c.args.at c.requires.accepted).0 c.mark_minutes.new.ready 0 old.entries.items
     (λ k e there none. is-spare old.entries.items c.requires.stay old.reading c.args.at c.args.minutes.now old.index.timers c.mark_due.new.timers old.index.places.items c.mark_due.new.ready c.mark_minutes.new.ready
@@ -90,8 +110,8 @@ pub visit_ready-visited-requires-clause-timed : goal.visit_ready-visited-require
 visit_ready-visited-requires-clause-timed c =
     let old = c.args.self.now in
     let indexed = c.requires.indexed in
-    let m = are-marked old.entries.items c.deref-2.result.now c.args.at c.args.minutes.now old.index.timers c.mark_due.new.timers old.index.places.items c.deref.result.now c.mark_due.new.ready c.mark_minutes.new.ready
-    c.deref.ensures.value c.deref-2.ensures.value c.mark_due.ensures.marked c.mark_due.ensures.marks c.mark_minutes.ensures.spared c.mark_minutes.ensures.marks in
+    let m = are-marked old.entries.items c.args.self.now.entries.items c.args.at c.args.minutes.now old.index.timers c.mark_due.new.timers old.index.places.items c.deref.result.now c.mark_due.new.ready c.mark_minutes.new.ready
+    c.deref.ensures.value refl c.mark_due.ensures.marked c.mark_due.ensures.marks (c.mark_minutes.ensures.spared c.args.self.now.entries.items (subst (λ ls. AreListed ls (map name c.args.self.now.entries.items)) (sym c.deref-2.ensures.value) c.requires.sound.listed) (subst (λ ps. ArePlaced ps c.args.self.now.entries.items) (sym c.deref-3.ensures.value) c.requires.indexed.placed)) (c.mark_minutes.ensures.marks c.args.self.now.entries.items (subst (λ ls. AreListed ls (map name c.args.self.now.entries.items)) (sym c.deref-2.ensures.value) c.requires.sound.listed) (subst (λ ps. ArePlaced ps c.args.self.now.entries.items) (sym c.deref-3.ensures.value) c.requires.indexed.placed)) in
     λ k e there none. spare-timed old.entries.items c.requires.stay old.reading c.args.at c.args.minutes.now old.index.timers c.mark_due.new.timers old.index.places.items c.mark_due.new.ready c.mark_minutes.new.ready
     indexed.timed indexed.alone indexed.placed m.marked m.reached m.spared m.minute (later old.reading c.args.at c.requires.accepted).0 k e (ap (λ xs. slice_get xs k) (sym c.deref_mut.ensures.value) ∙ there) none
 
@@ -99,8 +119,8 @@ pub visit_ready-visited-requires-clause-alone : goal.visit_ready-visited-require
 visit_ready-visited-requires-clause-alone c =
     let old = c.args.self.now in
     let indexed = c.requires.indexed in
-    let m = are-marked old.entries.items c.deref-2.result.now c.args.at c.args.minutes.now old.index.timers c.mark_due.new.timers old.index.places.items c.deref.result.now c.mark_due.new.ready c.mark_minutes.new.ready
-    c.deref.ensures.value c.deref-2.ensures.value c.mark_due.ensures.marked c.mark_due.ensures.marks c.mark_minutes.ensures.spared c.mark_minutes.ensures.marks in
+    let m = are-marked old.entries.items c.args.self.now.entries.items c.args.at c.args.minutes.now old.index.timers c.mark_due.new.timers old.index.places.items c.deref.result.now c.mark_due.new.ready c.mark_minutes.new.ready
+    c.deref.ensures.value refl c.mark_due.ensures.marked c.mark_due.ensures.marks (c.mark_minutes.ensures.spared c.args.self.now.entries.items (subst (λ ls. AreListed ls (map name c.args.self.now.entries.items)) (sym c.deref-2.ensures.value) c.requires.sound.listed) (subst (λ ps. ArePlaced ps c.args.self.now.entries.items) (sym c.deref-3.ensures.value) c.requires.indexed.placed)) (c.mark_minutes.ensures.marks c.args.self.now.entries.items (subst (λ ls. AreListed ls (map name c.args.self.now.entries.items)) (sym c.deref-2.ensures.value) c.requires.sound.listed) (subst (λ ps. ArePlaced ps c.args.self.now.entries.items) (sym c.deref-3.ensures.value) c.requires.indexed.placed)) in
     subst (λ xs. AreAlone c.mark_due.new.timers (map name xs)) (sym c.deref_mut.ensures.value)
     (alone-still old.entries.items c.requires.stay old.reading c.args.at c.args.minutes.now old.index.timers c.mark_due.new.timers old.index.places.items c.mark_due.new.ready c.mark_minutes.new.ready
     indexed.timed indexed.alone indexed.placed m.marked m.reached m.spared m.minute)
@@ -157,7 +177,7 @@ returns-clause-sound c =
       room = omega arith;
       named = named-of _ _ _ (returns-clause-indexed c);
       calendars = c.requires.sound.calendars ∙ ap some_calendar (sym names);
-      wanted = subst (AreWanted c.args.self.now.wanted) (sym names) c.requires.sound.wanted;
+      listed = subst (AreListed c.args.self.now.triggers.items) (sym names) c.requires.sound.listed;
       order = subst (λ ns. AreInOrder (labels_in ns)) (sym names) c.requires.sound.order;
     }
 
@@ -190,8 +210,8 @@ done c s keeps =
     let whole = lent-back after (drop (length after) es) old.entries.len (omega arith) in
     let names = ap (map name) whole ∙ c.visit_ready-visited.ensures.names ∙ ap (map name) c.deref_mut.ensures.value in
     let indexed = c.requires.indexed in
-    let m = are-marked es c.deref-2.result.now at c.args.minutes.now old.index.timers c.mark_due.new.timers old.index.places.items c.deref.result.now c.mark_due.new.ready ready
-    c.deref.ensures.value c.deref-2.ensures.value c.mark_due.ensures.marked c.mark_due.ensures.marks c.mark_minutes.ensures.spared c.mark_minutes.ensures.marks in
+    let m = are-marked es c.args.self.now.entries.items at c.args.minutes.now old.index.timers c.mark_due.new.timers old.index.places.items c.deref.result.now c.mark_due.new.ready ready
+    c.deref.ensures.value refl c.mark_due.ensures.marked c.mark_due.ensures.marks (c.mark_minutes.ensures.spared c.args.self.now.entries.items (subst (λ ls. AreListed ls (map name c.args.self.now.entries.items)) (sym c.deref-2.ensures.value) c.requires.sound.listed) (subst (λ ps. ArePlaced ps c.args.self.now.entries.items) (sym c.deref-3.ensures.value) c.requires.indexed.placed)) (c.mark_minutes.ensures.marks c.args.self.now.entries.items (subst (λ ls. AreListed ls (map name c.args.self.now.entries.items)) (sym c.deref-2.ensures.value) c.requires.sound.listed) (subst (λ ps. ArePlaced ps c.args.self.now.entries.items) (sym c.deref-3.ensures.value) c.requires.indexed.placed)) in
     let item : Job → Option Item = λ job. Some (Read at (calendar_fires s.zone (definition_of job.past).calendar s.reading.wall at.wall)) in
     let own : KeepsJobs old.reading (rows es) s.jobs = own-jobs old s keeps in
     let crosses : has_calendars (rows es) ≡ true → c.args.minutes.now ≡ map s.zone (crossed s.reading.wall at.wall) =
@@ -235,8 +255,8 @@ returns-clause-untouched c = λ s keeps label past found positive none.
     let whole = lent-back after (drop (length after) es) old.entries.len (omega arith) in
     let own : KeepsJobs old.reading (rows es) s.jobs = own-jobs old s keeps in
     let indexed = c.requires.indexed in
-    let m = are-marked es c.deref-2.result.now c.args.at c.args.minutes.now old.index.timers c.mark_due.new.timers old.index.places.items c.deref.result.now c.mark_due.new.ready c.mark_minutes.new.ready
-    c.deref.ensures.value c.deref-2.ensures.value c.mark_due.ensures.marked c.mark_due.ensures.marks c.mark_minutes.ensures.spared c.mark_minutes.ensures.marks in
+    let m = are-marked es c.args.self.now.entries.items c.args.at c.args.minutes.now old.index.timers c.mark_due.new.timers old.index.places.items c.deref.result.now c.mark_due.new.ready c.mark_minutes.new.ready
+    c.deref.ensures.value refl c.mark_due.ensures.marked c.mark_due.ensures.marks (c.mark_minutes.ensures.spared c.args.self.now.entries.items (subst (λ ls. AreListed ls (map name c.args.self.now.entries.items)) (sym c.deref-2.ensures.value) c.requires.sound.listed) (subst (λ ps. ArePlaced ps c.args.self.now.entries.items) (sym c.deref-3.ensures.value) c.requires.indexed.placed)) (c.mark_minutes.ensures.marks c.args.self.now.entries.items (subst (λ ls. AreListed ls (map name c.args.self.now.entries.items)) (sym c.deref-2.ensures.value) c.requires.sound.listed) (subst (λ ps. ArePlaced ps c.args.self.now.entries.items) (sym c.deref-3.ensures.value) c.requires.indexed.placed)) in
     let crosses : has_calendars (rows es) ≡ true → c.args.minutes.now ≡ map s.zone (crossed old.reading.wall c.args.at.wall) =
     λ some. c.requires.minutes some ∙ (λ i. map (keeps.zone i) (crossed old.reading.wall c.args.at.wall)) in
     let asked = subst (λ all. AreVisitedOnce c.mark_minutes.new.ready 0 all after) c.deref_mut.ensures.value c.visit_ready-visited.ensures.asked in

@@ -3,10 +3,11 @@ use Rattle.std.proofs.Common.{◌≡◌, ◌<◌, ◌++◌, true, false, not, ma
 use Rattle.std.specs.Prelude.{slice_get}
 use Rattle.std.specs.List.{list_all, filter_map}
 use Rattle.history_model.specs.Step.{told, stays}
-use Rattle.job_table.specs.Rows.{IsOnce, is_known}
+use Rattle.job_table.specs.Tables.{IsOnce, is_known}
 use Rattle.job_table.specs.Kept.{KeepsJobs, numbered_all}
 use Rattle.job_table.specs.Counts.{counts, count_in, IsCounted}
-use Rattle.job_table.specs.Wanted.{AreWanted}
+use Rattle.job_table.specs.Triggers.{AreListed}
+use Rattle.job_table.specs.Index.{ArePlaced}
 use Rattle.job_table.specs.Entries.{name, rows, AllStay, is_named}
 use Rattle.job_table.specs.Index.{IsIndexOf, AreTimed, AreAlone, HaveRoom, place_in}
 use Rattle.job_table.specs.Minutes.{some_calendar}
@@ -25,8 +26,16 @@ use Rattle.job_table.proofs.Advancing.{told-labelled, visits-counted, name-get}
 use Rattle.job_table.proofs.Growing.{named-of, length-names}
 use Rattle.job_table.proofs.Touched.{spared-all, rest-all, spared-count, not-true, marked-at}
 use Rattle.history_model.specs.WholeLaws.{AreInOrder}
-use Rattle.job_table.specs.Rows.{labels_in}
+use Rattle.job_table.specs.Tables.{labels_in}
 use Rattle.job_table.proofs.jobs.Jobs.ask_touched.Goals as goal
+
+pub mark_touched-requires-clause-listed : goal.mark_touched-requires-clause-listed
+mark_touched-requires-clause-listed c =
+    subst (λ ls. AreListed ls (map name c.deref.result.now)) (sym c.deref-2.ensures.value) (subst (λ es. AreListed c.args.self.now.triggers.items (map name es)) (sym c.deref.ensures.value) c.requires.sound.listed)
+
+pub mark_touched-requires-clause-placed : goal.mark_touched-requires-clause-placed
+mark_touched-requires-clause-placed c =
+    subst (λ ps. ArePlaced ps c.deref.result.now) (sym c.deref-3.ensures.value) (subst (ArePlaced c.args.self.now.index.places.items) (sym c.deref.ensures.value) c.requires.placed)
 
 pub visit_ready-visited-requires-clause-spared : goal.visit_ready-visited-requires-clause-spared
 visit_ready-visited-requires-clause-spared c =
@@ -131,7 +140,7 @@ returns-clause-whole c =
         room = let room = c.requires.sound.room in let more = c.visit_ready-visited.ensures.capacity in omega (arith, room, more);
         named = named-of index old.reading.up (with_items old.entries after).items indexed;
         calendars = c.requires.sound.calendars ∙ ap some_calendar (sym names);
-        wanted = subst (AreWanted c.args.self.now.wanted) (sym names) c.requires.sound.wanted;
+        listed = subst (AreListed c.args.self.now.triggers.items) (sym names) c.requires.sound.listed;
         order = subst (λ ns. AreInOrder (labels_in ns)) (sym names) c.requires.sound.order;
       };
       indexed = indexed;

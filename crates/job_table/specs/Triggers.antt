@@ -1,0 +1,90 @@
+-- The triggers of jobs, in one list: the minutes of the hour and the paths that touch them.
+use Rattle.std.specs.Prelude.{◌≡◌, ℕ, nat_lt, Bool, true, false, List, [], ◌∷◌, ◌++◌, map, Option, Some, None, slice_get, ◌==◌}
+use Rattle.std.specs.List.{list_any, flat_map, AllByRecursion}
+use Rattle.history_model.specs.Labels.{is_same, is_before}
+use Rattle.job_defs.specs.Described.{Described}
+use Rattle.job_table.specs.Tables.{Name}
+use Rattle.job_table.specs.Entries.{stays}
+use Rattle.job_table.specs.Index.{place_in}
+use Rattle.job_table.specs.declared.entry.Entry.{Entry}
+use Rattle.job_table.specs.declared.trigger.Trigger.{Trigger}
+use Rattle.job_table.specs.declared.trigger.Trigger.TheVariants.{Minute, Path}
+use Rattle.job_table.specs.declared.trigger.Sought.{Sought}
+use Rattle.job_table.specs.declared.trigger.Sought.TheVariants as sought
+use Rattle.job_table.specs.declared.trigger.Listed.{Listed}
+
+-- none is before each minute
+abbrev pub minute_before : Option ℕ → Option ℕ → Bool
+minute_before one None = false
+minute_before None (Some n) = true
+minute_before (Some m) (Some n) = nat_lt m n
+
+abbrev pub rank_of_minute : Option ℕ → List ℕ
+rank_of_minute None = 0 ∷ []
+rank_of_minute (Some minute) = 0 ∷ minute ∷ []
+
+-- triggers stand in byte order of their ranks: the minutes, then the paths
+abbrev pub rank : Trigger → List ℕ
+rank (Minute minute) = rank_of_minute minute
+rank (Path path) = 1 ∷ path
+
+abbrev pub rank_of : Sought → List ℕ
+rank_of (sought.Minute minute) = rank_of_minute minute
+rank_of (sought.Path path) = 1 ∷ path.now
+
+abbrev pub path_in : Trigger → Option (List ℕ)
+path_in (Minute minute) = None
+path_in (Path path) = Some path
+
+abbrev pub is_of : List ℕ → Listed → Bool
+is_of sought one = is_same sought (rank one.trigger)
+
+abbrev pub is_below : List ℕ → Listed → Bool
+is_below sought one = is_before (rank one.trigger) sought
+
+abbrev pub is_behind : List ℕ → Listed → Bool
+is_behind sought one = is_before sought (rank one.trigger)
+
+-- the minute of each calendar entry, and each path that the definition lists
+abbrev pub triggers_of : Described → List Trigger
+triggers_of d =
+    map (λ due. Minute due.minute) d.calendar
+    ++ (map (λ state. Path state.path) d.path_state
+        ++ (map Path d.watch_paths ++ map Path d.queue_directories))
+
+-- triggers under a job's number
+abbrev pub under : ℕ → Trigger → Listed
+under number trigger = record { trigger = trigger; number = number }
+
+-- those of all definitions
+abbrev pub listed_in : List Name → List Listed
+listed_in names = flat_map (λ name. map (under name.number) (triggers_of name.described)) names
+
+-- none that follows is before
+abbrev pub AreOrdered : List Listed → Type 0
+AreOrdered [] = Unit {0}
+AreOrdered (one ∷ rest) =
+    AllByRecursion (λ other. is_below (rank one.trigger) other ≡ false) rest × AreOrdered rest
+
+-- the list has the triggers of these definitions and no other, whatever is asked of them, and
+-- stands in order
+pub record AreListed (listed : List Listed) (names : List Name) : Type 0 where
+  pub exact : (test : Listed → Bool) → list_any test listed ≡ list_any test (listed_in names)
+  pub order : AreOrdered listed
+
+-- the job is there and has not left
+abbrev pub is_staying : Option Entry → Bool
+is_staying None = false
+is_staying (Some e) = stays e
+
+abbrev pub stays_at : List Entry → Option ℕ → Bool
+stays_at es None = false
+stays_at es (Some place) = is_staying (slice_get es place)
+
+-- the job with this number stands at the number's place and has not left
+abbrev pub stays_under : List ℕ → List Entry → Listed → Bool
+stays_under places es one = stays_at es (slice_get places one.number)
+
+-- the job of the trigger stands at this place
+abbrev pub is_placed_at : List ℕ → ℕ → Listed → Bool
+is_placed_at places place one = place_in places one.number == place

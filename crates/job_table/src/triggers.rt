@@ -1,0 +1,114 @@
+//! The list of triggers, in order.
+
+ghost use Rattle.std.specs.Prelude.{◌≡◌, ◌≤◌, ◌<◌, ◌+◌, ◌||◌, ℕ, Bool, Some, true, false, map, length, slice_get};
+ghost use Rattle.std.specs.List.{filter, list_any};
+ghost use Rattle.std.specs.Option.{option_map};
+ghost use Rattle.std.specs.Vec.{vec_capacity, vec_len};
+ghost use Rattle.job_table.specs.Entries.{name, rows};
+ghost use Rattle.job_table.specs.Index.{ArePlaced};
+ghost use Rattle.job_table.specs.Nearest.{IsNearestOf, paths_in};
+ghost use Rattle.job_table.specs.Triggers.{rank_of, is_of, is_below, is_behind, under, AreOrdered, AreListed, stays_under};
+
+use crate::entry::Entry;
+use crate::trigger::{Listed, Sought, Trigger, is_earlier};
+use history_model::JobNo;
+
+/// Those of this trigger, which stand side by side.
+pub fn run_of<'x>(listed: &'x [Listed], sought: Sought<'_>) -> &'x [Listed]
+    requires { AreOrdered listed.now }
+    ensures { result.now ≡ filter (is_of (rank_of sought.entry)) listed.now }
+{
+    let from = listed.partition_point(|one| is_below(one, sought));
+    let to = place_behind(listed, sought);
+    &listed[from..to]
+}
+
+/// The place before the first that comes behind the trigger, or the last.
+fn place_behind(listed: &[Listed], sought: Sought<'_>) -> usize
+    requires { AreOrdered listed.now }
+    ensures bound { result ≤ length listed.now }
+    ensures before { (k : ℕ) (one : Listed) → slice_get listed.now k ≡ Some one → k < result →
+        is_behind (rank_of sought.entry) one ≡ false }
+    ensures behind { (k : ℕ) (one : Listed) → slice_get listed.now k ≡ Some one → result ≤ k →
+        is_behind (rank_of sought.entry) one ≡ true }
+{
+    listed.partition_point(|one| !is_behind(one, sought))
+}
+
+fn is_below(one: &Listed, sought: Sought<'_>) -> bool
+    ensures { result ≡ is_below (rank_of sought.entry) one.now }
+{
+    is_earlier(one.trigger.lent(), sought)
+}
+
+fn is_behind(one: &Listed, sought: Sought<'_>) -> bool
+    ensures { result ≡ is_behind (rank_of sought.entry) one.now }
+{
+    is_earlier(sought, one.trigger.lent())
+}
+
+/// Puts each of a job's triggers at its place. There is room.
+pub fn enlist(listed: &mut Vec<Listed>, triggers: Vec<Trigger>, number: JobNo)
+    requires order { AreOrdered listed.old.items }
+    requires room { vec_len listed.old + vec_len triggers ≤ vec_capacity listed.old }
+    ensures exact { (test : Listed → Bool) →
+        list_any test listed.new.items
+        ≡ (list_any test listed.old.items
+        || list_any (λ trigger. test (under number trigger)) triggers.items) }
+    ensures order { AreOrdered listed.new.items }
+    ensures capacity { vec_capacity listed.new ≡ vec_capacity listed.old }
+{
+    let mut left = triggers;
+    while let Some(trigger) = left.pop() {
+        let place = place_behind(listed, trigger.lent());
+        match listed.insert(place, Listed { trigger, number }) {
+            Ok(()) => {}
+            Err(_) => unreachable!(),
+        }
+    }
+}
+
+/// Drops the triggers of the jobs that left.
+pub fn forget(listed: &mut Vec<Listed>, places: &[u32], entries: &[Entry])
+    ensures items { listed.new.items
+        ≡ filter (stays_under places.now entries.now) listed.old.items }
+    ensures capacity { vec_capacity listed.new ≡ vec_capacity listed.old }
+{
+    listed.retain(|one| stays(one, places, entries));
+}
+
+/// Whether the job of this trigger has not left.
+fn stays(one: &Listed, places: &[u32], entries: &[Entry]) -> bool
+    ensures { result ≡ stays_under places.now entries.now one.now }
+{
+    let Some(place) = places.get(one.number as usize) else {
+        return false;
+    };
+    match entries.get(*place as usize) {
+        None => false,
+        Some(entry) => !entry.has_left,
+    }
+}
+
+/// The path that comes next after the text, of a job that has not left.
+pub fn path_after<'x>(
+    listed: &'x [Listed],
+    places: &[u32],
+    entries: &[Entry],
+    text: &str,
+) -> Option<&'x str>
+    requires listed { AreListed listed.now (map name entries.now) }
+    requires placed { ArePlaced places.now entries.now }
+    ensures { IsNearestOf text.now (paths_in (rows entries.now))
+        (option_map (λ path. path.now) result) }
+{
+    let mut place = place_behind(listed, Sought::Path(text));
+    while place < listed.len() {
+        let one = &listed[place];
+        if stays(one, places, entries) {
+            return one.trigger.path();
+        }
+        place += 1;
+    }
+    None
+}
