@@ -28,7 +28,7 @@ AreTimed timers up es =
 abbrev pub AreAlone : Timers → List Name → Type 0
 AreAlone timers names =
     (number moment : ℕ) → moment_in timers number ≡ Some moment →
-        is_some (definition_of_number names number) ≡ true
+    is_some (definition_of_number names number) ≡ true
 
 -- there is room for each job's moment
 abbrev pub HaveRoom : Timers → List Name → Type 0
@@ -42,7 +42,7 @@ place_in places number = slice_index_or places number 0
 abbrev pub ArePlaced : List ℕ → List Entry → Type 0
 ArePlaced places es =
     (k : ℕ) (e : Entry) → slice_get es k ≡ Some e → (e.number < length places)
-        × (place_in places e.number ≡ k)
+    × (place_in places e.number ≡ k)
 
 -- what of the index goes by names alone
 pub record IsNamed (index : Index) (names : List Name) : Type 0 where

@@ -16,7 +16,7 @@ use Rattle.history_model.specs.Skipping.{IsLater}
 abbrev pub HavePlaces : Timers → List ℕ → Timers → Type 0
 HavePlaces timers places ready =
     (number moment : ℕ) → moment_in timers number ≡ Some moment → (number < length places)
-        × (place_in places number < room ready)
+    × (place_in places number < room ready)
 
 -- the job's moment is later and still there, or its place has a mark and the moment is taken
 abbrev pub IsMarked : ℕ → Timers → Timers → List ℕ → Timers → ℕ → Type 0
@@ -28,20 +28,20 @@ IsMarked up old new places ready number =
 abbrev pub IsReachedAt : ℕ → Timers → List ℕ → ℕ → Type 0
 IsReachedAt up timers places place =
     (number : ℕ) × (moment : ℕ) × (place_in places number ≡ place)
-        × (moment_in timers number ≡ Some moment) × (moment ≤ up)
+    × (moment_in timers number ≡ Some moment) × (moment ≤ up)
 
 -- the mark is that of a job with a calendar entry whose minute is among these
 abbrev pub IsMinuteAt : List Entry → List CivilMinute → ℕ → ℕ → Type 0
 IsMinuteAt es minutes place moment =
     (moment ≡ 0)
-        × ((entry : Entry) × (slice_get es place ≡ Some entry)
-        × (is_minute_among entry.def.calendar minutes ≡ true))
+    × ((entry : Entry) × (slice_get es place ≡ Some entry)
+    × (is_minute_among entry.def.calendar minutes ≡ true))
 
 -- each listed job has a place, and a place has room for its mark
 abbrev pub HaveMarks : List Listed → List ℕ → Timers → Type 0
 HaveMarks listed places ready =
     (k : ℕ) (one : Listed) → slice_get listed k ≡ Some one → (one.number < length places)
-        × (place_in places one.number < room ready)
+    × (place_in places one.number < room ready)
 
 -- a listed job with this rank stands at the place
 abbrev pub stands_at : List Listed → List ℕ → List ℕ → ℕ → Bool

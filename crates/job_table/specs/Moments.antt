@@ -18,7 +18,7 @@ abbrev pub IsNextUp : List Job → Option ℕ → Type 0
 IsNextUp jobs None = AllByRecursion (λ job. next_moment job.past ≡ None) jobs
 IsNextUp jobs (Some m) =
     (list_any (λ job. is_moment m (next_moment job.past)) jobs ≡ true)
-        × AllByRecursion (λ job. ForSome (next_moment job.past) (λ n. m ≤ n)) jobs
+    × AllByRecursion (λ job. ForSome (next_moment job.past) (λ n. m ≤ n)) jobs
 
 -- some job has calendar entries
 abbrev pub have_calendars : List Job → Bool

@@ -73,7 +73,7 @@ abbrev pub IsOther : Name → List Name → Type 0
 IsOther name [] = Unit {0}
 IsOther name (other ∷ names) =
     (name.number == other.number ≡ false)
-        × (is_same name.described.label other.described.label ≡ false) × IsOther name names
+    × (is_same name.described.label other.described.label ≡ false) × IsOther name names
 
 -- each number once, and each label once
 abbrev pub IsOnce : List Name → Type 0

@@ -40,12 +40,12 @@ RestBut news place [] jobs = Unit {0}
 RestBut news place (row ∷ rows) [] = Unit {0}
 RestBut news place (row ∷ rows) (job ∷ jobs) =
     (is_touched news place row.described ≡ false → IsAtRest job)
-        × RestBut news (suc place) rows jobs
+    × RestBut news (suc place) rows jobs
 
 -- the count of a label stays if the news touch no job that has it
 abbrev pub SparesBut : News → List Entry → List Entry → Type 0
 SparesBut news es later =
     (label : Label) →
-        ((place : ℕ) (e : Entry) → slice_get es place ≡ Some e → has_label label e ≡ true →
-        is_touched news place e.def ≡ false) →
+    ((place : ℕ) (e : Entry) → slice_get es place ≡ Some e → has_label label e ≡ true →
+    is_touched news place e.def ≡ false) →
     count_in (counts (rows later)) label ≡ count_in (counts (rows es)) label

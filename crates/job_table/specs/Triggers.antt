@@ -50,7 +50,7 @@ abbrev pub triggers_of : Described → List Trigger
 triggers_of d =
     map (λ due. Minute due.minute) d.calendar
     ++ (map (λ state. Path state.path) d.path_state
-        ++ (map Path d.watch_paths ++ map Path d.queue_directories))
+    ++ (map Path d.watch_paths ++ map Path d.queue_directories))
 
 -- triggers under a job's number
 abbrev pub under : ℕ → Trigger → Listed
