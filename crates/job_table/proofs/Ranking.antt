@@ -68,6 +68,27 @@ in-order (z ∷ zs) order zero (suc j) x y less first second =
 in-order (z ∷ zs) order (suc i) zero x y less first second = absurd (omega (arith, less))
 in-order (z ∷ zs) order (suc i) (suc j) x y less first second = in-order zs order.1 i j x y (omega (arith, less)) first second
 
+-- what comes behind one that is behind a rank is behind it too
+pub behind-on : (xs : List Listed) → AreOrdered xs → (k : List ℕ) (from : ℕ) (x : Listed) → slice_get xs from ≡ Some x → is_behind k x ≡ true →
+    (j : ℕ) (y : Listed) → slice_get xs j ≡ Some y → from ≤ j → is_behind k y ≡ true
+behind-on xs order k from x first behind j y second up = go (from == j) refl
+  where
+    go : (b : Bool) → (from == j) ≡ b → is_behind k y ≡ true
+    go true equal =
+        let same : from ≡ j = grind (arith, nat_tests, equal) in
+        let one : Some x ≡ Some y = sym first ∙ ap (slice_get xs) same ∙ second in
+        let it : x ≡ y = cc in
+        subst (λ w. is_behind k w ≡ true) it behind
+    go false other =
+        let differ : from ≢ j = (λ same. (let clash : ⊥ = grind (arith, nat_tests, other, same) in clash)) in
+        let less : from < j = omega (arith, up, differ) in
+        from-on (rank x.trigger) (rank y.trigger) k (in-order xs order from j x y less first second) behind
+
+-- what is below a rank is not behind it
+pub not-behind-below : (xs : List Listed) (k : List ℕ) (from : ℕ) → ((j : ℕ) (y : Listed) → slice_get xs j ≡ Some y → j < from → is_below k y ≡ true) →
+    (j : ℕ) (y : Listed) → slice_get xs j ≡ Some y → j < from → is_behind k y ≡ false
+not-behind-below xs k from low j y at less = not-both (rank y.trigger) k (low j y at less)
+
 -- ---- halves
 
 module _ (xs : List Listed) (order : AreOrdered xs) (k : List ℕ) where

@@ -19,8 +19,29 @@ pub fn run_of<'x>(listed: &'x [Listed], sought: Sought<'_>) -> &'x [Listed]
     ensures { result.now ≡ filter (is_of (rank_of sought.entry)) listed.now }
 {
     let from = listed.partition_point(|one| is_below(one, sought));
-    let to = place_behind(listed, sought);
+    let to = end_of_run(listed, from, sought);
     &listed[from..to]
+}
+
+/// The place behind those of this trigger, which begin here, if there are any. If there are none, it looks no further.
+fn end_of_run(listed: &[Listed], from: usize, sought: Sought<'_>) -> usize
+    requires order { AreOrdered listed.now }
+    requires inside { from ≤ length listed.now }
+    requires low { (k : ℕ) (one : Listed) → slice_get listed.now k ≡ Some one → k < from →
+        is_behind (rank_of sought) one ≡ false }
+    ensures bound { result ≤ length listed.now }
+    ensures before { (k : ℕ) (one : Listed) → slice_get listed.now k ≡ Some one → k < result →
+        is_behind (rank_of sought.entry) one ≡ false }
+    ensures behind { (k : ℕ) (one : Listed) → slice_get listed.now k ≡ Some one → result ≤ k →
+        is_behind (rank_of sought.entry) one ≡ true }
+{
+    if from >= listed.len() {
+        return from;
+    }
+    if is_behind(&listed[from], sought) {
+        return from;
+    }
+    place_behind(listed, sought)
 }
 
 /// The place before the first that comes behind the trigger, or the last.
