@@ -6,7 +6,7 @@ use Rattle.history_model.specs.declared.Act.TheVariants.{Spawn, Term, Kill}
 use Rattle.history_model.specs.declared.Ask.TheVariants.{Start, Stop, Unload, Shutdown, Kickstart}
 use Rattle.history_model.specs.declared.Answer.TheVariants.{SpawnRefused, Spawned, Termed, Killed}
 use Rattle.history_model.specs.declared.Refusal.TheVariants.{Removing, NotRunning, Stale}
-use Rattle.history_model.specs.Items.{Definition, Asked, Answered, Came, Left, WaitRefused}
+use Rattle.history_model.specs.Items.{Asked, Answered, Came, Left, WaitRefused}
 use Rattle.history_model.specs.Clock.{no_definition}
 use Rattle.history_model.specs.Facts.{facts_of}
 use Rattle.history_model.specs.ByFacts.{due_by}

@@ -1,5 +1,5 @@
 -- How `and`, `or` and `not` compute where one side is known, and what follows of the sides where the whole is known.
-use Rattle.std.proofs.Common.{◌≡◌, Bool, true, false, not, ◌||◌, ◌&&◌, refl}
+use Rattle.std.proofs.Common.{◌≡◌, ◌⊎◌, inl, inr, Bool, true, false, not, ◌||◌, ◌&&◌, refl}
 
 -- ---- one side is known
 
@@ -19,6 +19,9 @@ pub or-false-right : (a : Bool) → (a || false) ≡ a
 or-false-right true = refl
 or-false-right false = refl
 
+pub or-first : (a b : Bool) → a ≡ true → (a || b) ≡ true
+or-first a b e = rw e refl
+
 pub or-second : (a b : Bool) → b ≡ true → (a || b) ≡ true
 or-second true b e = refl
 or-second false b e = e
@@ -28,6 +31,9 @@ false-or a b e f = rw (e, f) refl
 
 pub false-and : (a b : Bool) → a ≡ false → (a && b) ≡ false
 false-and a b e = rw e refl
+
+pub false-and-second : (a b : Bool) → b ≡ false → (a && b) ≡ false
+false-and-second a b e = rw e (and-false a)
 
 pub true-and : (a b : Bool) → a ≡ true → b ≡ true → (a && b) ≡ true
 true-and a b e f = rw (e, f) refl
@@ -48,6 +54,14 @@ and-both a b e = (and-left a b e, and-right a b e)
 pub or-false : (a b : Bool) → (a || b) ≡ false → (a ≡ false) × (b ≡ false)
 or-false true b e = cc
 or-false false b e = (refl, e)
+
+pub or-only : (a : Bool) → (a || false) ≡ true → a ≡ true
+or-only true e = refl
+or-only false e = cc
+
+pub or-either : (a b : Bool) → (a || b) ≡ true → (a ≡ true) ⊎ (b ≡ true)
+or-either true b e = inl refl
+or-either false b e = inr e
 
 pub not-true : (a : Bool) → not a ≡ true → a ≡ false
 not-true true e = cc

@@ -1,6 +1,6 @@
 -- Worked examples of calendar entries and crossed minutes (launchd.plist(5): StartCalendarInterval; crontab(5)). Each is a
 -- theorem that computes.
-use Rattle.std.specs.Prelude.{◌≡◌, ℕ, pos, Bool, true, false, List, [], ◌∷◌, map, Option, Some, None, refl}
+use Rattle.std.specs.Prelude.{◌≡◌, pos, Bool, true, false, List, [], ◌∷◌, map, Some, None, refl}
 use Rattle.history_model.specs.declared.Entry.{Entry}
 use Rattle.history_model.specs.declared.CivilMinute.{CivilMinute}
 use Rattle.history_model.specs.Calendar.{matches, last_before, crossed, calendar_fires}

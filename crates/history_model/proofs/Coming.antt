@@ -1,5 +1,5 @@
 -- Only the newest moment of each kind can still be to come.
-use Rattle.std.proofs.Common.{◌≡◌, ℕ, ◌+◌, ◌*◌, ◌^◌, ◌≤◌, ◌==◌, Bool, true, false, not, ◌||◌, ◌&&◌, cond, Option, Some, None, is_some, List, [], ◌∷◌, ◌++◌, ◌-◌, min, refl, sym, ap, subst, ◌∙◌, arith, nat_lt}
+use Rattle.std.proofs.Common.{◌≡◌, ℕ, ◌+◌, ◌*◌, ◌≤◌, ◌==◌, Bool, true, false, not, ◌||◌, ◌&&◌, cond, Option, Some, None, is_some, List, [], ◌∷◌, ◌++◌, ◌-◌, min, refl, sym, ap, subst, ◌∙◌, arith, nat_lt}
 use Rattle.std.specs.List.{filter, list_any}
 use Rattle.std.proofs.lemmas.Bool.{eqb-true}
 use Rattle.std.proofs.lemmas.Bool.Decides.{nat_tests}
@@ -9,8 +9,8 @@ use Rattle.history_model.specs.declared.Answer.TheVariants.{Spawned, SpawnRefuse
 use Rattle.history_model.specs.Items.{Item, Loaded, Read, Saw, Asked, Came, Left, Ordered, Answered, RunEnded, WaitRefused, History}
 use Rattle.history_model.specs.Search.{first, last, latest, since}
 use Rattle.history_model.specs.Clock.{now, definition_of, load_of, moments, periods}
-use Rattle.history_model.specs.Runs.{is_order, order_in, is_spawn, is_spawn_order, is_spawn_refusal, is_term, is_kill, is_term_order, is_term_answer, is_kill_answer, is_answer_to, runs, child, awaited, is_removed, is_stopped, is_struck}
-use Rattle.history_model.specs.Due.{is_within, is_over, is_throttled, may_spawn, may_retry, may_kill, may_term, is_wanted, has_ever_spawned, due}
+use Rattle.history_model.specs.Runs.{is_order, order_in, is_spawn, is_spawn_order, is_spawn_refusal, is_term, is_kill, is_term_order, is_term_answer, is_kill_answer, is_answer_to, runs, child, awaited, is_stopped, is_struck}
+use Rattle.history_model.specs.Due.{is_within, is_over, may_spawn, may_retry, may_kill, may_term, due}
 use Rattle.history_model.specs.Refusals.{IsLawful}
 use Rattle.history_model.specs.Facts.{facts_of}
 use Rattle.history_model.specs.ByFacts.{settle}
@@ -18,9 +18,10 @@ use Rattle.history_model.specs.Moments.{later_by, timeouts, child_moments, waits
 use Rattle.history_model.specs.Coming.{sooner, coming, coming_after, coming_period, coming_end, next_by}
 use Rattle.history_model.specs.Demands.{waiting}
 use Rattle.history_model.proofs.Booleans.{and-left, and-right, not-true, or-false}
-use Rattle.history_model.proofs.Lawful.{Answers-from, due-Spawn, due-Kill-may, due_shape}
+use Rattle.history_model.proofs.Lawful.{Answers-from, due-Spawn, due-Kill-may, due_shape, unthrottled}
 use Rattle.history_model.proofs.Runs.{kept_awaited, unless_settled-more, answered-settles, child-present, sound, refused-awaited}
 use Rattle.history_model.proofs.Times.{now-grows}
+use Rattle.history_model.specs.declared.TheConstants.{SECOND}
 
 -- ---- the least of the moments that are still to come
 
@@ -63,14 +64,14 @@ next-++ up [] ys = refl
 next-++ up (x ∷ xs) ys = ap (sooner (coming up x)) (next-++ up xs ys) ∙ sym (sooner-assoc (coming up x) (next_of up xs) (next_of up ys))
 
 next-timeout : (up seconds : ℕ) (o : Option ℕ) →
-    next_of up (timeouts seconds o) ≡ cond (nat_lt 0 seconds) (coming_after up (1000 * seconds) o) None
+    next_of up (timeouts seconds o) ≡ cond (nat_lt 0 seconds) (coming_after up (SECOND * seconds) o) None
 next-timeout up seconds None = go (nat_lt 0 seconds) where
-  go : (b : Bool) → next_of up [] ≡ cond b (coming_after up (1000 * seconds) None) None
+  go : (b : Bool) → next_of up [] ≡ cond b (coming_after up (SECOND * seconds) None) None
   go true = refl
   go false = refl
 next-timeout up seconds (Some u) = go (nat_lt 0 seconds) where
-  go : (b : Bool) → next_of up (cond b ((u + 1000 * seconds) ∷ []) []) ≡ cond b (coming up (u + 1000 * seconds)) None
-  go true = sooner-None (coming up (u + 1000 * seconds))
+  go : (b : Bool) → next_of up (cond b ((u + SECOND * seconds) ∷ []) []) ≡ cond b (coming up (u + SECOND * seconds)) None
+  go true = sooner-None (coming up (u + SECOND * seconds))
   go false = refl
 
 -- ---- only the newest can be to come
@@ -118,24 +119,24 @@ newest-coming p wait up (x ∷ t) lawful spaced le =
 
 pub record Kind (p : Item → Bool) (of : Act → Bool) : Type 0 where
   pub unordered : (act : Act) → p (Ordered act) ≡ false
-  pub ready : (t : History) → IsLawful t → (act : Act) → due t ≡ Some act → of act ≡ true → are_over 1000 (now t).up (moments p t)
+  pub ready : (t : History) → IsLawful t → (act : Act) → due t ≡ Some act → of act ≡ true → are_over SECOND (now t).up (moments p t)
   pub asked : (x : Item) (t : History) → IsLawful (x ∷ t) → p x ≡ true → (act : Act) × (awaited t ≡ Some act) × (of act ≡ true) × (awaited (x ∷ t) ≡ None)
 
 -- an item behind which the order is still awaited refuses none of the kind
 refused-here : (p : Item → Bool) (of : Act → Bool) → Kind p of → (x : Item) (t : History) → IsLawful (x ∷ t) → (act : Act) → awaited (x ∷ t) ≡ Some act → of act ≡ true →
-    awaited (x ∷ t) ≡ settle x (awaited t) → (awaited t ≡ Some act → of act ≡ true → are_over 1000 (now t).up (moments p t)) →
-    are_over 1000 (now (x ∷ t)).up (moments p (x ∷ t))
+    awaited (x ∷ t) ≡ settle x (awaited t) → (awaited t ≡ Some act → of act ≡ true → are_over SECOND (now t).up (moments p t)) →
+    are_over SECOND (now (x ∷ t)).up (moments p (x ∷ t))
 refused-here p of kind x t lawful act e fits settled older = go (p x) refl where
   before : awaited t ≡ Some act
   before = kept_awaited x (awaited t) act (sym settled ∙ e)
 
-  go : (b : Bool) → p x ≡ b → are_over 1000 (now (x ∷ t)).up (cond b ((now (x ∷ t)).up ∷ moments p t) (moments p t))
+  go : (b : Bool) → p x ≡ b → are_over SECOND (now (x ∷ t)).up (cond b ((now (x ∷ t)).up ∷ moments p t) (moments p t))
   go true eb = let gone = (kind.asked x t lawful eb).3 in let no : None ≡ Some act = sym gone ∙ e in cc
-  go false eb = over-later 1000 (now t).up (now (x ∷ t)).up (moments p t) (now-grows x t lawful) (older before fits)
+  go false eb = over-later SECOND (now t).up (now (x ∷ t)).up (moments p t) (now-grows x t lawful) (older before fits)
 
 -- while an order of the kind is awaited, its refusals are over
 while-awaited : (p : Item → Bool) (of : Act → Bool) → Kind p of → (t : History) → IsLawful t → (act : Act) → awaited t ≡ Some act → of act ≡ true →
-    are_over 1000 (now t).up (moments p t)
+    are_over SECOND (now t).up (moments p t)
 while-awaited p of kind [] lawful act e fits = cc
 while-awaited p of kind (Ordered a ∷ t) lawful act e fits =
     let same : a ≡ act = cc in
@@ -151,30 +152,20 @@ while-awaited p of kind (RunEnded run how ∷ t) lawful act e fits = refused-her
 while-awaited p of kind (WaitRefused run ∷ t) lawful act e fits = refused-here p of kind (WaitRefused run) t lawful act e fits (unless_settled-more (WaitRefused run) (since is_order t) (latest order_in t)) (while-awaited p of kind t lawful.1 act)
 
 -- so they are spaced
-kind-spaced : (p : Item → Bool) (of : Act → Bool) → Kind p of → (t : History) → IsLawful t → AreSpaced p 1000 t
+kind-spaced : (p : Item → Bool) (of : Act → Bool) → Kind p of → (t : History) → IsLawful t → AreSpaced p SECOND t
 kind-spaced p of kind [] lawful = tt
 kind-spaced p of kind (x ∷ t) lawful = (
   λ e. let asked = kind.asked x t lawful e in
-      over-later 1000 (now t).up (now (x ∷ t)).up (moments p t) (now-grows x t lawful) (while-awaited p of kind t lawful.1 asked.0 asked.1 asked.2),
+      over-later SECOND (now t).up (now (x ∷ t)).up (moments p t) (now-grows x t lawful) (while-awaited p of kind t lawful.1 asked.0 asked.1 asked.2),
   kind-spaced p of kind t lawful.1,
 )
 
 -- ---- spawn orders and their refusals
 
-unthrottled : (t : History) → may_spawn t ≡ true → is_throttled t ≡ false
-unthrottled t may = go (not (is_removed t)) (is_wanted t) (is_throttled t) (not ((definition_of t).launch_only_once && has_ever_spawned t)) (nat_lt (runs t) (2 ^ 63)) may where
-  go : (r w h o n : Bool) → (r && w && not h && o && n) ≡ true → h ≡ false
-  go r w true o n e = absurd (impossible r w o n e) where
-    impossible : (r w o n : Bool) → (r && w && not true && o && n) ≡ true → ⊥
-    impossible true true o n e = cc
-    impossible true false o n e = cc
-    impossible false w o n e = cc
-  go r w false o n e = refl
-
 apart : (t : History) (run : ℕ) (conn : Option ℕ) → due t ≡ Some (Spawn run conn) →
-    are_over (1000 * (definition_of t).throttle_interval) (now t).up (moments is_spawn_order t) × are_over 1000 (now t).up (moments is_spawn_refusal t)
+    are_over (SECOND * (definition_of t).throttle_interval) (now t).up (moments is_spawn_order t) × are_over SECOND (now t).up (moments is_spawn_refusal t)
 apart t run conn e =
-    or-false (list_any (is_within (1000 * (definition_of t).throttle_interval) (now t).up) (moments is_spawn_order t)) (list_any (is_within 1000 (now t).up) (moments is_spawn_refusal t)) (unthrottled t (due-Spawn t run conn e).may)
+    or-false (list_any (is_within (SECOND * (definition_of t).throttle_interval) (now t).up) (moments is_spawn_order t)) (list_any (is_within SECOND (now t).up) (moments is_spawn_refusal t)) (unthrottled t (due-Spawn t run conn e).may)
 
 spawn_kind : Kind is_spawn_refusal is_spawn
 spawn_kind = record {
@@ -182,7 +173,7 @@ spawn_kind = record {
   ready = ready;
   asked = asked;
 } where
-  ready : (t : History) → IsLawful t → (act : Act) → due t ≡ Some act → is_spawn act ≡ true → are_over 1000 (now t).up (moments is_spawn_refusal t)
+  ready : (t : History) → IsLawful t → (act : Act) → due t ≡ Some act → is_spawn act ≡ true → are_over SECOND (now t).up (moments is_spawn_refusal t)
   ready t lawful (Spawn run conn) e fits = (apart t run conn e).1
   ready t lawful _ e fits = cc
 
@@ -222,17 +213,17 @@ due-Term-may t run e = go (awaited t) (child t) e where
   go None None e = absurd (spawning (may_spawn t) e)
   go None (Some c) e = let both = stopping (may_kill c.0 t) (may_term c.0 t) c.0 e in rw (← both.0) both.1
 
-term-over : (t : History) (run : ℕ) → due t ≡ Some (Term run) → are_over 1000 (now t).up (moments (is_term_answer false run) t)
+term-over : (t : History) (run : ℕ) → due t ≡ Some (Term run) → are_over SECOND (now t).up (moments (is_term_answer false run) t)
 term-over t run e =
     let retry = and-right (not (is_struck t) && is_stopped t && not (list_any (is_kill_answer true run) t)) (may_retry is_term_answer run t) (due-Term-may t run e) in
-    not-true (list_any (is_within 1000 (now t).up) (moments (is_term_answer false run) t)) (and-right (not (list_any (is_term_answer true run) t)) (not (list_any (is_within 1000 (now t).up) (moments (is_term_answer false run) t))) retry)
+    not-true (list_any (is_within SECOND (now t).up) (moments (is_term_answer false run) t)) (and-right (not (list_any (is_term_answer true run) t)) (not (list_any (is_within SECOND (now t).up) (moments (is_term_answer false run) t))) retry)
 
-kill-over : (t : History) (run : ℕ) → due t ≡ Some (Kill run) → are_over 1000 (now t).up (moments (is_kill_answer false run) t)
+kill-over : (t : History) (run : ℕ) → due t ≡ Some (Kill run) → are_over SECOND (now t).up (moments (is_kill_answer false run) t)
 kill-over t run e =
     let retry = and-right
-    (is_struck t || (is_stopped t && nat_lt 0 (definition_of t).exit_timeout && is_over (1000 * (definition_of t).exit_timeout) (now t).up (last (moments (is_term_order run) t))))
+    (is_struck t || (is_stopped t && nat_lt 0 (definition_of t).exit_timeout && is_over (SECOND * (definition_of t).exit_timeout) (now t).up (last (moments (is_term_order run) t))))
     (may_retry is_kill_answer run t) (due-Kill-may t run e) in
-    not-true (list_any (is_within 1000 (now t).up) (moments (is_kill_answer false run) t)) (and-right (not (list_any (is_kill_answer true run) t)) (not (list_any (is_within 1000 (now t).up) (moments (is_kill_answer false run) t))) retry)
+    not-true (list_any (is_within SECOND (now t).up) (moments (is_kill_answer false run) t)) (and-right (not (list_any (is_kill_answer true run) t)) (not (list_any (is_within SECOND (now t).up) (moments (is_kill_answer false run) t))) retry)
 
 answer_term : (run : ℕ) (ok : Bool) (act : Act) → is_answer_to (Termed run ok) act ≡ true → act ≡ Term run
 answer_term run ok (Term n) e = ap Term (eqb-true n run e)
@@ -248,7 +239,7 @@ term_kind run = record {
   ready = ready;
   asked = asked;
 } where
-  ready : (t : History) → IsLawful t → (act : Act) → due t ≡ Some act → is_term run act ≡ true → are_over 1000 (now t).up (moments (is_term_answer false run) t)
+  ready : (t : History) → IsLawful t → (act : Act) → due t ≡ Some act → is_term run act ≡ true → are_over SECOND (now t).up (moments (is_term_answer false run) t)
   ready t lawful (Term n) e fits = let same : n ≡ run = eqb-true n run fits in term-over t run (e ∙ ap (λ k. Some (Term k)) same)
   ready t lawful _ e fits = cc
 
@@ -275,7 +266,7 @@ kill_kind run = record {
   ready = ready;
   asked = asked;
 } where
-  ready : (t : History) → IsLawful t → (act : Act) → due t ≡ Some act → is_kill run act ≡ true → are_over 1000 (now t).up (moments (is_kill_answer false run) t)
+  ready : (t : History) → IsLawful t → (act : Act) → due t ≡ Some act → is_kill run act ≡ true → are_over SECOND (now t).up (moments (is_kill_answer false run) t)
   ready t lawful (Kill n) e fits = let same : n ≡ run = eqb-true n run fits in kill-over t run (e ∙ ap (λ k. Some (Kill k)) same)
   ready t lawful _ e fits = cc
 
@@ -298,7 +289,7 @@ kill_kind run = record {
 
 -- ---- spawn orders
 
-orders-spaced : (wait : ℕ) (t : History) → IsLawful t → 1000 * (definition_of t).throttle_interval ≡ wait → AreSpaced is_spawn_order wait t
+orders-spaced : (wait : ℕ) (t : History) → IsLawful t → SECOND * (definition_of t).throttle_interval ≡ wait → AreSpaced is_spawn_order wait t
 orders-spaced wait [] lawful same = tt
 orders-spaced wait (Ordered (Spawn run conn) ∷ t) lawful same =
     ((λ e. subst (λ w. are_over w (now t).up (moments is_spawn_order t)) same (apart t run conn lawful.0.1).0), orders-spaced wait t lawful.1 same)
@@ -320,75 +311,75 @@ orders-spaced wait (WaitRefused run ∷ t) lawful same = ((λ e. cc), orders-spa
 
 -- the newest spawn order and the newest refusal give the next moment of all of them
 pub next-spawn : (t : History) → IsLawful t → (up : ℕ) → (now t).up ≤ up →
-    least (filter (nat_lt up) (later_by (1000 * (definition_of t).throttle_interval) (moments is_spawn_order t) ++ later_by 1000 (moments is_spawn_refusal t)))
-    ≡ sooner (coming_after up (1000 * (definition_of t).throttle_interval) (first (moments is_spawn_order t))) (coming_after up 1000 (first (moments is_spawn_refusal t)))
+    least (filter (nat_lt up) (later_by (SECOND * (definition_of t).throttle_interval) (moments is_spawn_order t) ++ later_by SECOND (moments is_spawn_refusal t)))
+    ≡ sooner (coming_after up (SECOND * (definition_of t).throttle_interval) (first (moments is_spawn_order t))) (coming_after up SECOND (first (moments is_spawn_refusal t)))
 next-spawn t lawful up le =
-    let wait = 1000 * (definition_of t).throttle_interval in
+    let wait = SECOND * (definition_of t).throttle_interval in
     let spawned = later_by wait (moments is_spawn_order t) in
-    let refused = later_by 1000 (moments is_spawn_refusal t) in
+    let refused = later_by SECOND (moments is_spawn_refusal t) in
     next-least up (spawned ++ refused)
     ∙ next-++ up spawned refused
     ∙ (λ i. sooner (newest-coming is_spawn_order wait up t lawful (orders-spaced wait t lawful refl) le i)
-    (newest-coming is_spawn_refusal 1000 up t lawful (kind-spaced is_spawn_refusal is_spawn spawn_kind t lawful) le i))
+    (newest-coming is_spawn_refusal SECOND up t lawful (kind-spaced is_spawn_refusal is_spawn spawn_kind t lawful) le i))
 
 -- the first TERM, the newest refused TERM and the newest refused KILL give that of all of a run's
 pub next-end : (t : History) → IsLawful t → (up : ℕ) → (now t).up ≤ up → (run : ℕ) →
-    least (filter (nat_lt up) (timeouts (definition_of t).exit_timeout (last (moments (is_term_order run) t)) ++ later_by 1000 (moments (is_term_answer false run) t) ++ later_by 1000 (moments (is_kill_answer false run) t)))
-    ≡ sooner (cond (nat_lt 0 (definition_of t).exit_timeout) (coming_after up (1000 * (definition_of t).exit_timeout) (last (moments (is_term_order run) t))) None)
-    (sooner (coming_after up 1000 (first (moments (is_term_answer false run) t))) (coming_after up 1000 (first (moments (is_kill_answer false run) t))))
+    least (filter (nat_lt up) (timeouts (definition_of t).exit_timeout (last (moments (is_term_order run) t)) ++ later_by SECOND (moments (is_term_answer false run) t) ++ later_by SECOND (moments (is_kill_answer false run) t)))
+    ≡ sooner (cond (nat_lt 0 (definition_of t).exit_timeout) (coming_after up (SECOND * (definition_of t).exit_timeout) (last (moments (is_term_order run) t))) None)
+    (sooner (coming_after up SECOND (first (moments (is_term_answer false run) t))) (coming_after up SECOND (first (moments (is_kill_answer false run) t))))
 next-end t lawful up le run =
     let outs = timeouts (definition_of t).exit_timeout (last (moments (is_term_order run) t)) in
-    let refused = later_by 1000 (moments (is_term_answer false run) t) in
-    let killed = later_by 1000 (moments (is_kill_answer false run) t) in
+    let refused = later_by SECOND (moments (is_term_answer false run) t) in
+    let killed = later_by SECOND (moments (is_kill_answer false run) t) in
     next-least up (outs ++ refused ++ killed)
     ∙ next-++ up (outs ++ refused) killed
     ∙ ap (λ m. sooner m (next_of up killed)) (next-++ up outs refused)
     ∙ sooner-assoc (next_of up outs) (next_of up refused) (next_of up killed)
     ∙ (λ i. sooner (next-timeout up (definition_of t).exit_timeout (last (moments (is_term_order run) t)) i)
-    (sooner (newest-coming (is_term_answer false run) 1000 up t lawful (kind-spaced (is_term_answer false run) (is_term run) (term_kind run) t lawful) le i)
-    (newest-coming (is_kill_answer false run) 1000 up t lawful (kind-spaced (is_kill_answer false run) (is_kill run) (kill_kind run) t lawful) le i)))
+    (sooner (newest-coming (is_term_answer false run) SECOND up t lawful (kind-spaced (is_term_answer false run) (is_term run) (term_kind run) t lawful) le i)
+    (newest-coming (is_kill_answer false run) SECOND up t lawful (kind-spaced (is_kill_answer false run) (is_kill run) (kill_kind run) t lawful) le i)))
 
 -- ---- the next moment
 
 period-first : (seconds : Option ℕ) (load up : ℕ) (ms : List ℕ) → least (next_period seconds load up ++ ms) ≡ sooner (coming_period seconds load up) (least ms)
 period-first None load up ms = refl
-period-first (Some seconds) load up ms = least-cons (load + 1000 * seconds * (periods seconds (up - load) + 1)) ms
+period-first (Some seconds) load up ms = least-cons (load + SECOND * seconds * (periods seconds (up - load) + 1)) ms
 
 module _ (t : History) (lawful : IsLawful t) where
   abbrev up : ℕ
   up = (now t).up
 
-  orders : next_of up (later_by (1000 * (definition_of t).throttle_interval) (moments is_spawn_order t)) ≡ coming_after up (1000 * (definition_of t).throttle_interval) (first (moments is_spawn_order t))
-  orders = newest-coming is_spawn_order (1000 * (definition_of t).throttle_interval) up t lawful (orders-spaced (1000 * (definition_of t).throttle_interval) t lawful refl) (omega arith)
+  orders : next_of up (later_by (SECOND * (definition_of t).throttle_interval) (moments is_spawn_order t)) ≡ coming_after up (SECOND * (definition_of t).throttle_interval) (first (moments is_spawn_order t))
+  orders = newest-coming is_spawn_order (SECOND * (definition_of t).throttle_interval) up t lawful (orders-spaced (SECOND * (definition_of t).throttle_interval) t lawful refl) (omega arith)
 
-  refusals : next_of up (later_by 1000 (moments is_spawn_refusal t)) ≡ coming_after up 1000 (first (moments is_spawn_refusal t))
-  refusals = newest-coming is_spawn_refusal 1000 up t lawful (kind-spaced is_spawn_refusal is_spawn spawn_kind t lawful) (omega arith)
+  refusals : next_of up (later_by SECOND (moments is_spawn_refusal t)) ≡ coming_after up SECOND (first (moments is_spawn_refusal t))
+  refusals = newest-coming is_spawn_refusal SECOND up t lawful (kind-spaced is_spawn_refusal is_spawn spawn_kind t lawful) (omega arith)
 
-  terms : (run : ℕ) → next_of up (later_by 1000 (moments (is_term_answer false run) t)) ≡ coming_after up 1000 (first (moments (is_term_answer false run) t))
-  terms run = newest-coming (is_term_answer false run) 1000 up t lawful (kind-spaced (is_term_answer false run) (is_term run) (term_kind run) t lawful) (omega arith)
+  terms : (run : ℕ) → next_of up (later_by SECOND (moments (is_term_answer false run) t)) ≡ coming_after up SECOND (first (moments (is_term_answer false run) t))
+  terms run = newest-coming (is_term_answer false run) SECOND up t lawful (kind-spaced (is_term_answer false run) (is_term run) (term_kind run) t lawful) (omega arith)
 
-  kills : (run : ℕ) → next_of up (later_by 1000 (moments (is_kill_answer false run) t)) ≡ coming_after up 1000 (first (moments (is_kill_answer false run) t))
-  kills run = newest-coming (is_kill_answer false run) 1000 up t lawful (kind-spaced (is_kill_answer false run) (is_kill run) (kill_kind run) t lawful) (omega arith)
+  kills : (run : ℕ) → next_of up (later_by SECOND (moments (is_kill_answer false run) t)) ≡ coming_after up SECOND (first (moments (is_kill_answer false run) t))
+  kills run = newest-coming (is_kill_answer false run) SECOND up t lawful (kind-spaced (is_kill_answer false run) (is_kill run) (kill_kind run) t lawful) (omega arith)
 
   run_moments : (c : Option (ℕ × ℕ)) → child t ≡ c → next_of up (child_moments c t) ≡ cond (is_some c) (coming_end (facts_of t) up) None
   run_moments None e = refl
   run_moments (Some c) e =
       let number : c.0 ≡ runs t = (child-present t c (sound t lawful).0 e).0 in
       let outs = timeouts (definition_of t).exit_timeout (last (moments (is_term_order c.0) t)) in
-      let refused = later_by 1000 (moments (is_term_answer false c.0) t) in
-      let killed = later_by 1000 (moments (is_kill_answer false c.0) t) in
+      let refused = later_by SECOND (moments (is_term_answer false c.0) t) in
+      let killed = later_by SECOND (moments (is_kill_answer false c.0) t) in
       next-++ up (outs ++ refused) killed
       ∙ ap (λ m. sooner m (next_of up killed)) (next-++ up outs refused)
       ∙ sooner-assoc (next_of up outs) (next_of up refused) (next_of up killed)
       ∙ (λ i. sooner (next-timeout up (definition_of t).exit_timeout (last (moments (is_term_order c.0) t)) i) (sooner (terms c.0 i) (kills c.0 i)))
-      ∙ (λ i. sooner (cond (nat_lt 0 (definition_of t).exit_timeout) (coming_after up (1000 * (definition_of t).exit_timeout) (last (moments (is_term_order (number i)) t))) None)
-      (sooner (coming_after up 1000 (first (moments (is_term_answer false (number i)) t))) (coming_after up 1000 (first (moments (is_kill_answer false (number i)) t)))))
+      ∙ (λ i. sooner (cond (nat_lt 0 (definition_of t).exit_timeout) (coming_after up (SECOND * (definition_of t).exit_timeout) (last (moments (is_term_order (number i)) t))) None)
+      (sooner (coming_after up SECOND (first (moments (is_term_answer false (number i)) t))) (coming_after up SECOND (first (moments (is_kill_answer false (number i)) t)))))
 
   -- the facts give the least of all moments to come
   pub next-by : next_moment t ≡ next_by (facts_of t) (now t).up
   next-by =
-      let spawned = later_by (1000 * (definition_of t).throttle_interval) (moments is_spawn_order t) in
-      let refused = later_by 1000 (moments is_spawn_refusal t) in
+      let spawned = later_by (SECOND * (definition_of t).throttle_interval) (moments is_spawn_order t) in
+      let refused = later_by SECOND (moments is_spawn_refusal t) in
       let beside = child_moments (child t) t in
       period-first (definition_of t).start_interval (load_of t).1.up up (filter (nat_lt up) (waits t))
       ∙ ap (sooner (coming_period (definition_of t).start_interval (load_of t).1.up up))

@@ -1,5 +1,5 @@
 -- Words in which the worked examples of the whole machine are written: readings, events, jobs and outcomes.
-use Rattle.std.specs.Prelude.{ℕ, zero, suc, ◌+◌, ◌/◌, ◌%◌, pos, Bool, true, false, List, [], ◌∷◌, Some, None, Ok, codes}
+use Rattle.std.specs.Prelude.{ℕ, zero, suc, ◌+◌, ◌/◌, ◌%◌, pos, Bool, true, false, List, [], ◌∷◌, None, Ok, codes}
 use Rattle.history_model.specs.declared.Reading.{Reading}
 use Rattle.history_model.specs.declared.CivilMinute.{CivilMinute}
 use Rattle.history_model.specs.declared.Ended.{Ended}

@@ -1,12 +1,11 @@
 -- Worked examples of readings and moments (launchd.plist(5): StartInterval, ThrottleInterval, ExitTimeOut,
 -- StartCalendarInterval). Each is a theorem that computes.
-use Rattle.std.specs.Prelude.{◌≡◌, ℕ, Bool, true, false, List, [], ◌∷◌, map, Option, Some, None, refl, unwrap_or}
-use Rattle.history_model.specs.declared.Reading.{Reading}
+use Rattle.std.specs.Prelude.{◌≡◌, ℕ, Bool, true, false, List, [], ◌∷◌, map, Some, None, refl, unwrap_or}
 use Rattle.history_model.specs.declared.Entry.{Entry}
 use Rattle.history_model.specs.declared.Ended.TheVariants.{Code}
 use Rattle.history_model.specs.declared.Act.TheVariants.{Spawn}
 use Rattle.history_model.specs.declared.Ask.TheVariants.{Stop, Kickstart}
-use Rattle.history_model.specs.declared.Answer.TheVariants.{Termed, Killed}
+use Rattle.history_model.specs.declared.Answer.TheVariants.{Killed}
 use Rattle.history_model.specs.declared.Refusal.TheVariants.{ClockRefused}
 use Rattle.history_model.specs.Items.{Definition, History, Loaded, Read, Answered}
 use Rattle.history_model.specs.Clock.{no_definition}
@@ -14,7 +13,7 @@ use Rattle.history_model.specs.Machine.{Event, Tick, OfJob, past_of}
 use Rattle.history_model.specs.Moments.{timeouts, next_moment, touches}
 use Rattle.history_model.specs.Step.{run, outcomes}
 use Rattle.history_model.proofs.ThrottleExamples as rows
-use Rattle.history_model.proofs.ExampleWords.{utc_that_day, read_at, start, read, load, ask, spawned, spawn_refused, termed, killed, ended, a, at_load, none, gives, refuses}
+use Rattle.history_model.proofs.ExampleWords.{utc_that_day, read_at, start, read, load, ask, spawned, termed, ended, a, at_load, none, refuses}
 
 -- ---- readings
 

@@ -9,9 +9,10 @@ use Rattle.std.specs.List.{filter, list_any}
 use Rattle.history_model.specs.Items.{History}
 use Rattle.history_model.specs.Clock.{now, load_of, definition_of, periods}
 use Rattle.history_model.specs.Moments.{waits, next_period, least, next_moment, IsPeriod, IsMoment}
-use Rattle.history_model.proofs.Booleans.{and-both, or-second, true-and}
+use Rattle.history_model.proofs.Booleans.{and-both, or-either, or-only, or-second, true-and}
 use Rattle.history_model.proofs.Lawful.{eqb-self}
 use Rattle.history_model.proofs.Lifted.{any-filter}
+use Rattle.history_model.specs.declared.TheConstants.{SECOND}
 
 -- the number is in the list
 abbrev is_in : ℕ → List ℕ → Bool
@@ -20,10 +21,6 @@ is_in k ms = list_any (λ m. m == k) ms
 -- it is in the list, and none is less
 abbrev IsLeast : List ℕ → ℕ → Type 0
 IsLeast ms m = (is_in m ms ≡ true) × ((k : ℕ) → is_in k ms ≡ true → m ≤ k)
-
-in-or : (a b : Bool) → (a || b) ≡ true → (a ≡ true) ⊎ (b ≡ true)
-in-or true b e = inl refl
-in-or false b e = inr e
 
 min-in : (m k : ℕ) → (min m k ≡ m) ⊎ (min m k ≡ k)
 min-in m k = go (nat_lt m k) refl where
@@ -34,14 +31,11 @@ min-in m k = go (nat_lt m k) refl where
 least-is : (m : ℕ) (ms : List ℕ) (x : ℕ) → least (m ∷ ms) ≡ Some x → IsLeast (m ∷ ms) x
 least-is m [] x e =
     let same : m ≡ x = cc in
-    (rw (← same, eqb-self m) refl, λ k there. let found : m ≡ k = eqb-true m k (single (m == k) there) in omega (arith, same, found)) where
-      single : (b : Bool) → (b || false) ≡ true → b ≡ true
-      single true h = refl
-      single false h = cc
+    (rw (← same, eqb-self m) refl, λ k there. let found : m ≡ k = eqb-true m k (or-only (m == k) there) in omega (arith, same, found))
 least-is m (n ∷ ms) x e =
     let rest = least-is (min m n) ms x e in (
-      here (in-or (min m n == x) (is_in x ms) rest.0),
-      λ k there. below k (in-or (m == k) ((n == k) || is_in k ms) there) rest.1,
+      here (or-either (min m n == x) (is_in x ms) rest.0),
+      λ k there. below k (or-either (m == k) ((n == k) || is_in k ms) there) rest.1,
     ) where
       here : ((min m n == x) ≡ true) ⊎ (is_in x ms ≡ true) → is_in x (m ∷ n ∷ ms) ≡ true
       here (inr later) = or-second (m == x) ((n == x) || is_in x ms) (or-second (n == x) (is_in x ms) later)
@@ -55,7 +49,7 @@ least-is m (n ∷ ms) x e =
 
       below : (k : ℕ) → ((m == k) ≡ true) ⊎ (((n == k) || is_in k ms) ≡ true) → ((j : ℕ) → is_in j (min m n ∷ ms) ≡ true → x ≤ j) → x ≤ k
       below k (inl is_m) all = let same : m ≡ k = eqb-true m k is_m in from k (omega (arith, same)) all
-      below k (inr later) all = last_two (in-or (n == k) (is_in k ms) later) where
+      below k (inr later) all = last_two (or-either (n == k) (is_in k ms) later) where
         last_two : ((n == k) ≡ true) ⊎ (is_in k ms ≡ true) → x ≤ k
         last_two (inl is_n) = let same : n ≡ k = eqb-true n k is_n in from k (omega (arith, same)) all
         last_two (inr deeper) = all k (or-second (min m n == k) (is_in k ms) deeper)
@@ -71,24 +65,20 @@ in-++ k (x ∷ xs) ys = rw (in-++ k xs ys) (go (x == k)) where
   go true = refl
   go false = refl
 
-or-false : (b : Bool) → (b || false) ≡ true → b ≡ true
-or-false true h = refl
-or-false false h = cc
-
 -- the interval's next moment
 module _ (seconds load up : ℕ) (positive : 0 < seconds) where
-  some : 0 < 1000 * seconds
+  some : 0 < SECOND * seconds
   some = omega arith
 
-  next-later : up < load + 1000 * seconds * (periods seconds (up - load) + 1)
-  next-later = let less : up - load < (up - load) / (1000 * seconds) * (1000 * seconds) + 1000 * seconds = lt-div-mul-add some in omega (arith, less)
+  next-later : up < load + SECOND * seconds * (periods seconds (up - load) + 1)
+  next-later = let less : up - load < (up - load) / (SECOND * seconds) * (SECOND * seconds) + SECOND * seconds = lt-div-mul-add some in omega (arith, less)
 
-  next-least : (k : ℕ) → 1 ≤ k → up < load + 1000 * k * seconds → load + 1000 * seconds * (periods seconds (up - load) + 1) ≤ load + 1000 * k * seconds
+  next-least : (k : ℕ) → 1 ≤ k → up < load + SECOND * k * seconds → load + SECOND * seconds * (periods seconds (up - load) + 1) ≤ load + SECOND * k * seconds
   next-least k one above =
-      let period : 1 * (1000 * seconds) ≤ k * (1000 * seconds) = mul-le-mul_right (1000 * seconds) one in
-      let inside : up - load < k * (1000 * seconds) = omega (arith, above, period, some) in
-      let less : (up - load) / (1000 * seconds) < k = (div-lt_iff_lt-mul some).1 inside in
-      let more : 1000 * seconds * ((up - load) / (1000 * seconds) + 1) ≤ 1000 * seconds * k = mul-le-mul_left (1000 * seconds) (omega (arith, less)) in
+      let period : 1 * (SECOND * seconds) ≤ k * (SECOND * seconds) = mul-le-mul_right (SECOND * seconds) one in
+      let inside : up - load < k * (SECOND * seconds) = omega (arith, above, period, some) in
+      let less : (up - load) / (SECOND * seconds) < k = (div-lt_iff_lt-mul some).1 inside in
+      let more : SECOND * seconds * ((up - load) / (SECOND * seconds) + 1) ≤ SECOND * seconds * k = mul-le-mul_left (SECOND * seconds) (omega (arith, less)) in
       omega (arith, more)
 
 -- ---- the moments of the interval
@@ -96,7 +86,7 @@ module _ (seconds load up : ℕ) (positive : 0 < seconds) where
 period-in : (o : Option ℕ) (load up m : ℕ) → ForSome o (λ seconds. 0 < seconds) → is_in m (next_period o load up) ≡ true → (up < m) × IsPeriod o load m
 period-in None load up m positive there = cc
 period-in (Some seconds) load up m positive there =
-    let same : load + 1000 * seconds * (periods seconds (up - load) + 1) ≡ m = eqb-true (load + 1000 * seconds * (periods seconds (up - load) + 1)) m (or-false (load + 1000 * seconds * (periods seconds (up - load) + 1) == m) there) in
+    let same : load + SECOND * seconds * (periods seconds (up - load) + 1) ≡ m = eqb-true (load + SECOND * seconds * (periods seconds (up - load) + 1)) m (or-only (load + SECOND * seconds * (periods seconds (up - load) + 1) == m) there) in
     let later = next-later seconds load up (positive seconds refl) in
     (omega (arith, later, same), (periods seconds (up - load) + 1, omega arith, omega (arith, same)))
 
@@ -106,8 +96,8 @@ period-below : (o : Option ℕ) (load up other m : ℕ) → ForSome o (λ second
 period-below None load up other m positive period above all = absurd period
 period-below (Some seconds) load up other m positive (k, one, same) above all =
     let nearer = next-least seconds load up (positive seconds refl) k one (omega (arith, above, same)) in
-    let found : m ≤ load + 1000 * seconds * (periods seconds (up - load) + 1) =
-    all (load + 1000 * seconds * (periods seconds (up - load) + 1)) (rw (eqb-self (load + 1000 * seconds * (periods seconds (up - load) + 1))) refl) in
+    let found : m ≤ load + SECOND * seconds * (periods seconds (up - load) + 1) =
+    all (load + SECOND * seconds * (periods seconds (up - load) + 1)) (rw (eqb-self (load + SECOND * seconds * (periods seconds (up - load) + 1))) refl) in
     omega (arith, found, nearer, same)
 
 -- where no period is to come there is no interval
@@ -140,7 +130,7 @@ module _ (t : History) (positive : ForSome (definition_of t).start_interval (λ 
 
   pub is-one : (m : ℕ) → next_moment t ≡ Some m → ((now t).up < m) × IsMoment t m
   is-one m e =
-      go (in-or (is_in m (next_period (definition_of t).start_interval (load_of t).1.up (now t).up)) (is_in m (filter (nat_lt (now t).up) (waits t)))
+      go (or-either (is_in m (next_period (definition_of t).start_interval (load_of t).1.up (now t).up)) (is_in m (filter (nat_lt (now t).up) (waits t)))
       (sym (in-++ m (next_period (definition_of t).start_interval (load_of t).1.up (now t).up) (filter (nat_lt (now t).up) (waits t))) ∙ (whole m e).0)) where
         go : (is_in m (next_period (definition_of t).start_interval (load_of t).1.up (now t).up) ≡ true) ⊎ (is_in m (filter (nat_lt (now t).up) (waits t)) ≡ true) → ((now t).up < m) × IsMoment t m
         go (inl there) = let fact = period-in (definition_of t).start_interval (load_of t).1.up (now t).up m positive there in (fact.0, inl fact.1)

@@ -1,6 +1,6 @@
 -- Worked examples of what the machine refuses, and which refusal comes first where several hold (launchctl(1); the codes and
 -- their order are this project's own). Each is a theorem that computes.
-use Rattle.std.specs.Prelude.{◌≡◌, ℕ, Bool, true, false, List, [], ◌∷◌, map, replicate, Option, Some, None, Ok, Err, refl, codes}
+use Rattle.std.specs.Prelude.{◌≡◌, true, false, [], ◌∷◌, map, replicate, Some, None, Err, refl, codes}
 use Rattle.history_model.specs.declared.Ended.TheVariants.{Code}
 use Rattle.history_model.specs.declared.Act.TheVariants.{Spawn, Term, Close, Gone}
 use Rattle.history_model.specs.declared.Ask.TheVariants.{Start, Stop, Unload, Shutdown, Kickstart}
@@ -8,15 +8,15 @@ use Rattle.history_model.specs.declared.Answer.TheVariants.{Spawned, SpawnRefuse
 use Rattle.history_model.specs.declared.Reason.TheVariants as reason
 use Rattle.history_model.specs.declared.KeyName.TheVariants as key
 use Rattle.history_model.specs.declared.Refusal.TheVariants.{NoMemory, BadRequest, NoSuchJob, AlreadyLoaded, Disabled, Removing, NotRunning, BadDefinition, StoreRefused, TooManyJobs, SocketRefused, TooManyConnections, Stale, ClockRefused, ShuttingDown}
-use Rattle.history_model.specs.Items.{Definition, Loaded, Read, Saw, Asked, Came, Left, Ordered, Answered, RunEnded, WaitRefused}
+use Rattle.history_model.specs.Items.{Loaded, Read, Saw, Asked, Came, Left, Ordered, Answered, RunEnded, WaitRefused}
 use Rattle.history_model.specs.Clock.{no_definition}
-use Rattle.history_model.specs.Labels.{Label, is_label, is_before}
-use Rattle.history_model.specs.Machine.{State, Event, Load, UnloadJob, Set, ListJobs, PrintJob, ShutDown, OfJob}
+use Rattle.history_model.specs.Labels.{is_label, is_before}
+use Rattle.history_model.specs.Machine.{Load, UnloadJob, Set, PrintJob, ShutDown, OfJob}
 use Rattle.history_model.specs.Acceptance.{refusal_in}
 use Rattle.history_model.specs.Step.{outcomes}
 use Rattle.history_model.specs.RefusalTexts.{reason_text, key_text, refusal_text, refusal_code}
 use Rattle.history_model.proofs.LimitExamples.{crowded}
-use Rattle.history_model.proofs.ExampleWords.{start, start_with, load_as, load, ask, spawned, spawn_refused, termed, ended, read, a, b, s, at_load, socket_job, none, gives, refuses}
+use Rattle.history_model.proofs.ExampleWords.{start, load_as, load, ask, spawned, termed, ended, a, b, s, at_load, socket_job, none, gives, refuses}
 
 -- ---- labels
 

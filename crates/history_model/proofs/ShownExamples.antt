@@ -1,6 +1,6 @@
 -- Worked examples of what list and print show of a job in each state (launchctl(1): list, print; the layout is this
 -- project's own). Each is a theorem that computes.
-use Rattle.std.specs.Prelude.{◌≡◌, ℕ, List, [], ◌∷◌, true, false, refl, codes}
+use Rattle.std.specs.Prelude.{◌≡◌, [], ◌∷◌, true, false, refl, codes}
 use Rattle.std.specs.Fmt.{digits}
 use Rattle.history_model.specs.declared.Ended.TheVariants.{Code, Signal}
 use Rattle.history_model.specs.declared.Act.TheVariants.{Spawn, Term, Kill, Gone}

@@ -1,6 +1,6 @@
 -- Worked examples of one job: what is seen at its paths (launchd.plist(5): WatchPaths, QueueDirectories, KeepAlive with
 -- PathState). Each is a theorem that computes.
-use Rattle.std.specs.Prelude.{◌≡◌, ℕ, true, false, List, [], ◌∷◌, Option, Some, None, refl}
+use Rattle.std.specs.Prelude.{◌≡◌, ℕ, true, false, List, [], ◌∷◌, None, refl}
 use Rattle.history_model.specs.declared.Obs.{Obs}
 use Rattle.history_model.specs.declared.Ended.TheVariants.{Code}
 use Rattle.history_model.specs.declared.Act.TheVariants.{Spawn}

@@ -12,6 +12,7 @@ use Rattle.history_model.specs.DueByFacts.{is_newest_within, is_throttled_by, is
 use Rattle.history_model.specs.Coming.{sooner, coming, coming_after, coming_period, coming_end, next_by}
 use Rattle.history_model.specs.Skipping.{IsLater}
 use Rattle.history_model.proofs.Untouched.{kill-shape}
+use Rattle.history_model.specs.declared.TheConstants.{SECOND}
 
 -- both of two are later where the sooner is
 both : (at : ℕ) (a b : Option ℕ) → IsLater at (sooner a b) → IsLater at a × IsLater at b
@@ -52,37 +53,37 @@ module _ (up at : ℕ) (order : up ≤ at) where
 
   -- ---- the order
 
-  throttled : (f : Facts) → IsLater at (coming_after up (1000 * f.definition.throttle_interval) f.spawn_ordered) → IsLater at (coming_after up 1000 f.spawn_refused) →
+  throttled : (f : Facts) → IsLater at (coming_after up (SECOND * f.definition.throttle_interval) f.spawn_ordered) → IsLater at (coming_after up SECOND f.spawn_refused) →
       is_throttled_by f at ≡ is_throttled_by f up
-  throttled f a b = λ i. within-same (1000 * f.definition.throttle_interval) f.spawn_ordered a i || within-same 1000 f.spawn_refused b i
+  throttled f a b = λ i. within-same (SECOND * f.definition.throttle_interval) f.spawn_ordered a i || within-same SECOND f.spawn_refused b i
 
   kills : (f : Facts) → IsLater at (coming_end f up) → may_kill_by f at ≡ may_kill_by f up
   kills f later =
-      let parts = both at (cond (nat_lt 0 f.definition.exit_timeout) (coming_after up (1000 * f.definition.exit_timeout) f.term_ordered) None)
-      (sooner (coming_after up 1000 f.term_refused) (coming_after up 1000 f.kill_refused)) later in
-      let refused = both at (coming_after up 1000 f.term_refused) (coming_after up 1000 f.kill_refused) parts.1 in
-      let out = guarded (nat_lt 0 f.definition.exit_timeout) (coming_after up (1000 * f.definition.exit_timeout) f.term_ordered)
-      (is_over (1000 * f.definition.exit_timeout) at f.term_ordered) (is_over (1000 * f.definition.exit_timeout) up f.term_ordered) parts.0 (over-same (1000 * f.definition.exit_timeout) f.term_ordered) in
-      kill-shape f.strikes f.stops _ _ _ _ _ out (λ i. not f.is_kill_done && not (within-same 1000 f.kill_refused refused.1 i))
+      let parts = both at (cond (nat_lt 0 f.definition.exit_timeout) (coming_after up (SECOND * f.definition.exit_timeout) f.term_ordered) None)
+      (sooner (coming_after up SECOND f.term_refused) (coming_after up SECOND f.kill_refused)) later in
+      let refused = both at (coming_after up SECOND f.term_refused) (coming_after up SECOND f.kill_refused) parts.1 in
+      let out = guarded (nat_lt 0 f.definition.exit_timeout) (coming_after up (SECOND * f.definition.exit_timeout) f.term_ordered)
+      (is_over (SECOND * f.definition.exit_timeout) at f.term_ordered) (is_over (SECOND * f.definition.exit_timeout) up f.term_ordered) parts.0 (over-same (SECOND * f.definition.exit_timeout) f.term_ordered) in
+      kill-shape f.strikes f.stops _ _ _ _ _ out (λ i. not f.is_kill_done && not (within-same SECOND f.kill_refused refused.1 i))
 
   terms : (f : Facts) → IsLater at (coming_end f up) → may_term_by f at ≡ may_term_by f up
   terms f later =
-      let parts = both at (cond (nat_lt 0 f.definition.exit_timeout) (coming_after up (1000 * f.definition.exit_timeout) f.term_ordered) None)
-      (sooner (coming_after up 1000 f.term_refused) (coming_after up 1000 f.kill_refused)) later in
-      let refused = both at (coming_after up 1000 f.term_refused) (coming_after up 1000 f.kill_refused) parts.1 in
-      λ i. not f.strikes && f.stops && not f.is_kill_done && (not f.is_term_done && not (within-same 1000 f.term_refused refused.0 i))
+      let parts = both at (cond (nat_lt 0 f.definition.exit_timeout) (coming_after up (SECOND * f.definition.exit_timeout) f.term_ordered) None)
+      (sooner (coming_after up SECOND f.term_refused) (coming_after up SECOND f.kill_refused)) later in
+      let refused = both at (coming_after up SECOND f.term_refused) (coming_after up SECOND f.kill_refused) parts.1 in
+      λ i. not f.strikes && f.stops && not f.is_kill_done && (not f.is_term_done && not (within-same SECOND f.term_refused refused.0 i))
 
   record Parts (f : Facts) : Type 0 where
     period : IsLater at (coming_period f.definition.start_interval f.load_up up)
-    spawn : IsLater at (coming_after up (1000 * f.definition.throttle_interval) f.spawn_ordered)
-    refusal : IsLater at (coming_after up 1000 f.spawn_refused)
+    spawn : IsLater at (coming_after up (SECOND * f.definition.throttle_interval) f.spawn_ordered)
+    refusal : IsLater at (coming_after up SECOND f.spawn_refused)
     end : IsLater at (cond (is_some f.living_child) (coming_end f up) None)
 
   parts-of : (f : Facts) → IsLater at (next_by f up) → Parts f
   parts-of f later =
       let outer = both at (coming_period f.definition.start_interval f.load_up up) _ later in
-      let inner = both at (sooner (coming_after up (1000 * f.definition.throttle_interval) f.spawn_ordered) (coming_after up 1000 f.spawn_refused)) _ outer.1 in
-      let spawn = both at (coming_after up (1000 * f.definition.throttle_interval) f.spawn_ordered) (coming_after up 1000 f.spawn_refused) inner.0 in
+      let inner = both at (sooner (coming_after up (SECOND * f.definition.throttle_interval) f.spawn_ordered) (coming_after up SECOND f.spawn_refused)) _ outer.1 in
+      let spawn = both at (coming_after up (SECOND * f.definition.throttle_interval) f.spawn_ordered) (coming_after up SECOND f.spawn_refused) inner.0 in
       record { period = outer.0; spawn = spawn.0; refusal = spawn.1; end = inner.1 }
 
   beside : (f : Facts) (c : Option (ℕ × ℕ)) → c ≡ f.living_child → Parts f → due_beside_by c f at ≡ due_beside_by c f up
@@ -97,27 +98,27 @@ module _ (up at : ℕ) (order : up ≤ at) where
 
   -- ---- the interval
 
-  periods-same : (seconds load : ℕ) → at < load + 1000 * seconds * (periods seconds (up - load) + 1) → periods seconds (at - load) ≡ periods seconds (up - load)
+  periods-same : (seconds load : ℕ) → at < load + SECOND * seconds * (periods seconds (up - load) + 1) → periods seconds (at - load) ≡ periods seconds (up - load)
   periods-same seconds load below = go (nat_lt 0 seconds) refl where
-    go : (b : Bool) → nat_lt 0 seconds ≡ b → (at - load) / (1000 * seconds) ≡ (up - load) / (1000 * seconds)
+    go : (b : Bool) → nat_lt 0 seconds ≡ b → (at - load) / (SECOND * seconds) ≡ (up - load) / (SECOND * seconds)
     go true some =
         let positive : 0 < seconds = grind (arith, nat_tests, some) in
-        let period : 0 < 1000 * seconds = omega (arith, positive) in
-        let inside : at - load < ((up - load) / (1000 * seconds) + 1) * (1000 * seconds) = omega (arith, below, period) in
-        let less : (at - load) / (1000 * seconds) < (up - load) / (1000 * seconds) + 1 = (div-lt_iff_lt-mul period).1 inside in
-        let whole : (up - load) / (1000 * seconds) * (1000 * seconds) ≤ up - load = div-mul-le_self (up - load) (1000 * seconds) in
-        let reach : (up - load) / (1000 * seconds) * (1000 * seconds) ≤ at - load = omega (arith, whole, order) in
-        let more : (up - load) / (1000 * seconds) ≤ (at - load) / (1000 * seconds) = (le-div_iff_mul-le period).1 reach in
+        let period : 0 < SECOND * seconds = omega (arith, positive) in
+        let inside : at - load < ((up - load) / (SECOND * seconds) + 1) * (SECOND * seconds) = omega (arith, below, period) in
+        let less : (at - load) / (SECOND * seconds) < (up - load) / (SECOND * seconds) + 1 = (div-lt_iff_lt-mul period).1 inside in
+        let whole : (up - load) / (SECOND * seconds) * (SECOND * seconds) ≤ up - load = div-mul-le_self (up - load) (SECOND * seconds) in
+        let reach : (up - load) / (SECOND * seconds) * (SECOND * seconds) ≤ at - load = omega (arith, whole, order) in
+        let more : (up - load) / (SECOND * seconds) ≤ (at - load) / (SECOND * seconds) = (le-div_iff_mul-le period).1 reach in
         omega (arith, less, more)
     go false none =
         let zero_seconds : seconds ≡ 0 = grind (arith, nat_tests, none) in
         let early : at < load = omega (arith, below, zero_seconds) in
         let same : at - load ≡ up - load = omega (arith, early, order) in
-        ap (λ n. n / (1000 * seconds)) same
+        ap (λ n. n / (SECOND * seconds)) same
 
   period-same : (o : Option ℕ) (load : ℕ) → IsLater at (coming_period o load up) → coming_period o load at ≡ coming_period o load up
   period-same None load later = refl
-  period-same (Some seconds) load later = ap (λ k. Some (load + 1000 * seconds * (k + 1))) (periods-same seconds load later)
+  period-same (Some seconds) load later = ap (λ k. Some (load + SECOND * seconds * (k + 1))) (periods-same seconds load later)
 
   uncrossed : (o : Option ℕ) (load : ℕ) → IsLater at (coming_period o load up) → crosses_interval o load up at ≡ false
   uncrossed None load later = refl
@@ -132,20 +133,20 @@ module _ (up at : ℕ) (order : up ≤ at) where
 
   end-same : (f : Facts) → IsLater at (coming_end f up) → coming_end f at ≡ coming_end f up
   end-same f later =
-      let parts = both at (cond (nat_lt 0 f.definition.exit_timeout) (coming_after up (1000 * f.definition.exit_timeout) f.term_ordered) None)
-      (sooner (coming_after up 1000 f.term_refused) (coming_after up 1000 f.kill_refused)) later in
-      let refused = both at (coming_after up 1000 f.term_refused) (coming_after up 1000 f.kill_refused) parts.1 in
-      λ i. sooner (out (nat_lt 0 f.definition.exit_timeout) parts.0 i) (sooner (after-same 1000 f.term_refused refused.0 i) (after-same 1000 f.kill_refused refused.1 i)) where
-        out : (b : Bool) → IsLater at (cond b (coming_after up (1000 * f.definition.exit_timeout) f.term_ordered) None) →
-            cond b (coming_after at (1000 * f.definition.exit_timeout) f.term_ordered) None ≡ cond b (coming_after up (1000 * f.definition.exit_timeout) f.term_ordered) None
-        out true later = after-same (1000 * f.definition.exit_timeout) f.term_ordered later
+      let parts = both at (cond (nat_lt 0 f.definition.exit_timeout) (coming_after up (SECOND * f.definition.exit_timeout) f.term_ordered) None)
+      (sooner (coming_after up SECOND f.term_refused) (coming_after up SECOND f.kill_refused)) later in
+      let refused = both at (coming_after up SECOND f.term_refused) (coming_after up SECOND f.kill_refused) parts.1 in
+      λ i. sooner (out (nat_lt 0 f.definition.exit_timeout) parts.0 i) (sooner (after-same SECOND f.term_refused refused.0 i) (after-same SECOND f.kill_refused refused.1 i)) where
+        out : (b : Bool) → IsLater at (cond b (coming_after up (SECOND * f.definition.exit_timeout) f.term_ordered) None) →
+            cond b (coming_after at (SECOND * f.definition.exit_timeout) f.term_ordered) None ≡ cond b (coming_after up (SECOND * f.definition.exit_timeout) f.term_ordered) None
+        out true later = after-same (SECOND * f.definition.exit_timeout) f.term_ordered later
         out false later = refl
 
   pub next-same : (f : Facts) → IsLater at (next_by f up) → next_by f at ≡ next_by f up
   next-same f later =
       let parts = parts-of f later in
       λ i. sooner (period-same f.definition.start_interval f.load_up parts.period i)
-      (sooner (sooner (after-same (1000 * f.definition.throttle_interval) f.spawn_ordered parts.spawn i) (after-same 1000 f.spawn_refused parts.refusal i))
+      (sooner (sooner (after-same (SECOND * f.definition.throttle_interval) f.spawn_ordered parts.spawn i) (after-same SECOND f.spawn_refused parts.refusal i))
       (of-child f.living_child parts.end i)) where
         of-child : (c : Option (ℕ × ℕ)) → IsLater at (cond (is_some c) (coming_end f up) None) → cond (is_some c) (coming_end f at) None ≡ cond (is_some c) (coming_end f up) None
         of-child None later = refl

@@ -20,6 +20,7 @@ use Rattle.history_model.specs.declared.Refusal.TheVariants.{Stale}
 use Rattle.history_model.proofs.Booleans.{and-false}
 use Rattle.history_model.proofs.Lawful.{unless-None}
 use Rattle.history_model.proofs.ByFacts.{due-by, facts-after}
+use Rattle.history_model.specs.declared.TheConstants.{SECOND}
 
 abbrev pub weigh_one : Option Act → ℕ
 weigh_one None = 0
@@ -45,8 +46,8 @@ weigh-acts t = go (is_gone t) (due t) where
 lt-later : (a n : ℕ) → 0 < n → ltb a (a + n) ≡ true
 lt-later a n h = grind (arith, nat_tests)
 
-within-now : (up : ℕ) → is_newest_within 1000 up (Some up) ≡ true
-within-now up = lt-later up 1000 (omega arith)
+within-now : (up : ℕ) → is_newest_within SECOND up (Some up) ≡ true
+within-now up = lt-later up SECOND (omega arith)
 
 -- beside a child no spawn is due
 beside-child : (f : Facts) (up : ℕ) (c : ℕ × ℕ) → f.living_child ≡ Some c → weigh_one (due_by f up) ≤ 2
@@ -91,7 +92,7 @@ still-quiet false true true false rest near e = refl
 still-quiet false true false over rest near e = refl
 still-quiet false false b over rest near e = refl
 
-zero-over : (n up : ℕ) → (ltb 0 n && leb (up + 1000 * n) up) ≡ false
+zero-over : (n up : ℕ) → (ltb 0 n && leb (up + SECOND * n) up) ≡ false
 zero-over n up = grind (arith, nat_tests)
 
 no-more : (a b : Bool) → (a && (b && false)) ≡ false
@@ -110,11 +111,11 @@ termed-light f up run ok e =
       g ok = facts_after (Answered (Termed run ok)) up (facts_after (Ordered (Term run)) up f)
 
       later : (o : Option ℕ) →
-          ((f.strikes || (f.stops && ltb 0 f.definition.exit_timeout && is_over (1000 * f.definition.exit_timeout) up o)) && (not f.is_kill_done && not (is_newest_within 1000 up f.kill_refused))) ≡ false →
-          ((f.strikes || (f.stops && ltb 0 f.definition.exit_timeout && is_over (1000 * f.definition.exit_timeout) up (or_else o (Some up)))) && (not f.is_kill_done && not (is_newest_within 1000 up f.kill_refused))) ≡ false
+          ((f.strikes || (f.stops && ltb 0 f.definition.exit_timeout && is_over (SECOND * f.definition.exit_timeout) up o)) && (not f.is_kill_done && not (is_newest_within SECOND up f.kill_refused))) ≡ false →
+          ((f.strikes || (f.stops && ltb 0 f.definition.exit_timeout && is_over (SECOND * f.definition.exit_timeout) up (or_else o (Some up)))) && (not f.is_kill_done && not (is_newest_within SECOND up f.kill_refused))) ≡ false
       later (Some moment) e = e
       later None e =
-          still-quiet f.strikes f.stops (ltb 0 f.definition.exit_timeout) (leb (up + 1000 * f.definition.exit_timeout) up) (not f.is_kill_done && not (is_newest_within 1000 up f.kill_refused))
+          still-quiet f.strikes f.stops (ltb 0 f.definition.exit_timeout) (leb (up + SECOND * f.definition.exit_timeout) up) (not f.is_kill_done && not (is_newest_within SECOND up f.kill_refused))
           (zero-over f.definition.exit_timeout up) e
 
       go : (c : ℕ × ℕ) → f.living_child ≡ Some c → may_kill_by (g true) up ≡ false → (b : Bool) → weigh_one (due_by (g b) up) ≡ 0
@@ -148,7 +149,7 @@ kill-child f up run e = pick (is_some f.awaited_act) f.living_child refl e where
 -- a refused spawn is not ordered again at the same moment
 refused-light : (f : Facts) (up run run' : ℕ) (conn : Option ℕ) → weigh_one (due_by (facts_after (Answered (SpawnRefused run')) up (facts_after (Ordered (Spawn run conn)) up f)) up) ≤ 2
 refused-light f up run run' conn =
-    unless-spawn g up (rw (within-now up) (closed (not g.removes && _) (is_newest_within (1000 * f.definition.throttle_interval) up (Some up)) _ _)) where
+    unless-spawn g up (rw (within-now up) (closed (not g.removes && _) (is_newest_within (SECOND * f.definition.throttle_interval) up (Some up)) _ _)) where
       g : Facts
       g = facts_after (Answered (SpawnRefused run')) up (facts_after (Ordered (Spawn run conn)) up f)
 

@@ -1,6 +1,6 @@
 -- A loop that writes each element of a list writes what a map gives, also where it sees a path.
 use Rattle.std.proofs.Common.{◌≡◌, ℕ, ◌+◌, ◌<◌, Bool, true, false, cond, Option, Some, None, List, [], ◌∷◌, ◌++◌, map, length, take, drop, get_or, set, refl, sym, ap, ◌∙◌, arith, append_assoc}
-use Rattle.std.proofs.lemmas.List.{drop_more, map_more, set_at, length-map, length-take-le, get_or_at, set-get_or}
+use Rattle.std.proofs.lemmas.List.{drop_more, map_more, set_at, length-map, length-take-le, get_or_at}
 use Rattle.history_model.specs.declared.Obs.{Obs}
 use Rattle.history_model.specs.Search.{or_else}
 

@@ -4,6 +4,7 @@ use Rattle.std.specs.Prelude.{ℕ, ◌+◌, ◌*◌, Bool, false, nat_lt, nat_le
 use Rattle.history_model.specs.Search.{first}
 use Rattle.history_model.specs.Moments.{next_period}
 use Rattle.history_model.specs.Facts.{Facts}
+use Rattle.history_model.specs.declared.TheConstants.{SECOND}
 
 -- the lesser of two moments
 abbrev pub sooner : Option ℕ → Option ℕ → Option ℕ
@@ -34,13 +35,13 @@ is_from (Some moment) up = nat_le moment up
 abbrev pub coming_end : Facts → ℕ → Option ℕ
 coming_end f up =
     sooner (if nat_lt 0 f.definition.exit_timeout
-    then coming_after up (1000 * f.definition.exit_timeout) f.term_ordered else None)
-    (sooner (coming_after up 1000 f.term_refused) (coming_after up 1000 f.kill_refused))
+    then coming_after up (SECOND * f.definition.exit_timeout) f.term_ordered else None)
+    (sooner (coming_after up SECOND f.term_refused) (coming_after up SECOND f.kill_refused))
 
 -- the next moment of a job
 abbrev pub next_by : Facts → ℕ → Option ℕ
 next_by f up =
     sooner (coming_period f.definition.start_interval f.load_up up)
-    (sooner (sooner (coming_after up (1000 * f.definition.throttle_interval) f.spawn_ordered)
-    (coming_after up 1000 f.spawn_refused))
+    (sooner (sooner (coming_after up (SECOND * f.definition.throttle_interval) f.spawn_ordered)
+    (coming_after up SECOND f.spawn_refused))
     (if is_some f.living_child then coming_end f up else None))

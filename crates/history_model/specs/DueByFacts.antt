@@ -5,7 +5,7 @@
 -- it, each beside `past`, which speaks of the past.
 use Rattle.std.specs.Prelude.{ℕ, ◌+◌, ◌*◌, ◌^◌, Bool, false, not, ◌&&◌, ◌||◌, nat_lt, List, [], ◌∷◌, length, Option, Some, None, is_some, if◌then◌else◌, ◌==◌}
 use Rattle.std.specs.List.{list_any}
-use Rattle.history_model.specs.declared.TheConstants.{MAX_CONNECTIONS}
+use Rattle.history_model.specs.declared.TheConstants.{MAX_CONNECTIONS, SECOND}
 use Rattle.history_model.specs.declared.Reading.{Reading}
 use Rattle.history_model.specs.declared.Obs.{Obs}
 use Rattle.history_model.specs.declared.Ended.{Ended}
@@ -34,8 +34,8 @@ is_newest_within wait up (Some moment) = is_within wait up moment
 -- `is_throttled`: of moments that rise the newest decides
 abbrev pub is_throttled_by : Facts → ℕ → Bool
 is_throttled_by f up =
-    is_newest_within (1000 * f.definition.throttle_interval) up f.spawn_ordered
-    || is_newest_within 1000 up f.spawn_refused
+    is_newest_within (SECOND * f.definition.throttle_interval) up f.spawn_ordered
+    || is_newest_within SECOND up f.spawn_refused
 
 -- it holds of some of the conditions, and of what was seen last of its path
 abbrev pub any_seen : {A : Type 0} → (A → Option Obs → Bool) → List A → List (Option Obs) → Bool
@@ -69,14 +69,14 @@ may_spawn_by f up =
 abbrev pub may_kill_by : Facts → ℕ → Bool
 may_kill_by f up =
     (f.strikes || (f.stops && nat_lt 0 f.definition.exit_timeout
-    && is_over (1000 * f.definition.exit_timeout) up f.term_ordered))
-    && (not f.is_kill_done && not (is_newest_within 1000 up f.kill_refused))
+    && is_over (SECOND * f.definition.exit_timeout) up f.term_ordered))
+    && (not f.is_kill_done && not (is_newest_within SECOND up f.kill_refused))
 
 -- `may_term`, of the present run
 abbrev pub may_term_by : Facts → ℕ → Bool
 may_term_by f up =
     not f.strikes && f.stops && not f.is_kill_done
-    && (not f.is_term_done && not (is_newest_within 1000 up f.term_refused))
+    && (not f.is_term_done && not (is_newest_within SECOND up f.term_refused))
 
 -- `due_beside`
 abbrev pub due_beside_by : Option (ℕ × ℕ) → Facts → ℕ → Option Act

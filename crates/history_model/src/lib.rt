@@ -261,6 +261,9 @@ pub const MAX_UP: u64 = 9_000_000_000_000_000;
 /// The greatest `wall` of a reading, in seconds of Unix time.
 pub const MAX_WALL: u64 = 250_000_000_000;
 
+/// A second, in milliseconds of `up`.
+pub const SECOND: u64 = 1_000;
+
 /// How many jobs may be loaded.
 pub const MAX_JOBS: usize = 1024;
 

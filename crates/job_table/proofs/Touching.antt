@@ -29,6 +29,7 @@ use Rattle.job_table.specs.Index.{is_minute_among}
 use Rattle.job_table.specs.Minutes.{is_some_entry, has_calendars}
 use Rattle.job_table.specs.Visiting.{is_spared, AreVisitedOnce}
 use Rattle.job_table.specs.declared.entry.Entry.{Entry}
+use Rattle.history_model.specs.declared.TheConstants.{SECOND}
 
 any-in : (previous up m : ℕ) (ws : List ℕ) → previous < m → m ≤ up → list_any (λ w. w == m) ws ≡ true → list_any (is_reached previous up) ws ≡ true
 any-in previous up m [] after due there = cc
@@ -49,12 +50,12 @@ period-crossed : (o : Option ℕ) (load previous up m : ℕ) → ForSome o (λ s
 period-crossed None load previous up m positive period after due = absurd period
 period-crossed (Some seconds) load previous up m positive (k, one, same) after due =
     let some : 0 < seconds = positive seconds refl in
-    let wide : 0 < 1000 * seconds = omega (arith, some) in
-    let more : 1 * (1000 * seconds) ≤ k * (1000 * seconds) = mul-le-mul_right (1000 * seconds) one in
-    let a : previous - load < k * (1000 * seconds) = omega (arith, after, same, more, wide) in
-    let b : k * (1000 * seconds) ≤ up - load = omega (arith, due, same) in
-    let c : (previous - load) / (1000 * seconds) < k = (div-lt_iff_lt-mul wide).1 a in
-    let d : k ≤ (up - load) / (1000 * seconds) = (le-div_iff_mul-le wide).1 b in
+    let wide : 0 < SECOND * seconds = omega (arith, some) in
+    let more : 1 * (SECOND * seconds) ≤ k * (SECOND * seconds) = mul-le-mul_right (SECOND * seconds) one in
+    let a : previous - load < k * (SECOND * seconds) = omega (arith, after, same, more, wide) in
+    let b : k * (SECOND * seconds) ≤ up - load = omega (arith, due, same) in
+    let c : (previous - load) / (SECOND * seconds) < k = (div-lt_iff_lt-mul wide).1 a in
+    let d : k ≤ (up - load) / (SECOND * seconds) = (le-div_iff_mul-le wide).1 b in
     grind (arith, nat_tests, c, d)
 
 or-left-true : (a b c : Bool) → a ≡ true → (a || b || c) ≡ true

@@ -4,35 +4,36 @@ use Rattle.history_model.specs.Due.{is_over}
 use Rattle.history_model.specs.ByFacts.{is_newest_within}
 use Rattle.history_model.specs.Coming.{sooner, coming_after}
 use Rattle.pace.specs.Paces.{Spacing, Ends}
+use Rattle.history_model.specs.declared.TheConstants.{SECOND}
 
 -- at this moment of `up` no spawn may be ordered: the last order is less than the throttle ago, or
 -- the last refusal less than a second
 abbrev pub is_throttled_of : Spacing → ℕ → Bool
 is_throttled_of s up =
-    is_newest_within (1000 * s.seconds) up s.order || is_newest_within 1000 up s.refusal
+    is_newest_within (SECOND * s.seconds) up s.order || is_newest_within SECOND up s.refusal
 
 -- the next moment after this one at which the throttle, or the second after a refusal, is over
 abbrev pub next_spawn_of : Spacing → ℕ → Option ℕ
 next_spawn_of s up =
-    sooner (coming_after up (1000 * s.seconds) s.order) (coming_after up 1000 s.refusal)
+    sooner (coming_after up (SECOND * s.seconds) s.order) (coming_after up SECOND s.refusal)
 
 -- at this moment TERM may be ordered: for a run that is not struck, where neither TERM nor KILL was
 -- answered ok, and no TERM was refused less than a second ago
 abbrev pub may_term_of : Ends → ℕ → Bool
 may_term_of e up =
     not e.strikes && not e.is_kill_done
-    && (not e.is_term_done && not (is_newest_within 1000 up e.term_refused))
+    && (not e.is_term_done && not (is_newest_within SECOND up e.term_refused))
 
 -- at this moment KILL may be ordered: for a struck run, or the timeout after the first TERM, where
 -- no KILL was answered ok, and none was refused less than a second ago
 abbrev pub may_kill_of : Ends → ℕ → Bool
 may_kill_of e up =
-    (e.strikes || (nat_lt 0 e.timeout && is_over (1000 * e.timeout) up e.term_ordered))
-    && (not e.is_kill_done && not (is_newest_within 1000 up e.kill_refused))
+    (e.strikes || (nat_lt 0 e.timeout && is_over (SECOND * e.timeout) up e.term_ordered))
+    && (not e.is_kill_done && not (is_newest_within SECOND up e.kill_refused))
 
 -- the next moment after this one at which the timeout, or the second after a refusal, is over
 abbrev pub next_end_of : Ends → ℕ → Option ℕ
 next_end_of e up =
     sooner
-    (if nat_lt 0 e.timeout then coming_after up (1000 * e.timeout) e.term_ordered else None)
-    (sooner (coming_after up 1000 e.term_refused) (coming_after up 1000 e.kill_refused))
+    (if nat_lt 0 e.timeout then coming_after up (SECOND * e.timeout) e.term_ordered else None)
+    (sooner (coming_after up SECOND e.term_refused) (coming_after up SECOND e.kill_refused))

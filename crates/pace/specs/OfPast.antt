@@ -1,6 +1,6 @@
 -- What the parts of a job's pace keep of a past, and the tests of Due on moments and answers, at a
 -- moment that is handed in.
-use Rattle.std.specs.Prelude.{ℕ, ◌*◌, Bool, true, false, not, ◌&&◌, ◌||◌, nat_lt, List, ◌++◌, Option}
+use Rattle.std.specs.Prelude.{ℕ, ◌*◌, Bool, true, false, not, ◌&&◌, ◌||◌, nat_lt, List, Option}
 use Rattle.std.specs.List.{filter, list_any}
 use Rattle.history_model.specs.Items.{History}
 use Rattle.history_model.specs.Search.{first, last}
@@ -9,6 +9,7 @@ use Rattle.history_model.specs.Runs.{is_spawn_order, is_spawn_refusal, is_term_o
 use Rattle.history_model.specs.Due.{is_over, may_retry_at}
 use Rattle.history_model.specs.Moments.{run_moments, least}
 use Rattle.pace.specs.Paces.{Every, Spacing, Ends}
+use Rattle.history_model.specs.declared.TheConstants.{SECOND}
 
 -- the interval of a past
 abbrev pub every_of : History → Every
@@ -46,7 +47,7 @@ abbrev pub may_kill_at : ℕ → History → Bool
 may_kill_at up t =
     (is_struck t
     || (nat_lt 0 (definition_of t).exit_timeout
-    && is_over (1000 * (definition_of t).exit_timeout) up
+    && is_over (SECOND * (definition_of t).exit_timeout) up
     (last (moments (is_term_order (runs t)) t))))
     && may_retry_at up is_kill_answer (runs t) t
 

@@ -11,8 +11,8 @@ ghost use Rattle.history_model.specs.ByFacts.{is_newest_within};
 ghost use Rattle.history_model.specs.Coming.{sooner, coming_after, is_from};
 ghost use Rattle.pace.specs.Next.{IsNext};
 
-use crate::{RETRY, coming_after, sooner};
-use history_model::MAX_UP;
+use crate::{coming_after, sooner};
+use history_model::{MAX_UP, SECOND};
 use std::marker::Model;
 
 /// What a run is told by.
@@ -158,7 +158,7 @@ impl Ending {
         if self.is_struck || self.is_term_done || self.is_kill_done {
             return None;
         }
-        Some(self.term_refusal.map_or(0, |up| up + RETRY))
+        Some(self.term_refusal.map_or(0, |up| up + SECOND))
     }
 
     /// The least moment from which KILL may be ordered for a run that is being stopped, or that a kickstart struck; none
@@ -181,13 +181,13 @@ impl Ending {
         let over = if self.is_struck {
             0
         } else if self.timeout > 0 {
-            self.first_term? + 1_000 * u64::from(self.timeout)
+            self.first_term? + SECOND * u64::from(self.timeout)
         } else {
             return None;
         };
         match self.kill_refusal {
             None => Some(over),
-            Some(up) => Some(over.max(up + RETRY)),
+            Some(up) => Some(over.max(up + SECOND)),
         }
     }
 
@@ -208,13 +208,13 @@ impl Ending {
         ensures next { IsNext (IsEndMoment self.now) up result }
     {
         let over = if self.timeout > 0 {
-            coming_after(up, 1_000 * u64::from(self.timeout), self.first_term)
+            coming_after(up, SECOND * u64::from(self.timeout), self.first_term)
         } else {
             None
         };
         let of_refusals = sooner(
-            coming_after(up, RETRY, self.term_refusal),
-            coming_after(up, RETRY, self.kill_refusal),
+            coming_after(up, SECOND, self.term_refusal),
+            coming_after(up, SECOND, self.kill_refusal),
         );
         sooner(over, of_refusals)
     }

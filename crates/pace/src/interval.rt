@@ -10,7 +10,7 @@ ghost use Rattle.history_model.specs.Demands.{interval_fires};
 ghost use Rattle.history_model.specs.Coming.{coming_period};
 ghost use Rattle.pace.specs.Next.{IsNext};
 
-use history_model::MAX_UP;
+use history_model::{MAX_UP, SECOND};
 use std::marker::Model;
 
 /// A demand each so many seconds after the load, if the definition has an interval.
@@ -59,7 +59,7 @@ impl Interval {
         match self.seconds {
             None => false,
             Some(seconds) => {
-                let period = 1_000 * u64::from(seconds);
+                let period = SECOND * u64::from(seconds);
                 previous.saturating_sub(self.load_up) / period
                     < up.saturating_sub(self.load_up) / period
             }
@@ -73,7 +73,9 @@ impl Interval {
         ensures next { IsNext (IsPeriodEnd self.now) up result }
     {
         let seconds = self.seconds?;
-        Some(self.load_up + period_end(1_000 * u64::from(seconds), up.saturating_sub(self.load_up)))
+        Some(
+            self.load_up + period_end(SECOND * u64::from(seconds), up.saturating_sub(self.load_up)),
+        )
     }
 }
 

@@ -16,9 +16,6 @@ use history_model::MAX_UP;
 pub use interval::Interval;
 pub use throttle::Throttle;
 
-/// Milliseconds from a refused order to the next.
-const RETRY: u64 = 1_000;
-
 /// The lesser of two moments; the one that there is, where the other is none.
 pub fn sooner(a: Option<u64>, b: Option<u64>) -> Option<u64>
     ensures { result ≡ sooner a b }

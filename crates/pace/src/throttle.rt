@@ -8,8 +8,8 @@ ghost use Rattle.history_model.specs.ByFacts.{is_newest_within};
 ghost use Rattle.history_model.specs.Coming.{sooner, coming_after};
 ghost use Rattle.pace.specs.Next.{IsNext};
 
-use crate::{RETRY, coming_after, sooner};
-use history_model::MAX_UP;
+use crate::{coming_after, sooner};
+use history_model::{MAX_UP, SECOND};
 use std::marker::Model;
 
 /// When a spawn was last ordered, and last refused.
@@ -84,11 +84,11 @@ impl Throttle {
     {
         let of_order = match self.last_order {
             None => 0,
-            Some(up) => up + 1_000 * u64::from(self.seconds),
+            Some(up) => up + SECOND * u64::from(self.seconds),
         };
         let of_refusal = match self.last_refusal {
             None => 0,
-            Some(up) => up + RETRY,
+            Some(up) => up + SECOND,
         };
         of_order.max(of_refusal)
     }
@@ -110,8 +110,8 @@ impl Throttle {
         ensures next { IsNext (IsSpawnMoment self.now) up result }
     {
         sooner(
-            coming_after(up, 1_000 * u64::from(self.seconds), self.last_order),
-            coming_after(up, RETRY, self.last_refusal),
+            coming_after(up, SECOND * u64::from(self.seconds), self.last_order),
+            coming_after(up, SECOND, self.last_refusal),
         )
     }
 }

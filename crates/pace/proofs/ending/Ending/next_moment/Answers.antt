@@ -5,9 +5,10 @@ use Rattle.history_model.specs.Coming.{sooner, coming_after}
 use Rattle.history_model.proofs.Coming.{next-end}
 use Rattle.pace.specs.Paces.{Ends}
 use Rattle.pace.proofs.ending.Ending.next_moment.Goals as goal
+use Rattle.history_model.specs.declared.TheConstants.{SECOND}
 
 pub returns-clause-past : goal.returns-clause-past
 returns-clause-past c = λ past lawful is le.
     c.next_from.ensures.value
-    ∙ ap (λ (e : Ends). sooner (cond (nat_lt 0 e.timeout) (coming_after c.args.up (1000 * e.timeout) e.term_ordered) None) (sooner (coming_after c.args.up 1000 e.term_refused) (coming_after c.args.up 1000 e.kill_refused))) is
+    ∙ ap (λ (e : Ends). sooner (cond (nat_lt 0 e.timeout) (coming_after c.args.up (SECOND * e.timeout) e.term_ordered) None) (sooner (coming_after c.args.up SECOND e.term_refused) (coming_after c.args.up SECOND e.kill_refused))) is
     ∙ sym (next-end past lawful c.args.up le (runs past))

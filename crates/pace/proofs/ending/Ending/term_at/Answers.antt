@@ -6,10 +6,11 @@ use Rattle.history_model.specs.ByFacts.{is_newest_within}
 use Rattle.history_model.proofs.Times.{any-within}
 use Rattle.pace.specs.Paces.{Ends}
 use Rattle.pace.proofs.ending.Ending.term_at.Goals as goal
+use Rattle.history_model.specs.declared.TheConstants.{SECOND}
 
 pub returns-clause-past : goal.returns-clause-past
 returns-clause-past c = λ past lawful is up.
     c.term_from.ensures up
-    ∙ ap (λ (e : Ends). not e.strikes && not e.is_kill_done && (not e.is_term_done && not (is_newest_within 1000 up e.term_refused))) is
+    ∙ ap (λ (e : Ends). not e.strikes && not e.is_kill_done && (not e.is_term_done && not (is_newest_within SECOND up e.term_refused))) is
     ∙ ap (λ b. not (is_struck past) && not (list_any (is_kill_answer true (runs past)) past) && (not (list_any (is_term_answer true (runs past)) past) && not b))
-    (sym (any-within 1000 up (is_term_answer false (runs past)) past lawful))
+    (sym (any-within SECOND up (is_term_answer false (runs past)) past lawful))
