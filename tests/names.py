@@ -4,7 +4,7 @@
     tests/names.py
 
 The documents are README.md, CHANGELOG.md, docs/, the README.md of each crate and contrib/, and bench/RESULTS.md.
-A name is a word of small letters with an underscore, as `no_order_is_left`; it has to stand in a source, a definition, a
+A name is a word of small letters with an underscore, as `no_order_remains`; it has to stand in a source, a definition, a
 proof, an edit, a script or a path, or below in OUTSIDE. Of `File.name`, as `Due.is_throttled`, a file of that name has to hold
 the name. Each wrong body has to be named in a document, or the edit that it is a part of. They stand in
 crates/CRATE/must-fail/ and in wrong_bodies/CRATE/.

@@ -52,7 +52,7 @@ fn idle_jobs(minutes: &[CivilMinute]) -> usize {
         .count()
 }
 
-fn tell(rt: &impl Eprint, is_timed: bool, name: &str, micros: u128) -> io::Result<()> {
+fn show(rt: &impl Eprint, is_timed: bool, name: &str, micros: u128) -> io::Result<()> {
     if is_timed {
         eprintln!(rt; "{name}: {micros} microseconds")?;
     }
@@ -65,14 +65,14 @@ fn run<R: Print + Eprint + Clock>(rt: &R, alloc: Global, is_timed: bool) -> io::
     };
     let start = Instant::now(rt)?;
     let minutes = zone.crossed(alloc, NOW - DAYS_400, NOW)?;
-    tell(rt, is_timed, "minutes", start.elapsed(rt)?.as_micros())?;
+    show(rt, is_timed, "minutes", start.elapsed(rt)?.as_micros())?;
     println!(rt; "minutes {}", minutes.len())?;
     let start = Instant::now(rt)?;
     println!(rt; "hourly jobs that fire {}", hourly_jobs(minutes.as_slice()))?;
-    tell(rt, is_timed, "hourly jobs", start.elapsed(rt)?.as_micros())?;
+    show(rt, is_timed, "hourly jobs", start.elapsed(rt)?.as_micros())?;
     let start = Instant::now(rt)?;
     println!(rt; "idle jobs that fire {}", idle_jobs(minutes.as_slice()))?;
-    tell(
+    show(
         rt,
         is_timed,
         "eight idle jobs",

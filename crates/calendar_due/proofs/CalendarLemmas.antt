@@ -6,8 +6,8 @@ use Rattle.history_model.specs.declared.Entry.{Entry}
 use Rattle.history_model.specs.declared.CivilMinute.{CivilMinute}
 use Rattle.history_model.specs.Calendar.{Zone, IsCrossed, matches, crossed, calendar_fires}
 use Rattle.calendar_due.specs.Offsets.{Offsets, shown_by}
-use Rattle.history_model.proofs.Booleans.{or-true}
-use Rattle.history_model.proofs.Crossed.{members}
+use Rattle.history_model.proofs.BooleanLemmas.{or-true}
+use Rattle.history_model.proofs.CrossedMinutesLemmas.{members}
 
 -- no entry matches some of the minutes
 pub nothing_matches : (entries : List Entry) (minutes : List CivilMinute) → length entries ≡ 0
@@ -42,7 +42,7 @@ mapped_from f [] y (k, below, is) = absurd (omega arith)
 mapped_from f (x ∷ xs) y (zero, below, is) = (x, is)
 mapped_from f (x ∷ xs) y (suc k, below, is) = mapped_from f xs y (k, omega arith, is)
 
--- an entry that matches what the clock shows at two seconds fires where either is crossed
+-- an entry that matches what the clock shows at two seconds fires if either is crossed
 pub showing_fires : (ahead : Offsets) (first second : ℕ) (at : CivilMinute) → shown_by ahead first ≡ at → shown_by ahead second ≡ at
     → (entry : Entry) (previous now : ℕ) → matches entry at ≡ true → IsCrossed previous now first ⊎ IsCrossed previous now second
     → calendar_fires (shown_by ahead) (entry ∷ []) previous now ≡ true

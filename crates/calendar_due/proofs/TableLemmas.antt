@@ -41,7 +41,7 @@ seconds_of z count = go (count == 0)
     go true = refl
     go false = ap (λ (row : TransitionText). row.after.seconds) (sym (get_or-map transition_text z.transitions.items (count - 1) (no_transition z)))
 
--- the rule, where that many rows are the whole table
+-- the rule, if that many rows are the whole table
 rules_of : (z : Table) (count : ℕ) → option_map tz_view (rule_after z count) ≡ (if count == length (tzif_view z).transitions then (tzif_view z).rule else None)
 rules_of z count = ap (λ n. option_map tz_view (if count == n then z.posix_tz else None)) len ∙ go (count == length (tzif_view z).transitions)
   where

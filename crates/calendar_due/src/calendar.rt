@@ -9,7 +9,7 @@ use history_model::{CivilMinute, Entry};
 pub struct Calendar;
 
 impl Calendar {
-    /// Some entry matches the minute. An entry matches where each key that it has matches; where it has both a day and a
+    /// Some entry matches the minute. An entry matches if each key that it has matches; if it has both a day and a
     /// weekday, one of the two suffices, as in crontab(5). Weekdays 0 and 7 are Sunday. Takes no memory.
     pub fn matches(entries: &[Entry], minute: &CivilMinute) -> bool
         ensures { result ≡ list_any (λ entry. entry_matches entry minute.now) entries.now }
@@ -69,7 +69,7 @@ fn is_weekday_allowed(wanted: Option<u8>, found: u8) -> bool
     }
 }
 
-// The day and the weekday suit the minute; where both stand, one of the two suffices.
+// The day and the weekday suit the minute; if both stand, one of the two suffices.
 fn is_day_allowed(day: Option<u8>, weekday: Option<u8>, minute: &CivilMinute) -> bool
     ensures { result ≡ allows_day day weekday minute.now }
 {

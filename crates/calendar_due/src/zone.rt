@@ -63,7 +63,7 @@ impl Zone {
         }
     }
 
-    /// The zone of a POSIX rule, as `EST5EDT,M3.2.0,M11.1.0` (POSIX, Base Definitions, 8.3, variable TZ). BadZone where
+    /// The zone of a POSIX rule, as `EST5EDT,M3.2.0,M11.1.0` (POSIX, Base Definitions, 8.3, variable TZ). BadZone if
     /// the text is no such rule: a name of a zone, as `Europe/Paris`, is none. Takes no memory.
     pub fn posix(text: &str) -> Result<Zone, ZoneFault>
         ensures succeeds { IsOk result ↔ IsSome (read_whole text.now) }
@@ -78,8 +78,8 @@ impl Zone {
         }
     }
 
-    /// The zone of the bytes of a zone file (RFC 9636). BadZone past 65,536 bytes, where the bytes are no zone file, and
-    /// where the file's footer does not agree with its last row. NoMemory where the table found no room.
+    /// The zone of the bytes of a zone file (RFC 9636). BadZone past 65,536 bytes, if the bytes are no zone file, and
+    /// if the file's footer does not agree with its last row. NoMemory if the table found no room.
     pub fn tzif(alloc: Global, bytes: &[u8]) -> Result<Zone, ZoneFault>
         ensures long { 65_536 < length bytes.now → result ≡ Err ZoneFault.BadZone }
         ensures unreadable { IsUnreadable bytes.now → result ≡ Err ZoneFault.BadZone }

@@ -6,7 +6,7 @@ use Rattle.job_defs.specs.declared.parts.Variable.{Variable}
 abbrev pub Said : Type 0
 Said = Option (Option (List ℕ))
 
--- what is said of a name once these variables were set in order, where `before` was said: the last
+-- what is said of a name once these variables were set in order, if `before` was said: the last
 -- variable of the name counts, and nothing is said of a name that none has
 abbrev pub said_after : List ℕ → Said → List Variable → Said
 said_after name before variables =

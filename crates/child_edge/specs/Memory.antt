@@ -10,7 +10,7 @@ use Rattle.child_edge.specs.Calls.{one_more}
 -- there is room for, whether all calls that were made are among them, and the count of failures.
 pub record Memory : Type 0 where
   pub script : List Scripted
-  pub given : ℕ
+  pub used : ℕ
   pub calls : List (EdgeCall × Scripted)
   pub room : ℕ
   pub is_telling : Bool
@@ -20,7 +20,7 @@ pub record Memory : Type 0 where
 abbrev pub uncalled : List Scripted → ℕ → Memory
 uncalled script room = record {
   script = script;
-  given = 0;
+  used = 0;
   calls = [];
   room = room;
   is_telling = true;
@@ -28,8 +28,8 @@ uncalled script room = record {
 }
 
 -- what the edge tells
-abbrev pub told_by : Memory → Option (List (EdgeCall × Scripted))
-told_by m = if m.is_telling then Some m.calls else None
+abbrev pub calls_told : Memory → Option (List (EdgeCall × Scripted))
+calls_told m = if m.is_telling then Some m.calls else None
 
 -- a further call can be listed
 abbrev pub has_room : Memory → Bool
@@ -121,7 +121,7 @@ answer_to call (Some a) = if takes call a then a else refusal_of a
 -- The call is answered by the script's next answer. If there is none, or no room to list the call,
 -- it is refused.
 abbrev pub answer_of : EdgeCall → Memory → Scripted
-answer_of call m = if has_room m then answer_to call (slice_get m.script m.given) else Refused
+answer_of call m = if has_room m then answer_to call (slice_get m.script m.used) else Refused
 
 -- the count of failures after the answer
 abbrev pub counted : Scripted → ℕ → ℕ
@@ -138,7 +138,7 @@ counted (At reading) n = n
 -- the call
 abbrev pub entered : EdgeCall → Scripted → Memory → Memory
 entered call a m = record m {
-  given = m.given + 1;
+  used = m.used + 1;
   calls = m.calls ++ (call, a) ∷ [];
   failures = counted a m.failures;
 }

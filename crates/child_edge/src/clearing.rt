@@ -4,7 +4,7 @@ use std::fs::{DirEntry, Files};
 use std::{fs, io};
 
 /// Removes the spool files that lie in the folder: those with a name as the launcher gives them, `JOB-CONN.request` or
-/// `JOB-CONN.reply`, both numbers in plain decimals. Nothing else in the folder is touched. An `Err` where the folder can't
+/// `JOB-CONN.reply`, both numbers in plain decimals. Nothing else in the folder is touched. An `Err` if the folder can't
 /// be read or such a file can't be removed; those before it are gone.
 pub fn clear_spool<R: AllocGlobal + Clone + Drop + Files>(rt: &R, folder: &str) -> io::Result<()> {
     for entry in fs::read_dir(rt, folder)? {

@@ -15,7 +15,7 @@ pub enum Client {
 }
 
 impl Client {
-    /// Reads what came, up to the length of `piece`; 0 where the client sends no more.
+    /// Reads what came, up to the length of `piece`; 0 if the client sends no more.
     pub fn read(&mut self, piece: &mut [u8]) -> io::Result<usize>
         ensures { ReadsAtMost result piece.new }
     {

@@ -21,7 +21,7 @@ pub trait Edge {
 }
 
 /// Starts children, signals them, and asks for their ends. Each call is told with its answer; it answers a fault exactly
-/// where it adds one to the count of failures.
+/// if it adds one to the count of failures.
 pub trait ChildEdge: Edge {
     /// Starts the run's child as the definition says: its program, arguments, environment, directory and streams. A run
     /// that carries a connection has the connection's request and reply in place of standard input and output. Answers
@@ -61,7 +61,7 @@ pub trait ChildEdge: Edge {
         ensures success { OnOk result (Self.failures self.new ≡ Self.failures self.old) };
 }
 
-/// Binds the sockets of jobs, and gives them up. Each call is told with its answer; `bind` answers a fault exactly where
+/// Binds the sockets of jobs, and gives them up. Each call is told with its answer; `bind` answers a fault exactly if
 /// it adds one to the count of failures, and the others, which answer nothing, add none.
 pub trait SocketEdge: Edge {
     /// Binds each socket of the definition, for the job. After an `Err` none of them is bound.
@@ -84,7 +84,7 @@ pub trait SocketEdge: Edge {
         ensures success { Self.failures self.new ≡ Self.failures self.old };
 }
 
-/// Looks at paths. Each call is told with its answer; it answers a fault exactly where it adds one to the count of
+/// Looks at paths. Each call is told with its answer; it answers a fault exactly if it adds one to the count of
 /// failures.
 pub trait PathEdge: Edge {
     /// What is at the path now. That nothing is there is an observation too.
@@ -95,7 +95,7 @@ pub trait PathEdge: Edge {
         ensures success { OnOk result (Self.failures self.new ≡ Self.failures self.old) };
 }
 
-/// Reads the clocks. Each call is told with its answer; it answers a fault exactly where it adds one to the count of
+/// Reads the clocks. Each call is told with its answer; it answers a fault exactly if it adds one to the count of
 /// failures.
 pub trait ClockEdge: Edge {
     /// The reading of now: `up` in milliseconds, `wall` in seconds of Unix time.

@@ -20,7 +20,7 @@ use std::marker::Model;
 #[derive(Drop)]
 pub struct MemoryEdge {
     script: Vec<Scripted>,
-    given: usize,
+    used: usize,
     calls: Vec<(EdgeCall, Scripted)>,
     room: usize,
     is_telling: bool,
@@ -35,14 +35,14 @@ impl Model for MemoryEdge {
 
     ghost view = { λ e. record {
       script = e.script.items;
-      given = e.given;
+      used = e.used;
       calls = e.calls.items;
       room = e.room;
       is_telling = e.is_telling;
       failures = e.failures;
     } };
 
-    ghost invariant = { λ e. (e.room ≤ vec_capacity e.calls) × (e.given ≤ length e.calls.items) };
+    ghost invariant = { λ e. (e.room ≤ vec_capacity e.calls) × (e.used ≤ length e.calls.items) };
 }
 
 impl EdgeCall {
@@ -69,7 +69,7 @@ impl EdgeCall {
 }
 
 impl MemoryEdge {
-    /// An edge that answers by this script, and has room to list so many calls. The room is taken here; `AllocError` where
+    /// An edge that answers by this script, and has room to list so many calls. The room is taken here; `AllocError` if
     /// there is no memory for it.
     pub fn new(alloc: Global, script: Vec<Scripted>, room: usize) -> Result<MemoryEdge, AllocError>
         ensures { IfOk result (λ e. e ≡ uncalled script.items room) }
@@ -77,7 +77,7 @@ impl MemoryEdge {
         let calls = Vec::with_capacity(alloc, room)?;
         Ok(MemoryEdge {
             script,
-            given: 0,
+            used: 0,
             calls,
             room,
             is_telling: true,
@@ -123,9 +123,9 @@ impl MemoryEdge {
     }
 
     fn next_answer(&self) -> Option<Scripted>
-        ensures { result ≡ slice_get self.now.script self.now.given }
+        ensures { result ≡ slice_get self.now.script self.now.used }
     {
-        self.script.get(self.given).copied()
+        self.script.get(self.used).copied()
     }
 
     fn refuse_untold(&mut self)
@@ -146,7 +146,7 @@ impl MemoryEdge {
             }
             _ => {}
         }
-        self.given += 1;
+        self.used += 1;
         self.calls.push_reserved((call, answer));
     }
 
@@ -185,9 +185,9 @@ fn answer_in(outcome: Result<Scripted, EdgeFault>) -> Scripted
 }
 
 impl Edge for MemoryEdge {
-    ghost use Rattle.child_edge.specs.Memory.{told_by};
+    ghost use Rattle.child_edge.specs.Memory.{calls_told};
 
-    ghost told = { told_by };
+    ghost told = { calls_told };
 
     ghost failures = { λ e. e.failures };
 }

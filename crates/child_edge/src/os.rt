@@ -45,7 +45,7 @@ impl<R: Processes> Model for OsEdge<R> {
 
 impl<R: Clock + Drop + Processes> OsEdge<R> {
     /// An edge that has no children and no sockets, with the folder in which it spools connections. Its `up` counts from
-    /// now on; an `Err` where the clock could not be read.
+    /// now on; an `Err` if the clock could not be read.
     pub fn new(rt: R, alloc: Global, spool: String) -> io::Result<OsEdge<R>>
         ensures { IfOk result (λ e. e ≡ 0) }
     {
@@ -96,7 +96,7 @@ impl<R: Processes> OsEdge<R> {
     }
 
     /// Has clients that come to a job's socket wake the poll of this registry, under the token; asked again, it does so for
-    /// the sockets that were bound since. An `Err` where the poll refuses: it may be asked again.
+    /// the sockets that were bound since. An `Err` if the poll refuses: it may be asked again.
     pub fn register(&mut self, registry: &Registry, token: Token) -> io::Result<()>
         ensures { self.new ≡ self.old }
     {

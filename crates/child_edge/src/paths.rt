@@ -14,7 +14,7 @@ const ABSENT: Obs = Obs {
     stamp: 0,
 };
 
-/// Looks at the path. That nothing is there is an observation too, also where a folder above it is a file.
+/// Looks at the path. That nothing is there is an observation too, also if a folder above it is a file.
 pub(crate) fn look<R: Files + AllocGlobal + Clone + Drop>(rt: &R, path: &str) -> io::Result<Obs> {
     let data = match fs::metadata(rt, path) {
         Ok(data) => data,
@@ -44,7 +44,7 @@ fn has_entry<R: Files + AllocGlobal + Clone + Drop>(rt: &R, path: &str) -> io::R
     }
 }
 
-// Nanoseconds of Unix time, or the greatest stamp where they are more.
+// Nanoseconds of Unix time, or the greatest stamp if they are more.
 fn stamp_of(seconds: u64, nanos: u64) -> u64
     ensures { result ≡ min (seconds * 1000000000 + nanos) (2 ^ 64 - 1) }
 {

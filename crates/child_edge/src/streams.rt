@@ -12,7 +12,7 @@ pub(crate) fn read_from<R: Files<File = File>>(rt: &R, path: Option<&str>) -> io
     }
 }
 
-/// The file at the path is appended to. It is made where it is not there.
+/// The file at the path is appended to. It is made if it is not there.
 pub(crate) fn write_to<R: Files<File = File>>(rt: &R, path: Option<&str>) -> io::Result<Stdio> {
     match path {
         None => Ok(Stdio::null()),

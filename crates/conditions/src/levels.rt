@@ -72,7 +72,7 @@ impl Conditions {
         })
     }
 
-    /// Takes in what was seen at a path; nothing changes where no condition looks at it.
+    /// Takes in what was seen at a path; nothing changes if no condition looks at it.
     pub fn saw(&mut self, path: &str, obs: Obs)
         ensures step { self.new ≡ record self.old
             { seen = seen_after (λ s. s.0) self.old.path_state path.now obs self.old.seen } }
@@ -83,7 +83,7 @@ impl Conditions {
     }
 
     /// Takes in how a run ended, and whether TERM or KILL was ordered for it. An end by signal 3 to 8, 11 or 31 is a crash,
-    /// and one by an unknown signal where neither was ordered.
+    /// and one by an unknown signal if neither was ordered.
     pub fn ended(&mut self, run: u64, how: Ended, is_told: bool)
         ensures step { self.new ≡ record self.old
             { ended = Some (run, how); has_crashed = is_crash_end is_told how } }

@@ -1,7 +1,7 @@
 //! The connection to the launcher.
 
 use crate::fault::Fault;
-use crate::reply::{Answered, read_reply};
+use crate::reply::{Replied, read_reply};
 use std::alloc::Global;
 use std::io;
 use std::io::{BufRead, BufReader, Read, Write};
@@ -26,7 +26,7 @@ impl Connection {
     }
 
     /// Sends a request's line, and waits for its reply.
-    pub(crate) fn ask(&mut self, alloc: Global, request: &[u8]) -> Result<Answered, Fault> {
+    pub(crate) fn ask(&mut self, alloc: Global, request: &[u8]) -> Result<Replied, Fault> {
         match self.reader.get_mut().write_all(request) {
             Ok(()) => hear(alloc, &mut self.reader),
             Err(error) => Err(Fault::of_connection(error)),
@@ -36,10 +36,10 @@ impl Connection {
 
 /// Waits for the next reply and takes it. A fault: the connection fails or ends before the reply does, the reply has more
 /// than [`REPLY`] bytes before its newline, or it is none; want of memory.
-pub fn hear<B: BufRead>(alloc: Global, reader: &mut B) -> Result<Answered, Fault> {
+pub fn hear<B: BufRead>(alloc: Global, reader: &mut B) -> Result<Replied, Fault> {
     let mut line = Vec::new(alloc);
     match read_line(reader, &mut line) {
-        Ok(()) => answered_in(alloc, line.as_slice()),
+        Ok(()) => replied_in(alloc, line.as_slice()),
         Err(error) => Err(Fault::of_connection(error)),
     }
 }
@@ -56,7 +56,7 @@ fn connect<R: Net>(rt: &R, alloc: Global, socket: &str) -> io::Result<BufReader<
     BufReader::new(alloc, stream)
 }
 
-fn answered_in(alloc: Global, line: &[u8]) -> Result<Answered, Fault> {
+fn replied_in(alloc: Global, line: &[u8]) -> Result<Replied, Fault> {
     let Some((b'\n', reply)) = line.split_last() else {
         return Err(if line.len() <= REPLY {
             Fault::NoReply

@@ -15,7 +15,7 @@ pub(crate) struct Found {
 
 /// The files that the paths stand for, in their order. A folder stands for its files whose names end in `.plist` or `.json`,
 /// in byte order of names, and not for its folders; behind them stands what of it can't be listed. Any other path stands for
-/// itself. `AllocError` where memory ran out.
+/// itself. `AllocError` if memory ran out.
 pub(crate) fn files_at<R: Files + AllocGlobal + Clone + Drop>(
     rt: &R,
     paths: &[Text],

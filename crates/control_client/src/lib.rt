@@ -14,5 +14,5 @@ pub use connection::{REPLY, hear};
 pub use ctl_protocol::LINE_LIMIT;
 pub use fault::Fault;
 pub use program::{NO_MEMORY, USAGE, jobctl};
-pub use reply::Answered;
+pub use reply::Replied;
 pub use request::request_of;

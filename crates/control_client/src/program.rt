@@ -94,7 +94,7 @@ pub fn jobctl<R: Net + Files + Print + Eprint + AllocGlobal + Clone + Drop>(
 }
 
 fn want_memory<R: Eprint>(rt: &R) -> u8 {
-    let _told = eprintln!(rt; "jobctl: no memory");
+    let _written = eprintln!(rt; "jobctl: no memory");
     NO_MEMORY
 }
 
@@ -104,13 +104,13 @@ fn explain_words<R: Print + Eprint>(rt: &R, alloc: Global, words: &[String]) -> 
     };
     let text = explanation.text.as_str();
     if !explanation.is_help {
-        let _told = eprint!(rt; "{text}");
+        let _written = eprint!(rt; "{text}");
         return USAGE;
     }
     match print!(rt; "{text}") {
         Ok(()) => 0,
         Err(error) => {
-            let _told = eprintln!(rt; "jobctl: standard output: {error}");
+            let _written = eprintln!(rt; "jobctl: standard output: {error}");
             Fault::Output(error).status()
         }
     }

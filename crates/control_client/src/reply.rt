@@ -5,27 +5,27 @@ use json_kinds::json_value;
 use serde_json::Value;
 use std::alloc::{AllocError, Global};
 
-/// A reply: the code, 0 where there is no refusal, and the text.
+/// A reply: the code, 0 if there is no refusal, and the text.
 #[derive(Drop)]
-pub struct Answered {
+pub struct Replied {
     pub code: u8,
     pub text: Text,
 }
 
-/// The reply that a line is, its newline left out: an object with a `code` from 0 to 255 and a `text`. None where it is no
-/// such object. `AllocError` where memory ran out.
-pub(crate) fn read_reply(alloc: Global, line: &[u8]) -> Result<Option<Answered>, AllocError> {
+/// The reply that a line is, its newline left out: an object with a `code` from 0 to 255 and a `text`. None if it is no
+/// such object. `AllocError` if memory ran out.
+pub(crate) fn read_reply(alloc: Global, line: &[u8]) -> Result<Option<Replied>, AllocError> {
     match json_value(alloc, line)? {
         Some(value) => reply_in(alloc, &value),
         None => Ok(None),
     }
 }
 
-fn reply_in(alloc: Global, value: &Value) -> Result<Option<Answered>, AllocError> {
+fn reply_in(alloc: Global, value: &Value) -> Result<Option<Replied>, AllocError> {
     match (code_in(value), value.get("text").and_then(Value::as_str)) {
         (Some(code), Some(text)) => {
             let text = Text::copy_of(alloc, text)?;
-            Ok(Some(Answered { code, text }))
+            Ok(Some(Replied { code, text }))
         }
         _ => Ok(None),
     }

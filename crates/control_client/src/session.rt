@@ -2,7 +2,7 @@
 
 use crate::connection::Connection;
 use crate::fault::Fault;
-use crate::reply::Answered;
+use crate::reply::Replied;
 use crate::request::request_of;
 use history_model::{Event, Text};
 use std::alloc::Global;
@@ -63,7 +63,7 @@ impl Session {
         }
     }
 
-    fn exchange<R: Net>(&mut self, rt: &R, alloc: Global, line: &[u8]) -> Result<Answered, Fault> {
+    fn exchange<R: Net>(&mut self, rt: &R, alloc: Global, line: &[u8]) -> Result<Replied, Fault> {
         if self.connection.is_none() {
             let connection = Connection::open(rt, alloc, self.socket.as_str())?;
             self.connection = Some(connection);
@@ -79,20 +79,20 @@ impl Session {
         match fault.status() {
             69 => {
                 let socket = self.socket.as_str();
-                let _told = eprintln!(rt; "jobctl: {socket}: {fault}");
+                let _written = eprintln!(rt; "jobctl: {socket}: {fault}");
             }
             74 => {
-                let _told = eprintln!(rt; "jobctl: standard output: {fault}");
+                let _written = eprintln!(rt; "jobctl: standard output: {fault}");
             }
             _ => {
-                let _told = eprintln!(rt; "jobctl: {file}: {fault}");
+                let _written = eprintln!(rt; "jobctl: {file}: {fault}");
             }
         }
         self.note(fault.status());
     }
 }
 
-fn print<R: Print + Eprint>(rt: &R, reply: &Answered, name: Option<&str>) -> Result<(), Fault> {
+fn print<R: Print + Eprint>(rt: &R, reply: &Replied, name: Option<&str>) -> Result<(), Fault> {
     let text = reply.text.as_str();
     if reply.code == 0 {
         return match print!(rt; "{text}") {
@@ -101,8 +101,8 @@ fn print<R: Print + Eprint>(rt: &R, reply: &Answered, name: Option<&str>) -> Res
         };
     }
     if let Some(name) = name {
-        let _told = eprintln!(rt; "jobctl: {name}:");
+        let _written = eprintln!(rt; "jobctl: {name}:");
     }
-    let _told = eprint!(rt; "{text}");
+    let _written = eprint!(rt; "{text}");
     Ok(())
 }

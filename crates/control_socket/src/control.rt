@@ -22,7 +22,7 @@ const PIECE: usize = 16_384;
 /// The control socket: one listener at a path, and its clients.
 ///
 /// Readiness only wakes the poll: each call of `serve` tries every client. A client takes at most the memory of its longest
-/// line ([`crate::LINE`]) and of the replies that it has not taken: [`crate::UNSENT`] bytes and one reply more.
+/// line ([`ctl_protocol::LINE_LIMIT`]) and of the replies that it has not taken: [`crate::UNSENT`] bytes and one reply more.
 #[derive(Drop)]
 pub struct ControlSocket {
     alloc: Global,

@@ -1,7 +1,7 @@
 //! What passes between a client and the launcher: the requests that came and are not yet answered, and the replies that are
 //! not yet sent.
 
-use ctl_protocol::{LineFault, LineFeed, reply_line};
+use ctl_protocol::{LINE_LIMIT, LineFault, LineFeed, reply_line};
 use history_model::{Refusal, Reply, Text};
 use std::alloc::{AllocError, Global};
 
@@ -11,10 +11,7 @@ pub trait Answers {
     fn answer(&mut self, alloc: Global, line: &[u8]) -> Reply;
 }
 
-/// A request's line has at most as many bytes before its newline.
-pub const LINE: usize = 262_144;
-
-/// Where more bytes of replies than these wait to be sent, no further request is read or answered.
+/// If more bytes of replies than these wait to be sent, no further request is read or answered.
 pub const UNSENT: usize = 65_536;
 
 /// What is still taken from a client.
@@ -44,7 +41,7 @@ pub(crate) struct Dialogue {
 impl Dialogue {
     pub(crate) fn new(alloc: Global) -> Dialogue {
         Dialogue {
-            requests: LineFeed::new(alloc, LINE),
+            requests: LineFeed::new(alloc, LINE_LIMIT),
             replies: Vec::new(alloc),
             intake: Intake::Open,
             has_lines: false,
@@ -91,7 +88,7 @@ impl Dialogue {
         alloc: Global,
         answers: &mut A,
     ) -> Result<(), AllocError> {
-        for _ in 0..LINE {
+        for _ in 0..LINE_LIMIT {
             if !self.has_lines || self.replies.len() > UNSENT {
                 return Ok(());
             }

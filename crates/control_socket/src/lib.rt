@@ -8,4 +8,4 @@ mod dialogue;
 mod socket_file;
 
 pub use control::{CLIENTS, ControlSocket};
-pub use dialogue::{Answers, LINE, UNSENT};
+pub use dialogue::{Answers, UNSENT};

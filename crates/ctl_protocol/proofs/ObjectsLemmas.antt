@@ -11,32 +11,24 @@ use Rattle.ctl_protocol.specs.Objects.{Plain, text, flag, count, whole, plain_da
 use Rattle.history_model.specs.declared.Act.{Act}
 use Rattle.event_reader.specs.declared.members.Form.{Form}
 use Rattle.event_reader.specs.Members.{tag_of, has_answers}
-use Rattle.ctl_protocol.specs.EventWriter.{row_object}
+use Rattle.ctl_protocol.specs.EventWriter.{line_object}
 use Rattle.ctl_protocol.specs.declared.header.Header.{Header}
 use Rattle.ctl_protocol.specs.HeaderLines.{header_object, plain_members, setting_members}
 use Rattle.ctl_protocol.specs.Outcomes.{order_members, orders_data, outcome_object, reply_object}
-
-none_of : (a b : Bool) → a ≡ false → b ≡ false → (a || b) ≡ false
-none_of a b p q = rw (p, q) refl
-
-first_of : (a b : Bool) → (a || b) ≡ false → a ≡ false
-first_of a b p = grind (arith, p)
-
-second_of : (a b : Bool) → (a || b) ≡ false → b ≡ false
-second_of a b p = grind (arith, p)
+use Rattle.history_model.proofs.BooleanLemmas.{false-or, or-false-first, or-false-second}
 
 put_at : (o : Ordering) (k l : List ℕ) (d e : Data) (ms : Members) → has_float d ≡ false → has_float e ≡ false → members_have_float ms ≡ false
     → members_have_float (put k d ms) ≡ false
     → members_have_float (match_ordering o (member k d (member l e ms)) (member l d ms) (member l e (put k d ms))) ≡ false
-put_at Less k l d e ms here there more later = none_of _ _ here (none_of _ _ there more)
-put_at Equal k l d e ms here there more later = none_of _ _ here more
-put_at Greater k l d e ms here there more later = none_of _ _ there later
+put_at Less k l d e ms here there more later = false-or _ _ here (false-or _ _ there more)
+put_at Equal k l d e ms here there more later = false-or _ _ here more
+put_at Greater k l d e ms here there more later = false-or _ _ there later
 
 pub put_no_float : (k : List ℕ) (d : Data) (ms : Members) → has_float d ≡ false → members_have_float ms ≡ false → members_have_float (put k d ms) ≡ false
-put_no_float k d no_members here more = none_of _ _ here refl
+put_no_float k d no_members here more = false-or _ _ here refl
 put_no_float k d (member l e ms) here more =
-    let there = first_of (has_float e) (members_have_float ms) more in
-    let rest = second_of (has_float e) (members_have_float ms) more in
+    let there = or-false-first (has_float e) (members_have_float ms) more in
+    let rest = or-false-second (has_float e) (members_have_float ms) more in
     put_at (slice_cmp nat_cmp k l) k l d e ms here there rest (put_no_float k d ms here rest)
 
 plain_no_float : (p : Plain) → has_float (plain_data p) ≡ false
@@ -55,7 +47,7 @@ object_no_float members = with_no_float no_members members refl
 
 pub orders_no_float : (orders : List (List ℕ × Act)) → items_have_float (orders_data orders) ≡ false
 orders_no_float [] = refl
-orders_no_float (o ∷ os) = none_of _ _ (object_no_float (order_members o)) (orders_no_float os)
+orders_no_float (o ∷ os) = false-or _ _ (object_no_float (order_members o)) (orders_no_float os)
 
 pub outcome_no_float : (code : ℕ) (said : List ℕ) (orders : List (List ℕ × Act)) → has_float (outcome_object code said orders) ≡ false
 outcome_no_float code said orders = rw (orders_no_float orders) refl
@@ -63,9 +55,9 @@ outcome_no_float code said orders = rw (orders_no_float orders) refl
 pub reply_no_float : (code : ℕ) (said : List ℕ) → has_float (reply_object code said) ≡ false
 reply_no_float code said = object_no_float ((codes "code", count code) ∷ (codes "text", text said) ∷ [])
 
-pub row_no_float : (form : Form) (name : List ℕ) (row answers : List (List ℕ × Plain)) → has_float (row_object form name row answers) ≡ false
-row_no_float form name row answers =
-    with_no_float _ (if has_answers form then answers else []) (with_no_float _ row (with_no_float no_members ((tag_of form, text name) ∷ []) refl))
+pub line_no_float : (form : Form) (name : List ℕ) (keys answers : List (List ℕ × Plain)) → has_float (line_object form name keys answers) ≡ false
+line_no_float form name keys answers =
+    with_no_float _ (if has_answers form then answers else []) (with_no_float _ keys (with_no_float no_members ((tag_of form, text name) ∷ []) refl))
 
 -- ---- nor does it nest deep
 
@@ -102,12 +94,12 @@ with_depth : (n : ℕ) (ms : Members) (members : List (List ℕ × Plain)) → m
 with_depth n ms [] h = h
 with_depth n ms (m ∷ more) h = with_depth n (put m.0 (plain_data m.1) ms) more (put_depth n m.0 (plain_data m.1) ms (plain_depth n m.1) h)
 
-pub row_depth : (form : Form) (name : List ℕ) (row answers : List (List ℕ × Plain)) → depth (row_object form name row answers) ≤ max_depth
-row_depth form name row answers =
+pub line_depth : (form : Form) (name : List ℕ) (keys answers : List (List ℕ × Plain)) → depth (line_object form name keys answers) ≤ max_depth
+line_depth form name keys answers =
     let tagged = with_members no_members ((tag_of form, text name) ∷ []) in
     let last = if has_answers form then answers else [] in
-    let below : members_depth (with_members (with_members tagged row) last) ≤ 0 =
-    with_depth 0 (with_members tagged row) last (with_depth 0 tagged row (with_depth 0 no_members ((tag_of form, text name) ∷ []) (omega arith))) in
+    let below : members_depth (with_members (with_members tagged keys) last) ≤ 0 =
+    with_depth 0 (with_members tagged keys) last (with_depth 0 tagged keys (with_depth 0 no_members ((tag_of form, text name) ∷ []) (omega arith))) in
     omega (arith, below)
 
 pub header_no_float : (h : Header) → has_float (header_object h) ≡ false

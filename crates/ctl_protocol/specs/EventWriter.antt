@@ -1,4 +1,4 @@
--- The lines that tell an event, as they are written: every key of the event's row, in byte order.
+-- The lines that tell an event, as they are written: every key of the event's shape, in byte order.
 use Rattle.std.specs.Prelude.{ℕ, List, [], ◌∷◌, ◌^◌, codes, Bool, true, false, ◌&&◌, nat_lt, if◌then◌else◌}
 use Rattle.serde_json.specs.Data.{Data, object, no_members}
 use Rattle.history_model.specs.declared.Ended.{Ended}
@@ -55,33 +55,34 @@ abbrev pub end_member : Ended → List ℕ × Plain
 end_member (Code n) = (codes "code", count n)
 end_member (Signal n) = (codes "signal", count n)
 
--- the keys of its row, but for the tag and the answers
-abbrev pub row_members : Event → List (List ℕ × Plain)
-row_members (events.Load def writes_setting force bind store) =
+-- the keys of its shape, but for the tag and the answers
+abbrev pub line_members : Event → List (List ℕ × Plain)
+line_members (events.Load def writes_setting force bind store) =
     (codes "F", flag force) ∷ (codes "def", text def) ∷ (codes "w", flag writes_setting) ∷ []
-row_members (events.Unload job writes_setting store) =
+line_members (events.Unload job writes_setting store) =
     of_job job ∷ (codes "w", flag writes_setting) ∷ []
-row_members (events.Start job) = of_job job ∷ []
-row_members (events.Stop job) = of_job job ∷ []
-row_members (events.Kickstart job kills_first) = of_job job ∷ (codes "k", flag kills_first) ∷ []
-row_members (events.Enable job store) = of_job job ∷ []
-row_members (events.Disable job store) = of_job job ∷ []
-row_members events.List = []
-row_members (events.Print job) = of_job job ∷ []
-row_members events.Shutdown = []
-row_members (events.Clock at) = (codes "up", count at.up) ∷ (codes "wall", count at.wall) ∷ []
-row_members (events.Saw path obs) =
+line_members (events.Start job) = of_job job ∷ []
+line_members (events.Stop job) = of_job job ∷ []
+line_members (events.Kickstart job kills_first) = of_job job ∷ (codes "k", flag kills_first) ∷ []
+line_members (events.Enable job store) = of_job job ∷ []
+line_members (events.Disable job store) = of_job job ∷ []
+line_members events.List = []
+line_members (events.Print job) = of_job job ∷ []
+line_members events.Shutdown = []
+line_members (events.Clock at) = (codes "up", count at.up) ∷ (codes "wall", count at.wall) ∷ []
+line_members (events.Saw path obs) =
     (codes "exists", flag obs.present) ∷ (codes "nonempty", flag obs.nonempty_dir)
     ∷ (codes "path", text path) ∷ (codes "stamp", count obs.stamp) ∷ []
-row_members (events.Came job conn) = of_connection job conn
-row_members (events.Left job conn) = of_connection job conn
-row_members (events.Spawned job run pid) =
+line_members (events.Came job conn) = of_connection job conn
+line_members (events.Left job conn) = of_connection job conn
+line_members (events.Spawned job run pid) =
     of_job job ∷ (codes "pid", count pid) ∷ (codes "run", count run) ∷ []
-row_members (events.SpawnRefused job run) = of_run job run
-row_members (events.Termed job run ok) = of_answer job run ok
-row_members (events.Killed job run ok) = of_answer job run ok
-row_members (events.Ended job run how) = end_member how ∷ of_job job ∷ (codes "run", count run) ∷ []
-row_members (events.WaitRefused job run) = of_run job run
+line_members (events.SpawnRefused job run) = of_run job run
+line_members (events.Termed job run ok) = of_answer job run ok
+line_members (events.Killed job run ok) = of_answer job run ok
+line_members (events.Ended job run how) =
+    end_member how ∷ of_job job ∷ (codes "run", count run) ∷ []
+line_members (events.WaitRefused job run) = of_run job run
 
 -- what the outside answered
 abbrev pub answer_members : Event → List (List ℕ × Plain)
@@ -92,16 +93,16 @@ answer_members (events.Enable job store) = (codes "store", flag store) ∷ []
 answer_members (events.Disable job store) = (codes "store", flag store) ∷ []
 answer_members _ = []
 
--- the object of a line: its tag with the name, the row's keys, and an event's answers
-abbrev pub row_object : Form → List ℕ → List (List ℕ × Plain) → List (List ℕ × Plain) → Data
-row_object form name row answers =
+-- the object of a line: its tag with the name, the keys of its shape, and an event's answers
+abbrev pub line_object : Form → List ℕ → List (List ℕ × Plain) → List (List ℕ × Plain) → Data
+line_object form name keys answers =
     object (with_members
-    (with_members (with_members no_members ((tag_of form, text name) ∷ [])) row)
+    (with_members (with_members no_members ((tag_of form, text name) ∷ [])) keys)
     (if has_answers form then answers else []))
 
 -- the object of the line that tells the event, or asks for it
 abbrev pub event_object : Form → Event → Data
-event_object form e = row_object form (name_of e) (row_members e) (answer_members e)
+event_object form e = line_object form (name_of e) (line_members e) (answer_members e)
 
 -- the line of a journal that tells the event, with its newline
 abbrev pub event_line : Event → List ℕ
@@ -111,35 +112,35 @@ event_line e = line_of (event_object forms.Event e)
 abbrev pub request_line : Event → List ℕ
 request_line e = line_of (event_object forms.Request e)
 
--- ---- which events a line can tell: the job is a label, and each number is one of its row
+-- ---- which events a line can tell: the job is a label, and each number is one of its shape
 
 -- the exit code or the signal is a byte
 abbrev is_byte_end : Ended → Bool
 is_byte_end (Code n) = nat_lt n 256
 is_byte_end (Signal n) = nat_lt n 256
 
--- the job is a label, and each number is one of its row
-abbrev pub is_tellable : Event → Bool
-is_tellable (events.Load def writes_setting force bind store) = true
-is_tellable (events.Unload job writes_setting store) = is_label job
-is_tellable (events.Start job) = is_label job
-is_tellable (events.Stop job) = is_label job
-is_tellable (events.Kickstart job kills_first) = is_label job
-is_tellable (events.Enable job store) = is_label job
-is_tellable (events.Disable job store) = is_label job
-is_tellable events.List = true
-is_tellable (events.Print job) = is_label job
-is_tellable events.Shutdown = true
-is_tellable (events.Clock at) = true
-is_tellable (events.Saw path obs) = true
-is_tellable (events.Came job conn) = is_label job
-is_tellable (events.Left job conn) = is_label job
-is_tellable (events.Spawned job run pid) = is_label job && (nat_lt 0 pid && nat_lt pid (2 ^ 32))
-is_tellable (events.SpawnRefused job run) = is_label job
-is_tellable (events.Termed job run ok) = is_label job
-is_tellable (events.Killed job run ok) = is_label job
-is_tellable (events.Ended job run how) = is_label job && is_byte_end how
-is_tellable (events.WaitRefused job run) = is_label job
+-- the job is a label, and each number is one of its shape
+abbrev pub is_writable : Event → Bool
+is_writable (events.Load def writes_setting force bind store) = true
+is_writable (events.Unload job writes_setting store) = is_label job
+is_writable (events.Start job) = is_label job
+is_writable (events.Stop job) = is_label job
+is_writable (events.Kickstart job kills_first) = is_label job
+is_writable (events.Enable job store) = is_label job
+is_writable (events.Disable job store) = is_label job
+is_writable events.List = true
+is_writable (events.Print job) = is_label job
+is_writable events.Shutdown = true
+is_writable (events.Clock at) = true
+is_writable (events.Saw path obs) = true
+is_writable (events.Came job conn) = is_label job
+is_writable (events.Left job conn) = is_label job
+is_writable (events.Spawned job run pid) = is_label job && (nat_lt 0 pid && nat_lt pid (2 ^ 32))
+is_writable (events.SpawnRefused job run) = is_label job
+is_writable (events.Termed job run ok) = is_label job
+is_writable (events.Killed job run ok) = is_label job
+is_writable (events.Ended job run how) = is_label job && is_byte_end how
+is_writable (events.WaitRefused job run) = is_label job
 
 -- what a client may ask, with answers that count as given
 abbrev pub is_request : Event → Bool

@@ -123,8 +123,8 @@ unfoldable pub has_header_keys : Data → Bool
 has_header_keys d = only_these (as_object d)
 
 -- the header that the object of a line tells
-unfoldable pub header_row : Data → Option Header
-header_row d = if has_header_keys d then (do
+unfoldable pub header_shape : Data → Option Header
+header_shape d = if has_header_keys d then (do
   reading ← reading_keys d
   zone ← zone_key d
   overrides ← overrides_key d
@@ -132,10 +132,10 @@ header_row d = if has_header_keys d then (do
 
 -- the header that a line is
 unfoldable pub header_at : List ℕ → Option Header
-header_at line = json_in line >>= header_row
+header_at line = json_in line >>= header_shape
 
 -- ---- for loops: with what came before
 
 -- what was read before, and then the rest, if it can be read
 abbrev pub with_front : {X : Type 0} → List X → Option (List X) → Option (List X)
-with_front front given = given >>= λ rest. Some (front ++ rest)
+with_front front tail = tail >>= λ rest. Some (front ++ rest)

@@ -57,14 +57,14 @@ code_of (Some refusal) = refusal_code refusal
 
 -- a refusal's own text, or else the reply's
 abbrev pub text_of : Reply → List ℕ
-text_of reply = told reply.refusal where
-  told : Option Refusal → List ℕ
-  told None = reply.text
-  told (Some refusal) = refusal_text refusal
+text_of reply = refused_text reply.refusal where
+  refused_text : Option Refusal → List ℕ
+  refused_text None = reply.text
+  refused_text (Some refusal) = refusal_text refusal
 
 -- what a reply and the orders of the step are together
-abbrev pub answered : Reply → List (Label × Act) → Outcome
-answered reply orders = record { refusal = reply.refusal; orders = orders; text = text_of reply }
+abbrev pub replied : Reply → List (Label × Act) → Outcome
+replied reply orders = record { refusal = reply.refusal; orders = orders; text = text_of reply }
 
 -- the object of an outcome: its code, its orders and its text
 abbrev pub outcome_object : ℕ → List ℕ → List (Label × Act) → Data

@@ -8,7 +8,7 @@ ghost use Rattle.event_reader.specs.EventLines.{event_at, request_at};
 ghost use Rattle.event_reader.specs.declared.members.Form.TheVariants as forms;
 ghost use Rattle.ctl_protocol.specs.Objects.{flag, flags_of, plains_of, plain_of};
 ghost use Rattle.ctl_protocol.specs.EventWriter as lines;
-ghost use Rattle.ctl_protocol.specs.EventWriter.{end_member, event_object, of_answer, of_connection, of_job, of_run, is_request, is_tellable, row_object};
+ghost use Rattle.ctl_protocol.specs.EventWriter.{end_member, event_object, of_answer, of_connection, of_job, of_run, is_request, is_writable, line_object};
 
 use crate::object::{Cell, line_from, put_all, put_flags};
 use event_reader::Form;
@@ -16,20 +16,20 @@ use history_model::{Ended, Event, Obs, Reading, Text};
 use serde_json::{Map, Value};
 use std::alloc::{AllocError, Global};
 
-/// The object of a row: its tag, its keys and, in a journal, the answers.
-fn row_value(
+/// The object of a line: its tag, its keys and, in a journal, the answers.
+fn line_value(
     alloc: Global,
     form: Form,
     name: &str,
-    row: &[(&str, Cell<'_>)],
+    keys: &[(&str, Cell<'_>)],
     answers: &[(&str, bool)],
 ) -> Result<Value, AllocError>
     ensures { IfOk result (λ v. view v
-        ≡ row_object form name.now (plains_of row.now) (flags_of answers.now)) }
+        ≡ line_object form name.now (plains_of keys.now) (flags_of answers.now)) }
 {
     let mut map = Map::new(alloc);
     put_all(&mut map, alloc, &[(form.tag(), Cell::Text(name))])?;
-    put_all(&mut map, alloc, row)?;
+    put_all(&mut map, alloc, keys)?;
     if form == Form::Event {
         put_flags(&mut map, alloc, answers)?;
     }
@@ -46,9 +46,9 @@ fn end_cell(how: Ended) -> (&'static str, Cell<'static>)
 }
 
 fn job_value(alloc: Global, form: Form, name: &str, job: &Text) -> Result<Value, AllocError>
-    ensures { IfOk result (λ v. view v ≡ row_object form name.now (of_job job.now ∷ []) []) }
+    ensures { IfOk result (λ v. view v ≡ line_object form name.now (of_job job.now ∷ []) []) }
 {
-    row_value(alloc, form, name, &[("job", Cell::Text(job.as_str()))], &[])
+    line_value(alloc, form, name, &[("job", Cell::Text(job.as_str()))], &[])
 }
 
 fn setting_value(
@@ -59,10 +59,10 @@ fn setting_value(
     store: bool,
 ) -> Result<Value, AllocError>
     ensures { IfOk result (λ v. view v
-        ≡ row_object form name.now (of_job job.now ∷ []) ((codes "store", flag store) ∷ [])) }
+        ≡ line_object form name.now (of_job job.now ∷ []) ((codes "store", flag store) ∷ [])) }
 {
-    let row = [("job", Cell::Text(job.as_str()))];
-    row_value(alloc, form, name, &row, &[("store", store)])
+    let keys = [("job", Cell::Text(job.as_str()))];
+    line_value(alloc, form, name, &keys, &[("store", store)])
 }
 
 fn connection_value(
@@ -72,13 +72,14 @@ fn connection_value(
     job: &Text,
     conn: u64,
 ) -> Result<Value, AllocError>
-    ensures { IfOk result (λ v. view v ≡ row_object form name.now (of_connection job.now conn) []) }
+    ensures { IfOk result
+        (λ v. view v ≡ line_object form name.now (of_connection job.now conn) []) }
 {
-    let row = [
+    let keys = [
         ("conn", Cell::Count(conn)),
         ("job", Cell::Text(job.as_str())),
     ];
-    row_value(alloc, form, name, &row, &[])
+    line_value(alloc, form, name, &keys, &[])
 }
 
 fn run_value(
@@ -88,10 +89,10 @@ fn run_value(
     job: &Text,
     run: u64,
 ) -> Result<Value, AllocError>
-    ensures { IfOk result (λ v. view v ≡ row_object form name.now (of_run job.now run) []) }
+    ensures { IfOk result (λ v. view v ≡ line_object form name.now (of_run job.now run) []) }
 {
-    let row = [("job", Cell::Text(job.as_str())), ("run", Cell::Count(run))];
-    row_value(alloc, form, name, &row, &[])
+    let keys = [("job", Cell::Text(job.as_str())), ("run", Cell::Count(run))];
+    line_value(alloc, form, name, &keys, &[])
 }
 
 fn answer_value(
@@ -102,26 +103,26 @@ fn answer_value(
     run: u64,
     ok: bool,
 ) -> Result<Value, AllocError>
-    ensures { IfOk result (λ v. view v ≡ row_object form name.now (of_answer job.now run ok) []) }
+    ensures { IfOk result (λ v. view v ≡ line_object form name.now (of_answer job.now run ok) []) }
 {
-    let row = [
+    let keys = [
         ("job", Cell::Text(job.as_str())),
         ("ok", Cell::Flag(ok)),
         ("run", Cell::Count(run)),
     ];
-    row_value(alloc, form, name, &row, &[])
+    line_value(alloc, form, name, &keys, &[])
 }
 
 fn saw_value(alloc: Global, form: Form, path: &Text, obs: Obs) -> Result<Value, AllocError>
     ensures { IfOk result (λ v. view v ≡ event_object form (events.Saw path.now obs)) }
 {
-    let row = [
+    let keys = [
         ("exists", Cell::Flag(obs.present)),
         ("nonempty", Cell::Flag(obs.nonempty_dir)),
         ("path", Cell::Text(path.as_str())),
         ("stamp", Cell::Count(obs.stamp)),
     ];
-    row_value(alloc, form, "saw", &row, &[])
+    line_value(alloc, form, "saw", &keys, &[])
 }
 
 fn ended_value(
@@ -133,19 +134,19 @@ fn ended_value(
 ) -> Result<Value, AllocError>
     ensures { IfOk result (λ v. view v ≡ event_object form (events.Ended job.now run how)) }
 {
-    let row = [
+    let keys = [
         end_cell(how),
         ("job", Cell::Text(job.as_str())),
         ("run", Cell::Count(run)),
     ];
-    row_value(alloc, form, "ended", &row, &[])
+    line_value(alloc, form, "ended", &keys, &[])
 }
 
 fn clock_value(alloc: Global, form: Form, at: Reading) -> Result<Value, AllocError>
     ensures { IfOk result (λ v. view v ≡ event_object form (events.Clock at)) }
 {
-    let row = [("up", Cell::Count(at.up)), ("wall", Cell::Count(at.wall))];
-    row_value(alloc, form, "clock", &row, &[])
+    let keys = [("up", Cell::Count(at.up)), ("wall", Cell::Count(at.wall))];
+    line_value(alloc, form, "clock", &keys, &[])
 }
 
 fn spawned_value(
@@ -157,12 +158,12 @@ fn spawned_value(
 ) -> Result<Value, AllocError>
     ensures { IfOk result (λ v. view v ≡ event_object form (events.Spawned job.now run pid)) }
 {
-    let row = [
+    let keys = [
         ("job", Cell::Text(job.as_str())),
         ("pid", Cell::Count(pid as u64)),
         ("run", Cell::Count(run)),
     ];
-    row_value(alloc, form, "spawned", &row, &[])
+    line_value(alloc, form, "spawned", &keys, &[])
 }
 
 fn kickstart_value(
@@ -173,11 +174,11 @@ fn kickstart_value(
 ) -> Result<Value, AllocError>
     ensures { IfOk result (λ v. view v ≡ event_object form (events.Kickstart job.now kills_first)) }
 {
-    let row = [
+    let keys = [
         ("job", Cell::Text(job.as_str())),
         ("k", Cell::Flag(kills_first)),
     ];
-    row_value(alloc, form, "kickstart", &row, &[])
+    line_value(alloc, form, "kickstart", &keys, &[])
 }
 
 fn unload_value(
@@ -190,11 +191,11 @@ fn unload_value(
     ensures { IfOk result (λ v. view v
         ≡ event_object form (events.Unload job.now writes_setting store)) }
 {
-    let row = [
+    let keys = [
         ("job", Cell::Text(job.as_str())),
         ("w", Cell::Flag(writes_setting)),
     ];
-    row_value(alloc, form, "unload", &row, &[("store", store)])
+    line_value(alloc, form, "unload", &keys, &[("store", store)])
 }
 
 /// The object of an event.
@@ -209,13 +210,13 @@ fn event_value(alloc: Global, form: Form, event: &Event) -> Result<Value, AllocE
             bind,
             store,
         } => {
-            let row = [
+            let keys = [
                 ("F", Cell::Flag(*force)),
                 ("def", Cell::Text(def.as_str())),
                 ("w", Cell::Flag(*writes_setting)),
             ];
             let answers = [("bind", *bind), ("store", *store)];
-            row_value(alloc, form, "load", &row, &answers)
+            line_value(alloc, form, "load", &keys, &answers)
         }
         Event::Unload {
             job,
@@ -227,9 +228,9 @@ fn event_value(alloc: Global, form: Form, event: &Event) -> Result<Value, AllocE
         Event::Kickstart { job, kills_first } => kickstart_value(alloc, form, job, *kills_first),
         Event::Enable { job, store } => setting_value(alloc, form, "enable", job, *store),
         Event::Disable { job, store } => setting_value(alloc, form, "disable", job, *store),
-        Event::List => row_value(alloc, form, "list", &[], &[]),
+        Event::List => line_value(alloc, form, "list", &[], &[]),
         Event::Print { job } => job_value(alloc, form, "print", job),
-        Event::Shutdown => row_value(alloc, form, "shutdown", &[], &[]),
+        Event::Shutdown => line_value(alloc, form, "shutdown", &[], &[]),
         Event::Clock(at) => clock_value(alloc, form, *at),
         Event::Saw { path, obs } => saw_value(alloc, form, path, *obs),
         Event::Came { job, conn } => connection_value(alloc, form, "came", job, *conn),
@@ -243,19 +244,19 @@ fn event_value(alloc: Global, form: Form, event: &Event) -> Result<Value, AllocE
     }
 }
 
-/// The line of a journal that tells an event, with its newline: an object of every key of the event's row, in byte
+/// The line of a journal that tells an event, with its newline: an object of every key of the event's shape, in byte
 /// order. `Err` says only that memory ran out.
 pub fn event_line(alloc: Global, event: &Event) -> Result<Vec<u8>, AllocError>
     ensures text { IfOk result (λ line. line.items ≡ lines.event_line event.now) }
     // The line, without its newline, is read as the event.
-    ensures reads_back { OnOk result (is_tellable event.now ≡ true
+    ensures reads_back { OnOk result (is_writable event.now ≡ true
         → event_at (compact_text (event_object forms.Event event.now)) ≡ Some event.now) }
 {
     let value = event_value(alloc, Form::Event, event)?;
     line_from(alloc, &value)
 }
 
-/// The line by which a control client asks for an event, with its newline: the event's row without the answers of the
+/// The line by which a control client asks for an event, with its newline: the event's shape without the answers of the
 /// outside. `Err` says only that memory ran out.
 pub fn request_line(alloc: Global, event: &Event) -> Result<Vec<u8>, AllocError>
     ensures text { IfOk result (λ line. line.items ≡ lines.request_line event.now) }

@@ -4,7 +4,7 @@ ghost use Rattle.std.specs.Prelude.{◌≡◌, List, ℕ};
 ghost use Rattle.json_kinds.specs.Json.{json_in};
 ghost use Rattle.serde_json.specs.View.{view, members_view};
 ghost use Rattle.ctl_protocol.specs.Headers as headers;
-ghost use Rattle.ctl_protocol.specs.Headers.{are_among, bytes_of_hex, digit_of, file_of, header_at, header_keys, header_row, offset_of, overrides_key, posix_of, reading_keys, setting_of, settings_of, up_to, zone_key};
+ghost use Rattle.ctl_protocol.specs.Headers.{are_among, bytes_of_hex, digit_of, file_of, header_at, header_keys, header_shape, offset_of, overrides_key, posix_of, reading_keys, setting_of, settings_of, up_to, zone_key};
 ghost use Rattle.event_reader.specs.Members.{Gives, Reads, number_key};
 ghost use Rattle.json_kinds.specs.Kinds.{texts_in};
 
@@ -79,7 +79,7 @@ fn byte_in(high: u8, low: u8) -> Option<u8>
 }
 
 /// The bytes of a text of lower case hexadecimal.
-#[tactic(auto, using(crate::proofs::Fronts::byte_ends, crate::proofs::Fronts::all_read, crate::proofs::Fronts::one_left))]
+#[tactic(auto, using(crate::proofs::HexadecimalLemmas::byte_ends, crate::proofs::HexadecimalLemmas::all_read, crate::proofs::HexadecimalLemmas::one_left))]
 fn bytes_in(alloc: Global, text: &[u8]) -> Result<Vec<u8>, ReadFault>
     ensures { Gives (λ b. b.items) result (bytes_of_hex text.now) }
 {
@@ -211,9 +211,9 @@ fn has_header_keys(line: &Value) -> bool
     }
 }
 
-#[tactic(auto, unfolding(crate::specs::Headers::header_row))]
+#[tactic(auto, unfolding(crate::specs::Headers::header_shape))]
 fn header_in(alloc: Global, line: &Value) -> Result<Header, ReadFault>
-    ensures { Reads result (header_row (view line.now)) }
+    ensures { Reads result (header_shape (view line.now)) }
 {
     if !has_header_keys(line) {
         return Err(ReadFault::BadRequest);
@@ -230,7 +230,7 @@ fn header_in(alloc: Global, line: &Value) -> Result<Header, ReadFault>
 
 /// The header that a line is, the newline left out: `up` (milliseconds, to 9,000,000,000,000,000), `wall` (seconds of
 /// Unix time, to 250,000,000,000), one of `zone`, `offset` and `zonefile`, and the `overrides` from label to whether it
-/// is disabled. BadRequest where it is none. Whether the zone exists is not asked here.
+/// is disabled. BadRequest if it is none. Whether the zone exists is not asked here.
 #[tactic(auto, unfolding(crate::specs::Headers::header_at))]
 pub fn read_header(alloc: Global, line: &[u8]) -> Result<Header, ReadFault>
     ensures { Reads result (header_at line.now) }

@@ -4,7 +4,7 @@ ghost use Rattle.std.specs.Prelude.{◌≡◌, IfOk};
 ghost use Rattle.ctl_protocol.specs.Outcomes as outcomes;
 ghost use Rattle.ctl_protocol.specs.Outcomes.{parts};
 ghost use Rattle.ctl_protocol.specs.Objects.{line_of};
-ghost use Rattle.ctl_protocol.specs.Outcomes.{answered, orders_of, outcome_object, reply_object};
+ghost use Rattle.ctl_protocol.specs.Outcomes.{replied, orders_of, outcome_object, reply_object};
 
 use crate::object::{Cell, line_from, object_of};
 use crate::orders::{orders_text, string_text};
@@ -47,15 +47,15 @@ fn outcome_from(
     joined(alloc, number, list.as_slice(), said.as_slice())
 }
 
-/// The line of an event's outcome, with its newline: the reply's code (0 where there is no refusal), the orders with
-/// their jobs' labels, and the text, which is the refusal's own where there is one. `Err` says only that memory ran out.
+/// The line of an event's outcome, with its newline: the reply's code (0 if there is no refusal), the orders with
+/// their jobs' labels, and the text, which is the refusal's own if there is one. `Err` says only that memory ran out.
 pub fn outcome_line(
     alloc: Global,
     reply: &Reply,
     orders: &[(&str, Act)],
 ) -> Result<Vec<u8>, AllocError>
     ensures { IfOk result (λ line. line.items
-        ≡ outcomes.outcome_line (answered reply.now (orders_of orders.now))) }
+        ≡ outcomes.outcome_line (replied reply.now (orders_of orders.now))) }
 {
     match reply.refusal {
         None => outcome_from(alloc, 0, reply.text.as_str(), orders),

@@ -3,14 +3,14 @@
 
 mod overrides;
 mod places;
+mod reporting;
 mod serving;
 mod store;
-mod telling;
 mod words;
 mod zone;
 
 use crate::places::Places;
-use crate::telling::NO_MEMORY;
+use crate::reporting::NO_MEMORY;
 use launchctl_words::{DaemonCommand, WordFault, read_daemon_words};
 use live_loop::System;
 use replay_streams::replay_input;
@@ -20,7 +20,7 @@ use std::sync::Wait;
 /// Does what the words ask for, the program's own name being the first, and gives the exit status. Both `host` and `rt` are
 /// the runtime of `main`: only what takes it as `rt` may wait.
 ///
-/// `replay`: the statuses of `jobd::status_of`. `overrides`: 0, 1 for want of memory, 3 where the output is refused, 5 where
+/// `replay`: the statuses of `jobd::status_of`. `overrides`: 0, 1 for want of memory, 3 if the output is refused, 5 if
 /// the store can't be read. `serve`: 0 once a shutdown was accepted and no job is left; 1 for want of memory at the start,
 /// 5 the store, 6 the control socket, 7 the zone, 8 the journal, 9 the clock or waiting. Any of them: 64 for words that are
 /// no command. Each fault but want of memory is told on standard error, those of `replay` by the status alone. A call for

@@ -1,7 +1,7 @@
 //! `jobd overrides`: a line for each label that has a stored setting, by rising bytes of the labels.
 
-use crate::store::{connect, tell_fault};
-use crate::telling::{NO_MEMORY, OUTPUT, STORE, refuse};
+use crate::reporting::{NO_MEMORY, OUTPUT, STORE, refuse};
+use crate::store::{connect, report_fault};
 use history_model::Setting;
 use override_store::{OverrideStore, StoreFault};
 use sqlite::{Alter, Connection};
@@ -30,7 +30,7 @@ fn list_on<S: Alter + Drop>(
 ) -> u8 {
     match OverrideStore::open_on(alloc, conn) {
         Ok(mut store) => list_all(rt, alloc, path, &mut store),
-        Err(fault) => tell_fault(rt, path, fault),
+        Err(fault) => report_fault(rt, path, fault),
     }
 }
 
@@ -42,7 +42,7 @@ fn list_all<S: Alter>(
 ) -> u8 {
     match read_all(alloc, store) {
         Ok((all, changes)) => print_all(rt, all.as_slice(), changes.as_slice()),
-        Err(fault) => tell_fault(rt, path, fault),
+        Err(fault) => report_fault(rt, path, fault),
     }
 }
 

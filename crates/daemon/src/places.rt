@@ -1,6 +1,6 @@
 //! What the launcher stands on beside its store: the system with its clock, the control socket, the journal and the spool.
 
-use crate::telling::{CLOCK_OR_WAITING, CONTROL_SOCKET, JOURNAL, NO_MEMORY, refuse, tell};
+use crate::reporting::{CLOCK_OR_WAITING, CONTROL_SOCKET, JOURNAL, NO_MEMORY, refuse, report};
 use child_edge::{ClockEdge, OsEdge, clear_spool};
 use control_socket::ControlSocket;
 use history_model::{Reading, Text};
@@ -30,7 +30,7 @@ fn spool_and_runtime<R: System>(
     Ok((own, spool))
 }
 
-/// The edge of the system, which spools in this folder, and its first reading. Status 9 where the clock can't be read.
+/// The edge of the system, which spools in this folder, and its first reading. Status 9 if the clock can't be read.
 pub(crate) fn system_of<R: System>(
     rt: &R,
     alloc: Global,
@@ -55,11 +55,11 @@ fn first_reading<R: System>(rt: &R, edge: OsEdge<R>) -> Result<(OsEdge<R>, Readi
 
 /// Tells that the first reading is refused.
 pub(crate) fn no_clock(rt: &impl Eprint) -> u8 {
-    let _told = eprintln!(rt; "jobd: clock: it can't be read, or is past its limit");
+    let _written = eprintln!(rt; "jobd: clock: it can't be read, or is past its limit");
     CLOCK_OR_WAITING
 }
 
-/// The control socket at the path. Status 6 where somebody listens there, another file is there, or the system refuses.
+/// The control socket at the path. Status 6 if somebody listens there, another file is there, or the system refuses.
 pub(crate) fn bound<R: System>(rt: &R, alloc: Global, path: &str) -> Result<ControlSocket, u8> {
     match ControlSocket::open(rt, alloc, path) {
         Ok(control) => Ok(control),
@@ -78,7 +78,7 @@ fn is_socket<R: Files>(rt: &R, path: &str) -> io::Result<bool> {
     Ok(fs::symlink_metadata(rt, path)?.file_type().is_socket())
 }
 
-/// The journal's file, made or emptied, if one is named. Status 8 where it can't be opened.
+/// The journal's file, made or emptied, if one is named. Status 8 if it can't be opened.
 pub(crate) fn journal_at<R: Files<File = File> + Eprint>(
     rt: &R,
     alloc: Global,
@@ -103,8 +103,8 @@ fn emptied<R: Files<File = File>>(
 
 /// Removes what a launcher that was killed left in the spool. A folder that is not there, or is refused, is told; jobs
 /// without sockets don't need it.
-pub(crate) fn told_spool<R: System>(rt: &R, folder: &str) {
+pub(crate) fn report_spool<R: System>(rt: &R, folder: &str) {
     if let Err(error) = clear_spool(rt, folder) {
-        tell(rt, "spool", folder, &error);
+        report(rt, "spool", folder, &error);
     }
 }

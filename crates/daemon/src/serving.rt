@@ -1,8 +1,8 @@
 //! `jobd serve`: what the launcher stands on is opened step by step, and then it serves.
 
-use crate::places::{Places, bound, journal_at, no_clock, system_of, told_spool, unbind};
+use crate::places::{Places, bound, journal_at, no_clock, report_spool, system_of, unbind};
+use crate::reporting::{CLOCK_OR_WAITING, NO_MEMORY, STORE, report};
 use crate::store::{connect, stored};
-use crate::telling::{CLOCK_OR_WAITING, NO_MEMORY, STORE, tell};
 use crate::zone::zone_of;
 use child_edge::OsEdge;
 use control_socket::ControlSocket;
@@ -44,12 +44,12 @@ pub(crate) fn serve_at<R: System + Wait>(
         Err(status) => return status,
     };
     // Nobody has to hear it.
-    let _told = println!(host; "jobd: ready");
+    let _written = println!(host; "jobd: ready");
     match serve(rt, alloc, live) {
         Ok(()) => 0,
         Err(fault) => {
             unbind(rt, places.socket.as_str());
-            tell_loop(rt, places, fault)
+            report_loop(rt, places, fault)
         }
     }
 }
@@ -115,7 +115,7 @@ fn live_on<R: System, S: Alter + Drop, W: Write + Drop>(
     conn: Connection<S>,
 ) -> Result<Live<R, StoredSettings<S>, W>, u8> {
     let store = stored(rt, alloc, places.store.as_str(), conn)?;
-    told_spool(rt, places.spool.as_str());
+    report_spool(rt, places.spool.as_str());
     live_with(rt, alloc, places, parts, journal, store)
 }
 
@@ -134,15 +134,15 @@ fn live_with<R: System, T: SettingStore + Drop, W: Write + Drop>(
     } = parts;
     match Host::new(alloc, header, store, edge, journal) {
         Ok(launcher) => live_over(rt, alloc, places, launcher, control),
-        Err(fault) => Err(tell_host(rt, places, fault)),
+        Err(fault) => Err(report_host(rt, places, fault)),
     }
 }
 
-fn tell_host(rt: &impl Eprint, places: &Places, fault: HostFault) -> u8 {
+fn report_host(rt: &impl Eprint, places: &Places, fault: HostFault) -> u8 {
     match fault {
         HostFault::NoMemory => NO_MEMORY,
         HostFault::Store => {
-            tell(
+            report(
                 rt,
                 "store",
                 places.store.as_str(),
@@ -163,15 +163,15 @@ fn live_over<R: System, T: SettingStore + Drop, W: Write + Drop>(
 ) -> Result<Live<R, T, W>, u8> {
     match Live::new(rt, alloc, launcher, control) {
         Ok(live) => Ok(live),
-        Err(fault) => Err(tell_loop(rt, places, fault)),
+        Err(fault) => Err(report_loop(rt, places, fault)),
     }
 }
 
-fn tell_loop(rt: &impl Eprint, places: &Places, fault: ServeFault) -> u8 {
+fn report_loop(rt: &impl Eprint, places: &Places, fault: ServeFault) -> u8 {
     match fault {
         ServeFault::NoMemory => NO_MEMORY,
         ServeFault::Poll => {
-            tell(rt, "control socket", places.socket.as_str(), &fault);
+            report(rt, "control socket", places.socket.as_str(), &fault);
             CLOCK_OR_WAITING
         }
     }

@@ -1,12 +1,12 @@
 //! The words that the program was started with, and what is said of words that are no command.
 
-use crate::telling::{NO_MEMORY, OUTPUT, USAGE};
+use crate::reporting::{NO_MEMORY, OUTPUT, USAGE};
 use launchctl_words::explain_daemon;
 use std::alloc::Global;
 use std::rt::Env;
 use std::{env, io};
 
-/// The words that this program was started with, its own name first; none where one of them is not UTF-8. It fails for
+/// The words that this program was started with, its own name first; none if one of them is not UTF-8. It fails for
 /// want of memory alone.
 pub(crate) fn own_words<R: Env + AllocGlobal>(rt: &R) -> io::Result<Option<Vec<String>>> {
     let words = match env::args(rt) {
@@ -27,7 +27,7 @@ pub(crate) fn own_words<R: Env + AllocGlobal>(rt: &R) -> io::Result<Option<Vec<S
 
 /// Says that a word is not UTF-8.
 pub(crate) fn refuse_bytes(rt: &impl Eprint) -> u8 {
-    let _told = eprintln!(rt; "jobd: a word is not UTF-8");
+    let _written = eprintln!(rt; "jobd: a word is not UTF-8");
     USAGE
 }
 
@@ -38,7 +38,7 @@ pub(crate) fn explain<R: Eprint + Print>(rt: &R, alloc: Global, words: &[String]
             if explanation.is_help {
                 help(rt, explanation.text.as_str())
             } else {
-                let _told = eprint!(rt; "{}", explanation.text);
+                let _written = eprint!(rt; "{}", explanation.text);
                 USAGE
             }
         }

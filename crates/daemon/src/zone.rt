@@ -1,6 +1,6 @@
 //! The zone that the words name, as the header of a journal tells it.
 
-use crate::telling::{NO_MEMORY, ZONE, refuse, tell};
+use crate::reporting::{NO_MEMORY, ZONE, refuse, report};
 use calendar_due::{Zone, ZoneFault};
 use ctl_protocol::{ZoneFile, ZoneText};
 use history_model::Text;
@@ -37,7 +37,7 @@ fn by_rule(rt: &impl Eprint, rule: Text) -> Result<ZoneText, u8> {
     match Zone::posix(rule.as_str()) {
         Ok(_) => Ok(ZoneText::Posix(rule)),
         Err(_) => {
-            tell(rt, "zone", rule.as_str(), &"no rule of a zone");
+            report(rt, "zone", rule.as_str(), &"no rule of a zone");
             Err(ZONE)
         }
     }
@@ -67,7 +67,7 @@ fn by_bytes(rt: &impl Eprint, alloc: Global, path: &str, bytes: Vec<u8>) -> Resu
         Ok(_) => Ok(ZoneText::File(ZoneFile::new(bytes))),
         Err(ZoneFault::NoMemory) => Err(NO_MEMORY),
         Err(ZoneFault::BadZone) => {
-            tell(
+            report(
                 rt,
                 "zone file",
                 path,

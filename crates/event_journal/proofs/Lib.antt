@@ -1,1 +1,1 @@
-pub mod Growing
+pub mod JournalsLemmas

@@ -3,11 +3,11 @@
 ghost use Rattle.std.specs.Prelude.{◌≡◌, ◌↔◌, IfOk, IsTrue, List, OnErr, ℕ, None, true, false, [], is_some};
 ghost use Rattle.ctl_protocol.specs.EventWriter as events;
 ghost use Rattle.ctl_protocol.specs.HeaderLines as headers;
-ghost use Rattle.event_journal.specs.Journals.{Grows, fresh, told, held, is_writing};
+ghost use Rattle.event_journal.specs.Journals.{Grows, fresh, reported, held, is_writing};
 
-use crate::writing::write_text;
 use ctl_protocol::{Header, event_line, header_line};
 use history_model::Event;
+use replay_loop::write_text;
 use std::alloc::{AllocError, Global};
 use std::io::Write;
 use std::marker::Model;
@@ -17,14 +17,14 @@ use std::marker::Model;
 pub enum Phase {
     /// Each line so far was written.
     Open,
-    /// A write was refused, or a line found no memory, and nobody was told of it yet. Nothing more is written.
+    /// A write was refused, or a line found no memory, and nobody was shown it yet. Nothing more is written.
     Closed,
-    /// As `Closed`, and it was told.
-    Told,
+    /// As `Closed`, and it was reported.
+    Reported,
 }
 
 /// The journal of a launcher, over its writer. To a contract it is whether there is a writer, the bytes that this holds
-/// where they are known, and how it stands.
+/// if they are known, and how it stands.
 #[derive(Drop)]
 pub struct Journal<W: Write> {
     writer: Option<W>,
@@ -38,7 +38,7 @@ impl<W: Write> Model for Journal<W> {
     ghost Value = { Kept };
 
     ghost view = { λ j. record {
-      given = is_some j.writer;
+      has_writer = is_some j.writer;
       bytes = held W.contents j.writer;
       phase = j.phase;
     } };
@@ -73,13 +73,13 @@ impl<W: Write> Journal<W> {
     /// Whether lines are still written.
     pub fn is_writing(&self) -> bool
         ensures is { result ≡ is_writing self.now }
-        // Where no line is written, none is missed.
+        // If no line is written, none is missed.
         ensures shut { result ≡ false → (text : List ℕ) → Grows self.now self.now text }
     {
         match self.phase {
             Phase::Open => self.writer.is_some(),
             Phase::Closed => false,
-            Phase::Told => false,
+            Phase::Reported => false,
         }
     }
 
@@ -149,17 +149,17 @@ impl<W: Write> Journal<W> {
     }
 
     /// Whether it was closed since this was asked last: true once at most.
-    pub fn tell_closing(&mut self) -> bool
-        ensures told { IsTrue result ↔ (self.old.phase ≡ Phase.Closed) }
-        ensures after { self.new ≡ told self.old }
+    pub fn report_closing(&mut self) -> bool
+        ensures reported { IsTrue result ↔ (self.old.phase ≡ Phase.Closed) }
+        ensures after { self.new ≡ reported self.old }
     {
         match self.phase {
             Phase::Open => false,
             Phase::Closed => {
-                self.phase = Phase::Told;
+                self.phase = Phase::Reported;
                 true
             }
-            Phase::Told => false,
+            Phase::Reported => false,
         }
     }
 }
@@ -167,14 +167,14 @@ impl<W: Write> Journal<W> {
 impl<W: Write + Drop> Journal<W> {
     /// The writer, if lines are still written to it.
     pub fn into_open(self) -> Option<W>
-        ensures given { is_some result ≡ is_writing self }
+        ensures has_writer { is_some result ≡ is_writing self }
         ensures bytes { is_writing self ≡ true → held W.contents result ≡ self.bytes }
     {
         let Journal { writer, phase } = self;
         match phase {
             Phase::Open => writer,
             Phase::Closed => None,
-            Phase::Told => None,
+            Phase::Reported => None,
         }
     }
 }

@@ -3,6 +3,5 @@
 #![tactic(auto)]
 
 mod journal;
-mod writing;
 
 pub use journal::{Journal, Phase};

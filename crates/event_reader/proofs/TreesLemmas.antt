@@ -22,6 +22,7 @@ use Rattle.json_kinds.specs.Json.{json_in}
 use Rattle.event_reader.specs.declared.members.Form.{Form}
 use Rattle.event_reader.specs.Members.{is_key, members_are, has_only, or_absent, flag_or}
 use Rattle.event_reader.specs.Trees.{tree_in, data_of, is_readable, items_are_readable, members_are_readable, keys_pass, keys_are, flag_from, integer_of}
+use Rattle.history_model.proofs.BooleanLemmas.{and-true}
 
 no_tree_at : (bytes : List ℕ) (b : Bool) → is_utf8 bytes ≡ b → (IsUtf8 bytes → ⊥) → tree_in bytes ≡ None
 no_tree_at bytes true is not = absurd (not (IsUtf8-from_is_utf8 bytes is))
@@ -244,10 +245,6 @@ are-put : (form : Form) (keys answers : List (List ℕ)) (k : List ℕ) (d : Dat
 are-put form keys answers k d values.no_members = refl
 are-put form keys answers k d (values.member l e ms) = put_at _ form keys answers k l d e ms refl (are-put form keys answers k d ms)
 
-none_left : (b : Bool) → (b && true) ≡ b
-none_left true = refl
-none_left false = refl
-
 grouped : (a b c : Bool) → (a && (b && c)) ≡ ((b && a) && c)
 grouped true true c = refl
 grouped true false c = refl
@@ -274,7 +271,7 @@ only_object : (form : Form) (keys answers : List (List ℕ)) (ms : Members) (o :
     → has_only form keys answers (unwrap_or (option_map object o) null) ≡ keys_pass (is_key form keys answers) ms
 unfolding has_only
 only_object form keys answers ms None e is = absurd (true≢false (sym is))
-only_object form keys answers ms (Some all) e is = are_among form keys answers ms no_members all e ∙ none_left (keys_pass (is_key form keys answers) ms)
+only_object form keys answers ms (Some all) e is = are_among form keys answers ms no_members all e ∙ and-true (keys_pass (is_key form keys answers) ms)
 
 only_number : (form : Form) (keys answers : List (List ℕ)) (o : Option values.Num) → has_only form keys answers (unwrap_or (option_map number o) null) ≡ false
 unfolding has_only
@@ -286,7 +283,7 @@ unfolding has_only
 only_array form keys answers None = refl
 only_array form keys answers (Some ds) = refl
 
--- a line has no key but these, where its tree is an object with no key but these
+-- a line has no key but these, if its tree is an object with no key but these
 pub data_keys : (form : Form) (keys answers : List (List ℕ)) (j : Json) → is_readable j ≡ true → has_only form keys answers (data_of j) ≡ keys_are (is_key form keys answers) (json.as_object j)
 unfolding has_only
 data_keys form keys answers trees.null is = refl

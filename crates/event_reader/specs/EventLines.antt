@@ -1,6 +1,6 @@
--- The lines that tell an event, row by row: the keys that each must or may have, their kinds, and
--- the event that they give. A request is the same row under the key `req`, without the answers of
--- the outside.
+-- The lines of events, shape by shape: the keys that each must or may have, their kinds, and
+-- the event that they give. A request has the same shape under the key `req`, without the
+-- answers of the outside.
 use Rattle.std.specs.Prelude.{ℕ, ◌^◌, List, [], ◌∷◌, ◌++◌, codes, Bool, true, false, ◌&&◌, Option, Some, None, nat_lt, if◌then◌else◌}
 use Rattle.std.specs.Str.{bytes_eq}
 use Rattle.serde_json.specs.Data.{Data}
@@ -23,8 +23,8 @@ has_load_keys form d =
     has_only form (codes "def" ∷ codes "w" ∷ codes "F" ∷ []) (codes "bind" ∷ codes "store" ∷ []) d
 
 -- `load`: the text `def`; the flags `w` and `F` (false); the answers `bind` and `store` (true)
-unfoldable pub load_row : Form → Data → Option Event
-load_row form d = if has_load_keys form d then (do
+unfoldable pub load_shape : Form → Data → Option Event
+load_shape form d = if has_load_keys form d then (do
   def ← text_key (codes "def") d
   writes_setting ← flag_or (codes "w") false d
   force ← flag_or (codes "F") false d
@@ -33,73 +33,74 @@ load_row form d = if has_load_keys form d then (do
   Some (events.Load def writes_setting force bind store)) else None
 
 -- `unload`: the label `job`; the flag `w` (false); the answer `store` (true)
-unfoldable pub unload_row : Form → Data → Option Event
-unload_row form d = if has_only form (codes "job" ∷ codes "w" ∷ []) (codes "store" ∷ []) d then (do
-  job ← label_key (codes "job") d
-  writes_setting ← flag_or (codes "w") false d
-  store ← flag_or (codes "store") true d
-  Some (events.Unload job writes_setting store)) else None
+unfoldable pub unload_shape : Form → Data → Option Event
+unload_shape form d =
+    if has_only form (codes "job" ∷ codes "w" ∷ []) (codes "store" ∷ []) d then (do
+      job ← label_key (codes "job") d
+      writes_setting ← flag_or (codes "w") false d
+      store ← flag_or (codes "store") true d
+      Some (events.Unload job writes_setting store)) else None
 
 -- `start` and `stop`: the label `job`
-unfoldable pub job_row : Form → Data → Option (List ℕ)
-job_row form d = if has_only form (codes "job" ∷ []) [] d then label_key (codes "job") d else None
+unfoldable pub job_shape : Form → Data → Option (List ℕ)
+job_shape form d = if has_only form (codes "job" ∷ []) [] d then label_key (codes "job") d else None
 
 -- `print`: the target `job`
-unfoldable pub target_row : Form → Data → Option (List ℕ)
-target_row form d =
+unfoldable pub target_shape : Form → Data → Option (List ℕ)
+target_shape form d =
     if has_only form (codes "job" ∷ []) [] d then target_key (codes "job") d else None
 
 -- `enable` and `disable`: the target `job`; the answer `store` (true)
-unfoldable pub setting_row : Form → Data → Option (List ℕ × Bool)
-setting_row form d = if has_only form (codes "job" ∷ []) (codes "store" ∷ []) d then (do
+unfoldable pub setting_shape : Form → Data → Option (List ℕ × Bool)
+setting_shape form d = if has_only form (codes "job" ∷ []) (codes "store" ∷ []) d then (do
   job ← target_key (codes "job") d
   store ← flag_or (codes "store") true d
   Some (job, store)) else None
 
 -- `kickstart`: the target `job`; the flag `k` (false)
-unfoldable pub kickstart_row : Form → Data → Option Event
-kickstart_row form d = if has_only form (codes "job" ∷ codes "k" ∷ []) [] d then (do
+unfoldable pub kickstart_shape : Form → Data → Option Event
+kickstart_shape form d = if has_only form (codes "job" ∷ codes "k" ∷ []) [] d then (do
   job ← target_key (codes "job") d
   kills_first ← flag_or (codes "k") false d
   Some (events.Kickstart job kills_first)) else None
 
 -- `list` and `shutdown`: no key beside the tag
-unfoldable pub bare_row : Event → Form → Data → Option Event
-bare_row event form d = if has_only form [] [] d then Some event else None
+unfoldable pub bare_shape : Event → Form → Data → Option Event
+bare_shape event form d = if has_only form [] [] d then Some event else None
 
--- a row under its name
-abbrev Row : Type 0
-Row = List ℕ × (Data → Option Event)
+-- a shape under its name
+abbrev Shape : Type 0
+Shape = List ℕ × (Data → Option Event)
 
 -- the event that a line of this name tells
-abbrev row_of : List ℕ → List Row → Data → Option Event
-row_of name [] d = None
-row_of name (r ∷ rows) d = if bytes_eq name r.0 then r.1 d else row_of name rows d
+abbrev shape_of : List ℕ → List Shape → Data → Option Event
+shape_of name [] d = None
+shape_of name (r ∷ rows) d = if bytes_eq name r.0 then r.1 d else shape_of name rows d
 
--- the rows of what clients ask
-abbrev pub asked_rows : Form → List Row
-asked_rows form =
-    (codes "load", load_row form)
-    ∷ (codes "unload", unload_row form)
-    ∷ (codes "start", λ d. job_row form d >>= λ job. Some (events.Start job))
-    ∷ (codes "stop", λ d. job_row form d >>= λ job. Some (events.Stop job))
-    ∷ (codes "kickstart", kickstart_row form)
-    ∷ (codes "enable", λ d. setting_row form d >>= λ s. Some (events.Enable s.0 s.1))
-    ∷ (codes "disable", λ d. setting_row form d >>= λ s. Some (events.Disable s.0 s.1))
-    ∷ (codes "list", bare_row events.List form)
-    ∷ (codes "print", λ d. target_row form d >>= λ job. Some (events.Print job))
-    ∷ (codes "shutdown", bare_row events.Shutdown form)
+-- the shapes of what clients ask
+abbrev pub request_shapes : Form → List Shape
+request_shapes form =
+    (codes "load", load_shape form)
+    ∷ (codes "unload", unload_shape form)
+    ∷ (codes "start", λ d. job_shape form d >>= λ job. Some (events.Start job))
+    ∷ (codes "stop", λ d. job_shape form d >>= λ job. Some (events.Stop job))
+    ∷ (codes "kickstart", kickstart_shape form)
+    ∷ (codes "enable", λ d. setting_shape form d >>= λ s. Some (events.Enable s.0 s.1))
+    ∷ (codes "disable", λ d. setting_shape form d >>= λ s. Some (events.Disable s.0 s.1))
+    ∷ (codes "list", bare_shape events.List form)
+    ∷ (codes "print", λ d. target_shape form d >>= λ job. Some (events.Print job))
+    ∷ (codes "shutdown", bare_shape events.Shutdown form)
     ∷ []
 
 -- the event that a client asks for under this name
-unfoldable pub asked_row : List ℕ → Form → Data → Option Event
-asked_row name form d = row_of name (asked_rows form) d
+unfoldable pub asked_shape : List ℕ → Form → Data → Option Event
+asked_shape name form d = shape_of name (request_shapes form) d
 
 -- ---- what the outside tells
 
 -- `clock`: the numbers `up` and `wall`
-unfoldable pub clock_row : Data → Option Event
-clock_row d = if has_only forms.Event (codes "up" ∷ codes "wall" ∷ []) [] d then (do
+unfoldable pub clock_shape : Data → Option Event
+clock_shape d = if has_only forms.Event (codes "up" ∷ codes "wall" ∷ []) [] d then (do
   up ← number_key (codes "up") d
   wall ← number_key (codes "wall") d
   Some (events.Clock (record { up = up; wall = wall }))) else None
@@ -119,15 +120,15 @@ has_saw_keys d =
     (codes "path" ∷ codes "exists" ∷ codes "nonempty" ∷ codes "stamp" ∷ []) [] d
 
 -- `saw`: the text `path`; what was seen
-unfoldable pub saw_row : Data → Option Event
-saw_row d = if has_saw_keys d then (do
+unfoldable pub saw_shape : Data → Option Event
+saw_shape d = if has_saw_keys d then (do
   path ← text_key (codes "path") d
   obs ← sight_keys d
   Some (events.Saw path obs)) else None
 
 -- `came` and `left`: the label `job`; the number `conn`
-unfoldable pub connection_row : Data → Option (List ℕ × ℕ)
-connection_row d = if has_only forms.Event (codes "job" ∷ codes "conn" ∷ []) [] d then (do
+unfoldable pub connection_shape : Data → Option (List ℕ × ℕ)
+connection_shape d = if has_only forms.Event (codes "job" ∷ codes "conn" ∷ []) [] d then (do
   job ← label_key (codes "job") d
   conn ← number_key (codes "conn") d
   Some (job, conn)) else None
@@ -138,23 +139,24 @@ pid_key d = number_key (codes "pid") d >>= λ pid.
     if nat_lt 0 pid && nat_lt pid (2 ^ 32) then Some pid else None
 
 -- `spawned`: the label `job`; the number `run`; the process id `pid`
-unfoldable pub spawned_row : Data → Option Event
-spawned_row d = if has_only forms.Event (codes "job" ∷ codes "run" ∷ codes "pid" ∷ []) [] d then (do
-  job ← label_key (codes "job") d
-  run ← number_key (codes "run") d
-  pid ← pid_key d
-  Some (events.Spawned job run pid)) else None
+unfoldable pub spawned_shape : Data → Option Event
+spawned_shape d =
+    if has_only forms.Event (codes "job" ∷ codes "run" ∷ codes "pid" ∷ []) [] d then (do
+      job ← label_key (codes "job") d
+      run ← number_key (codes "run") d
+      pid ← pid_key d
+      Some (events.Spawned job run pid)) else None
 
 -- `spawn_refused` and `wait_refused`: the label `job`; the number `run`
-unfoldable pub run_row : Data → Option (List ℕ × ℕ)
-run_row d = if has_only forms.Event (codes "job" ∷ codes "run" ∷ []) [] d then (do
+unfoldable pub run_shape : Data → Option (List ℕ × ℕ)
+run_shape d = if has_only forms.Event (codes "job" ∷ codes "run" ∷ []) [] d then (do
   job ← label_key (codes "job") d
   run ← number_key (codes "run") d
   Some (job, run)) else None
 
 -- `termed` and `killed`: the label `job`; the number `run`; the flag `ok`
-unfoldable pub answer_row : Data → Option (List ℕ × ℕ × Bool)
-answer_row d = if has_only forms.Event (codes "job" ∷ codes "run" ∷ codes "ok" ∷ []) [] d then (do
+unfoldable pub answer_shape : Data → Option (List ℕ × ℕ × Bool)
+answer_shape d = if has_only forms.Event (codes "job" ∷ codes "run" ∷ codes "ok" ∷ []) [] d then (do
   job ← label_key (codes "job") d
   run ← number_key (codes "run") d
   ok ← flag_key (codes "ok") d
@@ -181,46 +183,46 @@ has_ended_keys d =
     has_only forms.Event (codes "job" ∷ codes "run" ∷ codes "code" ∷ codes "signal" ∷ []) [] d
 
 -- `ended`: the label `job`; the number `run`; one of the bytes `code` and `signal`
-unfoldable pub ended_row : Data → Option Event
-ended_row d = if has_ended_keys d then (do
+unfoldable pub ended_shape : Data → Option Event
+ended_shape d = if has_ended_keys d then (do
   job ← label_key (codes "job") d
   run ← number_key (codes "run") d
   how ← end_key d
   Some (events.Ended job run how)) else None
 
--- the rows of what the outside tells
-abbrev pub told_rows : List Row
-told_rows =
-    (codes "clock", clock_row)
-    ∷ (codes "saw", saw_row)
-    ∷ (codes "came", λ d. connection_row d >>= λ c. Some (events.Came c.0 c.1))
-    ∷ (codes "left", λ d. connection_row d >>= λ c. Some (events.Left c.0 c.1))
-    ∷ (codes "spawned", spawned_row)
-    ∷ (codes "spawn_refused", λ d. run_row d >>= λ r. Some (events.SpawnRefused r.0 r.1))
-    ∷ (codes "termed", λ d. answer_row d >>= λ a. Some (events.Termed a.0 a.1 a.2))
-    ∷ (codes "killed", λ d. answer_row d >>= λ a. Some (events.Killed a.0 a.1 a.2))
-    ∷ (codes "ended", ended_row)
-    ∷ (codes "wait_refused", λ d. run_row d >>= λ r. Some (events.WaitRefused r.0 r.1))
+-- the shapes of what the outside says
+abbrev pub journal_shapes : List Shape
+journal_shapes =
+    (codes "clock", clock_shape)
+    ∷ (codes "saw", saw_shape)
+    ∷ (codes "came", λ d. connection_shape d >>= λ c. Some (events.Came c.0 c.1))
+    ∷ (codes "left", λ d. connection_shape d >>= λ c. Some (events.Left c.0 c.1))
+    ∷ (codes "spawned", spawned_shape)
+    ∷ (codes "spawn_refused", λ d. run_shape d >>= λ r. Some (events.SpawnRefused r.0 r.1))
+    ∷ (codes "termed", λ d. answer_shape d >>= λ a. Some (events.Termed a.0 a.1 a.2))
+    ∷ (codes "killed", λ d. answer_shape d >>= λ a. Some (events.Killed a.0 a.1 a.2))
+    ∷ (codes "ended", ended_shape)
+    ∷ (codes "wait_refused", λ d. run_shape d >>= λ r. Some (events.WaitRefused r.0 r.1))
     ∷ []
 
--- a line of a journal has a row of either table
-unfoldable pub told_row : List ℕ → Data → Option Event
-told_row name d = row_of name (told_rows ++ asked_rows forms.Event) d
+-- a line of a journal has a shape of either table
+unfoldable pub journal_shape : List ℕ → Data → Option Event
+journal_shape name d = shape_of name (journal_shapes ++ request_shapes forms.Event) d
 
 -- ---- whole lines
 
 -- the event that the object of a journal's line tells
-unfoldable pub event_row : Data → Option Event
-event_row d = text_key (tag_of forms.Event) d >>= λ name. told_row name d
+unfoldable pub event_shape : Data → Option Event
+event_shape d = text_key (tag_of forms.Event) d >>= λ name. journal_shape name d
 
 -- the event that the object of a request asks for
-unfoldable pub request_row : Data → Option Event
-request_row d = text_key (tag_of forms.Request) d >>= λ name. asked_row name forms.Request d
+unfoldable pub request_shape_of : Data → Option Event
+request_shape_of d = text_key (tag_of forms.Request) d >>= λ name. asked_shape name forms.Request d
 
--- the event that a line of a journal tells
+-- the event that a line of a journal is
 unfoldable pub event_at : List ℕ → Option Event
-event_at line = json_in line >>= event_row
+event_at line = json_in line >>= event_shape
 
 -- the event that a request asks for; the outside's answers count as given
 unfoldable pub request_at : List ℕ → Option Event
-request_at line = json_in line >>= request_row
+request_at line = json_in line >>= request_shape_of

@@ -18,17 +18,17 @@ None >>= f = None
 
 -- the line is a bad request, or memory ran out
 abbrev pub Fails : {Y : Type 0} → ReadFault → Option Y → Type 0
-Fails NoMemory given = Unit {0}
-Fails BadRequest given = given ≡ None
+Fails NoMemory wanted = Unit {0}
+Fails BadRequest wanted = wanted ≡ None
 
 -- a reader's answer is what the definition gives, but for want of memory
 abbrev pub Gives : {X Y : Type 0} → (X → Y) → Result X ReadFault → Option Y → Type 0
-Gives view (Ok x) given = given ≡ Some (view x)
-Gives view (Err e) given = Fails e given
+Gives view (Ok x) wanted = wanted ≡ Some (view x)
+Gives view (Err e) wanted = Fails e wanted
 
 -- the same of an answer that is the value itself
 abbrev pub Reads : {X : Type 0} → Result X ReadFault → Option X → Type 0
-Reads result given = Gives (λ x. x) result given
+Reads result wanted = Gives (λ x. x) result wanted
 
 -- the text under a key
 unfoldable pub text_key : List ℕ → Data → Option (List ℕ)
@@ -69,12 +69,12 @@ abbrev pub has_answers : Form → Bool
 has_answers forms.Event = true
 has_answers forms.Request = false
 
--- the line's tag, a key of the row, or one of the row's answers
+-- the line's tag, a key of the shape, or one of its answers
 abbrev pub is_key : Form → List (List ℕ) → List (List ℕ) → List ℕ → Bool
 is_key form keys answers key =
     bytes_eq key (tag_of form) || is_among keys key || (has_answers form && is_among answers key)
 
--- each key of the members is the tag, a key of the row, or one of its answers
+-- each key of the members is the tag, a key of the shape, or one of its answers
 abbrev pub members_are : Form → List (List ℕ) → List (List ℕ) → Members → Bool
 members_are form keys answers no_members = true
 members_are form keys answers (member k d ms) =

@@ -34,7 +34,7 @@ abbrev mutual
   members_are_readable trees.no_members = true
   members_are_readable (trees.member k j ms) = is_readable j && members_are_readable ms
 
--- the data of a tree, or null, where a number has no value
+-- the data of a tree, or null, if a number has no value
 abbrev pub data_of : Json → Data
 data_of j = unwrap_or (of_json j) null
 

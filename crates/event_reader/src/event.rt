@@ -5,7 +5,7 @@ ghost use Rattle.history_model.specs.declared.event.Event.TheVariants as events;
 ghost use Rattle.event_reader.specs.declared.members.Form.TheVariants as forms;
 ghost use Rattle.event_reader.specs.Members.{Reads};
 ghost use Rattle.event_reader.specs.Line.{seen};
-ghost use Rattle.event_reader.specs.EventLines.{event_at, event_row, request_at, request_row, asked_row, told_row, load_row, unload_row, job_row, target_row, setting_row, kickstart_row, bare_row, clock_row, saw_row, sight_keys, has_saw_keys as saw_keys, connection_row, pid_key, spawned_row, run_row, answer_row, byte_key, end_key, ended_row};
+ghost use Rattle.event_reader.specs.EventLines.{event_at, event_shape, request_at, request_shape_of, asked_shape, journal_shape, load_shape, unload_shape, job_shape, target_shape, setting_shape, kickstart_shape, bare_shape, clock_shape, saw_shape, sight_keys, has_saw_keys as saw_keys, connection_shape, pid_key, spawned_shape, run_shape, answer_shape, byte_key, end_key, ended_shape};
 
 use crate::line::Line;
 use crate::members::{
@@ -15,9 +15,9 @@ use history_model::{Ended, Event, Obs, Reading, Text};
 use json::Scratch;
 use std::alloc::{AllocError, Global};
 
-#[tactic(auto, unfolding(crate::specs::EventLines::load_row))]
+#[tactic(auto, unfolding(crate::specs::EventLines::load_shape))]
 fn load_in(alloc: Global, form: Form, line: &Line<'_>) -> Result<Event, ReadFault>
-    ensures { Reads result (load_row form (seen line.now)) }
+    ensures { Reads result (load_shape form (seen line.now)) }
 {
     if !has_only_keys(form, line, &["def", "w", "F"], &["bind", "store"]) {
         return Err(ReadFault::BadRequest);
@@ -37,9 +37,9 @@ fn load_in(alloc: Global, form: Form, line: &Line<'_>) -> Result<Event, ReadFaul
     })
 }
 
-#[tactic(auto, unfolding(crate::specs::EventLines::unload_row))]
+#[tactic(auto, unfolding(crate::specs::EventLines::unload_shape))]
 fn unload_in(alloc: Global, form: Form, line: &Line<'_>) -> Result<Event, ReadFault>
-    ensures { Reads result (unload_row form (seen line.now)) }
+    ensures { Reads result (unload_shape form (seen line.now)) }
 {
     if !has_only_keys(form, line, &["job", "w"], &["store"]) {
         return Err(ReadFault::BadRequest);
@@ -54,9 +54,9 @@ fn unload_in(alloc: Global, form: Form, line: &Line<'_>) -> Result<Event, ReadFa
     })
 }
 
-#[tactic(auto, unfolding(crate::specs::EventLines::job_row))]
+#[tactic(auto, unfolding(crate::specs::EventLines::job_shape))]
 fn job_in(alloc: Global, form: Form, line: &Line<'_>) -> Result<Text, ReadFault>
-    ensures { Reads result (job_row form (seen line.now)) }
+    ensures { Reads result (job_shape form (seen line.now)) }
 {
     if !has_only_keys(form, line, &["job"], &[]) {
         return Err(ReadFault::BadRequest);
@@ -64,9 +64,9 @@ fn job_in(alloc: Global, form: Form, line: &Line<'_>) -> Result<Text, ReadFault>
     label_in(alloc, line, "job")
 }
 
-#[tactic(auto, unfolding(crate::specs::EventLines::target_row))]
+#[tactic(auto, unfolding(crate::specs::EventLines::target_shape))]
 fn lone_target_in(alloc: Global, form: Form, line: &Line<'_>) -> Result<Text, ReadFault>
-    ensures { Reads result (target_row form (seen line.now)) }
+    ensures { Reads result (target_shape form (seen line.now)) }
 {
     if !has_only_keys(form, line, &["job"], &[]) {
         return Err(ReadFault::BadRequest);
@@ -74,9 +74,9 @@ fn lone_target_in(alloc: Global, form: Form, line: &Line<'_>) -> Result<Text, Re
     target_in(alloc, line, "job")
 }
 
-#[tactic(auto, unfolding(crate::specs::EventLines::setting_row))]
+#[tactic(auto, unfolding(crate::specs::EventLines::setting_shape))]
 fn setting_in(alloc: Global, form: Form, line: &Line<'_>) -> Result<(Text, bool), ReadFault>
-    ensures { Reads result (setting_row form (seen line.now)) }
+    ensures { Reads result (setting_shape form (seen line.now)) }
 {
     if !has_only_keys(form, line, &["job"], &["store"]) {
         return Err(ReadFault::BadRequest);
@@ -86,9 +86,9 @@ fn setting_in(alloc: Global, form: Form, line: &Line<'_>) -> Result<(Text, bool)
     Ok((job, store))
 }
 
-#[tactic(auto, unfolding(crate::specs::EventLines::kickstart_row))]
+#[tactic(auto, unfolding(crate::specs::EventLines::kickstart_shape))]
 fn kickstart_in(alloc: Global, form: Form, line: &Line<'_>) -> Result<Event, ReadFault>
-    ensures { Reads result (kickstart_row form (seen line.now)) }
+    ensures { Reads result (kickstart_shape form (seen line.now)) }
 {
     if !has_only_keys(form, line, &["job", "k"], &[]) {
         return Err(ReadFault::BadRequest);
@@ -98,9 +98,9 @@ fn kickstart_in(alloc: Global, form: Form, line: &Line<'_>) -> Result<Event, Rea
     Ok(Event::Kickstart { job, kills_first })
 }
 
-#[tactic(auto, unfolding(crate::specs::EventLines::bare_row))]
+#[tactic(auto, unfolding(crate::specs::EventLines::bare_shape))]
 fn bare_in(event: Event, form: Form, line: &Line<'_>) -> Result<Event, ReadFault>
-    ensures { Reads result (bare_row event form (seen line.now)) }
+    ensures { Reads result (bare_shape event form (seen line.now)) }
 {
     if !has_only_keys(form, line, &[], &[]) {
         return Err(ReadFault::BadRequest);
@@ -108,10 +108,10 @@ fn bare_in(event: Event, form: Form, line: &Line<'_>) -> Result<Event, ReadFault
     Ok(event)
 }
 
-/// The row of what a client asks, of either form.
-#[tactic(auto, unfolding(crate::specs::EventLines::asked_row))]
-fn asked_in(alloc: Global, name: &str, form: Form, line: &Line<'_>) -> Result<Event, ReadFault>
-    ensures { Reads result (asked_row name.now form (seen line.now)) }
+/// The shape of what a client asks, of either form.
+#[tactic(auto, unfolding(crate::specs::EventLines::asked_shape))]
+fn request_named(alloc: Global, name: &str, form: Form, line: &Line<'_>) -> Result<Event, ReadFault>
+    ensures { Reads result (asked_shape name.now form (seen line.now)) }
 {
     match name {
         "load" => load_in(alloc, form, line),
@@ -143,9 +143,9 @@ fn asked_in(alloc: Global, name: &str, form: Form, line: &Line<'_>) -> Result<Ev
     }
 }
 
-#[tactic(auto, unfolding(crate::specs::EventLines::clock_row))]
+#[tactic(auto, unfolding(crate::specs::EventLines::clock_shape))]
 fn clock_in(line: &Line<'_>) -> Result<Event, ReadFault>
-    ensures { Reads result (clock_row (seen line.now)) }
+    ensures { Reads result (clock_shape (seen line.now)) }
 {
     if !has_only_keys(Form::Event, line, &["up", "wall"], &[]) {
         return Err(ReadFault::BadRequest);
@@ -181,9 +181,9 @@ fn has_saw_keys(line: &Line<'_>) -> bool
     )
 }
 
-#[tactic(auto, unfolding(crate::specs::EventLines::saw_row))]
+#[tactic(auto, unfolding(crate::specs::EventLines::saw_shape))]
 fn saw_in(alloc: Global, line: &Line<'_>) -> Result<Event, ReadFault>
-    ensures { Reads result (saw_row (seen line.now)) }
+    ensures { Reads result (saw_shape (seen line.now)) }
 {
     if !has_saw_keys(line) {
         return Err(ReadFault::BadRequest);
@@ -196,9 +196,9 @@ fn saw_in(alloc: Global, line: &Line<'_>) -> Result<Event, ReadFault>
     })
 }
 
-#[tactic(auto, unfolding(crate::specs::EventLines::connection_row))]
+#[tactic(auto, unfolding(crate::specs::EventLines::connection_shape))]
 fn connection_in(alloc: Global, line: &Line<'_>) -> Result<(Text, u64), ReadFault>
-    ensures { Reads result (connection_row (seen line.now)) }
+    ensures { Reads result (connection_shape (seen line.now)) }
 {
     if !has_only_keys(Form::Event, line, &["job", "conn"], &[]) {
         return Err(ReadFault::BadRequest);
@@ -218,9 +218,9 @@ fn pid_in(line: &Line<'_>) -> Result<u32, ReadFault>
     }
 }
 
-#[tactic(auto, unfolding(crate::specs::EventLines::spawned_row))]
+#[tactic(auto, unfolding(crate::specs::EventLines::spawned_shape))]
 fn spawned_in(alloc: Global, line: &Line<'_>) -> Result<Event, ReadFault>
-    ensures { Reads result (spawned_row (seen line.now)) }
+    ensures { Reads result (spawned_shape (seen line.now)) }
 {
     if !has_only_keys(Form::Event, line, &["job", "run", "pid"], &[]) {
         return Err(ReadFault::BadRequest);
@@ -231,9 +231,9 @@ fn spawned_in(alloc: Global, line: &Line<'_>) -> Result<Event, ReadFault>
     Ok(Event::Spawned { job, run, pid })
 }
 
-#[tactic(auto, unfolding(crate::specs::EventLines::run_row))]
+#[tactic(auto, unfolding(crate::specs::EventLines::run_shape))]
 fn run_in(alloc: Global, line: &Line<'_>) -> Result<(Text, u64), ReadFault>
-    ensures { Reads result (run_row (seen line.now)) }
+    ensures { Reads result (run_shape (seen line.now)) }
 {
     if !has_only_keys(Form::Event, line, &["job", "run"], &[]) {
         return Err(ReadFault::BadRequest);
@@ -243,9 +243,9 @@ fn run_in(alloc: Global, line: &Line<'_>) -> Result<(Text, u64), ReadFault>
     Ok((job, run))
 }
 
-#[tactic(auto, unfolding(crate::specs::EventLines::answer_row))]
+#[tactic(auto, unfolding(crate::specs::EventLines::answer_shape))]
 fn answer_in(alloc: Global, line: &Line<'_>) -> Result<(Text, u64, bool), ReadFault>
-    ensures { Reads result (answer_row (seen line.now)) }
+    ensures { Reads result (answer_shape (seen line.now)) }
 {
     if !has_only_keys(Form::Event, line, &["job", "run", "ok"], &[]) {
         return Err(ReadFault::BadRequest);
@@ -284,9 +284,9 @@ fn end_in(line: &Line<'_>) -> Result<Ended, ReadFault>
     }
 }
 
-#[tactic(auto, unfolding(crate::specs::EventLines::ended_row))]
+#[tactic(auto, unfolding(crate::specs::EventLines::ended_shape))]
 fn ended_in(alloc: Global, line: &Line<'_>) -> Result<Event, ReadFault>
-    ensures { Reads result (ended_row (seen line.now)) }
+    ensures { Reads result (ended_shape (seen line.now)) }
 {
     if !has_only_keys(Form::Event, line, &["job", "run", "code", "signal"], &[]) {
         return Err(ReadFault::BadRequest);
@@ -297,10 +297,10 @@ fn ended_in(alloc: Global, line: &Line<'_>) -> Result<Event, ReadFault>
     Ok(Event::Ended { job, run, how })
 }
 
-/// The row of any event.
-#[tactic(auto, unfolding(crate::specs::EventLines::told_row, crate::specs::EventLines::asked_row))]
-fn told_in(alloc: Global, name: &str, line: &Line<'_>) -> Result<Event, ReadFault>
-    ensures { Reads result (told_row name.now (seen line.now)) }
+/// The shape of any event.
+#[tactic(auto, unfolding(crate::specs::EventLines::journal_shape, crate::specs::EventLines::asked_shape))]
+fn journal_in(alloc: Global, name: &str, line: &Line<'_>) -> Result<Event, ReadFault>
+    ensures { Reads result (journal_shape name.now (seen line.now)) }
 {
     match name {
         "clock" => clock_in(line),
@@ -331,24 +331,24 @@ fn told_in(alloc: Global, name: &str, line: &Line<'_>) -> Result<Event, ReadFaul
             let (job, run) = run_in(alloc, line)?;
             Ok(Event::WaitRefused { job, run })
         }
-        _ => asked_in(alloc, name, Form::Event, line),
+        _ => request_named(alloc, name, Form::Event, line),
     }
 }
 
-#[tactic(auto, unfolding(crate::specs::EventLines::event_row))]
+#[tactic(auto, unfolding(crate::specs::EventLines::event_shape))]
 fn event_in(alloc: Global, line: &Line<'_>) -> Result<Event, ReadFault>
-    ensures { Reads result (event_row (seen line.now)) }
+    ensures { Reads result (event_shape (seen line.now)) }
 {
     let name = text_in(line, Form::Event.tag())?;
-    told_in(alloc, name, line)
+    journal_in(alloc, name, line)
 }
 
-#[tactic(auto, unfolding(crate::specs::EventLines::request_row))]
+#[tactic(auto, unfolding(crate::specs::EventLines::request_shape_of))]
 fn request_in(alloc: Global, line: &Line<'_>) -> Result<Event, ReadFault>
-    ensures { Reads result (request_row (seen line.now)) }
+    ensures { Reads result (request_shape_of (seen line.now)) }
 {
     let name = text_in(line, Form::Request.tag())?;
-    asked_in(alloc, name, Form::Request, line)
+    request_named(alloc, name, Form::Request, line)
 }
 
 /// Reads lines, and keeps the room that this takes from line to line.
@@ -384,7 +384,7 @@ impl LineReader {
     }
 }
 
-/// The event that a line of a journal tells, the newline left out. BadRequest where it is none: no JSON object (RFC
+/// The event that a line of a journal is, the newline left out. BadRequest if it is none: no JSON object (RFC
 /// 8259), a key too few or too many, or a value of another kind or range.
 pub fn read_event(alloc: Global, line: &[u8]) -> Result<Event, ReadFault>
     ensures { Reads result (event_at line.now) }
@@ -393,7 +393,7 @@ pub fn read_event(alloc: Global, line: &[u8]) -> Result<Event, ReadFault>
 }
 
 /// The event that a control client's line asks for, the newline left out. The outside's answers, which a client
-/// doesn't tell, stand as given. BadRequest where it is no request.
+/// doesn't tell, stand as given. BadRequest if it is no request.
 pub fn read_request(alloc: Global, line: &[u8]) -> Result<Event, ReadFault>
     ensures { Reads result (request_at line.now) }
 {

@@ -130,7 +130,7 @@ pub(crate) fn target_in(alloc: Global, line: &Line<'_>, key: &str) -> Result<Tex
     }
 }
 
-/// Whether the line is an object with no key but its tag, those of its row and, in a journal, the answers.
+/// Whether the line is an object with no key but its tag, those of its shape and, in a journal, the answers.
 pub(crate) fn has_only_keys(form: Form, line: &Line<'_>, keys: &[&str], answers: &[&str]) -> bool
     ensures { result ≡ has_only form (texts_in keys.now) (texts_in answers.now) (seen line.now) }
 {

@@ -38,7 +38,7 @@ fn negative(numeral: &Numeral<'_>) -> Option<Number>
     }
 }
 
-/// The number that a text of JSON's grammar writes, or None, where it is too large for a float.
+/// The number that a text of JSON's grammar writes, or None, if it is too large for a float.
 pub(crate) fn number_in(text: &str) -> Option<Number>
     ensures { option_map number_view result ≡ number_of text.now }
 {

@@ -30,7 +30,7 @@ pub start_of_a_stopped_job : play (load unthrottled ∷ spawned 1 ∷ Asked Stop
     ≡ gives (Spawn 1 None) ∷ none ∷ gives (Term 1) ∷ none ∷ none ∷ gives (Spawn 2 None) ∷ []
 start_of_a_stopped_job = refl
 
--- also where the spawn was still awaited at the stop and at the start
+-- also if the spawn was still awaited at the stop and at the start
 pub stopped_and_started_while_awaited : play (load unthrottled ∷ Asked Stop ∷ Asked Start ∷ spawned 1 ∷ Answered (Termed 1 true) ∷ ended 1 (Signal 15) ∷ spawned 2 ∷ ended 2 (Code 0) ∷ [])
     ≡ gives (Spawn 1 None) ∷ none ∷ none ∷ gives (Term 1) ∷ none ∷ gives (Spawn 2 None) ∷ none ∷ none ∷ []
 stopped_and_started_while_awaited = refl
@@ -77,7 +77,7 @@ pub stopped_and_kept_alive : play (load (record no_definition { keep_alive = tru
     ≡ gives (Spawn 1 None) ∷ none ∷ gives (Term 1) ∷ none ∷ gives (Spawn 2 None) ∷ none ∷ []
 stopped_and_kept_alive = refl
 
--- where KILL and TERM may both be given, KILL is; once it was sent no TERM follows
+-- if KILL and TERM may both be given, KILL is; once it was sent no TERM follows
 pub kill_before_term : play (
     load (record unthrottled { exit_timeout = 1 }) ∷ spawned 1 ∷ Asked Stop ∷ Answered (Termed 1 false) ∷ read 999 ∷ read 1000 ∷ Answered (Killed 1 true)
     ∷ read 5000 ∷ ended 1 (Signal 9) ∷ []
@@ -154,7 +154,7 @@ pub numbers : play (load no_definition ∷ Came 1 ∷ []) ∷ play (
     ) ∷ []
 numbers = refl
 
--- one that leaves while its spawn is awaited starts no other run where that spawn is refused; the next one does
+-- one that leaves while its spawn is awaited starts no other run if that spawn is refused; the next one does
 pub left_and_refused : play (
     load (record no_definition { has_sockets = true }) ∷ Came 1 ∷ Left 1 ∷ Answered (SpawnRefused 1) ∷ read 10000 ∷ Came 2 ∷ []
     )
@@ -174,8 +174,8 @@ launched_once_for_a_connection = refl
 pub last_run : due_by (record (facts_of (load unthrottled ∷ [])) { run_count = 2 ^ 63 - 1 }) 0 ≡ Some (Spawn (2 ^ 63) None)
 last_run = refl
 
-pub no_run_is_left : due_by (record (facts_of (load unthrottled ∷ [])) { run_count = 2 ^ 63 }) 0 ≡ None
-no_run_is_left = refl
+pub no_run_remains : due_by (record (facts_of (load unthrottled ∷ [])) { run_count = 2 ^ 63 }) 0 ≡ None
+no_run_remains = refl
 
 -- ---- each run anew
 

@@ -86,7 +86,7 @@ one_minute = refl
 pub three_minutes : crossed 1700000039 1700000160 ≡ 1700000040 ∷ 1700000100 ∷ 1700000160 ∷ []
 three_minutes = refl
 
--- none where the wall clock stands, or is set back
+-- none if the wall clock stands, or is set back
 pub no_minute : crossed 1700000040 1700000040 ∷ crossed 1700000160 1700000040 ∷ [] ≡ [] ∷ [] ∷ []
 no_minute = refl
 
@@ -94,7 +94,7 @@ no_minute = refl
 pub too_far_back : map (last_before 0) (34560059 ∷ 34560060 ∷ 34560119 ∷ 34560120 ∷ []) ≡ 0 ∷ 1 ∷ 1 ∷ 2 ∷ []
 too_far_back = refl
 
--- an entry fires where some entry matches some crossed minute
+-- an entry fires if some entry matches some crossed minute
 pub fired : calendar_fires utc_that_day (each_key ∷ record each_key { minute = Some 14 } ∷ []) 1700000000 1700000100
     ≡ true
 fired = refl

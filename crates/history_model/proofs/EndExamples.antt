@@ -54,13 +54,13 @@ pub unless_others : after if_not_crashed (Signal 9) ∷ after if_not_crashed (Si
     ≡ replicate 4 again
 unless_others = refl
 
--- an unknown signal is a crash where nobody ordered TERM or KILL for that run
+-- an unknown signal is a crash if nobody ordered TERM or KILL for that run
 pub unknown_signals : is_crash [] 1 (Signal 0) ∷ is_crash (Ordered (Term 1) ∷ []) 1 (Signal 0) ∷ is_crash (Ordered (Kill 1) ∷ []) 1 (Signal 0)
     ∷ is_crash (Ordered (Kill 1) ∷ []) 2 (Signal 0) ∷ is_crash (Ordered (Spawn 1 None) ∷ []) 1 (Signal 0) ∷ []
     ≡ true ∷ false ∷ false ∷ true ∷ true ∷ []
 unknown_signals = refl
 
--- a known one is a crash also where one was ordered
+-- a known one is a crash also if one was ordered
 pub known_signals : is_crash (Ordered (Term 1) ∷ []) 1 (Signal 11) ∷ is_crash (Ordered (Kill 1) ∷ []) 1 (Signal 9) ∷ [] ≡ true ∷ false ∷ []
 known_signals = refl
 

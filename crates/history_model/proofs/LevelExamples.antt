@@ -28,7 +28,7 @@ pub after_a_crash : play (
     ≡ gives (Spawn 1 None) ∷ none ∷ none ∷ gives (Spawn 2 None) ∷ none ∷ none ∷ none ∷ []
 after_a_crash = refl
 
--- an unknown signal is a crash where nobody told the run to end
+-- an unknown signal is a crash if nobody ordered the run to end
 pub after_an_unknown_signal : play (
     load (record no_definition { run_at_load = true; crashed = Some true }) ∷ spawned 1 ∷ ended 1 (Signal 0) ∷ read 10000 ∷ []
     )
@@ -43,7 +43,7 @@ pub unless_crashed : play (
     ≡ gives (Spawn 1 None) ∷ none ∷ none ∷ none ∷ gives (Spawn 2 None) ∷ none ∷ none ∷ gives (Spawn 3 None) ∷ []
 unless_crashed = refl
 
--- a watched path starts the job where it changes, a queue directory as long as it is not empty
+-- a watched path starts the job if it changes, a queue directory as long as it is not empty
 pub watched : play (
     load (record no_definition { watch_paths = (1 ∷ []) ∷ []; queue_directories = (2 ∷ []) ∷ [] }) ∷ saw (1 ∷ []) true false 5
     ∷ saw (1 ∷ []) true false 5 ∷ saw (1 ∷ []) true false 6 ∷ spawned 1 ∷ saw (2 ∷ []) true true 0 ∷ ended 1 (Code 0) ∷ read 10000 ∷ spawned 2

@@ -34,6 +34,6 @@ filled = refl
 pub one_too_many : refusal_in (crowded 1024) (load (64 ∷ []) no_definition) ≡ Some TooManyJobs
 one_too_many = refl
 
--- a label that is loaded is told so first
+-- that a label is loaded is said first
 pub first_again : refusal_in (crowded 1024) (load (numbered 0) no_definition) ≡ Some AlreadyLoaded
 first_again = refl

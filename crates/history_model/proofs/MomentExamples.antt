@@ -65,7 +65,7 @@ next_ones = refl
 abbrev pub stopped_at_1000 : List Event
 stopped_at_1000 = load a (record at_load { throttle_interval = 0 }) ∷ spawned a 1 7 ∷ read 1000 ∷ ask a Stop ∷ []
 
--- the timeout after TERM; then nothing, also where the KILL is still awaited
+-- the timeout after TERM; then nothing, also if the KILL is still awaited
 pub next_of_the_end : next_moment (past_after stopped_at_1000)
     ∷ next_moment (past_after (load a (record at_load { throttle_interval = 0 }) ∷ spawned a 1 7 ∷ read 1000 ∷ ask a Stop ∷ termed a 1 ∷ read 21000 ∷ []))
     ∷ next_moment (past_after (load a (record at_load { throttle_interval = 0; exit_timeout = 0 }) ∷ spawned a 1 7 ∷ read 1000 ∷ ask a Stop ∷ [])) ∷ []

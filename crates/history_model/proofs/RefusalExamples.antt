@@ -1,4 +1,4 @@
--- Worked examples of what the machine refuses, and which refusal comes first where several hold (launchctl(1); the codes and
+-- Worked examples of what the machine refuses, and which refusal comes first if several hold (launchctl(1); the codes and
 -- their order are this project's own). Each is a theorem that computes.
 use Rattle.std.specs.Prelude.{◌≡◌, true, false, [], ◌∷◌, map, replicate, Some, None, Err, refl, codes}
 use Rattle.history_model.specs.declared.Ended.TheVariants.{Code}
@@ -51,12 +51,12 @@ pub not_loaded : map (λ item. refusal_in start (OfJob a item)) (
 not_loaded = refl
 
 -- items that no call brings: the machine adds them itself
-pub not_told : map (λ item. refusal_in start (OfJob a item)) (
+pub not_heard : map (λ item. refusal_in start (OfJob a item)) (
     Loaded no_definition (record { up = 0; wall = 0 }) ∷ Read (record { up = 0; wall = 0 }) false ∷ Saw [] (record { present = true; nonempty_dir = false; stamp = 0 })
     ∷ Asked Unload ∷ Asked Shutdown ∷ Ordered Gone ∷ []
     )
     ≡ replicate 6 (Some BadRequest)
-not_told = refl
+not_heard = refl
 
 -- a process id is at least 1
 pub process_ids : outcomes (load a at_load ∷ spawned a 1 0 ∷ spawned a 1 1 ∷ load b at_load ∷ spawned b 1 4294967295 ∷ []) start

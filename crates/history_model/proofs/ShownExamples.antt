@@ -51,7 +51,7 @@ pub removing_while_spawning : outcomes (load a at_load ∷ ShutDown ∷ ListJobs
 unfolding digits
 removing_while_spawning = refl
 
--- a job whose spawn is awaited is spawning, also where it is to be stopped or was struck
+-- a job whose spawn is awaited is spawning, also if it is to be stopped or was struck
 pub stopped_while_spawning : outcomes (load a at_load ∷ ask a Stop ∷ ask a (Kickstart true) ∷ PrintJob a ∷ []) start
     ≡ gives ((a, Spawn 1 None) ∷ []) ∷ none ∷ none
     ∷ says (codes "a = {\n\tstate = spawning\n\tpid = -\n\truns = 1\n\tlast exit = never\n\tdemand = yes\n\tconnections = 0\n\tdisabled = false\n}\n") ∷ []

@@ -57,7 +57,7 @@ changed_while_running = refl
 abbrev pub queuer : Definition
 queuer = record no_definition { queue_directories = p ∷ q ∷ []; throttle_interval = 0 }
 
--- a directory that holds something starts the job, whether it is told to be there or not
+-- a directory that holds something starts the job, whether it was seen to be there or not
 pub filled_but_absent : play (load queuer ∷ saw q false true 0 ∷ []) ≡ none ∷ gives (Spawn 1 None) ∷ []
 filled_but_absent = refl
 
@@ -98,7 +98,7 @@ no_longer_there = refl
 abbrev pub here : Obs
 here = record { present = true; nonempty_dir = false; stamp = 3 }
 
--- a job that does not list the path is not told
+-- a job that does not list the path does not hear of it
 pub unlisted : run (scene.load scene.a watcher ∷ Sight (2 ∷ []) here ∷ []) scene.start ≡ run (scene.load scene.a watcher ∷ []) scene.start
 unlisted = refl
 

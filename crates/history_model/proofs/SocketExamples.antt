@@ -10,8 +10,8 @@ use Rattle.history_model.specs.Machine.{UnloadJob, PrintJob, OfJob}
 use Rattle.history_model.specs.Step.{outcomes}
 use Rattle.history_model.proofs.ExampleWords.{start, read, load_as, load, ask, spawned, spawn_refused, termed, ended, cames, s, socket_job, none, gives, says, refuses}
 
--- connections are carried in order of arrival, and closed where the job leaves
-pub socket_row : outcomes (
+-- connections are carried in order of arrival, and closed if the job leaves
+pub sockets_of_a_job : outcomes (
     load s socket_job ∷ ask s Start ∷ spawned s 1 700 ∷ OfJob s (Came 1) ∷ OfJob s (Came 2) ∷ OfJob s (Came 3) ∷ OfJob s (Left 2)
     ∷ PrintJob s ∷ ended s 1 (Code 0) ∷ read 10000 ∷ spawned s 2 701 ∷ ended s 2 (Code 0) ∷ read 20000 ∷ spawned s 3 702 ∷ PrintJob s
     ∷ OfJob s (Came 4) ∷ UnloadJob s false true ∷ termed s 3 ∷ ended s 3 (Signal 15) ∷ PrintJob s ∷ []
@@ -22,7 +22,7 @@ pub socket_row : outcomes (
     ∷ says (codes "s = {\n\tstate = running\n\tpid = 702\n\truns = 3\n\tlast exit = code 0\n\tdemand = no\n\tconnections = 0\n\tdisabled = false\n}\n")
     ∷ none ∷ gives ((s, Term 3) ∷ []) ∷ none ∷ gives ((s, Close 4) ∷ (s, Gone) ∷ []) ∷ refuses NoSuchJob ∷ []
 unfolding digits
-socket_row = refl
+sockets_of_a_job = refl
 
 -- a refused spawn keeps its connection, which is gone once it left
 pub kept_connection : outcomes (

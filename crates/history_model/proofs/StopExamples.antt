@@ -16,7 +16,7 @@ unthrottled = record no_definition { run_at_load = true; throttle_interval = 0 }
 
 -- ---- TERM, then KILL
 
--- KILL comes where the timeout has passed since TERM
+-- KILL comes if the timeout has passed since TERM
 pub stopped : play (
     load unthrottled ∷ spawned 1 ∷ read 1000 ∷ Asked Stop ∷ Answered (Termed 1 true) ∷ read 20999 ∷ read 21000 ∷ Answered (Killed 1 true)
     ∷ ended 1 (Signal 9) ∷ []
@@ -39,13 +39,13 @@ pub no_timeout : play (
     ≡ gives (Spawn 1 None) ∷ none ∷ gives (Term 1) ∷ none ∷ none ∷ []
 no_timeout = refl
 
--- an unknown signal is no crash where the run was told to end
-pub told_to_end : play (
+-- an unknown signal is no crash if the run was ordered to end
+pub ordered_to_end : play (
     load (record no_definition { run_at_load = true; crashed = Some true }) ∷ spawned 1 ∷ Asked Stop ∷ Answered (Termed 1 true) ∷ ended 1 (Signal 0)
     ∷ read 10000 ∷ []
     )
     ≡ gives (Spawn 1 None) ∷ none ∷ gives (Term 1) ∷ none ∷ none ∷ none ∷ []
-told_to_end = refl
+ordered_to_end = refl
 
 -- an end while the answer to TERM is awaited ends the wait, and the late answer is stale
 pub late_answer : play (load unthrottled ∷ spawned 1 ∷ Asked Stop ∷ ended 1 (Signal 15) ∷ Answered (Termed 1 true) ∷ [])

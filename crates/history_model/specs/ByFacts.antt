@@ -60,7 +60,7 @@ watch_fires_by path obs f =
     any_seen (λ watched before. is_same_path watched path && differs obs before)
     f.definition.watch_paths f.seen_watched
 
--- the facts after a demand, where there is one
+-- the facts after a demand, if there is one
 abbrev pub fired_by : Bool → Facts → Facts
 fired_by fires f =
     record f { has_demand = fires || f.has_demand; has_new_demand = fires || f.has_new_demand }
@@ -86,7 +86,7 @@ facts_after (Ordered (Spawn run conn)) up f = record f {
   kill_refused = None;
   is_term_done = false;
   is_kill_done = false;
-  is_told_to_end = false;
+  is_ordered_to_end = false;
   stops = false;
   strikes = false;
 }
@@ -94,10 +94,10 @@ facts_after (Ordered (Term run)) up f =
     record f {
       awaited_act = Some (Term run);
       term_ordered = or_else f.term_ordered (Some up);
-      is_told_to_end = true;
+      is_ordered_to_end = true;
     }
 facts_after (Ordered (Kill run)) up f =
-    record f { awaited_act = Some (Kill run); is_told_to_end = true }
+    record f { awaited_act = Some (Kill run); is_ordered_to_end = true }
 facts_after (Ordered (Close conn)) up f = f
 facts_after (Ordered Gone) up f = f
 facts_after (Answered (Spawned run pid)) up f = record f {
@@ -125,7 +125,7 @@ facts_after (RunEnded run how) up f = record f {
   living_child = None;
   awaited_act = settle (RunEnded run how) f.awaited_act;
   ended = Some (run, how);
-  has_crashed = is_crash_end f.is_told_to_end how;
+  has_crashed = is_crash_end f.is_ordered_to_end how;
   stops = false;
   strikes = false;
 }

@@ -7,12 +7,12 @@ use Rattle.history_model.specs.Machine.{State, Event, OfJob}
 use Rattle.history_model.specs.Acceptance.{refusal_in}
 use Rattle.history_model.specs.Step.{step}
 
--- the event tells that a spawn of the label's job succeeded
+-- the event says that a spawn of the label's job succeeded
 abbrev pub is_start_of : Label → Event → Bool
 is_start_of label (OfJob other (Answered (Spawned run pid))) = is_same label other
 is_start_of label _ = false
 
--- the event tells that a run of the label's job ended
+-- the event says that a run of the label's job ended
 abbrev pub is_finish_of : Label → Event → Bool
 is_finish_of label (OfJob other (RunEnded run how)) = is_same label other
 is_finish_of label _ = false

@@ -12,11 +12,11 @@ sooner None b = b
 sooner (Some m) None = Some m
 sooner (Some m) (Some n) = Some (min m n)
 
--- the moment, where it is still to come
+-- the moment, if it is still to come
 abbrev pub coming : ℕ → ℕ → Option ℕ
 coming up moment = if nat_lt up moment then Some moment else None
 
--- so many milliseconds after a moment, where that is still to come
+-- so many milliseconds after a moment, if that is still to come
 abbrev pub coming_after : ℕ → ℕ → Option ℕ → Option ℕ
 coming_after up wait None = None
 coming_after up wait (Some moment) = coming up (moment + wait)

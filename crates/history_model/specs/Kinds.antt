@@ -68,12 +68,12 @@ is_stopping_order r _ = false
 
 -- ---- answers and ends
 
--- the run and the process id of a spawn, where the answer is that it succeeded
+-- the run and the process id of a spawn, if the answer is that it succeeded
 abbrev pub spawned_by : Answer → Option (ℕ × ℕ)
 spawned_by (Spawned run pid) = Some (run, pid)
 spawned_by _ = None
 
--- the run and the process id of a spawn, where the item tells that it succeeded
+-- the run and the process id of a spawn, if the item says that it succeeded
 abbrev pub spawned_in : Item → Option (ℕ × ℕ)
 spawned_in (Answered answer) = spawned_by answer
 spawned_in _ = None
@@ -83,7 +83,7 @@ abbrev pub is_spawned : ℕ → Answer → Bool
 is_spawned r (Spawned run pid) = run == r
 is_spawned r _ = false
 
--- the item tells that the spawn of the run succeeded
+-- the item says that the spawn of the run succeeded
 abbrev pub is_spawned_answer : ℕ → Item → Bool
 is_spawned_answer r (Answered answer) = is_spawned r answer
 is_spawned_answer r _ = false
@@ -93,7 +93,7 @@ abbrev pub is_refused_spawn : Answer → Bool
 is_refused_spawn (SpawnRefused run) = true
 is_refused_spawn _ = false
 
--- the item tells that a spawn was refused
+-- the item says that a spawn was refused
 abbrev pub is_spawn_refusal : Item → Bool
 is_spawn_refusal (Answered answer) = is_refused_spawn answer
 is_spawn_refusal _ = false
@@ -103,7 +103,7 @@ abbrev pub is_termed : Bool → ℕ → Answer → Bool
 is_termed accepted r (Termed run ok) = (run == r) && cond accepted ok (not ok)
 is_termed accepted r _ = false
 
--- the item tells that a TERM for the run was accepted (was refused, as the flag says)
+-- the item says that a TERM for the run was accepted (was refused, as the flag says)
 abbrev pub is_term_answer : Bool → ℕ → Item → Bool
 is_term_answer accepted r (Answered answer) = is_termed accepted r answer
 is_term_answer accepted r _ = false
@@ -113,7 +113,7 @@ abbrev pub is_killed : Bool → ℕ → Answer → Bool
 is_killed accepted r (Killed run ok) = (run == r) && cond accepted ok (not ok)
 is_killed accepted r _ = false
 
--- the item tells that a KILL for the run was accepted (was refused, as the flag says)
+-- the item says that a KILL for the run was accepted (was refused, as the flag says)
 abbrev pub is_kill_answer : Bool → ℕ → Item → Bool
 is_kill_answer accepted r (Answered answer) = is_killed accepted r answer
 is_kill_answer accepted r _ = false

@@ -18,7 +18,7 @@ reason_text TooLong = codes "TooLong"
 reason_text BadLabel = codes "BadLabel"
 reason_text Unsupported = codes "Unsupported"
 
--- the name of a definition's key, as launchd.plist(5) writes it; `-` where none is at fault
+-- the name of a definition's key, as launchd.plist(5) writes it; `-` if none is at fault
 abbrev pub key_text : KeyName → List ℕ
 key_text keys.NoKey = codes "-"
 key_text keys.Label = codes "Label"
@@ -46,7 +46,7 @@ key_text keys.UserName = codes "UserName"
 key_text keys.GroupName = codes "GroupName"
 key_text keys.RootDirectory = codes "RootDirectory"
 
--- the text of a reply that tells a refusal
+-- the text of a reply that is a refusal
 abbrev pub refusal_text : Refusal → List ℕ
 refusal_text NoMemory = codes "no memory\n"
 refusal_text BadRequest = codes "bad request\n"
@@ -65,7 +65,7 @@ refusal_text Stale = codes "stale\n"
 refusal_text ClockRefused = codes "clock refused\n"
 refusal_text ShuttingDown = codes "shutting down\n"
 
--- the code of a refusal; 0 tells that there is none
+-- the code of a refusal; 0 says that there is none
 abbrev pub refusal_code : Refusal → ℕ
 refusal_code NoMemory = 1
 refusal_code BadRequest = 2

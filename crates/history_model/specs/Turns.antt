@@ -9,24 +9,25 @@ use Rattle.history_model.specs.Step.{outcome, step}
 use Rattle.history_model.specs.Rounds.{wants_answer, is_answer}
 
 -- an order, by the label of its job
-abbrev pub Given : Type 0
-Given = Label × Act
+abbrev pub JobOrder : Type 0
+JobOrder = Label × Act
 
 -- the orders that have an answer
-abbrev pub wanting : List Given → List Given
+abbrev pub wanting : List JobOrder → List JobOrder
 wanting orders = filter wants_answer orders
 
 -- the events answer the orders that wait, first in first out; the orders that they give go to the
 -- back
-abbrev pub AreAnswers : State → List Given → List Event → Type 0
+abbrev pub AreAnswers : State → List JobOrder → List Event → Type 0
 AreAnswers s waits [] = Unit {0}
 AreAnswers s [] (e ∷ es) = ⊥
-AreAnswers s (given ∷ waits) (e ∷ es) =
-    (is_answer given e ≡ true) × AreAnswers (step s e) (waits ++ wanting (outcome s e).orders) es
+AreAnswers s (job_order ∷ waits) (e ∷ es) =
+    (is_answer job_order e ≡ true)
+    × AreAnswers (step s e) (waits ++ wanting (outcome s e).orders) es
 
 -- the orders that then wait
-abbrev pub still_waiting : State → List Given → List Event → List Given
+abbrev pub still_waiting : State → List JobOrder → List Event → List JobOrder
 still_waiting s waits [] = waits
 still_waiting s [] (e ∷ es) = []
-still_waiting s (given ∷ waits) (e ∷ es) =
+still_waiting s (job_order ∷ waits) (e ∷ es) =
     still_waiting (step s e) (waits ++ wanting (outcome s e).orders) es

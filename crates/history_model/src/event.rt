@@ -10,8 +10,8 @@ pub struct Setting {
     pub disabled: bool,
 }
 
-/// An event of the launcher, as a line of a journal tells it (launchctl(1) for what a control client asks). `bind` and `store`
-/// are the outside's answers; they count only where a load has sockets, and where a setting is written.
+/// An event of the launcher, as a line of a journal says it (launchctl(1) for what a control client asks). `bind` and `store`
+/// are the outside's answers; they count only if a load has sockets, and if a setting is written.
 #[derive(Drop)]
 pub enum Event {
     /// A definition's JSON text is handed in. `writes_setting` also enables the label; with `force` a disabled one is loaded
@@ -52,7 +52,7 @@ pub enum Event {
         job: Text,
         store: bool,
     },
-    /// A row for each loaded job is asked for.
+    /// A line for each loaded job is asked for.
     List,
     /// What is known of one job is asked for.
     Print {

@@ -94,7 +94,7 @@ pub enum KeyName {
     RootDirectory,
 }
 
-/// What was seen at a path: whether it exists, whether it is a directory that is not empty, and its stamp, which differs where
+/// What was seen at a path: whether it exists, whether it is a directory that is not empty, and its stamp, which differs if
 /// the path was changed (its time of modification in nanoseconds). Follows launchd.plist(5), WatchPaths, QueueDirectories and
 /// PathState.
 #[derive(Clone, Copy, PartialEq, Eq)]
@@ -112,7 +112,7 @@ pub enum Ended {
 }
 
 /// What a job orders: the spawn of its next run, with the connection that it carries if one waits; TERM or KILL for its child's
-/// run; the close of a connection that waits where the job leaves; and that it is gone.
+/// run; the close of a connection that waits if the job leaves; and that it is gone.
 #[derive(Clone, Copy, PartialEq, Eq)]
 pub enum Act {
     Spawn { run: u64, conn: Option<u64> },
@@ -191,7 +191,7 @@ pub enum Refusal {
 }
 
 impl Refusal {
-    /// The code by which outcomes, replies and exit statuses tell this refusal, from 1 to 15; 0 tells that there is none.
+    /// The code by which outcomes, replies and exit statuses name this refusal, from 1 to 15; 0 is for none.
     /// Takes no memory.
     pub fn code(&self) -> u8
         ensures { result ≡ refusal_code self.now }
@@ -233,7 +233,7 @@ pub enum JobState {
 
 /// What `print` and `list` of launchctl(1) show of a job.
 #[derive(Clone, Copy)]
-pub struct JobRow {
+pub struct ShownJob {
     pub state: JobState,
     /// The child's.
     pub pid: Option<u32>,

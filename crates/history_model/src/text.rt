@@ -25,7 +25,7 @@ impl Text {
         Self { inner }
     }
 
-    /// A copy of this text. `AllocError` where memory for it was refused; the given text is only read.
+    /// A copy of this text. `AllocError` if memory for it was refused; the given text is only read.
     pub fn copy_of(alloc: Global, text: &str) -> Result<Text, AllocError>
         ensures { IfOk result (λ copied. copied ≡ text.now) }
     {

@@ -1,4 +1,4 @@
-//! The calendar of a job's definition. Whether a reading fires it is told to the job, so its entries decide nothing here;
+//! The calendar of a job's definition. Whether a reading fires it is said with the reading, so its entries decide nothing here;
 //! they are kept because the facts of a past name its whole definition.
 
 ghost use Rattle.std.specs.Prelude.{◌≡◌, IfOk};

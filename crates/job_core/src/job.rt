@@ -2,6 +2,7 @@
 
 ghost use Rattle.std.specs.Prelude.{None, is_some, slice_get, ◌&&◌, ◌||◌, not, nat_lt, ◌*◌, ◌≡◌, ℕ, false, ◌+◌, ◌%◌, ◌^◌, ◌≤◌, [], ◌∷◌, filter, IfOk, OnOk, OnErr, ◌<◌};
 ghost use Rattle.std.specs.Option.{ForSome};
+ghost use Rattle.history_model.specs.declared.TheConstants.{MAX_CONNECTIONS};
 ghost use Rattle.history_model.specs.Items.{History, Loaded, Read, Saw, Asked, Came, Left, Ordered, Answered, RunEnded, WaitRefused};
 ghost use Rattle.history_model.specs.declared.Answer.TheVariants.{Spawned as SpawnOk, SpawnRefused as SpawnNo, Termed as TermAnswer, Killed as KillAnswer};
 ghost use Rattle.history_model.specs.Demands.{carries};
@@ -17,7 +18,7 @@ use crate::calendar::Calendar;
 use crate::paths::{Queues, Watches};
 use conditions::Conditions;
 use history_model::{
-    Act, Answer, Ask, Ended, JobRow, JobState, MAX_UP, MAX_WALL, Obs, Reading, Refusal,
+    Act, Answer, Ask, Ended, JobState, MAX_UP, MAX_WALL, Obs, Reading, Refusal, ShownJob,
 };
 use job_defs::Def;
 use pace::{Ending, Interval, Signal, Throttle};
@@ -40,7 +41,7 @@ pub struct Job {
     interval: Interval,
     throttle: Throttle,
     ending: Ending,
-    is_told_to_end: bool,
+    is_ordered_to_end: bool,
     runs: u64,
     child: Option<(u64, u32)>,
     awaited: Option<Act>,
@@ -54,7 +55,7 @@ pub struct Job {
 impl Job {
     ghost use Rattle.job_core.specs.Events.{item_of};
     ghost use Rattle.job_defs.specs.Definitions.{definition};
-    ghost use Rattle.history_model.specs.Shown.{row_by, state_by};
+    ghost use Rattle.history_model.specs.Shown.{shown_by, state_by};
     ghost use Rattle.job_core.specs.Fields.{facts, is_spawn_awaited};
     ghost use Rattle.history_model.specs.Facts.{facts_of};
 
@@ -86,7 +87,7 @@ impl Job {
             interval,
             throttle,
             ending,
-            is_told_to_end: false,
+            is_ordered_to_end: false,
             runs: 0,
             child: None,
             awaited: None,
@@ -128,10 +129,10 @@ impl Job {
     }
 
     /// What is shown of the job.
-    pub fn row(&self) -> JobRow
-        ensures { result ≡ row_by (facts self.now) }
+    pub fn shown(&self) -> ShownJob
+        ensures { result ≡ shown_by (facts self.now) }
     {
-        JobRow {
+        ShownJob {
             state: self.state(),
             pid: self.child.map(|c| c.1),
             runs: self.runs,
@@ -175,7 +176,7 @@ impl Job {
     /// The waiting connection at a position, counted from 0.
     pub fn connection(&self, position: usize) -> Option<u64>
         ensures value { result ≡ slice_get (facts self.now).queue position }
-        ensures few { 64 ≤ position → result ≡ None }
+        ensures few { MAX_CONNECTIONS ≤ position → result ≡ None }
     {
         self.waiting.get(position)
     }

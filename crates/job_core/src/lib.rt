@@ -3,6 +3,7 @@
 #![tactic(auto)]
 
 ghost use Rattle.std.specs.Prelude.{◌≡◌, ℕ, ◌+◌, ◌%◌, ◌^◌, ◌≤◌, [], ◌∷◌, IfOk, OnOk, OnErr, None, slice_get};
+ghost use Rattle.history_model.specs.declared.TheConstants.{MAX_CONNECTIONS};
 ghost use Rattle.history_model.specs.Items.{History, Loaded};
 ghost use Rattle.history_model.specs.Clock as clock;
 ghost use Rattle.history_model.specs.Runs as runs;
@@ -17,7 +18,7 @@ mod calendar;
 mod job;
 mod paths;
 
-use history_model::{Act, Answer, Ask, Ended, JobRow, MAX_UP, Obs, Reading, Refusal};
+use history_model::{Act, Answer, Ask, Ended, MAX_UP, Obs, Reading, Refusal, ShownJob};
 use job::Job;
 use job_defs::Def;
 use std::alloc::{AllocError, Global};
@@ -62,7 +63,7 @@ impl Model for JobCore {
 
 impl JobCore {
     ghost use Rattle.job_core.specs.Events.{item_of};
-    ghost use Rattle.history_model.specs.Shown.{row_of};
+    ghost use Rattle.history_model.specs.Shown.{shown_of};
     ghost use Rattle.job_core.specs.Memory.{NeedsNoMemory};
     ghost use Rattle.job_defs.specs.Definitions.{definition};
 
@@ -83,11 +84,11 @@ impl JobCore {
     /// the order in which they are looked for:
     /// - `ClockRefused`: a reading before `now`, or past the greatest one;
     /// - `Removing`: a start, a stop, a kickstart, an unload or a connection after an unload or a shutdown;
-    /// - `NotRunning`: a stop where there is neither a child nor an awaited spawn;
+    /// - `NotRunning`: a stop if there is neither a child nor an awaited spawn;
     /// - `Stale`: an answer that is not awaited for that run; an end, or a refused wait, of a run that is not the child; a
     ///   connection that leaves and does not wait, or that comes to a job without sockets or with a number not above
     ///   every earlier one;
-    /// - `TooManyConnections`: a connection where 64 wait.
+    /// - `TooManyConnections`: a connection if 64 wait.
     ///
     /// It takes no memory, and never answers `NoMemory`.
     pub fn event(&mut self, event: JobEvent<'_>, now: Reading) -> Result<(), Refusal>
@@ -144,10 +145,10 @@ impl JobCore {
     }
 
     /// What is shown of the job.
-    pub fn row(&self) -> JobRow
-        ensures { (past : History) → Keeps self.now.facts past → result ≡ row_of past }
+    pub fn shown(&self) -> ShownJob
+        ensures { (past : History) → Keeps self.now.facts past → result ≡ shown_of past }
     {
-        self.job.row()
+        self.job.shown()
     }
 
     /// Whether an unload or a shutdown was asked.
@@ -168,7 +169,7 @@ impl JobCore {
     pub fn connection(&self, position: usize) -> Option<u64>
         ensures value { (past : History) → Keeps self.now.facts past →
             result ≡ slice_get (waiting past) position }
-        ensures few { 64 ≤ position → result ≡ None }
+        ensures few { MAX_CONNECTIONS ≤ position → result ≡ None }
     {
         self.job.connection(position)
     }

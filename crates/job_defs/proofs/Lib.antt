@@ -1,2 +1,2 @@
 pub mod IgnoredLemmas
-pub mod Labels
+pub mod LabelLemmas

@@ -13,7 +13,7 @@ use Rattle.history_model.specs.Texts.{key_text}
 use Rattle.json_kinds.specs.Faults.{bad, ◌>>=◌}
 use Rattle.job_defs.specs.Paths.{list_limit}
 use Rattle.json_kinds.specs.Names.{Key, day, hour, minute, month, weekday}
-use Rattle.json_kinds.specs.Kinds.{object_at, integer_at, each_item, members_or_one, where_given, optional}
+use Rattle.json_kinds.specs.Kinds.{object_at, integer_at, each_item, members_or_one, where_there, optional}
 
 -- one key of an entry
 unfoldable pub part : ℕ → ℕ → Key → Data → Result (Option ℕ) Fault
@@ -43,5 +43,5 @@ calendar_at d =
     else each_item entry_at (members_or_one d)
 
 -- without the key there is no calendar
-unfoldable pub calendar_row : Data → Result (List Entry) Fault
-calendar_row d = where_given calendar_at [] (get (key_text StartCalendarInterval) d)
+unfoldable pub calendar_key : Data → Result (List Entry) Fault
+calendar_key d = where_there calendar_at [] (get (key_text StartCalendarInterval) d)

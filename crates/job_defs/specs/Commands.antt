@@ -12,8 +12,8 @@ use Rattle.json_kinds.specs.Faults.{bad, ◌>>=◌}
 use Rattle.json_kinds.specs.Kinds.{text_at, array_at, plain_at, filled_at, each_item, required}
 
 -- the label
-unfoldable pub label_row : Data → Result (List ℕ) Fault
-label_row d = do
+unfoldable pub label_key : Data → Result (List ℕ) Fault
+label_key d = do
   found ← required Label d
   text ← text_at Label found
   if is_label text then Ok text else Err (bad BadLabel Label)
@@ -48,8 +48,8 @@ command_at program d = do
       else command_in program words
 
 -- one of `Program` and `ProgramArguments` has to stand
-unfoldable pub command_row : Option (List ℕ) → Data → Result Command Fault
-command_row program d = command_by program (get (key_text ProgramArguments) d) where
+unfoldable pub command_key : Option (List ℕ) → Data → Result Command Fault
+command_key program d = command_by program (get (key_text ProgramArguments) d) where
   command_by : Option (List ℕ) → Option Data → Result Command Fault
   command_by program (Some found) = command_at program found
   command_by (Some program) None = Ok (record { program = program; arguments = [] })

@@ -12,7 +12,7 @@ use Rattle.job_defs.specs.declared.parts.PathState.{PathState}
 use Rattle.job_defs.specs.Paths.{list_limit}
 use Rattle.json_kinds.specs.Faults.{bad, ◌>>=◌}
 use Rattle.json_kinds.specs.Names.{Key, crashed, path_state, successful_exit}
-use Rattle.json_kinds.specs.Kinds.{bool_at, object_at, filled, each_member, where_given, optional, path_limit}
+use Rattle.json_kinds.specs.Kinds.{bool_at, object_at, filled, each_member, where_there, optional, path_limit}
 
 -- what `KeepAlive` says
 pub record Keep : Type 0 where
@@ -49,7 +49,7 @@ unfoldable pub conditions_at : Data → Result Keep Fault
 conditions_at d = do
   conditions ← object_at KeepAlive d
   after_crash ← optional (bool_at KeepAlive) (get crashed d)
-  paths ← where_given path_state_at [] (get path_state d)
+  paths ← where_there path_state_at [] (get path_state d)
   after_success ← optional (bool_at KeepAlive) (get successful_exit d)
   Ok (record {
     always = false;
@@ -66,6 +66,6 @@ keep_at d = keep_by (as_bool d) d where
   keep_by None d = conditions_at d
 
 -- without `KeepAlive`, an `OnDemand` of false keeps the job alive
-unfoldable pub keep_row : Bool → Data → Result Keep Fault
-keep_row on_demand d =
-    where_given keep_at (unconditional (not on_demand)) (get (key_text KeepAlive) d)
+unfoldable pub keep_key : Bool → Data → Result Keep Fault
+keep_key on_demand d =
+    where_there keep_at (unconditional (not on_demand)) (get (key_text KeepAlive) d)

@@ -11,5 +11,5 @@ pub mod Paths
 pub mod Calendars
 pub mod Variables
 pub mod Ignored
-pub mod Table
+pub mod Keys
 pub mod Parts

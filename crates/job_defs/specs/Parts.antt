@@ -12,7 +12,7 @@ use Rattle.job_defs.specs.declared.parts.Surroundings.{Surroundings}
 use Rattle.job_defs.specs.Commands as commands
 use Rattle.job_defs.specs.Conditions as conditions
 use Rattle.job_defs.specs.Ignored.{with_names}
-use Rattle.job_defs.specs.Table as table
+use Rattle.job_defs.specs.Keys as table
 
 -- each part without where it lies in memory
 abbrev pub command_of : Command → commands.Command

@@ -8,7 +8,7 @@ use Rattle.history_model.specs.declared.KeyName.{KeyName}
 use Rattle.history_model.specs.Machine.{Fault}
 use Rattle.history_model.specs.Texts.{key_text}
 use Rattle.json_kinds.specs.Faults.{bad, ◌>>=◌}
-use Rattle.json_kinds.specs.Kinds.{array_at, path_at, each_item, where_given}
+use Rattle.json_kinds.specs.Kinds.{array_at, path_at, each_item, where_there}
 
 -- the most paths of a definition, paths of `KeepAlive`, and calendar entries
 abbrev pub list_limit : ℕ
@@ -22,5 +22,5 @@ paths_at before key d = do
       else each_item (path_at key) paths
 
 -- without the key there are none
-unfoldable pub paths_row : ℕ → KeyName → Data → Result (List (List ℕ)) Fault
-paths_row before key d = where_given (paths_at before key) [] (get (key_text key) d)
+unfoldable pub paths_key : ℕ → KeyName → Data → Result (List (List ℕ)) Fault
+paths_key before key d = where_there (paths_at before key) [] (get (key_text key) d)

@@ -11,7 +11,7 @@ use Rattle.history_model.specs.Texts.{key_text}
 use Rattle.job_defs.specs.declared.parts.Variable.{Variable}
 use Rattle.json_kinds.specs.Faults.{bad, ◌>>=◌}
 use Rattle.json_kinds.specs.Names.{Key}
-use Rattle.json_kinds.specs.Kinds.{object_at, plain, filled, each_member, where_given}
+use Rattle.json_kinds.specs.Kinds.{object_at, plain, filled, each_member, where_there}
 
 -- the byte `=`
 abbrev pub is_equals : ℕ → Bool
@@ -39,5 +39,5 @@ environment_at d = do
       else each_member variable_in variables
 
 -- without the key there are none
-unfoldable pub environment_row : Data → Result (List Variable) Fault
-environment_row d = where_given environment_at [] (get (key_text EnvironmentVariables) d)
+unfoldable pub environment_key : Data → Result (List Variable) Fault
+environment_key d = where_there environment_at [] (get (key_text EnvironmentVariables) d)

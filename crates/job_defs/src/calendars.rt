@@ -4,7 +4,7 @@ ghost use Rattle.std.specs.Prelude.{◌≡◌};
 ghost use Rattle.serde_json.specs.View.{view, items_view};
 ghost use Rattle.json_kinds.specs.Faults.{Gives};
 ghost use Rattle.json_kinds.specs.Kinds.{each_item};
-ghost use Rattle.job_defs.specs.Calendars.{part, entry_at, calendar_at, calendar_row};
+ghost use Rattle.job_defs.specs.Calendars.{part, entry_at, calendar_at, calendar_key};
 
 use crate::parts::LIST_LIMIT;
 use history_model::{Entry, KeyName, Reason};
@@ -14,9 +14,9 @@ use json_kinds::names::{DAY, HOUR, MINUTE, MONTH, WEEKDAY, key_name};
 use serde_json::Value;
 use std::alloc::Global;
 
-#[tactic(auto, unfolding(crate::specs::Calendars::calendar_row))]
-pub(crate) fn calendar_row_of(alloc: Global, def: &Value) -> Result<Vec<Entry>, DefFault>
-    ensures { Gives (λ calendar. calendar.items) result (calendar_row (view def.now)) }
+#[tactic(auto, unfolding(crate::specs::Calendars::calendar_key))]
+pub(crate) fn calendar_key_of(alloc: Global, def: &Value) -> Result<Vec<Entry>, DefFault>
+    ensures { Gives (λ calendar. calendar.items) result (calendar_key (view def.now)) }
 {
     match def.get(key_name(KeyName::StartCalendarInterval)) {
         Some(found) => calendar_of(alloc, found),
@@ -24,7 +24,7 @@ pub(crate) fn calendar_row_of(alloc: Global, def: &Value) -> Result<Vec<Entry>, 
     }
 }
 
-#[tactic(auto, using(json_kinds::proofs::Counts::items_count), unfolding(crate::specs::Calendars::calendar_at))]
+#[tactic(auto, using(json_kinds::proofs::CountLemmas::items_count), unfolding(crate::specs::Calendars::calendar_at))]
 fn calendar_of(alloc: Global, found: &Value) -> Result<Vec<Entry>, DefFault>
     ensures { Gives (λ calendar. calendar.items) result (calendar_at (view found.now)) }
 {

@@ -4,23 +4,23 @@ ghost use Rattle.std.specs.Prelude.{◌≡◌, ◌≤◌, [], ◌∷◌, length,
 ghost use Rattle.serde_json.specs.View.{view, members_view};
 ghost use Rattle.json_kinds.specs.Faults.{Gives};
 ghost use Rattle.json_kinds.specs.Kinds.{each_member};
-ghost use Rattle.job_defs.specs.Conditions.{path_state_in, path_state_at, conditions_at, keep_at, keep_row};
+ghost use Rattle.job_defs.specs.Conditions.{path_state_in, path_state_at, conditions_at, keep_at, keep_key};
 ghost use Rattle.job_defs.specs.Paths.{list_limit};
 ghost use Rattle.job_defs.specs.Parts.{keep_of};
 
 use crate::parts::{Keep, LIST_LIMIT, PathState};
 use history_model::{KeyName, Reason, Text};
 use json_kinds::DefFault;
+use json_kinds::keys::{PATH_LIMIT, optional_bool_of};
 use json_kinds::kinds::{bool_of, filled_text, object_of};
 use json_kinds::names::{CRASHED, PATH_STATE, SUCCESSFUL_EXIT, key_name};
-use json_kinds::rows::{PATH_LIMIT, optional_bool_of};
 use serde_json::{Map, Value};
 use std::alloc::Global;
 
-/// `KeepAlive`; where it is absent, an `OnDemand` of false stands for `true`.
-#[tactic(auto, unfolding(crate::specs::Conditions::keep_row))]
-pub(crate) fn keep_row_of(alloc: Global, on_demand: bool, def: &Value) -> Result<Keep, DefFault>
-    ensures value { Gives keep_of result (keep_row on_demand (view def.now)) }
+/// `KeepAlive`; if it is absent, an `OnDemand` of false stands for `true`.
+#[tactic(auto, unfolding(crate::specs::Conditions::keep_key))]
+pub(crate) fn keep_key_of(alloc: Global, on_demand: bool, def: &Value) -> Result<Keep, DefFault>
+    ensures value { Gives keep_of result (keep_key on_demand (view def.now)) }
     ensures count { IfOk result (λ keep. vec_len keep.path_state ≤ list_limit) }
 {
     match def.get(key_name(KeyName::KeepAlive)) {
@@ -72,7 +72,7 @@ fn conditions_of(alloc: Global, found: &Value) -> Result<Keep, DefFault>
     })
 }
 
-#[tactic(auto, using(json_kinds::proofs::Counts::members_count), unfolding(crate::specs::Conditions::path_state_at))]
+#[tactic(auto, using(json_kinds::proofs::CountLemmas::members_count), unfolding(crate::specs::Conditions::path_state_at))]
 fn path_state_of(alloc: Global, found: &Value) -> Result<Vec<PathState>, DefFault>
     ensures value { Gives (λ paths. paths.items) result (path_state_at (view found.now)) }
     ensures count { IfOk result (λ paths. vec_len paths ≤ list_limit) }

@@ -65,14 +65,14 @@ impl Def {
         self.launch.label.as_str()
     }
 
-    /// `Program`: the executable, also the child's argv[0]. Where the key is absent, the first of `ProgramArguments`.
+    /// `Program`: the executable, also the child's argv[0]. If the key is absent, the first of `ProgramArguments`.
     pub fn program(&self) -> &str
         ensures { result.now ≡ self.now.program }
     {
         self.launch.command.program.as_str()
     }
 
-    /// `ProgramArguments` after its first element: the child's arguments after argv[0]. At most 255; none where the key
+    /// `ProgramArguments` after its first element: the child's arguments after argv[0]. At most 255; none if the key
     /// is absent.
     pub fn arguments(&self) -> &[Text]
         ensures { result.now ≡ self.now.arguments }

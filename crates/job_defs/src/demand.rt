@@ -1,38 +1,38 @@
-//! When a job runs, and how fast: the rows from `OnDemand` to `ExitTimeOut`.
+//! When a job runs, and how fast: the keys from `OnDemand` to `ExitTimeOut`.
 
 ghost use Rattle.std.specs.Prelude.{◌≡◌, ◌≤◌, ◌+◌, length, vec_len, IfOk, IfSome};
 ghost use Rattle.serde_json.specs.View.{view, items_view};
 ghost use Rattle.json_kinds.specs.Faults.{Gives};
 ghost use Rattle.json_kinds.specs.Kinds.{each_item, path_at};
-ghost use Rattle.job_defs.specs.Paths.{list_limit, paths_at, paths_row};
-ghost use Rattle.job_defs.specs.Table.{demand_at, pace_at};
+ghost use Rattle.job_defs.specs.Paths.{list_limit, paths_at, paths_key};
+ghost use Rattle.job_defs.specs.Keys.{demand_at, pace_at};
 ghost use Rattle.job_defs.specs.Parts.{demand_of, pace_of};
 
-use crate::calendars::calendar_row_of;
-use crate::conditions::keep_row_of;
+use crate::calendars::calendar_key_of;
+use crate::conditions::keep_key_of;
 use crate::parts::{Demand, LIST_LIMIT, Pace};
 use history_model::{KeyName, Reason, Text};
 use json_kinds::DefFault;
+use json_kinds::keys::{PATH_LIMIT, bool_key_of, integer_key_of, optional_integer_of};
 use json_kinds::kinds::{array_of, filled_of};
 use json_kinds::names::key_name;
-use json_kinds::rows::{PATH_LIMIT, bool_row_of, integer_row_of, optional_integer_of};
 use serde_json::Value;
 use std::alloc::Global;
 
-#[tactic(auto, unfolding(crate::specs::Table::demand_at))]
-pub(crate) fn demand_row(alloc: Global, def: &Value) -> Result<Demand, DefFault>
+#[tactic(auto, unfolding(crate::specs::Keys::demand_at))]
+pub(crate) fn demand_keys(alloc: Global, def: &Value) -> Result<Demand, DefFault>
     ensures value { Gives demand_of result (demand_at (view def.now)) }
     ensures range { IfOk result (λ demand. IfSome demand.start_interval (λ seconds. (1 ≤ seconds)
         × (seconds ≤ 31536000))) }
 {
-    let on_demand = bool_row_of(def, KeyName::OnDemand, true)?;
-    let keep = keep_row_of(alloc, on_demand, def)?;
+    let on_demand = bool_key_of(def, KeyName::OnDemand, true)?;
+    let keep = keep_key_of(alloc, on_demand, def)?;
     let before = keep.path_state.len();
-    let watch_paths = paths_row_of(alloc, before, def, KeyName::WatchPaths)?;
+    let watch_paths = paths_key_of(alloc, before, def, KeyName::WatchPaths)?;
     let before = before + watch_paths.len();
-    let queue_directories = paths_row_of(alloc, before, def, KeyName::QueueDirectories)?;
+    let queue_directories = paths_key_of(alloc, before, def, KeyName::QueueDirectories)?;
     let start_interval = optional_integer_of(def, KeyName::StartInterval, 1, 31_536_000)?;
-    let calendar = calendar_row_of(alloc, def)?;
+    let calendar = calendar_key_of(alloc, def)?;
     Ok(Demand {
         keep,
         watch_paths,
@@ -42,30 +42,30 @@ pub(crate) fn demand_row(alloc: Global, def: &Value) -> Result<Demand, DefFault>
     })
 }
 
-#[tactic(auto, unfolding(crate::specs::Table::pace_at))]
-pub(crate) fn pace_row(def: &Value) -> Result<Pace, DefFault>
+#[tactic(auto, unfolding(crate::specs::Keys::pace_at))]
+pub(crate) fn pace_keys(def: &Value) -> Result<Pace, DefFault>
     ensures value { Gives pace_of result (pace_at (view def.now)) }
     ensures range { IfOk result (λ pace. (pace.throttle_interval ≤ 86400)
         × (pace.exit_time_out ≤ 86400)) }
 {
-    let throttle_interval = integer_row_of(def, KeyName::ThrottleInterval, 0, 86_400, 10)?;
-    let exit_time_out = integer_row_of(def, KeyName::ExitTimeOut, 0, 86_400, 20)?;
+    let throttle_interval = integer_key_of(def, KeyName::ThrottleInterval, 0, 86_400, 10)?;
+    let exit_time_out = integer_key_of(def, KeyName::ExitTimeOut, 0, 86_400, 20)?;
     Ok(Pace {
         throttle_interval,
         exit_time_out,
     })
 }
 
-/// A list of paths, where the definition had so many before.
-#[tactic(auto, unfolding(crate::specs::Paths::paths_row))]
-fn paths_row_of(
+/// A list of paths, if the definition had so many before.
+#[tactic(auto, unfolding(crate::specs::Paths::paths_key))]
+fn paths_key_of(
     alloc: Global,
     before: usize,
     def: &Value,
     key: KeyName,
 ) -> Result<Vec<Text>, DefFault>
     requires { before ≤ list_limit }
-    ensures value { Gives (λ paths. paths.items) result (paths_row before key (view def.now)) }
+    ensures value { Gives (λ paths. paths.items) result (paths_key before key (view def.now)) }
     ensures count { IfOk result (λ paths. before + vec_len paths ≤ list_limit) }
 {
     match def.get(key_name(key)) {
@@ -74,7 +74,7 @@ fn paths_row_of(
     }
 }
 
-#[tactic(auto, using(json_kinds::proofs::Counts::items_count), unfolding(crate::specs::Paths::paths_at))]
+#[tactic(auto, using(json_kinds::proofs::CountLemmas::items_count), unfolding(crate::specs::Paths::paths_at))]
 fn paths_of(
     alloc: Global,
     before: usize,

@@ -1,18 +1,18 @@
-//! What is run: the rows from `Label` to `Disabled`.
+//! What is run: the keys from `Label` to `Disabled`.
 
 ghost use Rattle.std.specs.Prelude.{◌≡◌, None, Some};
 ghost use Rattle.serde_json.specs.View.{view, items_view};
 ghost use Rattle.json_kinds.specs.Faults.{Gives};
 ghost use Rattle.json_kinds.specs.Kinds.{each_item};
-ghost use Rattle.job_defs.specs.Commands.{label_row, word_at, command_in, command_at, command_row};
-ghost use Rattle.job_defs.specs.Table.{launch_at};
+ghost use Rattle.job_defs.specs.Commands.{label_key, word_at, command_in, command_at, command_key};
+ghost use Rattle.job_defs.specs.Keys.{launch_at};
 ghost use Rattle.job_defs.specs.Parts.{command_of, launch_of};
 
 use crate::parts::{Command, Launch};
 use history_model::{KeyName, Reason, Text};
+use json_kinds::keys::{bool_key_of, optional_text_of, required_of};
 use json_kinds::kinds::{array_of, filled_of, plain_of, text_of};
 use json_kinds::names::key_name;
-use json_kinds::rows::{bool_row_of, optional_text_of, required_of};
 use json_kinds::{DefFault, is_label};
 use serde_json::Value;
 use std::alloc::Global;
@@ -20,16 +20,16 @@ use std::alloc::Global;
 /// The longest executable or argument, in bytes.
 const WORD_LIMIT: usize = 4096;
 
-#[tactic(auto, unfolding(crate::specs::Table::launch_at))]
-pub(crate) fn launch_row(alloc: Global, def: &Value) -> Result<Launch, DefFault>
+#[tactic(auto, unfolding(crate::specs::Keys::launch_at))]
+pub(crate) fn launch_keys(alloc: Global, def: &Value) -> Result<Launch, DefFault>
     ensures { Gives launch_of result (launch_at (view def.now)) }
 {
-    let label = label_row_of(alloc, def)?;
+    let label = label_key_of(alloc, def)?;
     let program = optional_text_of(alloc, def, KeyName::Program, WORD_LIMIT)?;
-    let command = command_row_of(alloc, program, def)?;
-    let run_at_load = bool_row_of(def, KeyName::RunAtLoad, false)?;
-    let launch_only_once = bool_row_of(def, KeyName::LaunchOnlyOnce, false)?;
-    let disabled = bool_row_of(def, KeyName::DisabledKey, false)?;
+    let command = command_key_of(alloc, program, def)?;
+    let run_at_load = bool_key_of(def, KeyName::RunAtLoad, false)?;
+    let launch_only_once = bool_key_of(def, KeyName::LaunchOnlyOnce, false)?;
+    let disabled = bool_key_of(def, KeyName::DisabledKey, false)?;
     Ok(Launch {
         label,
         command,
@@ -39,9 +39,9 @@ pub(crate) fn launch_row(alloc: Global, def: &Value) -> Result<Launch, DefFault>
     })
 }
 
-#[tactic(auto, unfolding(crate::specs::Commands::label_row))]
-fn label_row_of(alloc: Global, def: &Value) -> Result<Text, DefFault>
-    ensures { Gives (λ label. label) result (label_row (view def.now)) }
+#[tactic(auto, unfolding(crate::specs::Commands::label_key))]
+fn label_key_of(alloc: Global, def: &Value) -> Result<Text, DefFault>
+    ensures { Gives (λ label. label) result (label_key (view def.now)) }
 {
     let text = text_of(required_of(def, KeyName::Label)?, KeyName::Label)?;
     if !is_label(text) {
@@ -53,9 +53,9 @@ fn label_row_of(alloc: Global, def: &Value) -> Result<Text, DefFault>
     Ok(Text::copy_of(alloc, text)?)
 }
 
-#[tactic(auto, unfolding(crate::specs::Commands::command_row))]
-fn command_row_of(alloc: Global, program: Option<Text>, def: &Value) -> Result<Command, DefFault>
-    ensures { Gives command_of result (command_row program (view def.now)) }
+#[tactic(auto, unfolding(crate::specs::Commands::command_key))]
+fn command_key_of(alloc: Global, program: Option<Text>, def: &Value) -> Result<Command, DefFault>
+    ensures { Gives command_of result (command_key program (view def.now)) }
 {
     match (def.get(key_name(KeyName::ProgramArguments)), program) {
         (Some(found), program) => command_of(alloc, program, found),
@@ -70,7 +70,7 @@ fn command_row_of(alloc: Global, program: Option<Text>, def: &Value) -> Result<C
     }
 }
 
-#[tactic(auto, using(json_kinds::proofs::Counts::items_count), unfolding(crate::specs::Commands::command_at))]
+#[tactic(auto, using(json_kinds::proofs::CountLemmas::items_count), unfolding(crate::specs::Commands::command_at))]
 fn command_of(alloc: Global, program: Option<Text>, found: &Value) -> Result<Command, DefFault>
     ensures { Gives command_of result (command_at program (view found.now)) }
 {

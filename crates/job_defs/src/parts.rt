@@ -1,4 +1,4 @@
-//! The parts of a definition, each for some rows of the table of keys.
+//! The parts of a definition, each for some keys of the table.
 
 use history_model::{Entry, Text};
 

@@ -3,15 +3,15 @@
 ghost use Rattle.std.specs.Prelude.{◌≡◌};
 ghost use Rattle.serde_json.specs.View.{view};
 ghost use Rattle.json_kinds.specs.Faults.{Gives};
-ghost use Rattle.job_defs.specs.Table.{refusals_at, def_at, def_of};
+ghost use Rattle.job_defs.specs.Keys.{refusals_at, def_at, def_of};
 
 use crate::def::Def;
-use crate::demand::{demand_row, pace_row};
+use crate::demand::{demand_keys, pace_keys};
 use crate::ignored::not_acted_on_of;
-use crate::launch::launch_row;
-use crate::surroundings::surroundings_row;
+use crate::launch::launch_keys;
+use crate::surroundings::surroundings_keys;
 use history_model::{KeyName, Reason};
-use json_kinds::rows::refused_row_of;
+use json_kinds::keys::refused_key_of;
 use json_kinds::{DefFault, json_value};
 use serde_json::Value;
 use socket_defs::sockets_and_inetd_of;
@@ -19,14 +19,14 @@ use std::alloc::Global;
 
 /// Reads the bytes of a job's definition: a JSON object (RFC 8259) with the keys of launchd.plist(5).
 ///
-/// The rows of the table of keys are checked from `Label` to `RootDirectory`. Within a row a collection is checked for
+/// The keys are checked from `Label` to `RootDirectory`. Within a key a collection is checked for
 /// its kind, then for its count, then member by member, arrays by position and dictionaries by byte order of keys; a
 /// value for its kind, its length, its range or form, and then for what is not supported. The first fault is the answer.
 ///
 /// Refusals: `NotJson` (no UTF-8, no JSON text, or nested more than 127 deep) and `NotObject`, both with the key
-/// `NoKey`; else the fault of the first row that has one, with the row's key. `DefFault::NoMemory` says only that
+/// `NoKey`; else the fault of the first key that has one, with that key. `DefFault::NoMemory` says only that
 /// memory ran out.
-#[tactic(auto, unfolding(crate::specs::Table::def_of))]
+#[tactic(auto, unfolding(crate::specs::Keys::def_of))]
 pub fn read_def(alloc: Global, bytes: &[u8]) -> Result<Def, DefFault>
     ensures { Gives (λ def. def) result (def_of bytes.now) }
 {
@@ -39,7 +39,7 @@ pub fn read_def(alloc: Global, bytes: &[u8]) -> Result<Def, DefFault>
     }
 }
 
-#[tactic(auto, unfolding(crate::specs::Table::def_at))]
+#[tactic(auto, unfolding(crate::specs::Keys::def_at))]
 fn def_in(alloc: Global, value: &Value) -> Result<Def, DefFault>
     ensures { Gives (λ def. def) result (def_at (view value.now)) }
 {
@@ -49,12 +49,12 @@ fn def_in(alloc: Global, value: &Value) -> Result<Def, DefFault>
             key: KeyName::NoKey,
         });
     }
-    let launch = launch_row(alloc, value)?;
-    let demand = demand_row(alloc, value)?;
-    let pace = pace_row(value)?;
-    let surroundings = surroundings_row(alloc, value)?;
+    let launch = launch_keys(alloc, value)?;
+    let demand = demand_keys(alloc, value)?;
+    let pace = pace_keys(value)?;
+    let surroundings = surroundings_keys(alloc, value)?;
     let sockets = sockets_and_inetd_of(alloc, value)?;
-    refusals_row(value)?;
+    refusals_keys(value)?;
     let not_acted_on = not_acted_on_of(alloc, !sockets.is_empty(), value)?;
     Ok(Def {
         launch,
@@ -67,11 +67,11 @@ fn def_in(alloc: Global, value: &Value) -> Result<Def, DefFault>
 }
 
 /// Keys that would change who or where the job is.
-#[tactic(auto, unfolding(crate::specs::Table::refusals_at))]
-fn refusals_row(def: &Value) -> Result<(), DefFault>
+#[tactic(auto, unfolding(crate::specs::Keys::refusals_at))]
+fn refusals_keys(def: &Value) -> Result<(), DefFault>
     ensures { Gives (λ done. done) result (refusals_at (view def.now)) }
 {
-    refused_row_of(def, KeyName::UserName)?;
-    refused_row_of(def, KeyName::GroupName)?;
-    refused_row_of(def, KeyName::RootDirectory)
+    refused_key_of(def, KeyName::UserName)?;
+    refused_key_of(def, KeyName::GroupName)?;
+    refused_key_of(def, KeyName::RootDirectory)
 }

@@ -1,4 +1,4 @@
-//! What is around a child: the rows from `EnvironmentVariables` to `StandardErrorPath`.
+//! What is around a child: the keys from `EnvironmentVariables` to `StandardErrorPath`.
 
 ghost use Rattle.std.specs.Prelude.{◌≡◌};
 ghost use Rattle.std.specs.List.{list_any};
@@ -7,24 +7,24 @@ ghost use Rattle.serde_json.specs.View.{view, members_view};
 ghost use Rattle.serde_json.specs.Find.{as_str};
 ghost use Rattle.json_kinds.specs.Faults.{Gives};
 ghost use Rattle.json_kinds.specs.Kinds.{each_member};
-ghost use Rattle.job_defs.specs.Variables.{is_equals, variable_in, variable_by, environment_at, environment_row};
-ghost use Rattle.job_defs.specs.Table.{surroundings_at};
+ghost use Rattle.job_defs.specs.Variables.{is_equals, variable_in, variable_by, environment_at, environment_key};
+ghost use Rattle.job_defs.specs.Keys.{surroundings_at};
 ghost use Rattle.job_defs.specs.Parts.{surroundings_of};
 
 use crate::parts::{Surroundings, Variable};
 use history_model::{KeyName, Reason, Text};
 use json_kinds::DefFault;
+use json_kinds::keys::optional_path_of;
 use json_kinds::kinds::{filled_text, object_of, plain_text};
 use json_kinds::names::key_name;
-use json_kinds::rows::optional_path_of;
 use serde_json::{Map, Value};
 use std::alloc::Global;
 
-#[tactic(auto, unfolding(crate::specs::Table::surroundings_at))]
-pub(crate) fn surroundings_row(alloc: Global, def: &Value) -> Result<Surroundings, DefFault>
+#[tactic(auto, unfolding(crate::specs::Keys::surroundings_at))]
+pub(crate) fn surroundings_keys(alloc: Global, def: &Value) -> Result<Surroundings, DefFault>
     ensures { Gives surroundings_of result (surroundings_at (view def.now)) }
 {
-    let environment = environment_row_of(alloc, def)?;
+    let environment = environment_key_of(alloc, def)?;
     let working_directory = optional_path_of(alloc, def, KeyName::WorkingDirectory)?;
     let standard_in_path = optional_path_of(alloc, def, KeyName::StandardInPath)?;
     let standard_out_path = optional_path_of(alloc, def, KeyName::StandardOutPath)?;
@@ -38,9 +38,9 @@ pub(crate) fn surroundings_row(alloc: Global, def: &Value) -> Result<Surrounding
     })
 }
 
-#[tactic(auto, unfolding(crate::specs::Variables::environment_row))]
-fn environment_row_of(alloc: Global, def: &Value) -> Result<Vec<Variable>, DefFault>
-    ensures { Gives (λ variables. variables.items) result (environment_row (view def.now)) }
+#[tactic(auto, unfolding(crate::specs::Variables::environment_key))]
+fn environment_key_of(alloc: Global, def: &Value) -> Result<Vec<Variable>, DefFault>
+    ensures { Gives (λ variables. variables.items) result (environment_key (view def.now)) }
 {
     match def.get(key_name(KeyName::EnvironmentVariables)) {
         Some(found) => environment_of(alloc, found),
@@ -48,7 +48,7 @@ fn environment_row_of(alloc: Global, def: &Value) -> Result<Vec<Variable>, DefFa
     }
 }
 
-#[tactic(auto, using(json_kinds::proofs::Counts::members_count), unfolding(crate::specs::Variables::environment_at))]
+#[tactic(auto, using(json_kinds::proofs::CountLemmas::members_count), unfolding(crate::specs::Variables::environment_at))]
 fn environment_of(alloc: Global, found: &Value) -> Result<Vec<Variable>, DefFault>
     ensures { Gives (λ variables. variables.items) result (environment_at (view found.now)) }
 {
@@ -75,7 +75,7 @@ fn each_variable(alloc: Global, members: &Map<String, Value>) -> Result<Vec<Vari
     Ok(variables)
 }
 
-/// A variable; None where its value is no string.
+/// A variable; None if its value is no string.
 #[tactic(auto, unfolding(crate::specs::Variables::variable_in))]
 fn variable_of(alloc: Global, name: &str, value: &Value) -> Result<Option<Variable>, DefFault>
     ensures { Gives (λ variable. option_to_list variable) result

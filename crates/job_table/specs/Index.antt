@@ -15,9 +15,9 @@ use Rattle.job_table.specs.declared.entry.Entry.{Entry}
 use Rattle.job_table.specs.declared.jobs.Jobs.{Jobs}
 use Rattle.job_table.specs.declared.jobs.Index.{Index}
 
--- the moment that the job's number is to have: none where the job has left
+-- the moment that the job's number is to have: none if the job is gone
 abbrev pub moment_for : Entry → ℕ → Option ℕ
-moment_for e up = cond e.has_left None (next_by e.core.facts up)
+moment_for e up = cond e.has_gone None (next_by e.core.facts up)
 
 -- each job's number has its moment
 abbrev pub AreTimed : Timers → ℕ → List Entry → Type 0

@@ -10,7 +10,7 @@ pub mod Alike
 pub mod News
 pub mod Numbers
 pub mod Room
-pub mod Telling
+pub mod Hearing
 pub mod Opening
 pub mod Loads
 pub mod Changes

@@ -11,7 +11,7 @@ abbrev pub one_more : Option ℕ → ℕ → ℕ
 one_more None held = held + 1
 one_more (Some place) held = held
 
--- how many settings are held once the label has its new one: one more, only where it had none
+-- how many settings are held once the label has its new one: one more, only if it had none
 abbrev pub held_with : Label → List Setting → ℕ
 held_with label settings = one_more (position (sets label) settings) (length settings)
 

@@ -9,7 +9,7 @@ use Rattle.history_model.specs.Facts.{Facts}
 use Rattle.job_defs.specs.Described.{Described}
 use Rattle.calendar_due.specs.declared.zone.Zone.{Zone}
 
--- a loaded job: its number, its definition, the facts of its past, and how often it was asked for
+-- a loaded job: its number, its definition, the facts of its past, and how often it was visited for
 -- its order
 pub record Row : Type 0 where
   pub number : ℕ
@@ -43,8 +43,8 @@ pub record Table : Type 0 where
   pub is_shutting_down : Bool
   pub rows : List Row  -- the loaded jobs
   pub orders : List Order  -- those that the last event gave
-  pub visited : ℕ  -- how many jobs it asked
-  pub names : List Name  -- of the loaded jobs, and of those that left at the last event
+  pub visited : ℕ  -- how many jobs it visited
+  pub names : List Name  -- of the loaded jobs, and of those that went at the last event
   pub numbers : Slab (Unit {0})  -- the numbers that are given out
   pub reserved : Reserved
 
@@ -64,7 +64,7 @@ definition_of_number [] number = None
 definition_of_number (name ∷ names) number =
     cond (name.number == number) (Some name.described) (definition_of_number names number)
 
--- the order is of a job that is loaded, or that left at this event
+-- the order is of a job that is loaded, or that went at this event
 abbrev pub is_known : List Name → Order → Bool
 is_known names order = is_some (definition_of_number names order.job)
 

@@ -16,9 +16,9 @@ use Rattle.job_table.specs.declared.entry.News.{News}
 use Rattle.job_table.specs.declared.jobs.Jobs.{Jobs}
 
 -- an answer, with the place where it says that all went well
-abbrev pub told_with : Result (Unit {0}) Refusal → ℕ → Result ℕ Refusal
-told_with (Ok done) place = Ok place
-told_with (Err refusal) place = Err refusal
+abbrev pub heard_with : Result (Unit {0}) Refusal → ℕ → Result ℕ Refusal
+heard_with (Ok done) place = Ok place
+heard_with (Err refusal) place = Err refusal
 
 -- the job at this place is the first with the label, and each other entry is as it was
 pub record IsHandedAt (label : Label) (place : ℕ) (es later : List Entry) : Type 0 where

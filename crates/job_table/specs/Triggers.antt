@@ -1,6 +1,6 @@
 -- The triggers of jobs, in one list: the minutes of the hour and the paths that touch them.
-use Rattle.std.specs.Prelude.{◌≡◌, ℕ, nat_lt, Bool, true, false, List, [], ◌∷◌, ◌++◌, map, Option, Some, None, slice_get, ◌==◌}
-use Rattle.std.specs.List.{list_any, flat_map, AllByRecursion}
+use Rattle.std.specs.Prelude.{◌≡◌, ℕ, nat_lt, Bool, true, false, List, [], ◌∷◌, ◌++◌, map, Option, Some, None, slice_get, count_by, ◌==◌}
+use Rattle.std.specs.List.{flat_map, AllByRecursion}
 use Rattle.history_model.specs.Labels.{is_same, is_before}
 use Rattle.job_defs.specs.Described.{Described}
 use Rattle.job_table.specs.Tables.{Name}
@@ -66,13 +66,13 @@ AreOrdered [] = Unit {0}
 AreOrdered (one ∷ rest) =
     AllByRecursion (λ other. is_below (rank one.trigger) other ≡ false) rest × AreOrdered rest
 
--- the list has the triggers of these definitions and no other, whatever is asked of them, and
--- stands in order
+-- the list has each trigger of these definitions as often as they have it, whatever passes, and
+-- no other, and stands in order
 pub record AreListed (listed : List Listed) (names : List Name) : Type 0 where
-  pub exact : (test : Listed → Bool) → list_any test listed ≡ list_any test (listed_in names)
+  pub exact : (test : Listed → Bool) → count_by test listed ≡ count_by test (listed_in names)
   pub order : AreOrdered listed
 
--- the job is there and has not left
+-- the job is there and is not gone
 abbrev pub is_staying : Option Entry → Bool
 is_staying None = false
 is_staying (Some e) = stays e
@@ -81,7 +81,7 @@ abbrev pub stays_at : List Entry → Option ℕ → Bool
 stays_at es None = false
 stays_at es (Some place) = is_staying (slice_get es place)
 
--- the job with this number stands at the number's place and has not left
+-- the job with this number stands at the number's place and is not gone
 abbrev pub stays_under : List ℕ → List Entry → Listed → Bool
 stays_under places es one = stays_at es (slice_get places one.number)
 

@@ -21,7 +21,7 @@ impl Jobs {
     ghost use Rattle.job_table.specs.Sound.{seen, IsSound};
     ghost use Rattle.job_table.specs.Index.{IsIndexed};
 
-    /// Takes in a reading that is not refused, and the civil minutes that it crosses: the jobs that it touches are told it and asked,
+    /// Takes in a reading that is not refused, and the civil minutes that it crosses: the jobs that it touches hear it and give their orders,
     /// and nothing is done for any other. It tells whether all jobs stay.
     pub fn advance(&mut self, at: Reading, minutes: &[CivilMinute]) -> bool
         requires sound { IsSound self.old }

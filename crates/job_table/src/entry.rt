@@ -1,6 +1,7 @@
 //! One place of the table: a job with its definition and its number.
 
 ghost use Rattle.std.specs.Prelude.{◌≡◌, false, ◌<◌, Some, cond, ◌+◌, ◌%◌, ◌^◌, ◌≤◌, ◌∷◌, ◌++◌, [], map};
+ghost use Rattle.job_table.specs.declared.entry.TheConstants.{ORDERS};
 ghost use Rattle.std.specs.Vec.{vec_capacity, vec_len};
 ghost use Rattle.history_model.specs.declared.TheConstants.{MAX_UP};
 ghost use Rattle.history_model.specs.Items.{History};
@@ -15,7 +16,7 @@ ghost use Rattle.job_defs.specs.Definitions.{definition, path_wish};
 ghost use Rattle.job_core.specs.Events.{item_of};
 ghost use Rattle.job_table.specs.Kept.{numbered};
 ghost use Rattle.job_table.specs.News.{item_for};
-ghost use Rattle.job_table.specs.Telling.{IsTold};
+ghost use Rattle.job_table.specs.Hearing.{IsHeard};
 ghost use Rattle.job_table.specs.Visiting.{IsVisit};
 ghost use Rattle.job_table.specs.Entries.{row, name};
 ghost use Rattle.job_table.specs.Tables.{Name, definition_of_number, is_known};
@@ -23,24 +24,27 @@ ghost use Rattle.std.specs.Prelude.{List, is_some, true};
 ghost use Rattle.std.specs.List.{list_all};
 
 use calendar_due::Calendar;
-use history_model::{Act, Ask, CivilMinute, JobNo, Obs, Order, Reading, Text};
+use history_model::{Act, Ask, CivilMinute, JobNo, MAX_CONNECTIONS, Obs, Order, Reading, Text};
 use job_core::{JobCore, JobEvent};
 use job_defs::{Def, PathState};
 
-/// A job with its definition and its number. One that has left stays until the next event.
+/// How many orders one job gives at most in a step: each connection that waits is closed, one order more, and it is gone.
+pub const ORDERS: usize = MAX_CONNECTIONS + 2;
+
+/// A job with its definition and its number. One that is gone stays until the next event.
 #[derive(Drop)]
 pub struct Entry {
     pub number: JobNo,
     pub def: Def,
     pub core: JobCore,
-    pub has_left: bool,
+    pub has_gone: bool,
 }
 
-/// What an event tells the jobs.
+/// What the jobs hear of an event.
 #[derive(Clone, Copy)]
 pub enum News<'a> {
-    /// Nothing: the job at this place, and no other, was told already.
-    Told(usize),
+    /// Nothing: the job at this place, and no other, heard already.
+    Heard(usize),
     /// The launcher shuts down.
     Shutdown,
     /// The clock, and the civil minutes that it crossed.
@@ -50,13 +54,13 @@ pub enum News<'a> {
 }
 
 impl Entry {
-    /// Takes in what is news for this job. It is told nothing that the job refuses.
+    /// Takes in what is news for this job. It hears nothing that it refuses.
     pub fn hear(&mut self, news: News<'_>, now: Reading)
         requires { now.up ≤ MAX_UP }
-        ensures { IsTold now (item_for news.entry self.old.def) self.old self.new }
+        ensures { IsHeard now (item_for news.entry self.old.def) self.old self.new }
     {
         match news {
-            News::Told(_) => {}
+            News::Heard(_) => {}
             News::Shutdown => self.take_in(JobEvent::Asked(Ask::Shutdown), now),
             News::Reading(at, minutes) => {
                 let fires = Calendar::fires(self.def.calendar(), minutes);
@@ -73,7 +77,7 @@ impl Entry {
     /// Takes in an event that the job does not refuse.
     fn take_in(&mut self, event: JobEvent<'_>, now: Reading)
         requires { now.up ≤ MAX_UP }
-        ensures { IsTold now (Some (item_of event.entry)) self.old self.new }
+        ensures { IsHeard now (Some (item_of event.entry)) self.old self.new }
     {
         let _accepted = self.core.event(event, now);
     }
@@ -82,17 +86,17 @@ impl Entry {
     pub fn visit(&mut self, news: News<'_>, before: Reading, now: Reading, orders: &mut Vec<Order>)
         requires before_in_range { before.up ≤ MAX_UP }
         requires in_range { now.up ≤ MAX_UP }
-        requires room { vec_len orders.old + 66 ≤ vec_capacity orders.old }
+        requires room { vec_len orders.old + ORDERS ≤ vec_capacity orders.old }
         ensures visit { IsVisit before now (item_for news.entry self.old.def)
             self.old self.new orders.old.items orders.new.items }
         ensures decided { self.new.core.decided
-            ≡ cond self.new.has_left self.old.core.decided ((self.old.core.decided + 1) % 2 ^ 64) }
+            ≡ cond self.new.has_gone self.old.core.decided ((self.old.core.decided + 1) % 2 ^ 64) }
         ensures known { (names : List Name) →
             is_some (definition_of_number names self.old.number) ≡ true →
             list_all (is_known names) orders.old.items ≡ true →
             list_all (is_known names) orders.new.items ≡ true }
         ensures name { name self.new ≡ name self.old }
-        ensures count { vec_len orders.new ≤ vec_len orders.old + 66 }
+        ensures count { vec_len orders.new ≤ vec_len orders.old + ORDERS }
         ensures capacity { vec_capacity orders.new ≡ vec_capacity orders.old }
     {
         self.hear(news, before);
@@ -102,26 +106,26 @@ impl Entry {
     /// Asks the job for its orders. One that is gone closes its connections and leaves.
     pub fn ask(&mut self, now: Reading, orders: &mut Vec<Order>)
         requires in_range { now.up ≤ MAX_UP }
-        requires room { vec_len orders.old + 66 ≤ vec_capacity orders.old }
+        requires room { vec_len orders.old + ORDERS ≤ vec_capacity orders.old }
         ensures orders { (past : History) → Keeps self.old.core.facts past → now ≡ clock.now past →
             orders.new.items ≡ orders.old.items ++ numbered self.old.number (acts_of past) }
-        ensures left { (past : History) → Keeps self.old.core.facts past → now ≡ clock.now past →
-            self.new.has_left ≡ is_gone past }
+        ensures going { (past : History) → Keeps self.old.core.facts past → now ≡ clock.now past →
+            self.new.has_gone ≡ is_gone past }
         ensures kept { (past : History) → Keeps self.old.core.facts past → now ≡ clock.now past →
             is_gone past ≡ false →
             Keeps self.new.core.facts (ordered (due past) past) }
         ensures decided { self.new.core.decided
-            ≡ cond self.new.has_left self.old.core.decided ((self.old.core.decided + 1) % 2 ^ 64) }
+            ≡ cond self.new.has_gone self.old.core.decided ((self.old.core.decided + 1) % 2 ^ 64) }
         ensures known { (names : List Name) →
             is_some (definition_of_number names self.old.number) ≡ true →
             list_all (is_known names) orders.old.items ≡ true →
             list_all (is_known names) orders.new.items ≡ true }
         ensures name { name self.new ≡ name self.old }
-        ensures count { vec_len orders.new ≤ vec_len orders.old + 66 }
+        ensures count { vec_len orders.new ≤ vec_len orders.old + ORDERS }
         ensures capacity { vec_capacity orders.new ≡ vec_capacity orders.old }
     {
-        self.has_left = self.core.is_gone();
-        if self.has_left {
+        self.has_gone = self.core.is_gone();
+        if self.has_gone {
             self.leave(orders);
         } else if let Some(act) = self.core.decide(now) {
             orders.push_reserved(Order {
@@ -133,7 +137,7 @@ impl Entry {
 
     /// Closes the waiting connections in order of arrival, and says that the job is gone.
     fn leave(&self, orders: &mut Vec<Order>)
-        requires room { vec_len orders.old + 66 ≤ vec_capacity orders.old }
+        requires room { vec_len orders.old + ORDERS ≤ vec_capacity orders.old }
         ensures orders { (past : History) → Keeps self.now.core.facts past →
             orders.new.items
             ≡ orders.old.items
@@ -142,7 +146,7 @@ impl Entry {
             is_some (definition_of_number names self.now.number) ≡ true →
             list_all (is_known names) orders.old.items ≡ true →
             list_all (is_known names) orders.new.items ≡ true }
-        ensures count { vec_len orders.new ≤ vec_len orders.old + 66 }
+        ensures count { vec_len orders.new ≤ vec_len orders.old + ORDERS }
         ensures capacity { vec_capacity orders.new ≡ vec_capacity orders.old }
     {
         let mut place = 0;

@@ -8,9 +8,9 @@ ghost use Rattle.job_table.specs.Tables.{label_of, definition_of_number, labels_
 ghost use Rattle.job_table.specs.Entries.{name, has_number, has_label, is_here, is_above, place_for};
 ghost use Rattle.job_table.specs.Index.{ArePlaced};
 
+use crate::byte_order::is_before;
 use crate::entry::Entry;
 use crate::jobs::Jobs;
-use crate::order::is_before;
 use history_model::JobNo;
 use job_defs::Def;
 
@@ -87,13 +87,13 @@ fn has_label(entry: &Entry, label: &str) -> bool
     label == entry.def.label()
 }
 
-/// The place of the job with this label that has not left.
+/// The place of the job with this label that is not gone.
 pub fn place_here(entries: &[Entry], label: &str) -> Option<usize>
     requires { AreInOrder (labels_in (map name entries.now)) }
     ensures { result ≡ position (is_here label.now) entries.now }
 {
     let place = place_of(entries, label)?;
-    if entries[place].has_left {
+    if entries[place].has_gone {
         return None;
     }
     Some(place)

@@ -3,7 +3,7 @@
 ghost use Rattle.std.specs.Prelude.{◌≡◌, ◌≤◌, ◌<◌, ◌+◌, ℕ, OnOk, map, length};
 ghost use Rattle.std.specs.Prelude.{is_some, true};
 ghost use Rattle.timer_heap.specs.Timers.{room};
-ghost use Rattle.history_model.specs.declared.TheConstants.{MAX_UP};
+ghost use Rattle.history_model.specs.declared.TheConstants.{MAX_JOBS, MAX_UP};
 ghost use Rattle.job_table.specs.Tables.{IsOnce, definition_of_number};
 ghost use Rattle.job_table.specs.Entries.{name};
 ghost use Rattle.job_table.specs.Index.{AreAlone, AreTimed, ArePlaced, HaveRoom, IsIndexOf};
@@ -18,7 +18,7 @@ use timer_heap::TimerHeap;
 /// Gives each entry's number its place and its next moment. It takes no memory.
 pub fn remake(timers: &mut TimerHeap, places: &mut [u32], entries: &[Entry], at: Reading)
     requires once { IsOnce (map name entries.now) }
-    requires few { length entries.now ≤ 1024 }
+    requires few { length entries.now ≤ MAX_JOBS }
     requires in_range { at.up ≤ MAX_UP }
     requires space { HaveRoom timers.old (map name entries.now) }
     requires fits { (number : ℕ) →
@@ -42,7 +42,7 @@ pub fn remake(timers: &mut TimerHeap, places: &mut [u32], entries: &[Entry], at:
 /// Gives each entry's number its place. It takes no memory.
 pub fn place_all(places: &mut [u32], entries: &[Entry])
     requires once { IsOnce (map name entries.now) }
-    requires few { length entries.now ≤ 1024 }
+    requires few { length entries.now ≤ MAX_JOBS }
     requires fits { (number : ℕ) →
         is_some (definition_of_number (map name entries.now) number) ≡ true →
         number < length places.old }
@@ -65,7 +65,7 @@ pub fn grow(
     at: Reading,
 ) -> Result<(), AllocError>
     requires once { IsOnce (map name entries.now) }
-    requires few { length entries.now ≤ 1024 }
+    requires few { length entries.now ≤ MAX_JOBS }
     requires in_range { at.up ≤ MAX_UP }
     requires indexed { IsIndexOf index.old at.up entries.now }
     ensures indexed { IsIndexOf index.new at.up entries.now }

@@ -7,7 +7,7 @@ ghost use Rattle.history_model.specs.Clock.{reading_in};
 ghost use Rattle.history_model.specs.Items.{Item};
 ghost use Rattle.history_model.specs.Machine.{Job, is_of, past_in};
 ghost use Rattle.history_model.specs.Acceptance.{refusal_at};
-ghost use Rattle.history_model.specs.Step.{told, told_one, stays, orders_of};
+ghost use Rattle.history_model.specs.Step.{heard, heard_one, stays, orders_of};
 ghost use Rattle.job_core.specs.Events.{item_of};
 ghost use Rattle.job_table.specs.Kept.{KeepsJobs, labelled};
 ghost use Rattle.job_table.specs.Numbers.{names_of};
@@ -15,11 +15,11 @@ ghost use Rattle.job_table.specs.Room.{HasSameRoom};
 ghost use Rattle.job_table.specs.Entries.{rows, name, AllStay};
 ghost use Rattle.job_table.specs.Counts.{counts, IsCounted};
 ghost use Rattle.job_core.specs.Memory.{NeedsNoMemory};
-ghost use Rattle.job_table.specs.Telling.{AreFor, IsAccepted, present_with};
-ghost use Rattle.job_table.specs.Loads.{refusal_told};
-ghost use Rattle.job_table.specs.Touched.{told_with, IsHandedAt, AreTimedBut, RestBut, SparesBut};
+ghost use Rattle.job_table.specs.Hearing.{AreFor, IsAccepted, present_with};
+ghost use Rattle.job_table.specs.Loads.{refused_with};
+ghost use Rattle.job_table.specs.Touched.{heard_with, IsHandedAt, AreTimedBut, RestBut, SparesBut};
 ghost use Rattle.job_table.specs.Index.{ArePlaced};
-ghost use Rattle.job_table.specs.News.{told_at};
+ghost use Rattle.job_table.specs.News.{heard_at};
 ghost use Rattle.std.specs.Option.{ForSome};
 
 use crate::entry::{Entry, News};
@@ -49,9 +49,9 @@ pub struct Jobs {
     pub orders: Vec<Order>,
     pub visited: u32,
     pub index: Index,
-    /// No job left at the last event; where it is not set, one may have.
+    /// No job went at the last event; if it is not set, one may have.
     pub all_stay: bool,
-    /// A job that is loaded, or that left at the last event, has calendar entries.
+    /// A job that is loaded, or that went at the last event, has calendar entries.
     pub has_calendars: bool,
     /// What touches those jobs, in order.
     pub triggers: Vec<Listed>,
@@ -72,7 +72,7 @@ impl Jobs {
     ghost use Rattle.job_table.specs.Sound.{seen, IsSound, IsWhole};
     ghost use Rattle.job_table.specs.Alike.{IsAlike};
 
-    /// Drops the jobs that left at the last event, and its orders.
+    /// Drops the jobs that went at the last event, and its orders.
     pub fn begin(&mut self)
         requires { IsWhole self.old }
         ensures whole { IsWhole self.new }
@@ -101,14 +101,14 @@ impl Jobs {
         self.all_stay = true;
     }
 
-    /// Hands an event to the job with this label, and tells the job's place.
+    /// Hands an event to the job with this label, and gives the job's place.
     pub fn hand(&mut self, label: &str, event: JobEvent<'_>) -> Result<usize, Refusal>
         requires sound { IsSound self.old }
         requires stay { AllStay self.old.entries.items }
         requires silent { reading_in (item_of event) ≡ None }
         ensures answer { (jobs : List Job) →
             KeepsJobs self.old.reading (rows self.old.entries.items) jobs →
-            refusal_told result
+            refused_with result
             ≡ refusal_at (past_in (first (filter (is_of label.now) jobs))) (item_of event.entry) }
         ensures place { IfOk result (λ place.
             IsHandedAt label.now place self.old.entries.items self.new.entries.items) }
@@ -116,7 +116,7 @@ impl Jobs {
             KeepsJobs self.old.reading (rows self.old.entries.items) jobs →
             OnOk result
             (KeepsJobs self.old.reading (rows self.new.entries.items)
-            (told_one label.now (item_of event.entry) jobs)) }
+            (heard_one label.now (item_of event.entry) jobs)) }
         ensures rows { OnErr result (rows self.new.entries.items ≡ rows self.old.entries.items) }
         ensures names { map name self.new.entries.items ≡ map name self.old.entries.items }
         ensures counts { counts (rows self.new.entries.items)
@@ -134,7 +134,7 @@ impl Jobs {
         };
         let entry = &mut self.entries[place];
         let answer = entry.core.event(event, self.reading);
-        told_with(answer, place)
+        heard_with(answer, place)
     }
 
     /// Tells the jobs that the news touch what is new to them, and asks them alone. The reading stays.
@@ -143,7 +143,7 @@ impl Jobs {
         requires stay { AllStay self.old.entries.items }
         requires empty { self.old.orders.items ≡ [] }
         requires still { present_with news self.old.reading ≡ self.old.reading }
-        requires inside { ForSome (told_at news) (λ place. place < length self.old.entries.items) }
+        requires inside { ForSome (heard_at news) (λ place. place < length self.old.entries.items) }
         requires placed { ArePlaced self.old.index.places.items self.old.entries.items }
         requires timed { AreTimedBut news self.old }
         ensures kept { (jobs : List Job) (item : Job → Option Item) →
@@ -152,18 +152,19 @@ impl Jobs {
             RestBut news.entry 0 (rows self.old.entries.items) jobs →
             KeepsJobs self.old.reading (rows self.old.entries.items) jobs →
             KeepsJobs self.old.reading (rows self.new.entries.items)
-            (filter_map stays (told item jobs)) }
+            (filter_map stays (heard item jobs)) }
         ensures orders { (jobs : List Job) (item : Job → Option Item) →
             AreFor news.entry item (rows self.old.entries.items) jobs →
             IsAccepted self.old.reading item →
             RestBut news.entry 0 (rows self.old.entries.items) jobs →
             KeepsJobs self.old.reading (rows self.old.entries.items) jobs →
             labelled (map name self.new.entries.items) self.new.orders.items
-            ≡ flat_map orders_of (told item jobs) }
+            ≡ flat_map orders_of (heard item jobs) }
         ensures names { map name self.new.entries.items ≡ map name self.old.entries.items }
         ensures counted { IsCounted (counts (rows self.old.entries.items))
             (rows self.new.entries.items) self.new.visited }
         ensures spared { SparesBut news.entry self.old.entries.items self.new.entries.items }
+        ensures triggers { self.new.triggers ≡ self.old.triggers }
         ensures whole { IsWhole self.new }
         ensures alike { IsAlike self.old self.new }
         ensures room { HasSameRoom (seen self.old) (seen self.new) }
@@ -190,8 +191,8 @@ impl Jobs {
 }
 
 /// The answer of the job at this place, with the place.
-fn told_with(answer: Result<(), Refusal>, place: usize) -> Result<usize, Refusal>
-    ensures { result ≡ told_with answer place }
+fn heard_with(answer: Result<(), Refusal>, place: usize) -> Result<usize, Refusal>
+    ensures { result ≡ heard_with answer place }
 {
     match answer {
         Ok(()) => Ok(place),

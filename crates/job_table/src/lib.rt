@@ -1,7 +1,7 @@
 //! Many jobs: the table of the loaded ones, which keeps a machine that holds, for each job, only the list of its past.
 #![tactic(auto)]
 
-ghost use Rattle.std.specs.Prelude.{◌≡◌, ◌≤◌, Bool, true, false, Some, None, Err, IsOk, IfOk, IfErr, MatchResult};
+ghost use Rattle.std.specs.Prelude.{◌≡◌, ◌≤◌, Bool, true, false, Some, None, Err, IsOk, IfOk, IfErr, MatchResult, length};
 ghost use Rattle.std.specs.Borrow.{sem};
 ghost use Rattle.std.specs.String.{string_bytes};
 ghost use Rattle.history_model.specs.declared.Answer.TheVariants as answers;
@@ -14,6 +14,7 @@ ghost use Rattle.history_model.specs.Machine.{State, opened, ListJobs, PrintJob,
 
 mod advance;
 mod after;
+mod byte_order;
 mod changing;
 mod entry;
 mod events;
@@ -24,7 +25,6 @@ mod loading;
 mod mark;
 mod moments;
 mod opening;
-mod order;
 mod prepared;
 mod questions;
 mod scan;
@@ -41,7 +41,7 @@ pub use job_core::JobEvent;
 use job_defs::Def;
 use jobs::Jobs;
 pub use loading::Ready;
-use scan::all_left;
+use scan::all_gone;
 use std::alloc::Global;
 use std::marker::Model;
 
@@ -68,7 +68,7 @@ impl Model for JobTable {
 pub struct Step<'a> {
     /// In byte order of labels.
     pub orders: &'a [Order],
-    /// How many jobs were asked for their order.
+    /// How many jobs were visited.
     pub visited: u32,
     table: &'a JobTable,
 }
@@ -78,7 +78,7 @@ impl<'a> Step<'a> {
     ghost use Rattle.job_table.specs.Tables.{label_of, definition_of_number};
     ghost use Rattle.job_table.specs.Ends.{names_in};
 
-    /// The label of the job with this number, also of one that just left; the empty text for a number that no job has.
+    /// The label of the job with this number, also of one that is just gone; the empty text for a number that no job has.
     pub fn label(&self, job: JobNo) -> &'a str
         ensures { result.now ≡ label_of (names_in self.now) job }
     {
@@ -86,8 +86,8 @@ impl<'a> Step<'a> {
         table.jobs.label(job)
     }
 
-    /// The definition of the job with this number, also of one that just left. The caller's condition: the number is that of
-    /// a job that is loaded or just left, as in each order of the step.
+    /// The definition of the job with this number, also of one that is just gone. The caller's condition: the number is that of
+    /// a job that is loaded or just gone, as in each order of the step.
     pub fn def(&self, job: JobNo) -> &'a Def
         requires { is_some (definition_of_number (names_in self.now) job) ≡ true }
         ensures { definition_of_number (names_in self.now) job ≡ Some result.now }
@@ -99,18 +99,19 @@ impl<'a> Step<'a> {
 
 impl JobTable {
     ghost use Rattle.job_table.specs.Ends.{IsAnswer, GoesOn, GoesOnUnless, AreKnown, acts_of, names_in};
-    ghost use Rattle.job_table.specs.Outcomes.{UnlessMemory, IsToldText, Tells};
+    ghost use Rattle.job_table.specs.Outcomes.{UnlessMemory, IsReplyText, Means};
     ghost use Rattle.job_core.specs.Memory.{NeedsNoMemory};
     ghost use Rattle.job_table.specs.Kept.{acts_in, is_none, KeepsState};
     ghost use Rattle.job_table.specs.Opening.{opening_refusal};
     ghost use Rattle.job_table.specs.Minutes.{has_calendars};
     ghost use Rattle.job_table.specs.Numbers.{IsNumbered};
+    ghost use Rattle.job_table.specs.Triggers.{listed_in};
     ghost use Rattle.history_model.specs.Clock.{reading_in};
     ghost use Rattle.job_core.specs.Events.{item_of};
 
     /// A table with no job, opened at a reading in a zone, with the overrides that `enable` and `disable` left, oldest
-    /// first: of a label given twice the last counts. Refusals: BadRequest, where an override's name is no label; then
-    /// ClockRefused, where the reading is past a limit. NoMemory is not answered.
+    /// first: of a label given twice the last counts. Refusals: BadRequest, if an override's name is no label; then
+    /// ClockRefused, if the reading is past a limit. NoMemory is not answered.
     pub fn new(
         alloc: Global,
         reading: Reading,
@@ -138,13 +139,14 @@ impl JobTable {
     }
 
     /// Lends what the last event gave.
-    #[tactic(auto, using(crate::proofs::Numbering::numbered))]
-    pub fn given(&self) -> Step<'_>
+    #[tactic(auto, using(crate::proofs::NumbersLemmas::numbered, crate::proofs::TriggerCountLemmas::triggers_held))]
+    pub fn last_step(&self) -> Step<'_>
         ensures orders { acts_of result ≡ acts_in self.now }
         ensures visited { result.visited ≡ self.now.visited }
         ensures known { AreKnown result }
         ensures names { names_in result ≡ self.now.names }
         ensures numbered { IsNumbered self.now }
+        ensures triggers { self.now.reserved.held_triggers ≡ length (listed_in self.now.names) }
     {
         Step {
             orders: &self.jobs.orders,
@@ -156,15 +158,15 @@ impl JobTable {
     /// Tells the job with this label what happened to it: any event but a reading of the clocks, which is every job's. The
     /// named calls below are this one, each for its event. Refusals: BadRequest (no label, or a process id of 0), NoSuchJob,
     /// and those of the event.
-    pub fn tell(&mut self, label: &str, event: JobEvent<'_>) -> Result<Step<'_>, Refusal>
+    pub fn hear(&mut self, label: &str, event: JobEvent<'_>) -> Result<Step<'_>, Refusal>
         requires silent { reading_in (item_of event) ≡ None }
         ensures answer { IsAnswer (OfJob label.now (item_of event.entry)) self.old result }
         ensures memory { NeedsNoMemory result }
         ensures known { IfOk result AreKnown }
         ensures* kept { sem 𝓛 (GoesOn self.entry result (OfJob label.now (item_of event.entry))) }
     {
-        self.jobs.tell(label, event)?;
-        Ok(self.given())
+        self.jobs.hear(label, event)?;
+        Ok(self.last_step())
     }
 
     /// Starts the job, as `start` of launchctl(1): a demand that is pending until a later spawn went well. A job whose child
@@ -175,8 +177,8 @@ impl JobTable {
         ensures known { IfOk result AreKnown }
         ensures* kept { sem 𝓛 (GoesOn self.entry result (OfJob label.now (Asked Ask.Start))) }
     {
-        self.jobs.tell(label, JobEvent::Asked(Ask::Start))?;
-        Ok(self.given())
+        self.jobs.hear(label, JobEvent::Asked(Ask::Start))?;
+        Ok(self.last_step())
     }
 
     /// Stops the job's child, as `stop` of launchctl(1): by TERM, and by KILL once the definition's `ExitTimeOut` is over.
@@ -187,8 +189,8 @@ impl JobTable {
         ensures known { IfOk result AreKnown }
         ensures* kept { sem 𝓛 (GoesOn self.entry result (OfJob label.now (Asked Ask.Stop))) }
     {
-        self.jobs.tell(label, JobEvent::Asked(Ask::Stop))?;
-        Ok(self.given())
+        self.jobs.hear(label, JobEvent::Asked(Ask::Stop))?;
+        Ok(self.last_step())
     }
 
     /// Starts the job; with `kills_first` its child is first ended by KILL, as `kickstart -k` of launchctl(1). Refusals:
@@ -202,20 +204,20 @@ impl JobTable {
             (GoesOn self.entry result (OfJob label.now (Asked (Ask.Kickstart kills_first)))) }
     {
         self.jobs
-            .tell(label, JobEvent::Asked(Ask::Kickstart(kills_first)))?;
-        Ok(self.given())
+            .hear(label, JobEvent::Asked(Ask::Kickstart(kills_first)))?;
+        Ok(self.last_step())
     }
 
     /// A connection came to one of the job's sockets; its number is above every earlier one of this load. Refusals: BadRequest
-    /// (no label), NoSuchJob, Removing, Stale (no sockets, or a number that is not new), TooManyConnections (64 wait).
+    /// (no label), NoSuchJob, Removing, Stale (no sockets, or a number that is not new), TooManyConnections (`MAX_CONNECTIONS` wait).
     pub fn came(&mut self, label: &str, conn: u64) -> Result<Step<'_>, Refusal>
         ensures answer { IsAnswer (OfJob label.now (Came conn)) self.old result }
         ensures memory { NeedsNoMemory result }
         ensures known { IfOk result AreKnown }
         ensures* kept { sem 𝓛 (GoesOn self.entry result (OfJob label.now (Came conn))) }
     {
-        self.jobs.tell(label, JobEvent::Came(conn))?;
-        Ok(self.given())
+        self.jobs.hear(label, JobEvent::Came(conn))?;
+        Ok(self.last_step())
     }
 
     /// A waiting connection was given up by its client. Refusals: BadRequest (no label), NoSuchJob, Stale (it does not wait).
@@ -225,8 +227,8 @@ impl JobTable {
         ensures known { IfOk result AreKnown }
         ensures* kept { sem 𝓛 (GoesOn self.entry result (OfJob label.now (Left conn))) }
     {
-        self.jobs.tell(label, JobEvent::Left(conn))?;
-        Ok(self.given())
+        self.jobs.hear(label, JobEvent::Left(conn))?;
+        Ok(self.last_step())
     }
 
     /// The spawn of a run went well, under this process id. Refusals: BadRequest (no label, or an id of 0), NoSuchJob, Stale
@@ -240,8 +242,8 @@ impl JobTable {
             (GoesOn self.entry result (OfJob label.now (Answered (answers.Spawned run pid)))) }
     {
         self.jobs
-            .tell(label, JobEvent::Answered(Answer::Spawned { run, pid }))?;
-        Ok(self.given())
+            .hear(label, JobEvent::Answered(Answer::Spawned { run, pid }))?;
+        Ok(self.last_step())
     }
 
     /// The spawn of a run was refused. Its demand stays, and the next spawn waits at least a second. Refusals: BadRequest (no
@@ -255,8 +257,8 @@ impl JobTable {
             (GoesOn self.entry result (OfJob label.now (Answered (answers.SpawnRefused run)))) }
     {
         self.jobs
-            .tell(label, JobEvent::Answered(Answer::SpawnRefused { run }))?;
-        Ok(self.given())
+            .hear(label, JobEvent::Answered(Answer::SpawnRefused { run }))?;
+        Ok(self.last_step())
     }
 
     /// TERM was given to a run, or refused. Refusals: BadRequest (no label), NoSuchJob, Stale (this answer is not awaited).
@@ -269,8 +271,8 @@ impl JobTable {
             (GoesOn self.entry result (OfJob label.now (Answered (answers.Termed run ok)))) }
     {
         self.jobs
-            .tell(label, JobEvent::Answered(Answer::Termed { run, ok }))?;
-        Ok(self.given())
+            .hear(label, JobEvent::Answered(Answer::Termed { run, ok }))?;
+        Ok(self.last_step())
     }
 
     /// KILL was given to a run, or refused. Refusals: BadRequest (no label), NoSuchJob, Stale (this answer is not awaited).
@@ -283,8 +285,8 @@ impl JobTable {
             (GoesOn self.entry result (OfJob label.now (Answered (answers.Killed run ok)))) }
     {
         self.jobs
-            .tell(label, JobEvent::Answered(Answer::Killed { run, ok }))?;
-        Ok(self.given())
+            .hear(label, JobEvent::Answered(Answer::Killed { run, ok }))?;
+        Ok(self.last_step())
     }
 
     /// A run ended. Refusals: BadRequest (no label), NoSuchJob, Stale (it is not the present child's run).
@@ -294,8 +296,8 @@ impl JobTable {
         ensures known { IfOk result AreKnown }
         ensures* kept { sem 𝓛 (GoesOn self.entry result (OfJob label.now (RunEnded run how))) }
     {
-        self.jobs.tell(label, JobEvent::Ended(run, how))?;
-        Ok(self.given())
+        self.jobs.hear(label, JobEvent::Ended(run, how))?;
+        Ok(self.last_step())
     }
 
     /// The wait for a run was refused: nothing is known of its end. Refusals: BadRequest (no label), NoSuchJob, Stale (it is
@@ -306,11 +308,11 @@ impl JobTable {
         ensures known { IfOk result AreKnown }
         ensures* kept { sem 𝓛 (GoesOn self.entry result (OfJob label.now (WaitRefused run))) }
     {
-        self.jobs.tell(label, JobEvent::WaitRefused { run })?;
-        Ok(self.given())
+        self.jobs.hear(label, JobEvent::WaitRefused { run })?;
+        Ok(self.last_step())
     }
 
-    /// Removes every job, each once its child has ended; after it no load is accepted. Refusal: ShuttingDown, where a shutdown
+    /// Removes every job, each once its child has ended; after it no load is accepted. Refusal: ShuttingDown, if a shutdown
     /// was accepted before.
     pub fn shutdown(&mut self) -> Result<Step<'_>, Refusal>
         ensures answer { IsAnswer ShutDown self.old result }
@@ -319,7 +321,7 @@ impl JobTable {
         ensures* kept { sem 𝓛 (GoesOn self.entry result ShutDown) }
     {
         self.jobs.shut_down()?;
-        Ok(self.given())
+        Ok(self.last_step())
     }
 
     /// Removes the job once its child has ended, as `unload` of launchctl(1) without `-w`: no setting is written. Refusals:
@@ -332,7 +334,7 @@ impl JobTable {
         ensures* kept { sem 𝓛 (GoesOn self.entry result (UnloadJob label.now false true)) }
     {
         self.jobs.unload(label)?;
-        Ok(self.given())
+        Ok(self.last_step())
     }
 
     /// A look at a path, which counts for the jobs that list it. It is never refused.
@@ -343,12 +345,12 @@ impl JobTable {
         ensures* kept { sem 𝓛 (GoesOn self.entry result (Sight path.now obs)) }
     {
         self.jobs.saw(path, obs);
-        Ok(self.given())
+        Ok(self.last_step())
     }
 
     /// A reading of the clocks: milliseconds of `up`, which never fall, and seconds of `wall`. The civil minutes that it
-    /// crosses are computed once, and only where a job with calendar entries is loaded. Refusals: ClockRefused, where `up`
-    /// falls or one of the two is past its limit; NoMemory, only where a job with calendar entries is loaded: the reading
+    /// crosses are computed once, and only if a job with calendar entries is loaded. Refusals: ClockRefused, if `up`
+    /// falls or one of the two is past its limit; NoMemory, only if a job with calendar entries is loaded: the reading
     /// is then not taken in.
     pub fn clock(&mut self, alloc: Global, at: Reading) -> Result<Step<'_>, Refusal>
         ensures answer { UnlessMemory result (IsAnswer (Tick at) self.old result) }
@@ -357,13 +359,13 @@ impl JobTable {
         ensures* kept { sem 𝓛 (GoesOnUnless self.entry result (Tick at)) }
     {
         self.jobs.clock(alloc, at)?;
-        Ok(self.given())
+        Ok(self.last_step())
     }
 
     /// The text of `list` of launchctl(1): for each loaded job the process id of its child, its last end and its label.
     /// Refusal: NoMemory.
     pub fn list(&self, alloc: Global) -> Result<String, Refusal>
-        ensures text { IfOk result (λ text. IsToldText ListJobs self.now (string_bytes text)) }
+        ensures text { IfOk result (λ text. IsReplyText ListJobs self.now (string_bytes text)) }
         ensures memory { IfErr result (λ refusal. refusal ≡ NoMemory) }
     {
         match questions::list(alloc, &self.jobs.entries) {
@@ -376,8 +378,8 @@ impl JobTable {
     /// Refusals: BadRequest (no label), NoSuchJob; NoMemory.
     pub fn print(&self, alloc: Global, label: &str) -> Result<String, Refusal>
         ensures text { IfOk result (λ text.
-            IsToldText (PrintJob label.now) self.now (string_bytes text)) }
-        ensures refused { IfErr result (λ refusal. Tells refusal ((s : State) →
+            IsReplyText (PrintJob label.now) self.now (string_bytes text)) }
+        ensures refused { IfErr result (λ refusal. Means refusal ((s : State) →
             KeepsState self.now s → refusal_in s (PrintJob label.now) ≡ Some refusal)) }
     {
         self.jobs.print(alloc, label)
@@ -387,6 +389,6 @@ impl JobTable {
     pub fn is_empty(&self) -> bool
         ensures { (s : State) → KeepsState self.now s → result ≡ is_none s.jobs }
     {
-        all_left(&self.jobs.entries)
+        all_gone(&self.jobs.entries)
     }
 }

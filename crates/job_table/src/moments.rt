@@ -33,9 +33,9 @@ impl JobTable {
     }
 }
 
-/// Whether a job that has not left has calendar entries.
+/// Whether a job that is not gone has calendar entries.
 fn is_some_with_calendar(entries: &[Entry]) -> bool
-    ensures { result ≡ list_any (λ e. not e.has_left && is_some_entry e.def.calendar) entries.now }
+    ensures { result ≡ list_any (λ e. not e.has_gone && is_some_entry e.def.calendar) entries.now }
 {
-    entries.iter().any(|entry| !entry.has_left && !entry.def.calendar().is_empty())
+    entries.iter().any(|entry| !entry.has_gone && !entry.def.calendar().is_empty())
 }

@@ -6,7 +6,7 @@ ghost use Rattle.history_model.specs.Labels.{is_before};
 ghost use Rattle.job_table.specs.Triggers.{rank, rank_of, path_in, triggers_of, minute_before};
 ghost use Rattle.job_table.specs.declared.trigger.Trigger.TheVariants as triggers;
 
-use crate::order::is_before;
+use crate::byte_order::is_before;
 use history_model::{Entry as Due, JobNo, Text};
 use job_defs::{Def, PathState};
 use std::alloc::{AllocError, Global};

@@ -1,7 +1,7 @@
 //! The list of triggers, in order.
 
-ghost use Rattle.std.specs.Prelude.{◌≡◌, ◌≤◌, ◌<◌, ◌+◌, ◌||◌, ℕ, Bool, Some, true, false, map, length, slice_get};
-ghost use Rattle.std.specs.List.{filter, list_any};
+ghost use Rattle.std.specs.Prelude.{◌≡◌, ◌≤◌, ◌<◌, ◌+◌, ℕ, Bool, Some, true, false, map, length, slice_get, count_by};
+ghost use Rattle.std.specs.List.{filter};
 ghost use Rattle.std.specs.Option.{option_map};
 ghost use Rattle.std.specs.Vec.{vec_capacity, vec_len};
 ghost use Rattle.job_table.specs.Entries.{name, rows};
@@ -73,14 +73,15 @@ pub fn enlist(listed: &mut Vec<Listed>, triggers: Vec<Trigger>, number: JobNo)
     requires order { AreOrdered listed.old.items }
     requires room { vec_len listed.old + vec_len triggers ≤ vec_capacity listed.old }
     ensures exact { (test : Listed → Bool) →
-        list_any test listed.new.items
-        ≡ (list_any test listed.old.items
-        || list_any (λ trigger. test (under number trigger)) triggers.items) }
+        count_by test listed.new.items
+        ≡ count_by test listed.old.items
+        + count_by (λ trigger. test (under number trigger)) triggers.items }
+    ensures count { vec_len listed.new ≡ vec_len listed.old + vec_len triggers }
     ensures order { AreOrdered listed.new.items }
     ensures capacity { vec_capacity listed.new ≡ vec_capacity listed.old }
 {
-    let mut left = triggers;
-    while let Some(trigger) = left.pop() {
+    let mut unlisted = triggers;
+    while let Some(trigger) = unlisted.pop() {
         let place = place_behind(listed, trigger.lent());
         match listed.insert(place, Listed { trigger, number }) {
             Ok(()) => {}
@@ -89,7 +90,7 @@ pub fn enlist(listed: &mut Vec<Listed>, triggers: Vec<Trigger>, number: JobNo)
     }
 }
 
-/// Drops the triggers of the jobs that left.
+/// Drops the triggers of the jobs that are gone.
 pub fn forget(listed: &mut Vec<Listed>, places: &[u32], entries: &[Entry])
     ensures items { listed.new.items
         ≡ filter (stays_under places.now entries.now) listed.old.items }
@@ -98,7 +99,7 @@ pub fn forget(listed: &mut Vec<Listed>, places: &[u32], entries: &[Entry])
     listed.retain(|one| stays(one, places, entries));
 }
 
-/// Whether the job of this trigger has not left.
+/// Whether the job of this trigger is not gone.
 fn stays(one: &Listed, places: &[u32], entries: &[Entry]) -> bool
     ensures { result ≡ stays_under places.now entries.now one.now }
 {
@@ -107,11 +108,11 @@ fn stays(one: &Listed, places: &[u32], entries: &[Entry]) -> bool
     };
     match entries.get(*place as usize) {
         None => false,
-        Some(entry) => !entry.has_left,
+        Some(entry) => !entry.has_gone,
     }
 }
 
-/// The path that comes next after the text, of a job that has not left.
+/// The path that comes next after the text, of a job that is not gone.
 pub fn path_after<'x>(
     listed: &'x [Listed],
     places: &[u32],

@@ -1,18 +1,19 @@
 //! What an event does to the jobs that it touches, and to no other.
 
 ghost use Rattle.std.specs.Prelude.{◌≡◌, ◌≤◌, ◌<◌, ◌*◌, ◌+◌, ◌++◌, ℕ, true, Some, None, List, Option, map, length};
+ghost use Rattle.job_table.specs.declared.entry.TheConstants.{ORDERS};
 ghost use Rattle.std.specs.List.{filter_map, list_all};
 ghost use Rattle.std.specs.Vec.{vec_capacity, vec_len};
 ghost use Rattle.std.specs.Prelude.{slice_get};
 ghost use Rattle.timer_heap.specs.Timers.{moment_in, room, Updates};
 ghost use Rattle.job_table.specs.Index.{moment_for, AreTimed, AreAlone, HaveRoom};
 ghost use Rattle.job_table.specs.declared.entry.Entry.{Entry};
-ghost use Rattle.history_model.specs.declared.TheConstants.{MAX_UP};
+ghost use Rattle.history_model.specs.declared.TheConstants.{MAX_JOBS, MAX_UP};
 ghost use Rattle.history_model.specs.Items.{Item};
 ghost use Rattle.history_model.specs.Machine.{Job};
-ghost use Rattle.history_model.specs.Step.{stays as job_stays, told};
+ghost use Rattle.history_model.specs.Step.{stays as job_stays, heard};
 ghost use Rattle.job_table.specs.Kept.{KeepsJobs, numbered_all};
-ghost use Rattle.job_table.specs.Telling.{AreFor, IsAccepted, present_with};
+ghost use Rattle.job_table.specs.Hearing.{AreFor, IsAccepted, present_with};
 ghost use Rattle.job_table.specs.Visiting.{is_spared, AreSpared, AreAtRest, AreVisitedOnce, count_visited};
 ghost use Rattle.job_table.specs.Tables.{Name, IsOnce, is_known};
 ghost use Rattle.job_table.specs.Entries.{is_named, rows, name, AllStay};
@@ -22,7 +23,7 @@ use history_model::{Order, Reading};
 use timer_heap::TimerHeap;
 
 /// Tells the jobs at the places with a mark the news and asks them, in rising order of places, and takes the marks away. A mark is a
-/// moment of 0 in `ready`. It counts the jobs that were asked for their order, and tells whether all stay.
+/// moment of 0 in `ready`. It counts the jobs that it visits, and says whether all stay.
 pub fn visit_ready(
     entries: &mut [Entry],
     ready: &mut TimerHeap,
@@ -36,8 +37,8 @@ pub fn visit_ready(
     requires in_range { now.up ≤ MAX_UP }
     requires now { now ≡ present_with news before }
     requires stay { AllStay entries.old }
-    requires few { length entries.old ≤ 1024 }
-    requires room { vec_len orders.old + 66 * length entries.old ≤ vec_capacity orders.old }
+    requires few { length entries.old ≤ MAX_JOBS }
+    requires room { vec_len orders.old + ORDERS * length entries.old ≤ vec_capacity orders.old }
     requires inside { (place moment : ℕ) → moment_in ready.old place ≡ Some moment →
         place < length entries.old }
     requires marks { (place moment : ℕ) → moment_in ready.old place ≡ Some moment → moment ≡ 0 }
@@ -50,17 +51,17 @@ pub fn visit_ready(
     requires alone { AreAlone timers.old (map name entries.old) }
     ensures kept { (jobs : List Job) (item : Job → Option Item) →
         AreFor news.entry item (rows entries.old) jobs → IsAccepted before item →
-        AreAtRest ready.old 0 (told item jobs) →
+        AreAtRest ready.old 0 (heard item jobs) →
         KeepsJobs before (rows entries.old) jobs →
-        KeepsJobs now (rows entries.new) (filter_map job_stays (told item jobs)) }
+        KeepsJobs now (rows entries.new) (filter_map job_stays (heard item jobs)) }
     ensures orders { (jobs : List Job) (item : Job → Option Item) →
         AreFor news.entry item (rows entries.old) jobs → IsAccepted before item →
-        AreAtRest ready.old 0 (told item jobs) →
+        AreAtRest ready.old 0 (heard item jobs) →
         KeepsJobs before (rows entries.old) jobs →
-        orders.new.items ≡ orders.old.items ++ numbered_all (rows entries.old) (told item jobs) }
+        orders.new.items ≡ orders.old.items ++ numbered_all (rows entries.old) (heard item jobs) }
     ensures visited { result.0 ≡ count_visited ready.old 0 entries.new }
     ensures stay { result.1 ≡ true → AllStay entries.new }
-    ensures asked { AreVisitedOnce ready.old 0 entries.old entries.new }
+    ensures visits { AreVisitedOnce ready.old 0 entries.old entries.new }
     ensures known { (names : List Name) → list_all (is_named names) entries.old ≡ true →
         list_all (is_known names) orders.old.items ≡ true →
         list_all (is_known names) orders.new.items ≡ true }
@@ -80,7 +81,7 @@ pub fn visit_ready(
         let entry = &mut entries[place];
         entry.visit(news, before, now, orders);
         retime(timers, entry, now);
-        if !entry.has_left {
+        if !entry.has_gone {
             visited += 1;
         } else {
             all_stay = false;
@@ -90,13 +91,13 @@ pub fn visit_ready(
     (visited, all_stay)
 }
 
-/// Gives the job's number its next moment; none, where the job has left or has none.
+/// Gives the job's number its next moment; none, if the job is gone or has none.
 pub fn retime(timers: &mut TimerHeap, entry: &Entry, now: Reading)
     requires in_range { now.up ≤ MAX_UP }
     requires room { entry.now.number < room timers.old }
     ensures { Updates timers.old timers.new entry.now.number (moment_for entry.now now.up) }
 {
-    if entry.has_left {
+    if entry.has_gone {
         timers.clear(entry.number);
         return;
     }

@@ -10,7 +10,7 @@ ghost use Rattle.history_model.specs.Texts.{load_text};
 use history_model::Text;
 use std::alloc::{AllocError, Global};
 
-/// What a load answers: the keys that are not acted on, by name, or nothing where each key is.
+/// What a load answers: the keys that are not acted on, by name, or nothing if each key is.
 pub fn loaded(alloc: Global, ignored: &[Text]) -> Result<String, AllocError>
     ensures { IfOk result (λ text. string_bytes text ≡ load_text ignored.now) }
 {

@@ -20,7 +20,7 @@ fn main(rt: HostRuntime) -> ExitCode {
         Ok(words) => ExitCode::from(jobctl(&rt, rt.alloc(), words.as_slice())),
         Err(fault) if fault.kind() == io::ErrorKind::OutOfMemory => ExitCode::from(NO_MEMORY),
         Err(fault) => {
-            let _told = eprintln!(rt; "jobctl: {fault}");
+            let _written = eprintln!(rt; "jobctl: {fault}");
             ExitCode::from(USAGE)
         }
     }

@@ -1,3 +1,3 @@
-pub mod Launching
-pub mod Changing
-pub mod OneOutput
+pub mod LauncherLemmas
+pub mod SettingLineLemmas
+pub mod OneOutputLemmas

@@ -11,8 +11,8 @@ use Rattle.table_opening.specs.Output.{Opens, IsNoHeader, output_from}
 
 -- whatever machine the table stands for: the line is its outcome's, and then the table stands for
 -- its next state
-abbrev pub IsAnswered : Event → Table → Table → List ℕ → Type 0
-IsAnswered e old new line =
+abbrev pub IsReplied : Event → Table → Table → List ℕ → Type 0
+IsReplied e old new line =
     (s : State) → KeepsState old s → (line ≡ outcome_line (outcome s e)) × KeepsState new (step s e)
 
 -- ---- the opening

@@ -1,7 +1,7 @@
 //! The launcher as a machine that reads lines: a header opens the table of jobs, and each later line is an event.
 ghost use Rattle.std.specs.Prelude.{IfOk};
 ghost use Rattle.std.proofs.Common.{refl};
-ghost use Rattle.jobd.specs.Answers.{IsAnswered, WillWrite};
+ghost use Rattle.jobd.specs.Answers.{IsReplied, WillWrite};
 ghost use Rattle.table_opening.specs.Events.{event_of, event_in};
 ghost use Rattle.table_opening.specs.Output.{IsOutput};
 
@@ -22,8 +22,8 @@ pub(crate) struct Launcher {
 }
 
 /// Events that a control client asks for, and the clock.
-fn asked(alloc: Global, table: &mut JobTable, event: Event) -> Result<Vec<u8>, AllocError>
-    ensures { IfOk result (λ line. IsAnswered (event_of event) table.old table.new line.items) }
+fn answer_to(alloc: Global, table: &mut JobTable, event: Event) -> Result<Vec<u8>, AllocError>
+    ensures { IfOk result (λ line. IsReplied (event_of event) table.old table.new line.items) }
 {
     match event {
         Event::Load {
@@ -123,10 +123,10 @@ fn answer(
     reader: &mut LineReader,
     line: &[u8],
 ) -> Result<Vec<u8>, AllocError>
-    ensures { IfOk result (λ text. IsAnswered (event_in line.now) table.old table.new text.items) }
+    ensures { IfOk result (λ text. IsReplied (event_in line.now) table.old table.new text.items) }
 {
     match reader.event(alloc, line) {
-        Ok(event) => asked(alloc, table, event),
+        Ok(event) => answer_to(alloc, table, event),
         Err(ReadFault::NoMemory) => Err(AllocError),
         Err(ReadFault::BadRequest) => whole::unreadable(alloc, table),
     }

@@ -2,7 +2,7 @@
 ghost use Rattle.std.specs.Prelude.{◌≡◌, ℕ, List, Some, None};
 ghost use Rattle.table_opening.specs.Output.{IsOutput};
 
-/// The lines of an input have one output: whatever text is written for them is the same, and where one is written none is
+/// The lines of an input have one output: whatever text is written for them is the same, and if one is written none is
 /// the output of lines that open no machine.
 pub fn an_input_has_one_output()
     ensures same { (lines : List (List ℕ)) (one other : List ℕ)

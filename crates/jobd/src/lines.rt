@@ -1,10 +1,10 @@
-//! The line that tells what the table answered.
+//! The line of the table's reply.
 
 ghost use Rattle.std.specs.Prelude.{◌≡◌, IfOk, Some, None, [], string_bytes};
 ghost use Rattle.history_model.specs.Texts.{refusal_text};
 ghost use Rattle.ctl_protocol.specs.Outcomes as outcomes;
 ghost use Rattle.ctl_protocol.specs.Outcomes.{orders_of};
-ghost use Rattle.job_table.specs.Ends.{acts_of, answered};
+ghost use Rattle.job_table.specs.Ends.{acts_of, replied};
 
 use ctl_protocol::outcome_line;
 use history_model::{Act, Refusal, Reply, Text};
@@ -22,7 +22,7 @@ fn labelled_orders<'a>(alloc: Global, step: &Step<'a>) -> Result<Vec<(&'a str, A
     Ok(orders)
 }
 
-/// The line of an event that was accepted, with what it is told in words.
+/// The line of an event that was accepted, with its text.
 pub(crate) fn accepted_line(
     alloc: Global,
     step: &Step<'_>,
@@ -64,7 +64,7 @@ pub(crate) fn answer_line(
     alloc: Global,
     answer: Result<Step<'_>, Refusal>,
 ) -> Result<Vec<u8>, AllocError>
-    ensures { IfOk result (λ line. line.items ≡ outcomes.outcome_line (answered answer.entry)) }
+    ensures { IfOk result (λ line. line.items ≡ outcomes.outcome_line (replied answer.entry)) }
 {
     match answer {
         Ok(step) => accepted_line(alloc, &step, Text::new(String::new(alloc))),
@@ -73,7 +73,7 @@ pub(crate) fn answer_line(
 }
 
 /// The line of a question that was answered by a text.
-pub(crate) fn told_line(alloc: Global, text: String) -> Result<Vec<u8>, AllocError>
+pub(crate) fn text_line(alloc: Global, text: String) -> Result<Vec<u8>, AllocError>
     ensures { IfOk result (λ line. line.items
         ≡ outcomes.outcome_line (record {
           refusal = None;

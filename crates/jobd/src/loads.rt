@@ -3,7 +3,7 @@ ghost use Rattle.std.specs.Prelude.{◌≡◌, IfOk};
 ghost use Rattle.history_model.specs.Machine.{Set, UnloadJob};
 ghost use Rattle.job_table.specs.Changes.{set_of};
 ghost use Rattle.job_table.specs.Loads.{load_of, refusal_outside};
-ghost use Rattle.jobd.specs.Answers.{IsAnswered};
+ghost use Rattle.jobd.specs.Answers.{IsReplied};
 
 use crate::lines::{accepted_line, answer_line, refused_line};
 use history_model::{Refusal, Text};
@@ -12,7 +12,7 @@ use job_table::JobTable;
 use job_texts::loaded;
 use std::alloc::{AllocError, Global};
 
-/// What the outside refuses of a load: the sockets of a job that has any, then the store, where a setting is written.
+/// What the outside refuses of a load: the sockets of a job that has any, then the store, if a setting is written.
 fn refused_outside(def: &Def, words: LoadWords) -> Option<Refusal>
     ensures { result ≡ refusal_outside def.now words.writes_setting words.bind words.store }
 {
@@ -25,14 +25,14 @@ fn refused_outside(def: &Def, words: LoadWords) -> Option<Refusal>
     None
 }
 
-/// A definition is handed in; `bind` and `store` are what the outside answers, where it is asked.
+/// A definition is handed in; `bind` and `store` are what the outside answers, if it is asked.
 pub(crate) fn load(
     alloc: Global,
     table: &mut JobTable,
     def: &str,
     words: LoadWords,
 ) -> Result<Vec<u8>, AllocError>
-    ensures { IfOk result (λ line. IsAnswered
+    ensures { IfOk result (λ line. IsReplied
         (load_of def.now words.writes_setting words.force words.bind words.store)
         table.old table.new line.items) }
 {
@@ -43,7 +43,7 @@ pub(crate) fn load(
             }
             let text = loaded(alloc, ready.def().not_acted_on())?;
             table.commit_load(ready);
-            accepted_line(alloc, &table.given(), Text::new(text))
+            accepted_line(alloc, &table.last_step(), Text::new(text))
         }
         Err(Refusal::NoMemory) => Err(AllocError),
         Err(refusal) => refused_line(alloc, refusal),
@@ -68,7 +68,7 @@ fn set(
     unload: bool,
     store: bool,
 ) -> Result<Vec<u8>, AllocError>
-    ensures { IfOk result (λ line. IsAnswered (set_of job.now disabled unload store)
+    ensures { IfOk result (λ line. IsReplied (set_of job.now disabled unload store)
         table.old table.new line.items) }
 {
     match table.prepare_set(alloc, job, disabled, unload) {
@@ -77,7 +77,7 @@ fn set(
                 return refused_line(alloc, Refusal::StoreRefused);
             }
             table.commit_set(ready);
-            accepted_line(alloc, &table.given(), Text::new(String::new(alloc)))
+            accepted_line(alloc, &table.last_step(), Text::new(String::new(alloc)))
         }
         Err(Refusal::NoMemory) => Err(AllocError),
         Err(refusal) => refused_line(alloc, refusal),
@@ -92,7 +92,7 @@ pub(crate) fn set_disabled(
     disabled: bool,
     store: bool,
 ) -> Result<Vec<u8>, AllocError>
-    ensures { IfOk result (λ line. IsAnswered (Set job.now disabled store)
+    ensures { IfOk result (λ line. IsReplied (Set job.now disabled store)
         table.old table.new line.items) }
 {
     set(alloc, table, job, disabled, false, store)
@@ -106,7 +106,7 @@ pub(crate) fn unload(
     writes_setting: bool,
     store: bool,
 ) -> Result<Vec<u8>, AllocError>
-    ensures { IfOk result (λ line. IsAnswered (UnloadJob job.now writes_setting store)
+    ensures { IfOk result (λ line. IsReplied (UnloadJob job.now writes_setting store)
         table.old table.new line.items) }
 {
     if writes_setting {

@@ -18,7 +18,7 @@ fn opened(alloc: Global, header: Header) -> Result<Option<JobTable>, AllocError>
     }
 }
 
-/// The table that a header's line opens, or `None`, where the line is no header that can be read.
+/// The table that a header's line opens, or `None`, if the line is no header that can be read.
 pub(crate) fn open(alloc: Global, line: &[u8]) -> Result<Option<JobTable>, AllocError>
     ensures { IfOk result (IsOpened line.now) }
 {

@@ -1,6 +1,6 @@
 //! Replaying a journal.
 ghost use Rattle.std.specs.Prelude.{OnOk, IfErr, ◌^◌};
-ghost use Rattle.replay_loop.specs.Ran.{Answered, Failed};
+ghost use Rattle.replay_loop.specs.Reading.{Finished, Failed};
 ghost use Rattle.table_opening.specs.Output.{IsOutput};
 
 use crate::launcher::Launcher;
@@ -15,10 +15,14 @@ pub fn replay_within<R: Read, W: Write>(
     writer: &mut W,
     reads: u64,
 ) -> Result<(), ReplayFault>
-    ensures ok { OnOk result (Answered IsOutput (R.remaining reader.old) (R.remaining reader.new)
+    ensures ok { OnOk result (Finished IsOutput (R.remaining reader.old) (R.remaining reader.new)
         (W.contents writer.old) (W.contents writer.new)) }
-    ensures err { IfErr result (λ e. Failed IsOutput reads (R.remaining reader.old)
-        (R.remaining reader.new) (W.contents writer.old) (W.contents writer.new) e) }
+    ensures err { IfErr result (λ e. Failed IsOutput reads (record {
+      unread = R.remaining reader.old;
+      rest = R.remaining reader.new;
+      held = W.contents writer.old;
+      holds = W.contents writer.new;
+    }) e) }
 {
     match run_within::<Launcher, R, W>(alloc, reader, writer, reads) {
         Ok(()) => Ok(()),
@@ -33,10 +37,14 @@ pub fn replay<R: Read, W: Write>(
     reader: &mut R,
     writer: &mut W,
 ) -> Result<(), ReplayFault>
-    ensures ok { OnOk result (Answered IsOutput (R.remaining reader.old) (R.remaining reader.new)
+    ensures ok { OnOk result (Finished IsOutput (R.remaining reader.old) (R.remaining reader.new)
         (W.contents writer.old) (W.contents writer.new)) }
-    ensures err { IfErr result (λ e. Failed IsOutput (2 ^ 32) (R.remaining reader.old)
-        (R.remaining reader.new) (W.contents writer.old) (W.contents writer.new) e) }
+    ensures err { IfErr result (λ e. Failed IsOutput (2 ^ 32) (record {
+      unread = R.remaining reader.old;
+      rest = R.remaining reader.new;
+      held = W.contents writer.old;
+      holds = W.contents writer.new;
+    }) e) }
 {
     match replay_within(alloc, reader, writer, 1 << 32) {
         Ok(()) => Ok(()),

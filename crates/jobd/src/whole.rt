@@ -1,30 +1,30 @@
 //! Events of the whole launcher, and the questions.
 ghost use Rattle.std.specs.Prelude.{IfOk};
 ghost use Rattle.history_model.specs.Machine.{Unreadable, ShutDown, Tick, Sight, ListJobs, PrintJob, UnloadJob};
-ghost use Rattle.jobd.specs.Answers.{IsAnswered};
+ghost use Rattle.jobd.specs.Answers.{IsReplied};
 
-use crate::lines::{answer_line, refused_line, told_line};
+use crate::lines::{answer_line, refused_line, text_line};
 use history_model::{Obs, Reading, Refusal};
 use job_table::JobTable;
 use std::alloc::{AllocError, Global};
 
 /// A line that is no event.
 pub(crate) fn unreadable(alloc: Global, table: &JobTable) -> Result<Vec<u8>, AllocError>
-    ensures { IfOk result (λ line. IsAnswered Unreadable table.now table.now line.items) }
+    ensures { IfOk result (λ line. IsReplied Unreadable table.now table.now line.items) }
 {
     refused_line(alloc, Refusal::BadRequest)
 }
 
 /// All jobs are to end, and no more to be loaded.
 pub(crate) fn shutdown(alloc: Global, table: &mut JobTable) -> Result<Vec<u8>, AllocError>
-    ensures { IfOk result (λ line. IsAnswered ShutDown table.old table.new line.items) }
+    ensures { IfOk result (λ line. IsReplied ShutDown table.old table.new line.items) }
 {
     answer_line(alloc, table.shutdown())
 }
 
-/// The clocks were read. Memory is wanted only where a job with calendars is loaded.
+/// The clocks were read. Memory is wanted only if a job with calendars is loaded.
 pub(crate) fn clock(alloc: Global, table: &mut JobTable, at: Reading) -> Result<Vec<u8>, AllocError>
-    ensures { IfOk result (λ line. IsAnswered (Tick at) table.old table.new line.items) }
+    ensures { IfOk result (λ line. IsReplied (Tick at) table.old table.new line.items) }
 {
     match table.clock(alloc, at) {
         Ok(step) => answer_line(alloc, Ok(step)),
@@ -40,27 +40,27 @@ pub(crate) fn saw(
     path: &str,
     obs: Obs,
 ) -> Result<Vec<u8>, AllocError>
-    ensures { IfOk result (λ line. IsAnswered (Sight path.now obs) table.old table.new line.items) }
+    ensures { IfOk result (λ line. IsReplied (Sight path.now obs) table.old table.new line.items) }
 {
     answer_line(alloc, table.saw(path, obs))
 }
 
 /// The list of the loaded jobs.
 pub(crate) fn list(alloc: Global, table: &JobTable) -> Result<Vec<u8>, AllocError>
-    ensures { IfOk result (λ line. IsAnswered ListJobs table.now table.now line.items) }
+    ensures { IfOk result (λ line. IsReplied ListJobs table.now table.now line.items) }
 {
     match table.list(alloc) {
-        Ok(text) => told_line(alloc, text),
+        Ok(text) => text_line(alloc, text),
         Err(_) => Err(AllocError),
     }
 }
 
 /// What is known of one job.
 pub(crate) fn print(alloc: Global, table: &JobTable, job: &str) -> Result<Vec<u8>, AllocError>
-    ensures { IfOk result (λ line. IsAnswered (PrintJob job.now) table.now table.now line.items) }
+    ensures { IfOk result (λ line. IsReplied (PrintJob job.now) table.now table.now line.items) }
 {
     match table.print(alloc, job) {
-        Ok(text) => told_line(alloc, text),
+        Ok(text) => text_line(alloc, text),
         Err(Refusal::NoMemory) => Err(AllocError),
         Err(refusal) => refused_line(alloc, refusal),
     }

@@ -1,3 +1,3 @@
-pub mod Counts
-pub mod Each
-pub mod IsText
+pub mod CountLemmas
+pub mod KindsLemmas
+pub mod JsonLemmas

@@ -92,21 +92,21 @@ is_among texts text = list_any (λ known. bytes_eq known text) texts
 
 -- ---- members of an array by position, of a dictionary by byte order of keys
 
--- each member of an array by this row, up to the first fault
+-- each member of an array as this reads it, up to the first fault
 abbrev pub each_item : {A : Type 0} → (Data → Result A Fault) → Items → Result (List A) Fault
-each_item row no_items = Ok []
-each_item row (item d ds) = do
-  first ← row d
-  rest ← each_item row ds
+each_item read no_items = Ok []
+each_item read (item d ds) = do
+  first ← read d
+  rest ← each_item read ds
   Ok (first ∷ rest)
 
--- each member of a dictionary by this row, which may give none of it
+-- each member of a dictionary as this reads it, which may give none of it
 abbrev pub each_member : {A : Type 0} → (Key → Data → Result (List A) Fault)
     → Members → Result (List A) Fault
-each_member row no_members = Ok []
-each_member row (member k d ms) = do
-  first ← row k d
-  rest ← each_member row ms
+each_member read no_members = Ok []
+each_member read (member k d ms) = do
+  first ← read k d
+  rest ← each_member read ms
   Ok (first ++ rest)
 
 -- an array's members, or the one value
@@ -118,16 +118,16 @@ members_or_one d = members_or (as_array d) d where
 
 -- ---- a key that may be absent
 
--- the row where the key stands, or else what its absence means
-abbrev pub where_given : {A : Type 0} → (Data → Result A Fault) → A → Option Data → Result A Fault
-where_given row absent None = Ok absent
-where_given row absent (Some d) = row d
+-- what is read if the key stands, or else what its absence means
+abbrev pub where_there : {A : Type 0} → (Data → Result A Fault) → A → Option Data → Result A Fault
+where_there read absent None = Ok absent
+where_there read absent (Some d) = read d
 
--- the row where the key stands
+-- what is read if the key stands
 abbrev pub optional : {A : Type 0} → (Data → Result A Fault) → Option Data → Result (Option A) Fault
-optional row None = Ok None
-optional row (Some d) = do
-  x ← row d
+optional read None = Ok None
+optional read (Some d) = do
+  x ← read d
   Ok (Some x)
 
 -- the key is not supported, whatever its value
@@ -135,22 +135,22 @@ abbrev pub refused : KeyName → Option Data → Result ⊤ Fault
 refused key None = Ok tt
 refused key (Some d) = Err (bad Unsupported key)
 
--- ---- rows of a definition
+-- ---- keys of a definition
 
 -- the key has to stand
 unfoldable pub required : KeyName → Data → Result Data Fault
 required key d = or_fault (get (key_text key) d) (bad Missing key)
 
 -- a boolean
-unfoldable pub bool_row : Bool → KeyName → Data → Result Bool Fault
-bool_row absent key d = where_given (bool_at key) absent (get (key_text key) d)
+unfoldable pub bool_key : Bool → KeyName → Data → Result Bool Fault
+bool_key absent key d = where_there (bool_at key) absent (get (key_text key) d)
 
 -- an integer from low to high
-unfoldable pub integer_row : ℕ → ℕ → ℕ → KeyName → Data → Result ℕ Fault
-integer_row low high absent key d =
-    where_given (integer_at low high key) absent (get (key_text key) d)
+unfoldable pub integer_key : ℕ → ℕ → ℕ → KeyName → Data → Result ℕ Fault
+integer_key low high absent key d =
+    where_there (integer_at low high key) absent (get (key_text key) d)
 
--- the same, where absence means none
+-- the same, if absence means none
 unfoldable pub optional_integer : ℕ → ℕ → KeyName → Data → Result (Option ℕ) Fault
 optional_integer low high key d = optional (integer_at low high key) (get (key_text key) d)
 
@@ -163,5 +163,5 @@ unfoldable pub optional_path : KeyName → Data → Result (Option (List ℕ)) F
 optional_path key d = optional (path_at key) (get (key_text key) d)
 
 -- a key that is not supported
-unfoldable pub refused_row : KeyName → Data → Result ⊤ Fault
-refused_row key d = refused key (get (key_text key) d)
+unfoldable pub refused_key : KeyName → Data → Result ⊤ Fault
+refused_key key d = refused key (get (key_text key) d)

@@ -6,10 +6,10 @@
 mod digits;
 mod fault;
 mod json;
+pub mod keys;
 pub mod kinds;
 mod label;
 pub mod names;
-pub mod rows;
 
 pub use digits::all_digits;
 pub use fault::DefFault;

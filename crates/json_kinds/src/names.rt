@@ -5,7 +5,7 @@ ghost use Rattle.history_model.specs.Texts.{key_text, reason_text};
 
 use history_model::{KeyName, Reason};
 
-/// The key as it stands in a definition; `-` where a fault has none.
+/// The key as it stands in a definition; `-` if a fault has none.
 pub fn key_name(key: KeyName) -> &'static str
     ensures { result.now ≡ key_text key }
 {

@@ -1,2 +1,2 @@
-pub mod Meant
-pub mod Made
+pub mod MeaningLemmas
+pub mod RulesLemmas

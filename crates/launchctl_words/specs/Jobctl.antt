@@ -1,12 +1,12 @@
 -- The words of the control program as a command of clap, and what they mean. They follow
 -- launchctl(1).
-use Rattle.history_model.specs.Search.{or_else}
+use Rattle.history_model.specs.Search.{is_same_text, or_else}
 use Rattle.std.specs.Prelude.{List, false, Option, Some, None, codes, if◌then◌else◌, unwrap_or, option_and_then}
 use Rattle.std.specs.Option.{option_map}
 use Rattle.clap.specs.Words.{App, Rule, Row, Text, new_app, with_rule, with_subcommand, first_of, all_of, fault_of, matches_of, subcommand_of}
 use Rattle.ctl_protocol.specs.Targets.{if_label, label_named}
 use Rattle.launchctl_words.specs.Rules.{flag_rule, option_rule, word_rule, words_rule, one_word_app}
-use Rattle.launchctl_words.specs.Meaning.{is_text, is_set, asked, is_none_left}
+use Rattle.launchctl_words.specs.Meaning.{is_set, needs_subcommand, is_empty_list}
 use Rattle.launchctl_words.specs.declared.command.Command.{Command}
 use Rattle.launchctl_words.specs.declared.command.Command.TheVariants as command
 use Rattle.launchctl_words.specs.declared.command.Words.{Words}
@@ -72,7 +72,8 @@ with_bare a =
 -- jobctl [--socket PATH] SUBCOMMAND
 abbrev pub jobctl_app : App
 jobctl_app = with_bare (with_targets (with_settings (with_labels (with_files
-    (with_rule (asked (new_app (codes "jobctl"))) (option_rule (codes "socket") false))))))
+    (with_rule (needs_subcommand (new_app (codes "jobctl")))
+    (option_rule (codes "socket") false))))))
 
 -- ---- what they mean
 
@@ -83,18 +84,18 @@ label_in rows = option_and_then if_label (first_of (codes "label") rows)
 -- what load and unload mean
 abbrev pub files_meant : Text → List Row → Option Command
 files_meant name rows =
-    if is_text name (codes "load")
+    if is_same_text name (codes "load")
     then option_map (command.Load (is_set (codes "write") rows) (is_set (codes "force") rows))
     (all_of (codes "paths") rows)
-    else if is_text name (codes "unload")
+    else if is_same_text name (codes "unload")
     then option_map (command.Unload (is_set (codes "write") rows)) (all_of (codes "paths") rows)
     else None
 
 -- what start and stop mean
 abbrev pub labels_meant : Text → List Row → Option Command
 labels_meant name rows =
-    if is_text name (codes "start") then option_map command.Start (label_in rows)
-    else if is_text name (codes "stop") then option_map command.Stop (label_in rows)
+    if is_same_text name (codes "start") then option_map command.Start (label_in rows)
+    else if is_same_text name (codes "stop") then option_map command.Stop (label_in rows)
     else None
 
 -- the label that the target under an argument names
@@ -104,23 +105,23 @@ target_in rows = option_and_then label_named (first_of (codes "target") rows)
 -- what enable and disable mean
 abbrev pub settings_meant : Text → List Row → Option Command
 settings_meant name rows =
-    if is_text name (codes "enable") then option_map command.Enable (target_in rows)
-    else if is_text name (codes "disable") then option_map command.Disable (target_in rows)
+    if is_same_text name (codes "enable") then option_map command.Enable (target_in rows)
+    else if is_same_text name (codes "disable") then option_map command.Disable (target_in rows)
     else None
 
 -- what kickstart and print mean
 abbrev pub targets_meant : Text → List Row → Option Command
 targets_meant name rows =
-    if is_text name (codes "kickstart")
+    if is_same_text name (codes "kickstart")
     then option_map (command.Kickstart (is_set (codes "kill") rows)) (target_in rows)
-    else if is_text name (codes "print") then option_map command.Print (target_in rows)
+    else if is_same_text name (codes "print") then option_map command.Print (target_in rows)
     else None
 
 -- what list and shutdown mean
 abbrev pub bare_meant : Text → Option Command
 bare_meant name =
-    if is_text name (codes "list") then Some command.List
-    else if is_text name (codes "shutdown") then Some command.Shutdown
+    if is_same_text name (codes "list") then Some command.List
+    else if is_same_text name (codes "shutdown") then Some command.Shutdown
     else None
 
 -- what a subcommand and its values mean
@@ -144,10 +145,10 @@ abbrev pub found_meant : List Row → Option (Text × List Row) → Option Words
 found_meant top sub =
     option_map (λ c. record { socket = socket_in top; command = c }) (command_found sub)
 
--- what the words mean, the program's own name being the first: nothing where clap finds a fault in
--- them, or where a label is none or a target names none
+-- what the words mean, the program's own name being the first: nothing if clap finds a fault in
+-- them, or if a label is none or a target names none
 abbrev pub meant : List Text → Option Words
 meant words =
-    if is_none_left (fault_of jobctl_app words)
+    if is_empty_list (fault_of jobctl_app words)
     then found_meant (matches_of jobctl_app words) (subcommand_of jobctl_app words)
     else None

@@ -3,7 +3,8 @@ use Rattle.std.specs.Prelude.{List, true, false, Option, Some, None, codes, if�
 use Rattle.std.specs.Option.{option_map}
 use Rattle.clap.specs.Words.{App, Row, Text, new_app, with_rule, with_subcommand, first_of, fault_of, subcommand_of}
 use Rattle.launchctl_words.specs.Rules.{option_rule}
-use Rattle.launchctl_words.specs.Meaning.{is_text, asked, is_none_left}
+use Rattle.history_model.specs.Search.{is_same_text}
+use Rattle.launchctl_words.specs.Meaning.{needs_subcommand, is_empty_list}
 use Rattle.launchctl_words.specs.declared.command.DaemonCommand.{DaemonCommand}
 use Rattle.launchctl_words.specs.declared.command.DaemonCommand.TheVariants.{Replay, Serve, Overrides}
 use Rattle.launchctl_words.specs.declared.command.ZoneWords.{ZoneWords}
@@ -34,7 +35,7 @@ overrides_app = with_rule (new_app (codes "overrides")) (option_rule (codes "sto
 -- jobd SUBCOMMAND
 abbrev pub jobd_app : App
 jobd_app =
-    with_subcommand (with_subcommand (with_subcommand (asked (new_app (codes "jobd")))
+    with_subcommand (with_subcommand (with_subcommand (needs_subcommand (new_app (codes "jobd")))
     (new_app (codes "replay")).top) serve_app.top) overrides_app.top
 
 -- ---- what they mean
@@ -54,7 +55,7 @@ pair_in first second rows = (first_of first rows, first_of second rows)
 abbrev pub zone_in : List Row → Option ZoneWords
 zone_in rows = zone_meant (first_of (codes "zone") rows) (first_of (codes "zone-file") rows)
 
--- the launcher with these places, where each that it needs is there
+-- the launcher with these places, if each that it needs is there
 abbrev pub served : Option Text → Option Text → Option Text → Option Text
     → Option ZoneWords → Option DaemonCommand
 served (Some socket) (Some store) (Some spool) journal (Some zone) =
@@ -70,9 +71,9 @@ serve_meant rows =
 -- what a subcommand and its values mean
 abbrev pub daemon_command_meant : Text → List Row → Option DaemonCommand
 daemon_command_meant name rows =
-    if is_text name (codes "replay") then Some Replay
-    else if is_text name (codes "serve") then serve_meant rows
-    else if is_text name (codes "overrides")
+    if is_same_text name (codes "replay") then Some Replay
+    else if is_same_text name (codes "serve") then serve_meant rows
+    else if is_same_text name (codes "overrides")
     then option_map Overrides (first_of (codes "store") rows)
     else None
 
@@ -80,10 +81,10 @@ daemon_command_meant name rows =
 abbrev pub daemon_found_meant : Option (Text × List Row) → Option DaemonCommand
 daemon_found_meant sub = option_and_then (λ s. daemon_command_meant s.0 s.1) sub
 
--- what the words mean, the program's own name being the first: nothing where clap finds a fault in
--- them, or where both zone options stand
+-- what the words mean, the program's own name being the first: nothing if clap finds a fault in
+-- them, or if both zone options stand
 abbrev pub daemon_meant : List Text → Option DaemonCommand
 daemon_meant words =
-    if is_none_left (fault_of jobd_app words)
+    if is_empty_list (fault_of jobd_app words)
     then daemon_found_meant (subcommand_of jobd_app words)
     else None

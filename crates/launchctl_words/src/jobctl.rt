@@ -15,7 +15,7 @@ use history_model::Text;
 use job_defs::is_label;
 use std::alloc::{AllocError, Global};
 
-/// What load and unload mean; none where the words are no such command.
+/// What load and unload mean; none if the words are no such command.
 fn read_files(
     alloc: Global,
     name: &str,
@@ -48,7 +48,7 @@ fn read_files(
     }
 }
 
-/// The label under an argument; none where it is no label.
+/// The label under an argument; none if it is no label.
 fn label_in(alloc: Global, found: &ArgMatches<'_>) -> Result<Option<Text>, AllocError>
     ensures { IfOk result (λ label. label ≡ spec.label_in (rows_in found.now)) }
 {
@@ -64,7 +64,7 @@ fn label_in(alloc: Global, found: &ArgMatches<'_>) -> Result<Option<Text>, Alloc
     }
 }
 
-/// What start and stop mean; none where the words are no such command.
+/// What start and stop mean; none if the words are no such command.
 fn read_labels(
     alloc: Global,
     name: &str,
@@ -87,7 +87,7 @@ fn read_labels(
     }
 }
 
-/// The label that the target under an argument names; none where it names none.
+/// The label that the target under an argument names; none if it names none.
 fn target_in(alloc: Global, found: &ArgMatches<'_>) -> Result<Option<Text>, AllocError>
     ensures { IfOk result (λ label. label ≡ spec.target_in (rows_in found.now)) }
 {
@@ -101,7 +101,7 @@ fn target_in(alloc: Global, found: &ArgMatches<'_>) -> Result<Option<Text>, Allo
     }
 }
 
-/// What enable and disable mean; none where the words are no such command.
+/// What enable and disable mean; none if the words are no such command.
 fn read_settings(
     alloc: Global,
     name: &str,
@@ -124,7 +124,7 @@ fn read_settings(
     }
 }
 
-/// What kickstart and print mean; none where the words are no such command.
+/// What kickstart and print mean; none if the words are no such command.
 fn read_targets(
     alloc: Global,
     name: &str,
@@ -148,7 +148,7 @@ fn read_targets(
     }
 }
 
-/// What list and shutdown mean; none where the words are no such command.
+/// What list and shutdown mean; none if the words are no such command.
 fn read_bare(name: &str) -> Option<Command>
     ensures { result ≡ spec.bare_meant name.now }
 {
@@ -161,7 +161,7 @@ fn read_bare(name: &str) -> Option<Command>
     }
 }
 
-/// What a subcommand and its values mean; none where the words are no command.
+/// What a subcommand and its values mean; none if the words are no command.
 fn read_command(
     alloc: Global,
     name: &str,
@@ -194,7 +194,7 @@ fn socket_in(alloc: Global, matches: &ArgMatches<'_>) -> Result<Text, AllocError
     }
 }
 
-/// What a subcommand among the words means; none where they are no command.
+/// What a subcommand among the words means; none if they are no command.
 fn read_subcommand(alloc: Global, matches: &ArgMatches<'_>) -> Result<Option<Command>, AllocError>
     ensures { IfOk result (λ command. command
         ≡ spec.command_found (subcommand_rows_of matches.now)) }
@@ -239,7 +239,7 @@ pub fn read_words(alloc: Global, words: &[String]) -> Result<Words, WordFault>
     }
 }
 
-/// The text to print where the words are no command of jobctl, or ask for help.
+/// The text to print if the words are no command of jobctl, or ask for help.
 pub fn explain(alloc: Global, words: &[String]) -> Result<Explanation, AllocError> {
     explain_by(alloc, jobctl_words(alloc), words)
 }

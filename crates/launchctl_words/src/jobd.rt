@@ -116,7 +116,7 @@ fn jobd_words<'a>(alloc: Global) -> Result<clap::Command<'a>, AllocError>
     add_subcommand(command, overrides_words(alloc))
 }
 
-/// The zone that these name; none where both do.
+/// The zone that these name; none if both do.
 fn zone_meant(rule: Option<Text>, file: Option<Text>) -> Option<ZoneWords>
     ensures { result ≡ spec.zone_meant rule file }
 {
@@ -128,7 +128,7 @@ fn zone_meant(rule: Option<Text>, file: Option<Text>) -> Option<ZoneWords>
     }
 }
 
-/// The zone that was named; none where both forms were.
+/// The zone that was named; none if both forms were.
 fn zone_in(alloc: Global, found: &ArgMatches<'_>) -> Result<Option<ZoneWords>, AllocError>
     ensures { IfOk result (λ zone. zone ≡ spec.zone_in (rows_in found.now)) }
 {
@@ -136,7 +136,7 @@ fn zone_in(alloc: Global, found: &ArgMatches<'_>) -> Result<Option<ZoneWords>, A
     Ok(zone_meant(rule, file))
 }
 
-/// The launcher with these places, where each that it needs is there.
+/// The launcher with these places, if each that it needs is there.
 fn served(
     socket: Option<Text>,
     store: Option<Text>,
@@ -182,7 +182,7 @@ fn read_serve(alloc: Global, found: &ArgMatches<'_>) -> Result<Option<DaemonComm
     Ok(served(socket, store, spool, journal, zone))
 }
 
-/// What a subcommand and its values mean; none where the words are no command.
+/// What a subcommand and its values mean; none if the words are no command.
 fn read_command(
     alloc: Global,
     name: &str,
@@ -243,7 +243,7 @@ pub fn read_daemon_words(alloc: Global, words: &[String]) -> Result<DaemonComman
     }
 }
 
-/// The text to print where the words are no command of jobd, or ask for help.
+/// The text to print if the words are no command of jobd, or ask for help.
 pub fn explain_daemon(alloc: Global, words: &[String]) -> Result<Explanation, AllocError> {
     explain_by(alloc, jobd_words(alloc), words)
 }

@@ -1,7 +1,7 @@
 //! One reading of words by clap, and the text for words that it does not take.
 ghost use Rattle.std.specs.Prelude.{◌≡◌, ◌≢◌, IfOk, true, false, map, string_bytes, IfErr};
 ghost use Rattle.clap.specs.Words.{app_of, fault_of, is_simple_and_free, kind_of};
-ghost use Rattle.launchctl_words.specs.Meaning.{IsFound, is_none_left};
+ghost use Rattle.launchctl_words.specs.Meaning.{IsFound, is_empty_list};
 
 use crate::command::WordFault;
 use clap::error::ErrorKind;
@@ -17,7 +17,7 @@ pub fn parse<'a>(
         IfOk result (λ m. IsFound (app_of command.entry) (map string_bytes words.entry.now) m) }
     ensures usage { is_simple_and_free (app_of command.entry) ≡ true
         → IfErr result (λ e. e ≡ WordFault.Usage
-        → is_none_left (fault_of (app_of command.entry) (map string_bytes words.entry.now))
+        → is_empty_list (fault_of (app_of command.entry) (map string_bytes words.entry.now))
         ≡ false) }
 {
     match command.try_get_matches_from(words) {
@@ -44,7 +44,7 @@ pub struct Explanation {
     pub is_help: bool,
 }
 
-/// The text for words that clap does not take; the whole help where it takes them.
+/// The text for words that clap does not take; the whole help if it takes them.
 pub fn explain_by<'a>(
     alloc: Global,
     command: Result<clap::Command<'a>, AllocError>,

@@ -1,4 +1,4 @@
-pub mod Heard
-pub mod Happened
-pub mod Asked
-pub mod First
+pub mod HostsLemmas
+pub mod HearingLemmas
+pub mod AskingLemmas
+pub mod MakingLemmas

@@ -17,7 +17,7 @@ use Rattle.launcher.specs.Hosts.{with_settings}
 abbrev pub IsBadHeader : Header → Type 0
 IsBadHeader header = IsNoZone header.zone ⊎ (is_clock_refused header.reading header.reading ≡ true)
 
--- Header is answered only where the header tells no machine
+-- Header is answered only if the header tells no machine
 abbrev pub IsFaultOf : Header → HostFault → Type 0
 IsFaultOf header faults.NoMemory = Unit {0}
 IsFaultOf header faults.Store = Unit {0}

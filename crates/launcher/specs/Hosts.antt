@@ -3,14 +3,14 @@ use Rattle.std.specs.Prelude.{◌≡◌, ◌||◌, ℕ, Bool, true, false, List,
 use Rattle.history_model.specs.declared.Refusal.TheVariants.{BadRequest}
 use Rattle.history_model.specs.declared.Refusal.{Refusal}
 use Rattle.history_model.specs.declared.event.Event as journal
-use Rattle.history_model.specs.declared.event.Event.TheVariants as told
+use Rattle.history_model.specs.declared.event.Event.TheVariants as journaled
 use Rattle.history_model.specs.declared.event.Setting.{Setting}
 use Rattle.history_model.specs.Labels.{Label}
 use Rattle.history_model.specs.Machine.{State}
 use Rattle.history_model.specs.Acceptance.{refusal_in}
 use Rattle.history_model.specs.Step.{outcome, step}
 use Rattle.job_defs.specs.Described.{Described}
-use Rattle.job_defs.specs.Table.{def_of}
+use Rattle.job_defs.specs.Keys.{def_of}
 use Rattle.ctl_protocol.specs.declared.header.Header.{Header}
 use Rattle.ctl_protocol.specs.EventWriter.{event_line}
 use Rattle.ctl_protocol.specs.HeaderLines.{header_line}
@@ -20,7 +20,7 @@ use Rattle.job_table.specs.Loads.{load_of}
 use Rattle.job_table.specs.Changes.{set_of}
 use Rattle.child_edge.specs.Calls.{Tells}
 use Rattle.order_edge.specs.Calls.{Entry}
-use Rattle.load_asking.specs.declared.asking.Asked.{Asked}
+use Rattle.load_asking.specs.declared.asking.Outside.{Outside}
 use Rattle.load_asking.specs.Stores.{StoreCall, AreTold}
 use Rattle.event_journal.specs.Journals.{Kept, Grows, fresh}
 use Rattle.launcher_turn.specs.Turns.{IsLed, TurnsOf}
@@ -53,31 +53,32 @@ stands calls stores host =
 -- ---- what is asked of the outside
 
 -- the store is asked about a setting, and no socket is
-abbrev pub AsksSetting : State → Label → (disabled unload : Bool) → Asked → Option (List Entry) →
+abbrev pub AsksSetting : State → Label → (disabled unload : Bool) → Outside → Option (List Entry) →
     Option (List Entry) → Option (List StoreCall) → Option (List StoreCall) → Type 0
-AsksSetting s label disabled unload asked calls mid stores stores' =
-    (mid ≡ calls) × (asked.bind ≡ true)
+AsksSetting s label disabled unload outside calls mid stores stores' =
+    (mid ≡ calls) × (outside.bind ≡ true)
     × AsksStore (refusal_in s (set_of label disabled unload true))
-    label (disabled || unload) s.reading.wall asked.store stores stores'
+    label (disabled || unload) s.reading.wall outside.store stores stores'
 
 -- Of a load its sockets and then the store, of a setting the store; of anything else nothing. `mid`
 -- are the calls once this was asked.
-abbrev pub AsksOutside : State → journal.Event → ℕ → Asked → Option (List Entry) →
+abbrev pub AsksOutside : State → journal.Event → ℕ → Outside → Option (List Entry) →
     Option (List Entry) → Option (List StoreCall) → Option (List StoreCall) → Type 0
-AsksOutside s (told.Load def writes_setting force bind store) job asked calls mid stores stores' =
+AsksOutside
+    s (journaled.Load def writes_setting force bind store) job outside calls mid stores stores' =
     AsksFor (refusal_in s (load_of def writes_setting force true true))
-    (def_of def) job writes_setting s.reading.wall asked calls mid stores stores'
-AsksOutside s (told.Unload label true store) job asked calls mid stores stores' =
-    AsksSetting s label true true asked calls mid stores stores'
-AsksOutside s (told.Enable label store) job asked calls mid stores stores' =
-    AsksSetting s label false false asked calls mid stores stores'
-AsksOutside s (told.Disable label store) job asked calls mid stores stores' =
-    AsksSetting s label true false asked calls mid stores stores'
-AsksOutside s _ job asked calls mid stores stores' = AsksNothing asked calls mid stores stores'
+    (def_of def) job writes_setting s.reading.wall outside calls mid stores stores'
+AsksOutside s (journaled.Unload label true store) job outside calls mid stores stores' =
+    AsksSetting s label true true outside calls mid stores stores'
+AsksOutside s (journaled.Enable label store) job outside calls mid stores stores' =
+    AsksSetting s label false false outside calls mid stores stores'
+AsksOutside s (journaled.Disable label store) job outside calls mid stores stores' =
+    AsksSetting s label true false outside calls mid stores stores'
+AsksOutside s _ job outside calls mid stores stores' = AsksNothing outside calls mid stores stores'
 
 -- a load asked for the job with the number that it then has
 abbrev pub IsOwn : journal.Event → List Name → ℕ → Type 0
-IsOwn (told.Load def writes_setting force bind store) names job =
+IsOwn (journaled.Load def writes_setting force bind store) names job =
     (d : Described) → def_of def ≡ Ok d → definition_of_number names job ≡ Some d
 IsOwn _ names job = Unit {0}
 
@@ -89,15 +90,15 @@ IsOwn _ names job = Unit {0}
 -- holds them afterwards.
 pub record HostTurnOf (s : State) (event : journal.Event) (refusal : Option Refusal)
     (words : List ℕ) (old new : Standing) (before after : List Setting → Type 0) : Type 0 where
-  pub asked : Asked
+  pub outside : Outside
   pub job : ℕ
   pub mid : Option (List Entry)
-  pub asks : AsksOutside s event job asked old.calls mid old.stores new.stores
-  pub turn : TurnsOf s (event_of (answered asked event))
-      (event_line (answered asked event)) refusal new.table mid new.calls old.journal new.journal
+  pub asks : AsksOutside s event job outside old.calls mid old.stores new.stores
+  pub turn : TurnsOf s (event_of (answered outside event))
+      (event_line (answered outside event)) refusal new.table mid new.calls old.journal new.journal
   pub own : refusal ≡ None → IsOwn event turn.names job
-  pub text : refusal ≡ None → (outcome s (event_of (answered asked event))).text ≡ words
-  pub stored : before s.settings → after (step s (event_of (answered asked event))).settings
+  pub text : refusal ≡ None → (outcome s (event_of (answered outside event))).text ≡ words
+  pub stored : before s.settings → after (step s (event_of (answered outside event))).settings
 
 -- Nothing happened: the table stands for what it stood for, nothing was asked of the outside, no
 -- line was written, and the store holds the settings of the machine as before.
@@ -150,6 +151,6 @@ pub record IsNew (header : Header) (calls : Option (List Entry)) (stores : Optio
   pub led : IsLed machine
   pub kept : KeepsState new.table machine
   pub none : new.calls ≡ calls
-  pub unasked : AreTold stores [] new.stores
+  pub uncalled : AreTold stores [] new.stores
   pub noted : Grows journal new.journal (header_line (with_settings header settings))
   pub stored : (list : List Setting) → before list → after machine.settings

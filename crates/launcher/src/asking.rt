@@ -4,7 +4,7 @@ ghost use Rattle.std.specs.Prelude.{Some, true, option_and_then};
 ghost use Rattle.history_model.specs.declared.event.Event.TheVariants as events;
 ghost use Rattle.ctl_protocol.specs.EventLines.{request_at};
 ghost use Rattle.job_table.specs.Numbers.{IsNumbered};
-ghost use Rattle.launcher_load.specs.Lines.{told_set};
+ghost use Rattle.launcher_load.specs.Lines.{journaled_set};
 ghost use Rattle.launcher.specs.Hosts.{HostHears};
 ghost use Rattle.launcher.specs.Inputs.{asked_in};
 
@@ -21,33 +21,33 @@ use std::alloc::Global;
 use std::io::Write;
 
 /// The numbers of the table's jobs stand for their definitions. Nothing is done.
-fn tell_numbers(table: &JobTable)
+fn lend_numbers(table: &JobTable)
     ensures { IsNumbered table.now }
 {
-    let _given = table.given();
+    let _step = table.last_step();
 }
 
 impl<T: SettingStore, E: ChildEdge + SocketEdge, W: Write> Host<T, E, W> {
     /// A client's line, the newline left out.
-    #[tactic(auto, using(crate::proofs::Heard::unheard, crate::proofs::Heard::unread))]
+    #[tactic(auto, using(crate::proofs::HostsLemmas::unheard, crate::proofs::HostsLemmas::unread))]
     pub(crate) fn line(&mut self, alloc: Global, line: &[u8]) -> Reply
         ensures { HostHears E.told T.told T.holds (option_and_then asked_in (request_at line.now))
             result.refusal result.text self.old self.new }
     {
         match self.reader.request(alloc, line) {
-            Ok(asked) => self.ask(alloc, asked),
+            Ok(outside) => self.ask(alloc, outside),
             Err(ReadFault::NoMemory) => refused(alloc, Refusal::NoMemory),
             Err(ReadFault::BadRequest) => refused(alloc, Refusal::BadRequest),
         }
     }
 
     /// What a client asks. The outside's answers are asked of the outside, whatever stands in the event.
-    #[tactic(auto, using(crate::proofs::Heard::unheard))]
-    fn ask(&mut self, alloc: Global, asked: Event) -> Reply
-        ensures { HostHears E.told T.told T.holds (asked_in asked)
+    #[tactic(auto, using(crate::proofs::HostsLemmas::unheard))]
+    fn ask(&mut self, alloc: Global, outside: Event) -> Reply
+        ensures { HostHears E.told T.told T.holds (asked_in outside)
             result.refusal result.text self.old self.new }
     {
-        match asked {
+        match outside {
             Event::Load {
                 def,
                 writes_setting,
@@ -100,7 +100,8 @@ impl<T: SettingStore, E: ChildEdge + SocketEdge, W: Write> Host<T, E, W> {
 
     /// A setting; with `unload` also an unload.
     fn set(&mut self, alloc: Global, job: &str, disabled: bool, unload: bool) -> Reply
-        ensures { HostHears E.told T.told T.holds (Some (told_set job.now disabled unload true))
+        ensures { HostHears E.told T.told T.holds
+            (Some (journaled_set job.now disabled unload true))
             result.refusal result.text self.old self.new }
     {
         let changed = set(
@@ -134,7 +135,7 @@ impl<T: SettingStore, E: ChildEdge + SocketEdge, W: Write> Host<T, E, W> {
         ensures { HostHears E.told T.told T.holds (Some events.List)
             result.refusal result.text self.old self.new }
     {
-        tell_numbers(&self.table);
+        lend_numbers(&self.table);
         let text = list(&self.table, &mut self.journal, alloc);
         told(alloc, text)
     }
@@ -144,7 +145,7 @@ impl<T: SettingStore, E: ChildEdge + SocketEdge, W: Write> Host<T, E, W> {
         ensures { HostHears E.told T.told T.holds (Some (events.Print job.now))
             result.refusal result.text self.old self.new }
     {
-        tell_numbers(&self.table);
+        lend_numbers(&self.table);
         let text = print(&self.table, &mut self.journal, alloc, job);
         told(alloc, text)
     }

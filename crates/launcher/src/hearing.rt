@@ -3,9 +3,9 @@
 ghost use Rattle.std.specs.Prelude.{◌≡◌, Some, true};
 ghost use Rattle.launcher_load.specs.LoadTurns.{is_memory};
 ghost use Rattle.launcher_turn.specs.Events.{is_clock};
-ghost use Rattle.launcher_turn.specs.Lines.{told_by, told_of};
+ghost use Rattle.launcher_turn.specs.Lines.{journaled_by, journaled_of};
 ghost use Rattle.launcher.specs.Hosts.{HostHears};
-ghost use Rattle.launcher.specs.Inputs.{event_given, if_label, wants_memory};
+ghost use Rattle.launcher.specs.Inputs.{input_event, if_label, wants_memory};
 
 use crate::host::Host;
 use crate::input::Input;
@@ -20,13 +20,13 @@ use std::io::Write;
 
 impl<T: SettingStore, E: ChildEdge + SocketEdge, W: Write> Host<T, E, W> {
     /// One turn: the input is made an event, what it orders is carried out, and each answer of the outside is made the next
-    /// event, first in first out, until none is left. The journal gets the line of each event, and is flushed at the end. The
+    /// event, first in first out, until none remains. The journal gets the line of each event, and is flushed at the end. The
     /// reply is that of the input.
     ///
     /// A line that is no request, or what happened under a name that is no label, is answered by BadRequest, and is no event.
     /// NoMemory comes only to a line or a reading of the clocks, before anything was carried out; it is no event either.
     pub fn turn(&mut self, alloc: Global, input: Input<'_>) -> Reply
-        ensures hears { HostHears E.told T.told T.holds (event_given input.entry)
+        ensures hears { HostHears E.told T.told T.holds (input_event input.entry)
             result.refusal result.text self.old self.new }
         ensures memory { is_memory result.refusal ≡ true → wants_memory input.entry ≡ true }
     {
@@ -37,7 +37,7 @@ impl<T: SettingStore, E: ChildEdge + SocketEdge, W: Write> Host<T, E, W> {
 
     /// The turn, without the flush.
     fn hear(&mut self, alloc: Global, input: Input<'_>) -> Reply
-        ensures hears { HostHears E.told T.told T.holds (event_given input.entry)
+        ensures hears { HostHears E.told T.told T.holds (input_event input.entry)
             result.refusal result.text self.old self.new }
         ensures memory { is_memory result.refusal ≡ true → wants_memory input.entry ≡ true }
     {
@@ -54,7 +54,8 @@ impl<T: SettingStore, E: ChildEdge + SocketEdge, W: Write> Host<T, E, W> {
 
     /// What happens to the job of this label. A name that is no label is answered by BadRequest.
     fn happen_to(&mut self, alloc: Global, job: &str, what: News) -> Reply
-        ensures hears { HostHears E.told T.told T.holds (if_label job.now (told_of job.now what))
+        ensures hears { HostHears E.told T.told T.holds
+            (if_label job.now (journaled_of job.now what))
             result.refusal result.text self.old self.new }
         ensures memory { is_memory result.refusal ≡ true → ⊥ }
     {
@@ -65,9 +66,9 @@ impl<T: SettingStore, E: ChildEdge + SocketEdge, W: Write> Host<T, E, W> {
         }
     }
 
-    /// What happens, where the outside is first asked nothing.
+    /// What happens, if the outside is first asked nothing.
     pub(crate) fn happen(&mut self, alloc: Global, what: Happening<'_>) -> Reply
-        ensures hears { HostHears E.told T.told T.holds (Some (told_by what.entry))
+        ensures hears { HostHears E.told T.told T.holds (Some (journaled_by what.entry))
             result.refusal result.text self.old self.new }
         ensures memory { is_memory result.refusal ≡ true → is_clock what.entry ≡ true }
     {

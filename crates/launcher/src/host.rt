@@ -4,7 +4,7 @@ ghost use Rattle.std.specs.Prelude.{◌≡◌, ◌↔◌, IfOk, IsTrue, List, Re
 ghost use Rattle.std.specs.Borrow.{sem};
 ghost use Rattle.history_model.specs.declared.event.Setting.{Setting};
 ghost use Rattle.load_asking.specs.declared.store.StoreFault.{StoreFault};
-ghost use Rattle.event_journal.specs.Journals.{fresh, held, told, is_writing};
+ghost use Rattle.event_journal.specs.Journals.{fresh, held, reported, is_writing};
 ghost use Rattle.launcher.specs.Hosts.{IsNew, stands};
 ghost use Rattle.launcher.specs.Faults.{ComesOf, FaultOf};
 ghost use Rattle.launcher.specs.Lends.{lends_edge};
@@ -121,10 +121,10 @@ impl<T: SettingStore, E: ChildEdge + SocketEdge, W: Write> Host<T, E, W> {
     }
 
     /// Whether the journal was closed since this was asked last: true once at most.
-    pub fn tell_journal_closing(&mut self) -> bool
+    pub fn report_journal_closing(&mut self) -> bool
         ensures told { IsTrue result ↔ (self.old.journal.phase ≡ Phase.Closed) }
-        ensures after { self.new ≡ record self.old { journal = told self.old.journal } }
+        ensures after { self.new ≡ record self.old { journal = reported self.old.journal } }
     {
-        self.journal.tell_closing()
+        self.journal.report_closing()
     }
 }

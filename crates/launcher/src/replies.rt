@@ -2,7 +2,7 @@
 
 ghost use Rattle.std.specs.Prelude.{◌≡◌, IfOk, Some, []};
 ghost use Rattle.std.specs.String.{string_bytes};
-ghost use Rattle.launcher_turn.specs.Turns.{refusal_told};
+ghost use Rattle.job_table.specs.Loads.{refused_with};
 
 use history_model::{Refusal, Reply, Text};
 use std::alloc::Global;
@@ -19,7 +19,7 @@ pub(crate) fn refused(alloc: Global, refusal: Refusal) -> Reply
 
 /// The reply to what has no text.
 pub(crate) fn done(alloc: Global, answer: Result<(), Refusal>) -> Reply
-    ensures refusal { result.refusal ≡ refusal_told answer }
+    ensures refusal { result.refusal ≡ refused_with answer }
     ensures text { result.text ≡ [] }
 {
     let refusal = match answer {
@@ -34,7 +34,7 @@ pub(crate) fn done(alloc: Global, answer: Result<(), Refusal>) -> Reply
 
 /// The reply to what is answered by a text.
 pub(crate) fn told(alloc: Global, answer: Result<String, Refusal>) -> Reply
-    ensures refusal { result.refusal ≡ refusal_told answer }
+    ensures refusal { result.refusal ≡ refused_with answer }
     ensures text { IfOk answer (λ text. result.text ≡ string_bytes text) }
 {
     match answer {

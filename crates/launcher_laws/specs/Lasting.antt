@@ -7,7 +7,7 @@ use Rattle.history_model.specs.Machine.{State}
 use Rattle.history_model.specs.Step.{run, outcomes, Outcome}
 use Rattle.job_table.specs.Kept.{KeepsState}
 use Rattle.table_opening.specs.Events.{event_of}
-use Rattle.launcher_laws.specs.Runs.{Moment, Turn, Part, AreTold, events_in, outcomes_in}
+use Rattle.launcher_laws.specs.Runs.{Moment, Turn, Part, AreParts, events_in, outcomes_in}
 
 -- From the machine s the turns led to the last moment, by the events of their parts. The replies
 -- and the calls are the machine's, the table stands for the machine that the events lead to, and
@@ -15,7 +15,7 @@ use Rattle.launcher_laws.specs.Runs.{Moment, Turn, Part, AreTold, events_in, out
 pub record Lasts {T : Type 0} (holds : T → List Setting → Type 0) (s : State)
     (turns : List (Turn T)) (last : Moment T) : Type 0 where
   pub parts : List Part
-  pub told : AreTold turns parts
+  pub are_parts : AreParts turns parts
   pub all : outcomes_in parts ≡ outcomes (map event_of (events_in parts)) s
   pub kept : KeepsState last.stands.table (run (map event_of (events_in parts)) s)
   pub held : holds last.store (run (map event_of (events_in parts)) s).settings

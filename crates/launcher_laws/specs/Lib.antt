@@ -1,4 +1,4 @@
-pub mod Tellable
+pub mod Writable
 pub mod Runs
 pub mod Lasting
 pub mod Replays

@@ -9,24 +9,24 @@ use Rattle.ctl_protocol.specs.EventWriter.{event_line}
 use Rattle.ctl_protocol.specs.HeaderLines.{header_line}
 use Rattle.ctl_protocol.specs.Outcomes.{outcome_line}
 use Rattle.replay_loop.specs.Outcomes.{input_lines}
-use Rattle.replay_loop.specs.Ran.{Answered}
+use Rattle.replay_loop.specs.Reading.{Finished}
 use Rattle.table_opening.specs.Output.{IsOutput}
-use Rattle.launcher_laws.specs.Runs.{Turn, Part, AreTold, events_in, outcomes_in}
-use Rattle.launcher_laws.specs.Tellable.{IsTold}
+use Rattle.launcher_laws.specs.Runs.{Turn, Part, AreParts, events_in, outcomes_in}
+use Rattle.launcher_laws.specs.Writable.{IsWritable}
 
 -- the lines of all outcomes, turn by turn
 abbrev pub outcome_texts : List Part → List ℕ
 outcome_texts parts = flat_map outcome_line (outcomes_in parts)
 
--- The journal's bytes are the line of the header and the lines of the events of these turns. Where
--- each of them can be told, the output of its lines are the outcomes of the turns, and so a replay
--- of these bytes that ends well, as its contract says it, has written them.
+-- The journal's bytes are the line of the header and the lines of the events of these turns. If
+-- each of them can be written, the output of its lines are the outcomes of the turns, and so a
+-- replay of these bytes that ends well, as its contract says it, has written them.
 pub record IsReplayed {T : Type 0} (header : Header) (turns : List (Turn T))
     (bytes : List ℕ) : Type 0 where
   pub parts : List Part
-  pub told : AreTold turns parts
+  pub are_parts : AreParts turns parts
   pub lines : bytes ≡ header_line header ++ flat_map event_line (events_in parts)
-  pub output : AllByRecursion IsTold (events_in parts) →
+  pub output : AllByRecursion IsWritable (events_in parts) →
       IsOutput (input_lines bytes) (Some (outcome_texts parts))
-  pub writes : AllByRecursion IsTold (events_in parts) → (rest held holds : Option (List ℕ)) →
-      Answered IsOutput (Some bytes) rest held holds → Appends held holds (outcome_texts parts)
+  pub writes : AllByRecursion IsWritable (events_in parts) → (rest held holds : Option (List ℕ)) →
+      Finished IsOutput (Some bytes) rest held holds → Appends held holds (outcome_texts parts)

@@ -11,8 +11,8 @@ use Rattle.job_table.specs.Tables.{Name}
 use Rattle.job_table.specs.Kept.{labelled}
 use Rattle.child_edge.specs.Calls.{Tells}
 use Rattle.order_edge.specs.Calls.{Entry, call_of, calls_in}
-use Rattle.event_journal.specs.Journals.{told}
-use Rattle.load_asking.specs.declared.asking.Asked.{Asked}
+use Rattle.event_journal.specs.Journals.{reported}
+use Rattle.load_asking.specs.declared.asking.Outside.{Outside}
 use Rattle.launcher_load.specs.LoadTurns.{is_memory}
 use Rattle.launcher.specs.Inputs.{answered}
 use Rattle.launcher.specs.Hosts.{Standing, Hears}
@@ -31,13 +31,14 @@ pub record Turn (T : Type 0) : Type 0 where
   pub before : Moment T
   pub after : Moment T
 
--- Between two turns the outside may be asked other things, and the closing of the journal be told.
+-- Between two turns the outside may be asked other things, and the closing of the journal be
+-- reported.
 -- The table and the store stay.
 pub record IsBetween {T : Type 0} (old new : Moment T) : Type 0 where
   pub table : new.stands.table ≡ old.stands.table
   pub store : new.store ≡ old.store
   pub journal : (new.stands.journal ≡ old.stands.journal)
-      ⊎ (new.stands.journal ≡ told old.stands.journal)
+      ⊎ (new.stands.journal ≡ reported old.stands.journal)
 
 module _ {T : Type 0} (holds : T → List Setting → Type 0) where
   -- the turn was heard, as `Host::turn` promises
@@ -59,7 +60,7 @@ abbrev pub IsNoEvent : {T : Type 0} → Turn T → Type 0
 IsNoEvent turn =
     (is_memory turn.refusal ≡ true) ⊎ ((turn.event ≡ None) × (turn.refusal ≡ Some BadRequest))
 
--- The events of a turn, as the journal tells them, and their outcomes. The first event is the one
+-- The events of a turn, as the journal has them, and their outcomes. The first event is the one
 -- that came, with what the outside answered to it, and its outcome is the reply; the others are the
 -- answers to the orders. The orders in all outcomes are the calls that were made, in order, each
 -- once, after what a load asks of its sockets.
@@ -67,7 +68,7 @@ pub record AreOutcomesOf {T : Type 0} (turn : Turn T) (events : List journal.Eve
     (outs : List Outcome) : Type 0 where
   pub event : journal.Event
   pub came : turn.event ≡ Some event
-  pub outside : Asked
+  pub outside : Outside
   pub answers : List journal.Event
   pub first : events ≡ answered outside event ∷ answers
   pub reply : Outcome
@@ -77,10 +78,10 @@ pub record AreOutcomesOf {T : Type 0} (turn : Turn T) (events : List journal.Eve
   pub words : turn.refusal ≡ None → reply.text ≡ turn.words
   pub names : List Name
   pub orders : List Order
-  pub given : labelled names orders ≡ flat_map (λ (out : Outcome). out.orders) outs
-  pub asked : Option (List Entry)
+  pub by_label : labelled names orders ≡ flat_map (λ (out : Outcome). out.orders) outs
+  pub outside : Option (List Entry)
   pub entries : List Entry
-  pub tells : Tells asked entries turn.after.stands.calls
+  pub tells : Tells outside entries turn.after.stands.calls
   pub calls : calls_in entries ≡ map call_of orders
 
 -- what a turn adds to a run of the machine: its events, and their outcomes
@@ -88,13 +89,13 @@ abbrev pub Part : Type 0
 Part = List journal.Event × List Outcome
 
 -- what is no event adds nothing
-abbrev pub IsToldBy : {T : Type 0} → Turn T → Part → Type 0
-IsToldBy turn part =
+abbrev pub IsPartOf : {T : Type 0} → Turn T → Part → Type 0
+IsPartOf turn part =
     (IsNoEvent turn × (part.0 ≡ []) × (part.1 ≡ [])) ⊎ AreOutcomesOf turn part.0 part.1
 
 -- so each turn adds its part
-abbrev pub AreTold : {T : Type 0} → List (Turn T) → List Part → Type 0
-AreTold turns parts = AllZip IsToldBy turns parts
+abbrev pub AreParts : {T : Type 0} → List (Turn T) → List Part → Type 0
+AreParts turns parts = AllZip IsPartOf turns parts
 
 abbrev pub events_in : List Part → List journal.Event
 events_in parts = flat_map (λ (part : Part). part.0) parts

@@ -9,7 +9,7 @@ ghost use Rattle.history_model.specs.declared.event.Setting.{Setting};
 ghost use Rattle.ctl_protocol.specs.declared.header.Header.{Header};
 ghost use Rattle.order_edge.specs.Calls.{Entry};
 ghost use Rattle.override_store.specs.OverrideStores.{HoldsSettings, IsOpenedOn, rows_in};
-ghost use Rattle.override_store.specs.Settings.{HoldsEach, TellAlike};
+ghost use Rattle.override_store.specs.Settings.{HoldsEach, ListAlike};
 ghost use Rattle.load_asking.specs.Stores.{StoreCall};
 ghost use Rattle.stored_settings.specs.declared.StoredSettings.{StoredSettings as Stored};
 ghost use Rattle.event_journal.specs.declared.journal.Phase.TheVariants.{Open};
@@ -17,7 +17,7 @@ ghost use Rattle.event_journal.specs.Journals.{Kept, fresh};
 ghost use Rattle.launcher.specs.Hosts.{IsNew, with_settings};
 ghost use Rattle.launcher_laws.specs.Runs.{Moment, Turn, AreTurns};
 ghost use Rattle.launcher_laws.specs.Lasting.{Lasts, settings_of};
-ghost use Rattle.launcher_laws.specs.Tellable.{IsToldHeader};
+ghost use Rattle.launcher_laws.specs.Writable.{IsWritableHeader};
 ghost use Rattle.launcher_laws.specs.Replays.{IsReplayed};
 
 use load_asking::SettingStore;
@@ -57,13 +57,13 @@ pub fn a_store_opened_again_has_the_last_settings<S: Alter, R: Alter>(
         HoldsEach (rows_in (state R.Store again.now).now.trees) (reverse listed) →
         (lasts : Lasts (λ (s : Stored S). HoldsSettings (state S.Store s.store))
         new.machine turns last)
-        × TellAlike (reverse listed) (settings_of lasts) }
+        × ListAlike (reverse listed) (settings_of lasts) }
 {
     let _ = store;
     let _ = again;
 }
 
-/// A replay of the journal writes the replies and the orders of all turns, where no write of the journal was refused. It began empty.
+/// A replay of the journal writes the replies and the orders of all turns, if no write of the journal was refused. It began empty.
 pub fn a_replay_writes_what_was_replied<T: SettingStore>(store: &T)
     ensures { (header : Header) (calls : Option (List Entry)) (stores : Option (List StoreCall))
         (first last : Moment T) (turns : List (Turn T)) (bytes : List ℕ) →
@@ -71,7 +71,7 @@ pub fn a_replay_writes_what_was_replied<T: SettingStore>(store: &T)
         (T.holds store.now) (T.holds first.store)) →
         AreTurns T.holds first turns last →
         last.stands.journal.phase ≡ Open → last.stands.journal.bytes ≡ Some bytes →
-        IsToldHeader (with_settings header new.settings) →
+        IsWritableHeader (with_settings header new.settings) →
         IsReplayed (with_settings header new.settings) turns bytes }
 {
     let _ = store;

@@ -1,3 +1,3 @@
-pub mod TurnRest
-pub mod Loads
-pub mod Sets
+pub mod FinishingLemmas
+pub mod LoadTurnsLemmas
+pub mod SetTurnsLemmas

@@ -9,7 +9,7 @@ use Rattle.history_model.specs.Acceptance.{refusal_in}
 use Rattle.history_model.specs.Step.{outcome, step}
 use Rattle.job_defs.specs.Described.{Described}
 use Rattle.job_defs.specs.Definitions.{given}
-use Rattle.job_defs.specs.Table.{def_of}
+use Rattle.job_defs.specs.Keys.{def_of}
 use Rattle.job_table.specs.Tables.{Table, Name, definition_of_number}
 use Rattle.job_table.specs.Kept.{KeepsState, acts_in}
 use Rattle.job_table.specs.Loads.{load_of, refusal_outside, described_in, number_in, setting_in}
@@ -18,9 +18,9 @@ use Rattle.job_table.specs.Changes.{set_of}
 use Rattle.job_table.specs.Outcomes.{IsSameFor}
 use Rattle.child_edge.specs.Calls.{Tells}
 use Rattle.order_edge.specs.Calls.{Entry}
-use Rattle.load_asking.specs.declared.asking.Asked.{Asked}
+use Rattle.load_asking.specs.declared.asking.Outside.{Outside}
 use Rattle.load_asking.specs.Asking.{Asks}
-use Rattle.load_asking.specs.Stores.{StoreCall, AreTold, asked_to_set}
+use Rattle.load_asking.specs.Stores.{StoreCall, AreTold, set_call}
 use Rattle.event_journal.specs.Journals.{Kept, Grows}
 use Rattle.launcher_turn.specs.Turns.{IsLed, TurnsOf}
 use Rattle.launcher_load.specs.Lines.{load_line, set_line}
@@ -44,24 +44,24 @@ pub record IsUntouched (old new : Table) (told told' : Option (List Entry))
   pub stores : AreTold stored [] stored'
 
 -- nothing was asked, and counts as answered well
-pub record AsksNothing (asked : Asked) (told told' : Option (List Entry))
+pub record AsksNothing (outside : Outside) (told told' : Option (List Entry))
     (stored stored' : Option (List StoreCall)) : Type 0 where
-  pub bind : asked.bind ≡ true
-  pub store : asked.store ≡ true
+  pub bind : outside.bind ≡ true
+  pub store : outside.store ≡ true
   pub tells : Tells told [] told'
   pub stores : AreTold stored [] stored'
 
 -- a load asks nothing, if the machine refuses it whatever the outside answers; if not, it asks as
 -- its definition says
-abbrev pub AsksFor : Option Refusal → Result Described Fault → ℕ → Bool → ℕ → Asked →
+abbrev pub AsksFor : Option Refusal → Result Described Fault → ℕ → Bool → ℕ → Outside →
     Option (List Entry) → Option (List Entry) → Option (List StoreCall) → Option (List StoreCall) →
     Type 0
-AsksFor (Some refusal) read job w wall asked told told' stored stored' =
-    AsksNothing asked told told' stored stored'
-AsksFor None (Err fault) job w wall asked told told' stored stored' =
-    AsksNothing asked told told' stored stored'
-AsksFor None (Ok d) job w wall asked told told' stored stored' =
-    Asks job d w wall asked told told' stored stored'
+AsksFor (Some refusal) read job w wall outside told told' stored stored' =
+    AsksNothing outside told told' stored stored'
+AsksFor None (Err fault) job w wall outside told told' stored stored' =
+    AsksNothing outside told told' stored stored'
+AsksFor None (Ok d) job w wall outside told told' stored stored' =
+    Asks job d w wall outside told told' stored stored'
 
 -- so a setting asks the store, once
 abbrev pub AsksStore : Option Refusal → Label → Bool → ℕ → Bool → Option (List StoreCall) →
@@ -69,23 +69,23 @@ abbrev pub AsksStore : Option Refusal → Label → Bool → ℕ → Bool → Op
 AsksStore (Some refusal) label disabled wall kept stored stored' =
     (kept ≡ true) × AreTold stored [] stored'
 AsksStore None label disabled wall kept stored stored' =
-    AreTold stored (asked_to_set label disabled wall kept ∷ []) stored'
+    AreTold stored (set_call label disabled wall kept ∷ []) stored'
 
 -- ---- whole turns
 
 -- The turn of a load: first it asked the outside, in the reading's second, for the job with the
 -- number that it then has; the load with these answers, and the answers to what it orders, are a
 -- turn of the machine, whose first line tells these answers.
-pub record LoadTurnOf (s : State) (bytes : List ℕ) (writes_setting force : Bool) (asked : Asked)
+pub record LoadTurnOf (s : State) (bytes : List ℕ) (writes_setting force : Bool) (outside : Outside)
     (reply : Option Refusal) (new : Table)
     (told told' : Option (List Entry)) (stored stored' : Option (List StoreCall))
     (written written' : Kept) : Type 0 where
   pub job : ℕ
   pub mid : Option (List Entry)
   pub asks : AsksFor (refusal_in s (load_of bytes writes_setting force true true))
-      (def_of bytes) job writes_setting s.reading.wall asked told mid stored stored'
-  pub turn : TurnsOf s (load_of bytes writes_setting force asked.bind asked.store)
-      (load_line bytes writes_setting force asked) reply new mid told' written written'
+      (def_of bytes) job writes_setting s.reading.wall outside told mid stored stored'
+  pub turn : TurnsOf s (load_of bytes writes_setting force outside.bind outside.store)
+      (load_line bytes writes_setting force outside) reply new mid told' written written'
   pub own : reply ≡ None → (d : Described) → def_of bytes ≡ Ok d →
       definition_of_number turn.names job ≡ Some d
 
@@ -121,16 +121,17 @@ pub record Makes (s : State) (e : Event) (line : List ℕ) (job : ℕ) (d : Desc
   pub turn : TurnsOf s e line None new told told' written written'
   pub own : definition_of_number turn.names job ≡ Some d
 
--- the outside was asked about a load that was made ready, and its line was written; where the
+-- the outside was asked about a load that was made ready, and its line was written; if the
 -- outside refused, nothing more happened, and else the load was made
-pub record EndsLoad (ready : Ready) (writes_setting : Bool) (wall : ℕ) (asked : Asked)
+pub record EndsLoad (ready : Ready) (writes_setting : Bool) (wall : ℕ) (outside : Outside)
     (refusal : Option Refusal) (line : List ℕ) (old new : Table)
     (told told' : Option (List Entry)) (stored stored' : Option (List StoreCall))
     (written written' : Kept) : Type 0 where
   pub mid : Option (List Entry)
-  pub asks : Asks (number_in ready) (described_in ready) writes_setting wall asked told mid
+  pub asks : Asks (number_in ready) (described_in ready) writes_setting wall outside told mid
       stored stored'
-  pub answer : refusal ≡ refusal_outside (described_in ready) writes_setting asked.bind asked.store
+  pub answer : refusal
+      ≡ refusal_outside (described_in ready) writes_setting outside.bind outside.store
   pub refused : (r : Refusal) → refusal ≡ Some r →
       (new ≡ old) × (told' ≡ mid) × Grows written written' line
   pub made : refusal ≡ None → (s : State) (force bind store : Bool) → IsLed s → KeepsState old s

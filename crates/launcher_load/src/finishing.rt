@@ -31,6 +31,6 @@ pub(crate) fn finish<E: ChildEdge + SocketEdge, W: Write>(
         → Finishes s e line table.old.names table.new
         (E.told edge.old) (E.told edge.new) written journal.new }
 {
-    carry_all(edge, &table.given(), &mut room.answers);
+    carry_all(edge, &table.last_step(), &mut room.answers);
     settle(table, edge, journal, alloc, room);
 }

@@ -10,10 +10,10 @@ ghost use Rattle.history_model.specs.Machine.{State, Load};
 ghost use Rattle.history_model.specs.Step.{outcome, set_if};
 ghost use Rattle.job_defs.specs.Definitions.{given};
 ghost use Rattle.job_table.specs.Kept.{KeepsState};
-ghost use Rattle.job_table.specs.Loads.{load_of, refusal_outside, IsReady, described_in, number_in, setting_in};
+ghost use Rattle.job_table.specs.Loads.{load_of, refusal_outside, IsReady, described_in, number_in, setting_in, refused_with};
 ghost use Rattle.event_journal.specs.Journals.{Kept, Grows};
 ghost use Rattle.load_asking.specs.Stores.{HoldsAfter};
-ghost use Rattle.launcher_turn.specs.Turns.{IsLed, refusal_told};
+ghost use Rattle.launcher_turn.specs.Turns.{IsLed};
 ghost use Rattle.launcher_load.specs.Lines.{load_line};
 ghost use Rattle.launcher_load.specs.LoadTurns.{LoadTurnOf, IsUntouched, Makes, EndsLoad, is_memory, settings_after};
 
@@ -26,7 +26,7 @@ use job_defs::Def;
 use job_table::{JobTable, Ready};
 use job_texts::loaded;
 use launcher_turn::Room;
-use load_asking::{Asked, SettingStore, ask_outside};
+use load_asking::{Outside, SettingStore, ask_outside};
 use std::alloc::Global;
 use std::io::Write;
 
@@ -34,7 +34,7 @@ use std::io::Write;
 #[derive(Drop)]
 pub struct Loaded {
     /// What the outside answered. What it was not asked counts as true.
-    pub asked: Asked,
+    pub outside: Outside,
     /// The text of a load that was made, or why it was refused.
     pub reply: Result<String, Refusal>,
 }
@@ -42,18 +42,18 @@ pub struct Loaded {
 /// What the outside answered, and what it refused.
 #[derive(Clone, Copy)]
 struct Answered {
-    asked: Asked,
+    outside: Outside,
     refusal: Option<Refusal>,
 }
 
-/// What the outside refuses of a load: the sockets of a job that has any, then the store, where a setting is written.
-fn refused_outside(def: &Def, writes_setting: bool, asked: Asked) -> Option<Refusal>
-    ensures { result ≡ refusal_outside def.now writes_setting asked.bind asked.store }
+/// What the outside refuses of a load: the sockets of a job that has any, then the store, if a setting is written.
+fn refused_outside(def: &Def, writes_setting: bool, outside: Outside) -> Option<Refusal>
+    ensures { result ≡ refusal_outside def.now writes_setting outside.bind outside.store }
 {
-    if def.has_sockets() && !asked.bind {
+    if def.has_sockets() && !outside.bind {
         return Some(Refusal::SocketRefused);
     }
-    if writes_setting && !asked.store {
+    if writes_setting && !outside.store {
         return Some(Refusal::StoreRefused);
     }
     None
@@ -88,7 +88,7 @@ fn make<E: ChildEdge + SocketEdge, W: Write>(
     finish(table, edge, journal, alloc, room);
 }
 
-/// Asks the outside about the load that was made ready, writes its line, and makes it where the outside answered well.
+/// Asks the outside about the load that was made ready, writes its line, and makes it if the outside answered well.
 fn ask_and_make<E: ChildEdge + SocketEdge, T: SettingStore, W: Write>(
     table: &mut JobTable,
     edge: &mut E,
@@ -104,17 +104,18 @@ fn ask_and_make<E: ChildEdge + SocketEdge, T: SettingStore, W: Write>(
     requires ready { IsReady table.old ready }
     requires label { is_label (described_in ready).label ≡ true }
     requires empty { room.old.answers ≡ [] }
-    ensures ends { EndsLoad ready writes_setting table.old.reading.wall result.asked result.refusal
-        (load_line def.now writes_setting force result.asked) table.old table.new
+    ensures ends { EndsLoad ready writes_setting table.old.reading.wall result.outside
+        result.refusal
+        (load_line def.now writes_setting force result.outside) table.old table.new
         (E.told edge.old) (E.told edge.new)
         (T.told store.old) (T.told store.new) journal.old journal.new }
     ensures stored { HoldsAfter T.holds
-        (set_if (writes_setting && (result.asked.bind && result.asked.store))
+        (set_if (writes_setting && (result.outside.bind && result.outside.store))
         (described_in ready).label false)
         store.old store.new }
 {
     let changed = table.reading().wall;
-    let asked = ask_outside(
+    let outside = ask_outside(
         edge,
         store,
         ready.job(),
@@ -122,22 +123,22 @@ fn ask_and_make<E: ChildEdge + SocketEdge, T: SettingStore, W: Write>(
         writes_setting,
         changed,
     );
-    note_load(journal, alloc, def, writes_setting, force, asked);
-    let refusal = refused_outside(ready.def(), writes_setting, asked);
+    note_load(journal, alloc, def, writes_setting, force, outside);
+    let refusal = refused_outside(ready.def(), writes_setting, outside);
     match refusal {
         Some(_) => discard(ready),
         None => make(table, edge, journal, alloc, room, ready),
     }
-    Answered { asked, refusal }
+    Answered { outside, refusal }
 }
 
 /// A load that was refused before the outside was asked.
-fn unasked(refusal: Refusal) -> Loaded
+fn uncalled(refusal: Refusal) -> Loaded
     ensures { result
-        ≡ record { asked = record { bind = true; store = true }; reply = Err refusal } }
+        ≡ record { outside = record { bind = true; store = true }; reply = Err refusal } }
 {
     Loaded {
-        asked: Asked {
+        outside: Outside {
             bind: true,
             store: true,
         },
@@ -147,16 +148,16 @@ fn unasked(refusal: Refusal) -> Loaded
 
 /// A load that the outside was asked about, with the text that it has if it was made.
 fn reply_to(answered: Answered, text: String) -> Loaded
-    ensures asked { result.asked ≡ answered.asked }
-    ensures reply { refusal_told result.reply ≡ answered.refusal }
-    ensures text { IfOk result.reply (λ given. string_bytes given ≡ string_bytes text) }
+    ensures outside { result.outside ≡ answered.outside }
+    ensures reply { refused_with result.reply ≡ answered.refusal }
+    ensures text { IfOk result.reply (λ said. string_bytes said ≡ string_bytes text) }
 {
     let reply = match answered.refusal {
         Some(refusal) => Err(refusal),
         None => Ok(text),
     };
     Loaded {
-        asked: answered.asked,
+        outside: answered.outside,
         reply,
     }
 }
@@ -164,10 +165,10 @@ fn reply_to(answered: Answered, text: String) -> Loaded
 /// A turn that begins with a load, as `load` of launchctl(1): with `writes_setting` its label is also enabled, with `force`
 /// a disabled one is loaded too. All memory is taken before the outside is asked, but for that of the journal's lines: want
 /// of it closes the journal and changes nothing else. The journal gets the line of the load with what the outside answered,
-/// also where it is refused, and then the line of each answer.
+/// also if it is refused, and then the line of each answer.
 ///
 /// Refusals, in this order: ShuttingDown, BadDefinition, Removing or AlreadyLoaded, TooManyJobs (1,024), Disabled; NoMemory;
-/// SocketRefused, where the sockets were not bound, StoreRefused, where the setting was not stored: what was bound is then
+/// SocketRefused, if the sockets were not bound, StoreRefused, if the setting was not stored: what was bound is then
 /// given up. A refused load leaves the table standing for what it stood for. One that found no memory has no line.
 pub fn load<E: ChildEdge + SocketEdge, T: SettingStore, W: Write>(
     table: &mut JobTable,
@@ -180,22 +181,22 @@ pub fn load<E: ChildEdge + SocketEdge, T: SettingStore, W: Write>(
     writes_setting: bool,
     force: bool,
 ) -> Loaded
-    ensures memory { is_memory (refusal_told result.reply) ≡ true →
+    ensures memory { is_memory (refused_with result.reply) ≡ true →
         IsUntouched table.old table.new (E.told edge.old) (E.told edge.new)
         (T.told store.old) (T.told store.new) }
-    ensures silent { is_memory (refusal_told result.reply) ≡ true → journal.new ≡ journal.old }
-    ensures turn { is_memory (refusal_told result.reply) ≡ false → (s : State) → IsLed s →
+    ensures silent { is_memory (refused_with result.reply) ≡ true → journal.new ≡ journal.old }
+    ensures turn { is_memory (refused_with result.reply) ≡ false → (s : State) → IsLed s →
         KeepsState table.old s
-        → LoadTurnOf s def.now writes_setting force result.asked (refusal_told result.reply)
+        → LoadTurnOf s def.now writes_setting force result.outside (refused_with result.reply)
         table.new
         (E.told edge.old) (E.told edge.new)
         (T.told store.old) (T.told store.new) journal.old journal.new }
     ensures stored { (s : State) → KeepsState table.old s → T.holds store.old s.settings
-        → T.holds store.new (settings_after (refusal_told result.reply) s
-        (load_of def.now writes_setting force result.asked.bind result.asked.store)) }
+        → T.holds store.new (settings_after (refused_with result.reply) s
+        (load_of def.now writes_setting force result.outside.bind result.outside.store)) }
     ensures text { IfOk result.reply (λ text. (s : State) → KeepsState table.old s
         → (outcome s
-        (load_of def.now writes_setting force result.asked.bind result.asked.store)).text
+        (load_of def.now writes_setting force result.outside.bind result.outside.store)).text
         ≡ string_bytes text) }
 {
     room.answers.clear();
@@ -218,12 +219,12 @@ pub fn load<E: ChildEdge + SocketEdge, T: SettingStore, W: Write>(
             }
             Err(_) => {
                 discard(ready);
-                unasked(Refusal::NoMemory)
+                uncalled(Refusal::NoMemory)
             }
         },
         Err(refusal) => {
             note_load_refused(journal, alloc, def, writes_setting, force, refusal);
-            unasked(refusal)
+            uncalled(refusal)
         }
     }
 }

@@ -2,36 +2,36 @@
 
 ghost use Rattle.std.specs.Prelude.{◌≡◌, IfOk, Some, true, false};
 ghost use Rattle.event_journal.specs.Journals.{Grows};
-ghost use Rattle.launcher_load.specs.Lines.{told_load, told_set, load_line, set_line};
+ghost use Rattle.launcher_load.specs.Lines.{journaled_load, journaled_set, load_line, set_line};
 ghost use Rattle.launcher_load.specs.LoadTurns.{is_memory};
 
 use event_journal::Journal;
 use history_model::{Event, Refusal, Text};
-use load_asking::Asked;
+use load_asking::Outside;
 use std::alloc::{AllocError, Global};
 use std::io::Write;
 
-/// The journal's event of a load. `AllocError` where memory for a copy of the definition was refused.
+/// The journal's event of a load. `AllocError` if memory for a copy of the definition was refused.
 fn load_event(
     alloc: Global,
     def: &str,
     writes_setting: bool,
     force: bool,
-    asked: Asked,
+    outside: Outside,
 ) -> Result<Event, AllocError>
-    ensures { IfOk result (λ event. event ≡ told_load def.now writes_setting force asked) }
+    ensures { IfOk result (λ event. event ≡ journaled_load def.now writes_setting force outside) }
 {
     let def = Text::copy_of(alloc, def)?;
     Ok(Event::Load {
         def,
         writes_setting,
         force,
-        bind: asked.bind,
-        store: asked.store,
+        bind: outside.bind,
+        store: outside.store,
     })
 }
 
-/// The journal's event of a setting. `AllocError` where memory for a copy of the label was refused.
+/// The journal's event of a setting. `AllocError` if memory for a copy of the label was refused.
 fn set_event(
     alloc: Global,
     label: &str,
@@ -39,7 +39,7 @@ fn set_event(
     unload: bool,
     store: bool,
 ) -> Result<Event, AllocError>
-    ensures { IfOk result (λ event. event ≡ told_set label.now disabled unload store) }
+    ensures { IfOk result (λ event. event ≡ journaled_set label.now disabled unload store) }
 {
     let job = Text::copy_of(alloc, label)?;
     if unload {
@@ -62,11 +62,14 @@ pub(crate) fn note_load<W: Write>(
     def: &str,
     writes_setting: bool,
     force: bool,
-    asked: Asked,
+    outside: Outside,
 )
-    ensures { Grows journal.old journal.new (load_line def.now writes_setting force asked) }
+    ensures { Grows journal.old journal.new (load_line def.now writes_setting force outside) }
 {
-    journal.note_made(alloc, load_event(alloc, def, writes_setting, force, asked));
+    journal.note_made(
+        alloc,
+        load_event(alloc, def, writes_setting, force, outside),
+    );
 }
 
 /// Writes the line of a setting with this answer. Want of memory for it closes the journal.
@@ -111,11 +114,11 @@ pub(crate) fn note_load_refused<W: Write>(
     if is_want(refusal) {
         return;
     }
-    let asked = Asked {
+    let outside = Outside {
         bind: true,
         store: true,
     };
-    note_load(journal, alloc, def, writes_setting, force, asked);
+    note_load(journal, alloc, def, writes_setting, force, outside);
 }
 
 /// Writes the line of a setting that was refused before the store was asked. One that found no memory is no event and gets no

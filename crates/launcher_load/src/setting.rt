@@ -7,7 +7,8 @@ ghost use Rattle.history_model.specs.Machine.{State};
 ghost use Rattle.job_table.specs.Changes.{set_of, IsReadySet};
 ghost use Rattle.job_table.specs.Kept.{KeepsState};
 ghost use Rattle.event_journal.specs.Journals.{Kept, Grows};
-ghost use Rattle.launcher_turn.specs.Turns.{IsLed, TurnsOf, refusal_told};
+ghost use Rattle.launcher_turn.specs.Turns.{IsLed, TurnsOf};
+ghost use Rattle.job_table.specs.Loads.{refused_with};
 ghost use Rattle.launcher_load.specs.LoadTurns.{SetTurnOf, IsUntouched, is_memory, settings_after};
 
 use crate::finishing::finish;
@@ -58,10 +59,10 @@ fn make<E: ChildEdge + SocketEdge, W: Write>(
 /// A turn that begins with a setting of a label, as `enable` and `disable` of launchctl(1); with `unload` as `unload -w`, which
 /// disables the label and removes its job. The store keeps the second of the last reading with it. All memory is taken
 /// before the store is asked, but for that of the journal's lines: want of it closes the journal and changes nothing else.
-/// The journal gets the line of the setting with what the store answered, also where it is refused, and then the line of each
+/// The journal gets the line of the setting with what the store answered, also if it is refused, and then the line of each
 /// answer.
 ///
-/// Refusals: BadRequest (no label); with `unload` then NoSuchJob, Removing; NoMemory; StoreRefused, where the setting was not
+/// Refusals: BadRequest (no label); with `unload` then NoSuchJob, Removing; NoMemory; StoreRefused, if the setting was not
 /// stored. A refused setting leaves the table standing for what it stood for. One that found no memory has no line.
 pub fn set<E: ChildEdge + SocketEdge, T: SettingStore, W: Write>(
     table: &mut JobTable,
@@ -74,17 +75,17 @@ pub fn set<E: ChildEdge + SocketEdge, T: SettingStore, W: Write>(
     disabled: bool,
     unload: bool,
 ) -> Changed
-    ensures memory { is_memory (refusal_told result.reply) ≡ true →
+    ensures memory { is_memory (refused_with result.reply) ≡ true →
         IsUntouched table.old table.new (E.told edge.old) (E.told edge.new)
         (T.told store.old) (T.told store.new) }
-    ensures silent { is_memory (refusal_told result.reply) ≡ true → journal.new ≡ journal.old }
-    ensures turn { is_memory (refusal_told result.reply) ≡ false → (s : State) → IsLed s →
+    ensures silent { is_memory (refused_with result.reply) ≡ true → journal.new ≡ journal.old }
+    ensures turn { is_memory (refused_with result.reply) ≡ false → (s : State) → IsLed s →
         KeepsState table.old s
-        → SetTurnOf s label.now disabled unload result.stored (refusal_told result.reply) table.new
+        → SetTurnOf s label.now disabled unload result.stored (refused_with result.reply) table.new
         (E.told edge.old) (E.told edge.new)
         (T.told store.old) (T.told store.new) journal.old journal.new }
     ensures stored { (s : State) → KeepsState table.old s → T.holds store.old s.settings
-        → T.holds store.new (settings_after (refusal_told result.reply) s
+        → T.holds store.new (settings_after (refused_with result.reply) s
         (set_of label.now disabled unload result.stored)) }
 {
     if !is_label(label) {

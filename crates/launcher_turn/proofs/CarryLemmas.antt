@@ -8,7 +8,8 @@ use Rattle.child_edge.specs.Calls.{Tells}
 use Rattle.order_edge.specs.declared.pending.Pending.{Pending}
 use Rattle.order_edge.specs.Calls.{Entry, call_of, calls_in, answer_in, answers_in, Carries}
 use Rattle.launcher_turn.specs.Turns.{Carried}
-use Rattle.launcher_turn.proofs.Both.{and-both}
+use Rattle.history_model.proofs.BooleanLemmas.{and-both}
+use Rattle.history_model.specs.declared.TheConstants.{MAX_JOBS}
 
 -- what is told one after another is told together
 pub Tells-append : (a b c : Option (List Entry)) (p q : List Entry) → Tells a p b → Tells b q c → Tells a (p ++ q) c
@@ -23,22 +24,22 @@ Tells-none a = λ after is. (after, is, sym (append-nil after))
 pub none_carried : (old : List Pending) (told : Option (List Entry)) → Carried [] old old told told
 none_carried old told = record { entries = []; tells = Tells-none told; calls = refl; kept = λ fits. sym (append-nil old) }
 
--- the answer, if there is one, is kept where there is room
+-- the answer, if there is one, is kept if there is room
 abbrev pub IsKept : Option Pending → List Pending → List Pending → Type 0
 IsKept None old new = new ≡ old
-IsKept (Some pending) old new = length old < 3 * 1024 → new ≡ old ++ pending ∷ []
+IsKept (Some pending) old new = length old < 3 * MAX_JOBS → new ≡ old ++ pending ∷ []
 
-kept-more : (o : Option Pending) (old mid new made : List Pending) → (length old + length made ≤ 3 * 1024 → mid ≡ old ++ made) → IsKept o mid new →
-    length old + length (made ++ cons_option o []) ≤ 3 * 1024 → new ≡ old ++ (made ++ cons_option o [])
+kept-more : (o : Option Pending) (old mid new made : List Pending) → (length old + length made ≤ 3 * MAX_JOBS → mid ≡ old ++ made) → IsKept o mid new →
+    length old + length (made ++ cons_option o []) ≤ 3 * MAX_JOBS → new ≡ old ++ (made ++ cons_option o [])
 kept-more None old mid new made before is fits =
-    let short : length old + length made ≤ 3 * 1024 = omega (arith, ap length (append-nil made), fits) in
+    let short : length old + length made ≤ 3 * MAX_JOBS = omega (arith, ap length (append-nil made), fits) in
     is ∙ before short ∙ ap (λ xs. old ++ xs) (sym (append-nil made))
 kept-more (Some p) old mid new made before is fits =
     let long : length (made ++ p ∷ []) ≡ length made + 1 = length-append made (p ∷ []) in
-    let short : length old + length made ≤ 3 * 1024 = omega (arith, long, fits) in
+    let short : length old + length made ≤ 3 * MAX_JOBS = omega (arith, long, fits) in
     let same : mid ≡ old ++ made = before short in
     let size : length mid ≡ length old + length made = ap length same ∙ length-append old made in
-    let below : length mid < 3 * 1024 = omega (arith, size, long, fits) in
+    let below : length mid < 3 * MAX_JOBS = omega (arith, size, long, fits) in
     is below ∙ ap (λ xs. xs ++ p ∷ []) same ∙ append_assoc old made (p ∷ [])
 
 pub carried-more : (orders : List Order) (order : Order) (old mid new : List Pending) (pending : Option Pending) (a b c : Option (List Entry)) →

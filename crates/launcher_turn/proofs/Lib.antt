@@ -1,9 +1,8 @@
 pub mod CarryLemmas
-pub mod Labels
-pub mod Noting
-pub mod Numbers
-pub mod OneEvent
-pub mod SoFar
-pub mod Whole
-pub mod Stored
-pub mod Both
+pub mod LabelLemmas
+pub mod NotingLemmas
+pub mod NumbersLemmas
+pub mod OneEventLemmas
+pub mod SettlingLemmas
+pub mod TurnsLemmas
+pub mod StoredSettingsLemmas

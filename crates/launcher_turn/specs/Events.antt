@@ -9,21 +9,21 @@ use Rattle.launcher_turn.specs.declared.happening.Happening.{Happening}
 use Rattle.launcher_turn.specs.declared.happening.Happening.TheVariants as happenings
 
 -- the item that one job's past grows by
-abbrev pub item_told : News → Item
-item_told news.Start = Asked asks.Start
-item_told news.Stop = Asked asks.Stop
-item_told (news.Kickstart kills_first) = Asked (asks.Kickstart kills_first)
-item_told (news.Came conn) = Came conn
-item_told (news.Left conn) = Left conn
-item_told (news.Ended run how) = RunEnded run how
-item_told (news.WaitRefused run) = WaitRefused run
-item_told (news.Answered answer) = Answered answer
+abbrev pub item_heard : News → Item
+item_heard news.Start = Asked asks.Start
+item_heard news.Stop = Asked asks.Stop
+item_heard (news.Kickstart kills_first) = Asked (asks.Kickstart kills_first)
+item_heard (news.Came conn) = Came conn
+item_heard (news.Left conn) = Left conn
+item_heard (news.Ended run how) = RunEnded run how
+item_heard (news.WaitRefused run) = WaitRefused run
+item_heard (news.Answered answer) = Answered answer
 
 -- the event; an unload without -w asks no store
 abbrev pub event_of : Happening → Event
 event_of (happenings.Clock at) = Tick at
 event_of (happenings.Saw path obs) = Sight path.now obs
-event_of (happenings.ToJob label what) = OfJob label.now (item_told what)
+event_of (happenings.ToJob label what) = OfJob label.now (item_heard what)
 event_of (happenings.Unload label) = UnloadJob label.now false true
 event_of happenings.Shutdown = ShutDown
 

@@ -4,7 +4,7 @@ use Rattle.std.specs.List.{flat_map}
 use Rattle.history_model.specs.declared.Answer.{Answer}
 use Rattle.history_model.specs.declared.Answer.TheVariants as answers
 use Rattle.history_model.specs.declared.event.Event as journal
-use Rattle.history_model.specs.declared.event.Event.TheVariants as told
+use Rattle.history_model.specs.declared.event.Event.TheVariants as journaled
 use Rattle.history_model.specs.Labels.{Label}
 use Rattle.ctl_protocol.specs.EventWriter.{event_line}
 use Rattle.job_table.specs.Tables.{Name, label_of}
@@ -15,34 +15,35 @@ use Rattle.launcher_turn.specs.declared.happening.Happening.{Happening}
 use Rattle.launcher_turn.specs.declared.happening.Happening.TheVariants as happenings
 
 -- the journal's event of the answer to an order of the label's job
-abbrev pub told_answer : Label → Answer → journal.Event
-told_answer job (answers.Spawned run pid) = told.Spawned job run pid
-told_answer job (answers.SpawnRefused run) = told.SpawnRefused job run
-told_answer job (answers.Termed run ok) = told.Termed job run ok
-told_answer job (answers.Killed run ok) = told.Killed job run ok
+abbrev pub journaled_answer : Label → Answer → journal.Event
+journaled_answer job (answers.Spawned run pid) = journaled.Spawned job run pid
+journaled_answer job (answers.SpawnRefused run) = journaled.SpawnRefused job run
+journaled_answer job (answers.Termed run ok) = journaled.Termed job run ok
+journaled_answer job (answers.Killed run ok) = journaled.Killed job run ok
 
 -- of what happens to the label's job
-abbrev pub told_of : Label → News → journal.Event
-told_of job news.Start = told.Start job
-told_of job news.Stop = told.Stop job
-told_of job (news.Kickstart kills_first) = told.Kickstart job kills_first
-told_of job (news.Came conn) = told.Came job conn
-told_of job (news.Left conn) = told.Left job conn
-told_of job (news.Ended run how) = told.Ended job run how
-told_of job (news.WaitRefused run) = told.WaitRefused job run
-told_of job (news.Answered answer) = told_answer job answer
+abbrev pub journaled_of : Label → News → journal.Event
+journaled_of job news.Start = journaled.Start job
+journaled_of job news.Stop = journaled.Stop job
+journaled_of job (news.Kickstart kills_first) = journaled.Kickstart job kills_first
+journaled_of job (news.Came conn) = journaled.Came job conn
+journaled_of job (news.Left conn) = journaled.Left job conn
+journaled_of job (news.Ended run how) = journaled.Ended job run how
+journaled_of job (news.WaitRefused run) = journaled.WaitRefused job run
+journaled_of job (news.Answered answer) = journaled_answer job answer
 
 -- and of what happens
-abbrev pub told_by : Happening → journal.Event
-told_by (happenings.Clock at) = told.Clock at
-told_by (happenings.Saw path obs) = told.Saw path.now obs
-told_by (happenings.ToJob label what) = told_of label.now what
-told_by (happenings.Unload label) = told.Unload label.now false true
-told_by happenings.Shutdown = told.Shutdown
+abbrev pub journaled_by : Happening → journal.Event
+journaled_by (happenings.Clock at) = journaled.Clock at
+journaled_by (happenings.Saw path obs) = journaled.Saw path.now obs
+journaled_by (happenings.ToJob label what) = journaled_of label.now what
+journaled_by (happenings.Unload label) = journaled.Unload label.now false true
+journaled_by happenings.Shutdown = journaled.Shutdown
 
 -- the line of an answer; a number stands for its job's label
 abbrev pub answer_text : List Name → Pending → List ℕ
-answer_text names pending = event_line (told_answer (label_of names pending.job) pending.answer)
+answer_text names pending =
+    event_line (journaled_answer (label_of names pending.job) pending.answer)
 
 -- the lines of the answers, in order
 abbrev pub answer_texts : List Name → List Pending → List ℕ

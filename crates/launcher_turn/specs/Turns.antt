@@ -4,7 +4,7 @@ use Rattle.std.specs.Prelude.{◌≡◌, ℕ, ◌+◌, ◌*◌, ◌≤◌, ◌<�
 use Rattle.std.specs.List.{list_all, AllByRecursion}
 use Rattle.history_model.specs.declared.Order.{Order}
 use Rattle.history_model.specs.declared.Refusal.{Refusal}
-use Rattle.history_model.specs.declared.TheConstants.{MAX_UP}
+use Rattle.history_model.specs.declared.TheConstants.{MAX_JOBS, MAX_UP}
 use Rattle.history_model.specs.Items.{Answered}
 use Rattle.history_model.specs.Runs.{is_answer_to}
 use Rattle.history_model.specs.Machine.{State, Event, Load, OfJob}
@@ -21,27 +21,29 @@ use Rattle.order_edge.specs.declared.pending.Pending.{Pending}
 use Rattle.event_journal.specs.Journals.{Kept, Grows}
 use Rattle.launcher_turn.specs.Lines.{answer_text, answer_texts}
 use Rattle.order_edge.specs.Calls.{Entry, call_of, calls_in, answers_in}
-use Rattle.history_model.specs.Turns.{Given, wanting}
-use Rattle.history_model.specs.Waits.{AreFresh, weight, weigh_given}
+use Rattle.history_model.specs.Turns.{JobOrder, wanting}
+use Rattle.history_model.specs.Waits.{AreFresh, weight, weigh_orders}
+use Rattle.job_table.specs.Loads.{refused_with}
 
 -- ---- orders that are carried out
 
--- the orders were carried out one after another, each by its one call, and where there is room for
+-- the orders were carried out one after another, each by its one call, and if there is room for
 -- them the answers are kept
 pub record Carried (orders : List Order) (old new : List Pending)
     (told told' : Option (List Entry)) : Type 0 where
   pub entries : List Entry
   pub tells : Tells told entries told'
   pub calls : calls_in entries ≡ map call_of orders
-  pub kept : length old + length (answers_in entries) ≤ 3 * 1024 → new ≡ old ++ answers_in entries
+  pub kept : length old + length (answers_in entries) ≤ 3 * MAX_JOBS →
+      new ≡ old ++ answers_in entries
 
 -- the orders that an event gave, by number
-abbrev pub orders_given : Result Step Refusal → List Order
-orders_given (Ok given) = given.orders.now
-orders_given (Err refusal) = []
+abbrev pub orders_lent : Result Step Refusal → List Order
+orders_lent (Ok lent) = lent.orders.now
+orders_lent (Err refusal) = []
 
 abbrev pub AreKnownIn : Result Step Refusal → Type 0
-AreKnownIn (Ok given) = AreKnown given
+AreKnownIn (Ok lent) = AreKnown lent
 AreKnownIn (Err refusal) = Unit {0}
 
 -- ---- the events of a turn
@@ -60,21 +62,21 @@ pub record IsTurn (s : State) (input : Event) (names : List Name) (entries : Lis
     (new : Table) : Type 0 where
   pub orders : List Order
   pub calls : calls_in entries ≡ map call_of orders
-  pub given : labelled names orders ≡ orders_in (input ∷ events_in names entries) s
+  pub by_label : labelled names orders ≡ orders_in (input ∷ events_in names entries) s
   pub kept : KeepsState new (run (input ∷ events_in names entries) s)
 
 -- ---- in the midst of a turn
 
 -- each answer is that to the order at its place, of the job that its number stands for
-abbrev pub AreTheirs : List Name → List Given → List Pending → Type 0
+abbrev pub AreTheirs : List Name → List JobOrder → List Pending → Type 0
 AreTheirs names [] [] = Unit {0}
 AreTheirs names [] (pending ∷ rest) = ⊥
-AreTheirs names (given ∷ waits) [] = ⊥
-AreTheirs names (given ∷ waits) (pending ∷ rest) =
-    ((d : Described) × (definition_of_number names pending.job ≡ Some d) × (d.label ≡ given.0))
-    × (is_answer_to pending.answer given.1 ≡ true) × AreTheirs names waits rest
+AreTheirs names (job_order ∷ waits) [] = ⊥
+AreTheirs names (job_order ∷ waits) (pending ∷ rest) =
+    ((d : Described) × (definition_of_number names pending.job ≡ Some d) × (d.label ≡ job_order.0))
+    × (is_answer_to pending.answer job_order.1 ≡ true) × AreTheirs names waits rest
 
--- the loaded jobs have the numbers that these names tell
+-- the loaded jobs have the numbers that these names give
 pub record AreNumbered (names : List Name) (table : Table) : Type 0 where
   pub once : IsOnce names
   pub named : AllByRecursion (λ row. definition_of_number names row.number ≡ Some row.described)
@@ -88,17 +90,17 @@ pub record IsOrderly (s : State) : Type 0 where
 
 -- the table stands for a machine that has given these orders, whose answers are still to be made
 -- events
-pub record IsWaiting (table : Table) (s : State) (names : List Name) (waits : List Given)
+pub record IsWaiting (table : Table) (s : State) (names : List Name) (waits : List JobOrder)
     (pending : List Pending) : Type 0 where
   pub keeps : KeepsState table s
   pub orderly : IsOrderly s
   pub fresh : AreFresh s.jobs waits
-  pub heavy : AllByRecursion (λ given. 0 < weight given.1) waits
+  pub heavy : AllByRecursion (λ job_order. 0 < weight job_order.1) waits
   pub numbers : AreNumbered names table
   pub theirs : AreTheirs names waits pending
 
--- One event happened, and this was its answer: its orders, by number, were carried out. Where it
--- was accepted, the table's own names stand for the jobs after it, and for those that left at it.
+-- One event happened, and this was its answer: its orders, by number, were carried out. If it
+-- was accepted, the table's own names stand for the jobs after it, and for those that went at it.
 pub record Begins (s : State) (e : Event) (reply : Option Refusal) (new : Table)
     (before after : List Pending) (told told' : Option (List Entry)) : Type 0 where
   pub orders : List Order
@@ -115,7 +117,7 @@ pub record HappensTo (s : State) (e : Event) (reply : Option Refusal) (old new :
     (before after : List Pending) (told told' : Option (List Entry)) : Type 0 where
   pub begins : Begins s e reply new before after told told'
   pub loaded : reply ≡ None → AreNumbered new.names old
-  pub given : (names : List Name) → AreNumbered names old →
+  pub by_label : (names : List Name) → AreNumbered names old →
       AreNumbered names new × (labelled names begins.orders ≡ (outcome s e).orders)
       × (list_all (is_known names) begins.orders ≡ true)
 
@@ -125,7 +127,7 @@ Happens e reply old new before after told told' =
     (s : State) → KeepsState old s → HappensTo s e reply old new before after told told'
 
 -- one answer was made an event, and what it ordered waits behind the others
-pub record Handled (s : State) (names : List Name) (given : Given) (waits : List Given)
+pub record Handled (s : State) (names : List Name) (job_order : JobOrder) (waits : List JobOrder)
     (pending : Pending) (rest : List Pending) (new : Table)
     (before after : List Pending) (told told' : Option (List Entry))
     (written written' : Kept) : Type 0 where
@@ -136,9 +138,10 @@ pub record Handled (s : State) (names : List Name) (given : Given) (waits : List
       IsWaiting new (step s (event_in names pending)) names
       (waits ++ wanting (outcome s (event_in names pending)).orders) (rest ++ answers_in made)
   pub noted : Grows written written' (answer_text names pending)
-  pub lighter : weigh_given (wanting (outcome s (event_in names pending)).orders) < weight given.1
+  pub lighter : weigh_orders (wanting (outcome s (event_in names pending)).orders)
+      < weight job_order.1
 
--- each answer was made an event, and none is left; `made` are the calls of these events
+-- each answer was made an event, and none remains; `made` are the calls of these events
 pub record Settled (s : State) (names : List Name) (before after : List Pending) (new : Table)
     (told told' : Option (List Entry)) (written written' : Kept) : Type 0 where
   pub made : List Entry
@@ -146,7 +149,7 @@ pub record Settled (s : State) (names : List Name) (before after : List Pending)
   pub all : after ≡ before ++ answers_in made
   pub orders : List Order
   pub calls : calls_in made ≡ map call_of orders
-  pub given : labelled names orders ≡ orders_in (map (event_in names) after) s
+  pub by_label : labelled names orders ≡ orders_in (map (event_in names) after) s
   pub kept : KeepsState new (run (map (event_in names) after) s)
   pub numbers : AreNumbered names new
   pub noted : Grows written written' (answer_texts names after)
@@ -156,16 +159,12 @@ pub record Settled (s : State) (names : List Name) (before after : List Pending)
 -- the machine as events lead to it, which has room for its jobs
 pub record IsLed (s : State) : Type 0 where
   pub orderly : IsOrderly s
-  pub few : length s.jobs ≤ 1024
+  pub few : length s.jobs ≤ MAX_JOBS
 
 -- a load names a label that is not too long
 abbrev pub IsShort : Event → Type 0
 IsShort (Load (Ok given) writes_setting force bind store) = length given.label ≤ 255
 IsShort _ = Unit {0}
-
-abbrev pub refusal_told : {A : Type 0} → Result A Refusal → Option Refusal
-refusal_told (Ok a) = None
-refusal_told (Err refusal) = Some refusal
 
 -- For each machine that the table stood for: the edge was called as a turn of it says, and where it
 -- tells, it tells just these calls; the table then stands for the machine after it, and the answer

@@ -2,7 +2,8 @@
 
 ghost use Rattle.std.specs.Prelude.{◌≡◌};
 ghost use Rattle.job_table.specs.Ends.{AreKnown};
-ghost use Rattle.launcher_turn.specs.Turns.{Carried, orders_given, AreKnownIn, refusal_told};
+ghost use Rattle.launcher_turn.specs.Turns.{Carried, orders_lent, AreKnownIn};
+ghost use Rattle.job_table.specs.Loads.{refused_with};
 
 use crate::room::AnswerQueue;
 use child_edge::{ChildEdge, SocketEdge};
@@ -31,17 +32,17 @@ pub fn carry_all<E: ChildEdge + SocketEdge>(
 
 /// Carries out the orders of an event; one that was refused has none, and its refusal is the answer.
 #[tactic(auto, using(crate::proofs::CarryLemmas::none_carried))]
-pub(crate) fn carry_given<E: ChildEdge + SocketEdge>(
+pub(crate) fn carry_step<E: ChildEdge + SocketEdge>(
     edge: &mut E,
-    given: Result<Step<'_>, Refusal>,
+    lent: Result<Step<'_>, Refusal>,
     answers: &mut AnswerQueue,
 ) -> Result<(), Refusal>
-    requires { AreKnownIn given }
-    ensures carried { Carried (orders_given given.entry) answers.old answers.new
+    requires { AreKnownIn lent }
+    ensures carried { Carried (orders_lent lent.entry) answers.old answers.new
         (E.told edge.old) (E.told edge.new) }
-    ensures answer { refusal_told result ≡ refusal_told given.entry }
+    ensures answer { refused_with result ≡ refused_with lent.entry }
 {
-    match given {
+    match lent {
         Ok(step) => {
             carry_all(edge, &step, answers);
             Ok(())

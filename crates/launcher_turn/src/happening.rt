@@ -1,9 +1,9 @@
-//! What happens to the launcher of its own accord or by a client's word, where the outside is asked nothing for it.
+//! What happens to the launcher of its own accord or by a client's word, if the outside is asked nothing for it.
 
 ghost use Rattle.std.specs.Prelude.{◌≡◌, None};
 ghost use Rattle.history_model.specs.Clock.{reading_in};
 ghost use Rattle.job_core.specs.Events.{item_of};
-ghost use Rattle.launcher_turn.specs.Events.{item_told};
+ghost use Rattle.launcher_turn.specs.Events.{item_heard};
 
 use history_model::{Answer, Ask, Ended, Obs, Reading};
 use job_table::JobEvent;
@@ -47,7 +47,7 @@ pub enum Happening<'a> {
 
 /// The table's event for what happens to a job.
 pub(crate) fn job_event(news: News) -> JobEvent<'static>
-    ensures item { item_of result ≡ item_told news }
+    ensures item { item_of result ≡ item_heard news }
     ensures silent { reading_in (item_of result) ≡ None }
 {
     match news {

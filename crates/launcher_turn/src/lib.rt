@@ -3,17 +3,17 @@
 
 mod carrying;
 mod happening;
+mod hearing;
 pub mod laws;
 mod lines;
 mod questions;
 mod room;
 mod settling;
-mod telling;
 mod turns;
 
 pub use carrying::carry_all;
 pub use happening::{Happening, News};
 pub use questions::{list, print};
-pub use room::{AnswerQueue, LabelRoom, MOST_JOBS, Room};
+pub use room::{AnswerQueue, LabelRoom, Room};
 pub use settling::settle;
 pub use turns::turn;

@@ -1,15 +1,15 @@
-//! What happens to the launcher, as the event that its journal tells.
+//! What happens to the launcher, as the event that its journal has.
 
 ghost use Rattle.std.specs.Prelude.{◌≡◌, IfOk};
-ghost use Rattle.launcher_turn.specs.Lines.{told_by, told_of, told_answer};
+ghost use Rattle.launcher_turn.specs.Lines.{journaled_by, journaled_of, journaled_answer};
 
 use crate::happening::{Happening, News};
 use history_model::{Answer, Event, Text};
 use std::alloc::{AllocError, Global};
 
-/// The event of the journal that tells the answer to an order.
+/// The event of the journal that says the answer to an order.
 fn answer_line(job: Text, answer: Answer) -> Event
-    ensures { result ≡ told_answer job answer }
+    ensures { result ≡ journaled_answer job answer }
 {
     match answer {
         Answer::Spawned { run, pid } => Event::Spawned { job, run, pid },
@@ -19,9 +19,9 @@ fn answer_line(job: Text, answer: Answer) -> Event
     }
 }
 
-/// The event of the journal that tells what happens to a job.
+/// The event of the journal that says what happens to a job.
 fn job_line(job: Text, news: News) -> Event
-    ensures { result ≡ told_of job news }
+    ensures { result ≡ journaled_of job news }
 {
     match news {
         News::Start => Event::Start { job },
@@ -35,9 +35,9 @@ fn job_line(job: Text, news: News) -> Event
     }
 }
 
-/// The event of the journal that tells what happens. `AllocError` where memory for a copy of its label or path was refused.
+/// The event of the journal that says what happens. `AllocError` if memory for a copy of its label or path was refused.
 pub(crate) fn event_made(alloc: Global, what: Happening<'_>) -> Result<Event, AllocError>
-    ensures { IfOk result (λ event. event ≡ told_by what.entry) }
+    ensures { IfOk result (λ event. event ≡ journaled_by what.entry) }
 {
     match what {
         Happening::Clock(at) => Ok(Event::Clock(at)),

@@ -3,12 +3,12 @@
 ghost use Rattle.std.specs.Prelude.{◌≡◌, Err, Some, IfOk, IfErr, OnOk, OnErr};
 ghost use Rattle.std.specs.String.{string_bytes};
 ghost use Rattle.history_model.specs.declared.Refusal.TheVariants.{NoMemory};
-ghost use Rattle.history_model.specs.declared.event.Event.TheVariants as told;
+ghost use Rattle.history_model.specs.declared.event.Event.TheVariants as journaled;
 ghost use Rattle.history_model.specs.Acceptance.{refusal_in};
 ghost use Rattle.history_model.specs.Machine.{State, ListJobs, PrintJob};
 ghost use Rattle.ctl_protocol.specs.EventWriter.{event_line};
 ghost use Rattle.job_table.specs.Kept.{KeepsState};
-ghost use Rattle.job_table.specs.Outcomes.{UnlessMemory, IsToldText, Tells};
+ghost use Rattle.job_table.specs.Outcomes.{UnlessMemory, IsReplyText, Means};
 ghost use Rattle.event_journal.specs.Journals.{Grows};
 
 use event_journal::Journal;
@@ -23,9 +23,9 @@ pub fn list<W: Write>(
     journal: &mut Journal<W>,
     alloc: Global,
 ) -> Result<String, Refusal>
-    ensures text { IfOk result (λ text. IsToldText ListJobs table.now (string_bytes text)) }
+    ensures text { IfOk result (λ text. IsReplyText ListJobs table.now (string_bytes text)) }
     ensures memory { IfErr result (λ refusal. refusal ≡ NoMemory) }
-    ensures noted { OnOk result (Grows journal.old journal.new (event_line told.List)) }
+    ensures noted { OnOk result (Grows journal.old journal.new (event_line journaled.List)) }
     ensures silent { OnErr result (journal.new ≡ journal.old) }
 {
     let text = table.list(alloc)?;
@@ -33,9 +33,9 @@ pub fn list<W: Write>(
     Ok(text)
 }
 
-/// The journal's event of `print`. `AllocError` where memory for a copy of the label was refused.
+/// The journal's event of `print`. `AllocError` if memory for a copy of the label was refused.
 fn print_event(alloc: Global, label: &str) -> Result<Event, AllocError>
-    ensures { IfOk result (λ event. event ≡ told.Print label.now) }
+    ensures { IfOk result (λ event. event ≡ journaled.Print label.now) }
 {
     let job = Text::copy_of(alloc, label)?;
     Ok(Event::Print { job })
@@ -49,11 +49,11 @@ pub fn print<W: Write>(
     label: &str,
 ) -> Result<String, Refusal>
     ensures text { IfOk result (λ text.
-        IsToldText (PrintJob label.now) table.now (string_bytes text)) }
-    ensures refused { IfErr result (λ refusal. Tells refusal ((s : State) →
+        IsReplyText (PrintJob label.now) table.now (string_bytes text)) }
+    ensures refused { IfErr result (λ refusal. Means refusal ((s : State) →
         KeepsState table.now s → refusal_in s (PrintJob label.now) ≡ Some refusal)) }
     ensures noted { UnlessMemory result
-        (Grows journal.old journal.new (event_line (told.Print label.now))) }
+        (Grows journal.old journal.new (event_line (journaled.Print label.now))) }
     ensures silent { result ≡ Err NoMemory → journal.new ≡ journal.old }
 {
     match table.print(alloc, label) {

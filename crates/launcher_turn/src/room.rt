@@ -3,17 +3,16 @@
 ghost use Rattle.std.specs.Prelude.{◌≡◌, ℕ, ◌<◌, ◌≤◌, ◌*◌, List, [], ◌∷◌, ◌++◌, length, slice_index_or};
 ghost use Rattle.std.specs.Vec.{vec_capacity};
 ghost use Rattle.std.specs.String.{string_bytes, string_capacity};
+ghost use Rattle.history_model.specs.declared.TheConstants.{MAX_JOBS};
 ghost use Rattle.order_edge.specs.declared.pending.Pending.{Pending as Answered};
 
+use history_model::MAX_JOBS;
 use order_edge::Pending;
 use std::alloc::{AllocError, Global};
 use std::marker::Model;
 
-/// How many jobs are loaded at most.
-pub const MOST_JOBS: usize = 1024;
-
 /// How many answers one turn has at most: of each job one spawn, one KILL and one TERM.
-const MOST_ANSWERS: usize = 3 * MOST_JOBS;
+const MOST_ANSWERS: usize = 3 * MAX_JOBS;
 
 /// How many bytes a label has at most.
 const LONGEST_LABEL: usize = 255;
@@ -30,11 +29,11 @@ impl Model for AnswerQueue {
     ghost view = { λ q. q.answers.items };
 
     ghost invariant = { λ q.
-        (3 * 1024 ≤ vec_capacity q.answers) × (length q.answers.items ≤ 3 * 1024) };
+        (3 * MAX_JOBS ≤ vec_capacity q.answers) × (length q.answers.items ≤ 3 * MAX_JOBS) };
 }
 
 impl AnswerQueue {
-    /// A queue with no answer, and with all room that it ever needs. `AllocError` where memory for it was refused.
+    /// A queue with no answer, and with all room that it ever needs. `AllocError` if memory for it was refused.
     pub fn new(alloc: Global) -> Result<AnswerQueue, AllocError> {
         let answers = Vec::with_capacity(alloc, MOST_ANSWERS)?;
         Ok(AnswerQueue { answers })
@@ -50,7 +49,7 @@ impl AnswerQueue {
     /// How many answers the turn has had, at most 3,072.
     pub fn len(&self) -> usize
         ensures length { result ≡ length self.now }
-        ensures few { length self.now ≤ 3 * 1024 }
+        ensures few { length self.now ≤ 3 * MAX_JOBS }
     {
         self.answers.len()
     }
@@ -63,9 +62,9 @@ impl AnswerQueue {
         self.answers[place]
     }
 
-    /// Puts an answer behind the others, where there is room for it. Takes no memory.
+    /// Puts an answer behind the others, if there is room for it. Takes no memory.
     pub(crate) fn keep(&mut self, answer: Pending)
-        ensures { length self.old < 3 * 1024 → self.new ≡ self.old ++ answer ∷ [] }
+        ensures { length self.old < 3 * MAX_JOBS → self.new ≡ self.old ++ answer ∷ [] }
     {
         if self.len() < MOST_ANSWERS {
             self.answers.push_reserved(answer);
@@ -88,7 +87,7 @@ impl Model for LabelRoom {
 }
 
 impl LabelRoom {
-    /// Room with no text. `AllocError` where memory for it was refused.
+    /// Room with no text. `AllocError` if memory for it was refused.
     pub fn new(alloc: Global) -> Result<LabelRoom, AllocError> {
         let text = String::with_capacity(alloc, LONGEST_LABEL)?;
         Ok(LabelRoom { text })
@@ -118,7 +117,7 @@ pub struct Room {
 }
 
 impl Room {
-    /// All room that turns ever need. `AllocError` where memory for it was refused.
+    /// All room that turns ever need. `AllocError` if memory for it was refused.
     pub fn new(alloc: Global) -> Result<Room, AllocError> {
         let answers = AnswerQueue::new(alloc)?;
         let label = LabelRoom::new(alloc)?;

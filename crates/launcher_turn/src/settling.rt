@@ -1,17 +1,18 @@
-//! Makes each answer of the outside the next event, first in first out, until none is left.
+//! Makes each answer of the outside the next event, first in first out, until none remains.
 
 ghost use Rattle.std.specs.Prelude.{◌≤◌, ◌*◌, List, ◌∷◌};
+ghost use Rattle.history_model.specs.declared.TheConstants.{MAX_JOBS};
 ghost use Rattle.history_model.specs.Machine.{State};
-ghost use Rattle.history_model.specs.Turns.{Given};
-ghost use Rattle.history_model.specs.Waits.{weigh_given};
+ghost use Rattle.history_model.specs.Turns.{JobOrder};
+ghost use Rattle.history_model.specs.Waits.{weigh_orders};
 ghost use Rattle.job_table.specs.Tables.{Name};
 ghost use Rattle.order_edge.specs.declared.pending.Pending.{Pending as Answered};
 ghost use Rattle.launcher_turn.specs.Turns.{IsWaiting, Handled, Settled};
 
 use crate::happening::{Happening, News};
+use crate::hearing::hear;
 use crate::lines::event_made;
 use crate::room::Room;
-use crate::telling::tell;
 use child_edge::{ChildEdge, SocketEdge};
 use event_journal::Journal;
 use job_table::JobTable;
@@ -28,20 +29,20 @@ fn handle<E: ChildEdge + SocketEdge, W: Write>(
     pending: Pending,
     room: &mut Room,
 )
-    ensures { (s : State) (names : List Name) (given : Given) (waits : List Given)
+    ensures { (s : State) (names : List Name) (job_order : JobOrder) (waits : List JobOrder)
         (rest : List Answered) →
-        IsWaiting table.old s names (given ∷ waits) (pending ∷ rest)
-        → Handled s names given waits pending rest table.new room.old.answers room.new.answers
+        IsWaiting table.old s names (job_order ∷ waits) (pending ∷ rest)
+        → Handled s names job_order waits pending rest table.new room.old.answers room.new.answers
         (E.told edge.old) (E.told edge.new) journal.old journal.new }
 {
-    room.label.copy(table.given().label(pending.job));
+    room.label.copy(table.last_step().label(pending.job));
     let told = Happening::ToJob(room.label.as_str(), News::Answered(pending.answer));
-    let _accepted = tell(table, edge, alloc, told, &mut room.answers);
+    let _accepted = hear(table, edge, alloc, told, &mut room.answers);
     journal.note_made(alloc, event_made(alloc, told));
 }
 
 /// Tells the table each answer of the queue, carries out what it orders, puts those answers behind the others, and writes the
-/// line of each, until none is left. Only the lines take memory; want of it closes the journal and changes nothing else.
+/// line of each, until none remains. Only the lines take memory; want of it closes the journal and changes nothing else.
 pub fn settle<E: ChildEdge + SocketEdge, W: Write>(
     table: &mut JobTable,
     edge: &mut E,
@@ -49,8 +50,8 @@ pub fn settle<E: ChildEdge + SocketEdge, W: Write>(
     alloc: Global,
     room: &mut Room,
 )
-    ensures { (s : State) (names : List Name) (waits : List Given) →
-        IsWaiting table.old s names waits room.old.answers → weigh_given waits ≤ 3 * 1024
+    ensures { (s : State) (names : List Name) (waits : List JobOrder) →
+        IsWaiting table.old s names waits room.old.answers → weigh_orders waits ≤ 3 * MAX_JOBS
         → Settled s names room.old.answers room.new.answers table.new
         (E.told edge.old) (E.told edge.new) journal.old journal.new }
 {

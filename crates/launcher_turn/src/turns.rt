@@ -5,14 +5,15 @@ ghost use Rattle.history_model.specs.declared.Refusal.TheVariants.{NoMemory};
 ghost use Rattle.job_table.specs.Outcomes.{UnlessMemory};
 ghost use Rattle.ctl_protocol.specs.EventWriter.{event_line};
 ghost use Rattle.launcher_turn.specs.Events.{event_of, is_clock};
-ghost use Rattle.launcher_turn.specs.Lines.{told_by};
-ghost use Rattle.launcher_turn.specs.Turns.{Turns, IsUntouched, refusal_told};
+ghost use Rattle.launcher_turn.specs.Lines.{journaled_by};
+ghost use Rattle.launcher_turn.specs.Turns.{Turns, IsUntouched};
+ghost use Rattle.job_table.specs.Loads.{refused_with};
 
 use crate::happening::Happening;
+use crate::hearing::hear;
 use crate::lines::event_made;
 use crate::room::Room;
 use crate::settling::settle;
-use crate::telling::tell;
 use child_edge::{ChildEdge, SocketEdge};
 use event_journal::Journal;
 use history_model::Refusal;
@@ -21,7 +22,7 @@ use std::alloc::Global;
 use std::io::Write;
 
 /// Makes what happens an event, carries out what it orders, each order by its one call of the edge, and makes each answer the
-/// next event, first in first out, until none is left. The journal gets the line of each event. The refusals are those of the
+/// next event, first in first out, until none remains. The journal gets the line of each event. The refusals are those of the
 /// event, and then no call was made: BadRequest (the name is no label), NoSuchJob, Removing, NotRunning, TooManyConnections,
 /// Stale, ClockRefused, ShuttingDown. NoMemory only to a reading of the clocks, which is then not taken in: nothing was carried
 /// out, and no line was written.
@@ -34,15 +35,15 @@ pub fn turn<E: ChildEdge + SocketEdge, W: Write>(
     what: Happening<'_>,
 ) -> Result<(), Refusal>
     ensures turn { UnlessMemory result
-        (Turns (event_of what.entry) (event_line (told_by what.entry))
-        (refusal_told result) table.old table.new
+        (Turns (event_of what.entry) (event_line (journaled_by what.entry))
+        (refused_with result) table.old table.new
         (E.told edge.old) (E.told edge.new) journal.old journal.new) }
     ensures memory { result ≡ Err NoMemory →
         (is_clock what.entry ≡ true) × IsUntouched table.old table.new
         (E.told edge.old) (E.told edge.new) × (journal.new ≡ journal.old) }
 {
     room.answers.clear();
-    match tell(table, edge, alloc, what, &mut room.answers) {
+    match hear(table, edge, alloc, what, &mut room.answers) {
         Ok(()) => {
             journal.note_made(alloc, event_made(alloc, what));
             settle(table, edge, journal, alloc, room);

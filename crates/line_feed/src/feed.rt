@@ -94,7 +94,7 @@ impl LineFeed {
         }
     }
 
-    /// The next line that a newline has ended, without its newline; None where there is none. NoMemory, the one fault,
+    /// The next line that a newline has ended, without its newline; None if there is none. NoMemory, the one fault,
     /// leaves the line to come.
     pub fn next_line(&mut self) -> Result<Option<Bytes>, LineFault>
         ensures line { IfOk result (λ line. GivesLine self.old line self.new) }

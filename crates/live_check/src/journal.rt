@@ -64,7 +64,7 @@ fn is_outcome(alloc: Global, outcome: &str, reply: &Reply) -> Result<bool, Alloc
     Ok(outcome.starts_with(code.as_str()) && outcome.ends_with(text.as_str()))
 }
 
-// How many requests the journal has, or None where one has another outcome than its reply.
+// How many requests the journal has, or None if one has another outcome than its reply.
 fn count_same(
     alloc: Global,
     journal: &str,

@@ -139,12 +139,12 @@ fn play_scenes(rt: &HostRuntime) -> io::Result<()> {
     play_states(rt)
 }
 
-/// Plays each scene. The status is 0, or 1 where a step could not be made.
+/// Plays each scene. The status is 0, or 1 if a step could not be made.
 pub fn play_all(rt: &HostRuntime) -> u8 {
     match play_scenes(rt) {
         Ok(()) => 0,
         Err(error) => {
-            let _told = eprintln!(rt; "live_check: {error}");
+            let _written = eprintln!(rt; "live_check: {error}");
             1
         }
     }

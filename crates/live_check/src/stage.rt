@@ -39,7 +39,7 @@ fn own_path(rt: &HostRuntime) -> io::Result<String> {
     }
 }
 
-// What this process was started with behind its program, with blanks between the words. A scene is played where that is no word
+// What this process was started with behind its program, with blanks between the words. A scene is played if that is no word
 // of its own.
 fn own_front(rt: &HostRuntime) -> io::Result<String> {
     let told = fs::read_to_string(rt, "/proc/self/cmdline")?;

@@ -2,9 +2,9 @@
 
 use crate::system::System;
 use child_edge::{ChildEdge, OsEdge};
-use history_model::JobNo;
+use history_model::{JobNo, MAX_JOBS};
 use launcher::Input;
-use launcher_turn::{LabelRoom, MOST_JOBS};
+use launcher_turn::LabelRoom;
 use load_asking::SettingStore;
 use round_findings::Inputs;
 use std::alloc::Global;
@@ -17,7 +17,7 @@ pub(crate) fn poll_children<T: SettingStore, R: System, W: Write>(
     label: &mut LabelRoom,
 ) {
     let mut next = 0;
-    for _ in 0..MOST_JOBS {
+    for _ in 0..MAX_JOBS {
         let Some((job, run)) = inputs.host.edge().over_from(next) else {
             return;
         };
@@ -34,7 +34,7 @@ fn poll_child<T: SettingStore, R: System, W: Write>(
     job: JobNo,
     run: u64,
 ) {
-    label.copy(inputs.host.table().given().label(job));
+    label.copy(inputs.host.table().last_step().label(job));
     let label = label.as_str();
     let input = match inputs.host.edge().poll(job, run) {
         Ok(None) => return,

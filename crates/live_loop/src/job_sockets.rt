@@ -3,9 +3,9 @@
 use crate::caller::{Caller, Gathered};
 use crate::system::System;
 use child_edge::{Client, OsEdge, SocketEdge};
-use history_model::JobNo;
+use history_model::{JobNo, MAX_JOBS};
 use launcher::Input;
-use launcher_turn::{LabelRoom, MOST_JOBS};
+use launcher_turn::LabelRoom;
 use load_asking::SettingStore;
 use mio::{Registry, Token};
 use round_findings::Inputs;
@@ -66,7 +66,7 @@ impl JobSockets {
         self.may_have_come = false;
         let mut has_come = false;
         let mut job = edge.listener_from(0);
-        for _ in 0..MOST_JOBS {
+        for _ in 0..MAX_JOBS {
             let Some(number) = job else {
                 break;
             };
@@ -142,7 +142,7 @@ impl JobSockets {
         is_busy
     }
 
-    // What became of one client. One that came to sockets which were given up since is let go, also where the number has new
+    // What became of one client. One that came to sockets which were given up since is let go, also if the number has new
     // ones.
     fn gathered<T: SettingStore, R: System, W: Write>(
         &mut self,
@@ -186,7 +186,7 @@ impl JobSockets {
         {
             return;
         }
-        label.copy(inputs.host.table().given().label(job));
+        label.copy(inputs.host.table().last_step().label(job));
         if !came(alloc, inputs, label.as_str(), conn) {
             inputs.host.edge().close(job, conn);
         }

@@ -34,7 +34,7 @@ pub fn round<R: System, T: SettingStore, W: Write>(
         live.sockets.wake();
     }
     serve_clients(alloc, live);
-    if live.inputs.host.tell_journal_closing() {
+    if live.inputs.host.report_journal_closing() {
         let _ = eprintln!(rt; "jobd: journal refused");
     }
     live.pause = next_pause(live.inputs.is_active(), live.pause);

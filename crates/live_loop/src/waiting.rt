@@ -23,7 +23,7 @@ pub fn next_pause(is_active: bool, pause: u64) -> u64
 }
 
 /// How long a round waits from `up` on: the longest time that is within the pause and goes past neither the next moment of the
-/// table nor the next look at paths, where there is one.
+/// table nor the next look at paths, if there is one.
 pub fn round_wait(pause: u64, up: u64, moment: Option<u64>, look: Option<u64>) -> u64
     ensures { IsLongestWait pause up moment look result }
 {

@@ -11,9 +11,10 @@ use Rattle.child_edge.specs.declared.plain.Scripted.{Scripted}
 use Rattle.child_edge.specs.declared.plain.Scripted.TheVariants.{Done}
 use Rattle.job_defs.specs.Described.{Described}
 use Rattle.job_defs.specs.Definitions.{has_sockets}
-use Rattle.load_asking.specs.declared.asking.Asked.{Asked}
+use Rattle.load_asking.specs.declared.asking.Outside.{Outside}
 use Rattle.load_asking.specs.Asking.{Asks, is_done, load_entries}
 use Rattle.load_asking.specs.Stores.{StoreCall, AreTold, store_calls}
+use Rattle.history_model.proofs.BooleanLemmas.{and-true}
 
 abbrev pub Entries : Type 0
 Entries = Option (List (EdgeCall × Scripted))
@@ -31,52 +32,48 @@ Tells-append a b c p q first second = λ after is.
 pub told_none : (a : Option (List StoreCall)) → AreTold a [] a
 told_none a = λ after is. (after, is, sym (append-nil after))
 
-and-true : (b : Bool) → (b && true) ≡ b
-and-true true = refl
-and-true false = refl
-
 and-false : (b : Bool) → (b && false) ≡ false
 and-false true = refl
 and-false false = refl
 
 module _ (job : ℕ) (d : Described) (writes_setting : Bool) (changed : ℕ) (a b c : Entries) (s t : Option (List StoreCall)) where
   -- once the sockets are bound, or if there are none, the store is asked as writes_setting says
-  store_asked : (store : Bool) → AreTold s (store_calls writes_setting d.label changed store) t → AreTold s (store_calls (writes_setting && true) d.label changed store) t
-  store_asked store told = subst (λ v. AreTold s (store_calls v d.label changed store) t) (sym (and-true writes_setting)) told
+  store_calls_made : (store : Bool) → AreTold s (store_calls writes_setting d.label changed store) t → AreTold s (store_calls (writes_setting && true) d.label changed store) t
+  store_calls_made store told = subst (λ v. AreTold s (store_calls v d.label changed store) t) (sym (and-true writes_setting)) told
 
   -- a job without sockets
   pub without : (store : Bool) → has_sockets d ≡ false → (writes_setting ≡ false → store ≡ true) → AreTold s (store_calls writes_setting d.label changed store) t →
       Asks job d writes_setting changed (record { bind = true; store = store }) a a s t
-  without store none unasked told = record {
+  without store none uncalled told = record {
     bound = Done;
     tells = subst (λ v. Tells a (load_entries v job (record { bind = true; store = store }) Done) a) (sym none) (Tells-none a);
-    stores = store_asked store told;
+    stores = store_calls_made store told;
     bind = sym (ap (λ v. if v then true else true) none);
-    store = λ e. unasked (sym (and-true writes_setting) ∙ e);
+    store = λ e. uncalled (sym (and-true writes_setting) ∙ e);
   }
 
   -- a bind that went well, and a store that did not refuse
   pub stored : (store : Bool) → has_sockets d ≡ true → store ≡ true → (writes_setting ≡ false → store ≡ true) → AreTold s (store_calls writes_setting d.label changed store) t →
       Tells a ((Bind job, Done) ∷ []) b → Asks job d writes_setting changed (record { bind = true; store = store }) a b s t
-  stored store some is unasked told tells = record {
+  stored store some is uncalled told tells = record {
     bound = Done;
     tells = subst (λ v. Tells a (load_entries v job (record { bind = true; store = store }) Done) b) (sym some)
         (subst (λ v. Tells a ((Bind job, Done) ∷ (if not v then (Release job, Done) ∷ [] else [])) b) (sym is) tells);
-    stores = store_asked store told;
+    stores = store_calls_made store told;
     bind = sym (ap (λ v. if v then true else true) some);
-    store = λ e. unasked (sym (and-true writes_setting) ∙ e);
+    store = λ e. uncalled (sym (and-true writes_setting) ∙ e);
   }
 
   -- a bind that went well, and a store that refused
   pub released : (store : Bool) → has_sockets d ≡ true → store ≡ false → (writes_setting ≡ false → store ≡ true) → AreTold s (store_calls writes_setting d.label changed store) t →
       Tells a ((Bind job, Done) ∷ []) b → Tells b ((Release job, Done) ∷ []) c → Asks job d writes_setting changed (record { bind = true; store = store }) a c s t
-  released store some is unasked told first second = record {
+  released store some is uncalled told first second = record {
     bound = Done;
     tells = subst (λ v. Tells a (load_entries v job (record { bind = true; store = store }) Done) c) (sym some)
         (subst (λ v. Tells a ((Bind job, Done) ∷ (if not v then (Release job, Done) ∷ [] else [])) c) (sym is) (Tells-append a b c ((Bind job, Done) ∷ []) ((Release job, Done) ∷ []) first second));
-    stores = store_asked store told;
+    stores = store_calls_made store told;
     bind = sym (ap (λ v. if v then true else true) some);
-    store = λ e. unasked (sym (and-true writes_setting) ∙ e);
+    store = λ e. uncalled (sym (and-true writes_setting) ∙ e);
   }
 
 -- a bind that was refused

@@ -7,7 +7,7 @@ use Rattle.child_edge.specs.declared.plain.Scripted.{Scripted}
 use Rattle.child_edge.specs.declared.plain.Scripted.TheVariants.{Done, Started, Running, Over, Seen, At, Refused, NoMemory}
 use Rattle.job_defs.specs.Described.{Described}
 use Rattle.job_defs.specs.Definitions.{has_sockets}
-use Rattle.load_asking.specs.declared.asking.Asked.{Asked}
+use Rattle.load_asking.specs.declared.asking.Outside.{Outside}
 use Rattle.load_asking.specs.Stores.{StoreCall, AreTold, store_calls}
 
 -- the edge did what it was asked
@@ -23,19 +23,19 @@ is_done NoMemory = false
 
 -- The calls of a load, with this answer to the bind: none for a job without sockets. Sockets that
 -- were bound are given up if the store then refused.
-abbrev pub load_entries : Bool → ℕ → Asked → Scripted → List (EdgeCall × Scripted)
-load_entries false job asked bound = []
-load_entries true job asked bound =
-    (Bind job, bound) ∷ (if asked.bind && not asked.store then (Release job, Done) ∷ [] else [])
+abbrev pub load_entries : Bool → ℕ → Outside → Scripted → List (EdgeCall × Scripted)
+load_entries false job outside bound = []
+load_entries true job outside bound =
+    (Bind job, bound) ∷ (if outside.bind && not outside.store then (Release job, Done) ∷ [] else [])
 
 -- Each was asked once, in this order: the sockets; then, if they are bound and a setting is to be
 -- written, the store. The answers are those that were given; what was not asked counts as true.
-pub record Asks (job : ℕ) (d : Described) (writes_setting : Bool) (changed : ℕ) (asked : Asked)
+pub record Asks (job : ℕ) (d : Described) (writes_setting : Bool) (changed : ℕ) (outside : Outside)
     (told told' : Option (List (EdgeCall × Scripted)))
     (stored stored' : Option (List StoreCall)) : Type 0 where
   pub bound : Scripted
-  pub tells : Tells told (load_entries (has_sockets d) job asked bound) told'
+  pub tells : Tells told (load_entries (has_sockets d) job outside bound) told'
   pub stores : AreTold stored
-      (store_calls (writes_setting && asked.bind) d.label changed asked.store) stored'
-  pub bind : asked.bind ≡ (if has_sockets d then is_done bound else true)
-  pub store : (writes_setting && asked.bind) ≡ false → asked.store ≡ true
+      (store_calls (writes_setting && outside.bind) d.label changed outside.store) stored'
+  pub bind : outside.bind ≡ (if has_sockets d then is_done bound else true)
+  pub store : (writes_setting && outside.bind) ≡ false → outside.store ≡ true

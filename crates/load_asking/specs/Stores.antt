@@ -17,8 +17,8 @@ AreTold old calls new =
     (before : List StoreCall) × (old ≡ Some before) × (after ≡ before ++ calls)
 
 -- the store was asked to keep this, and answered so
-abbrev pub asked_to_set : List ℕ → Bool → ℕ → Bool → StoreCall
-asked_to_set label disabled changed stored =
+abbrev pub set_call : List ℕ → Bool → ℕ → Bool → StoreCall
+set_call label disabled changed stored =
     record { label = label; disabled = disabled; changed = changed; stored = stored }
 
 -- each list of settings that the store held before, it holds after, changed by this
@@ -30,4 +30,4 @@ HoldsAfter Holds change old new =
 -- that a label is enabled is asked once, if it is wanted
 abbrev pub store_calls : Bool → List ℕ → ℕ → Bool → List StoreCall
 store_calls false label changed stored = []
-store_calls true label changed stored = asked_to_set label false changed stored ∷ []
+store_calls true label changed stored = set_call label false changed stored ∷ []

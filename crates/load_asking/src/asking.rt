@@ -1,6 +1,7 @@
 //! The two questions that a load asks of the outside, in order: for sockets, and for a setting.
 
 ghost use Rattle.std.specs.Prelude.{◌≡◌, ◌≤◌, ◌&&◌, true, false};
+ghost use Rattle.history_model.specs.declared.TheConstants.{MAX_WALL};
 ghost use Rattle.history_model.specs.Labels.{is_label};
 ghost use Rattle.history_model.specs.Step.{set_if};
 ghost use Rattle.load_asking.specs.Asking.{Asks};
@@ -13,7 +14,7 @@ use job_defs::Def;
 
 /// What the outside answered. What it was not asked counts as true.
 #[derive(Clone, Copy)]
-pub struct Asked {
+pub struct Outside {
     /// The job's sockets are bound.
     pub bind: bool,
     /// The setting of its label is stored.
@@ -28,10 +29,10 @@ fn ask_store<T: SettingStore>(
     changed: u64,
 ) -> bool
     requires label { is_label label.now ≡ true }
-    requires second { changed ≤ 250000000000 }
+    requires second { changed ≤ MAX_WALL }
     ensures told { AreTold (T.told store.old)
         (store_calls writes_setting label.now changed result) (T.told store.new) }
-    ensures unasked { writes_setting ≡ false → result ≡ true }
+    ensures uncalled { writes_setting ≡ false → result ≡ true }
     ensures stored { HoldsAfter T.holds
         (set_if (writes_setting && result) label.now false) store.old store.new }
 {
@@ -51,10 +52,10 @@ pub fn ask_outside<E: SocketEdge, T: SettingStore>(
     def: &Def,
     writes_setting: bool,
     changed: u64,
-) -> Asked
+) -> Outside
     requires label { is_label def.now.label ≡ true }
-    requires second { changed ≤ 250000000000 }
-    ensures asked { Asks job def.now writes_setting changed result
+    requires second { changed ≤ MAX_WALL }
+    ensures outside { Asks job def.now writes_setting changed result
         (E.told edge.old) (E.told edge.new) (T.told store.old) (T.told store.new) }
     ensures stored { HoldsAfter T.holds
         (set_if (writes_setting && (result.bind && result.store)) def.now.label false)
@@ -62,12 +63,12 @@ pub fn ask_outside<E: SocketEdge, T: SettingStore>(
 {
     if !def.has_sockets() {
         let store = ask_store(store, def.label(), writes_setting, changed);
-        return Asked { bind: true, store };
+        return Outside { bind: true, store };
     }
     match edge.bind(job, def) {
         Ok(()) => {}
         Err(_) => {
-            return Asked {
+            return Outside {
                 bind: false,
                 store: true,
             };
@@ -77,7 +78,7 @@ pub fn ask_outside<E: SocketEdge, T: SettingStore>(
     if !stored {
         edge.release(job);
     }
-    Asked {
+    Outside {
         bind: true,
         store: stored,
     }

@@ -5,5 +5,5 @@
 mod asking;
 mod store;
 
-pub use asking::{Asked, ask_outside};
+pub use asking::{Outside, ask_outside};
 pub use store::{SettingStore, StoreFault};

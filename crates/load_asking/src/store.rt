@@ -2,9 +2,10 @@
 
 ghost use Rattle.std.specs.Prelude.{◌≡◌, ◌≤◌, List, [], ◌∷◌, Option, Result, Ok, Err, IfOk, MatchResult, reverse, true};
 ghost use Rattle.history_model.specs.declared.event.Setting.{Setting as Held};
+ghost use Rattle.history_model.specs.declared.TheConstants.{MAX_WALL};
 ghost use Rattle.history_model.specs.Labels.{is_label};
 ghost use Rattle.history_model.specs.Step.{set_if};
-ghost use Rattle.load_asking.specs.Stores.{StoreCall, AreTold, HoldsAfter, asked_to_set};
+ghost use Rattle.load_asking.specs.Stores.{StoreCall, AreTold, HoldsAfter, set_call};
 
 use history_model::Setting;
 use std::alloc::Global;
@@ -35,9 +36,9 @@ pub trait SettingStore {
     /// was stored; a refused setting leaves the store as it was.
     fn set(&mut self, label: &str, disabled: bool, changed: u64) -> bool
         requires label { is_label label.now ≡ true }
-        requires second { changed ≤ 250000000000 }
+        requires second { changed ≤ MAX_WALL }
         ensures told { AreTold (Self.told self.old)
-            (asked_to_set label.now disabled changed result ∷ []) (Self.told self.new) }
+            (set_call label.now disabled changed result ∷ []) (Self.told self.new) }
         ensures stored { HoldsAfter Self.holds
             (set_if result label.now disabled) self.old self.new };
 

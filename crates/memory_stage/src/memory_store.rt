@@ -1,4 +1,4 @@
-//! A store of settings in memory, which refuses where it was told to.
+//! A store of settings in memory, which refuses if it was told to.
 
 ghost use Rattle.std.specs.Prelude.{◌≡◌, List, None, MatchResult};
 ghost use Rattle.history_model.specs.declared.event.Setting.{Setting as Held};
@@ -32,7 +32,7 @@ impl MemoryStore {
         }
     }
 
-    /// Keeps the setting where it answers so and there is memory for it, and tells whether it did.
+    /// Keeps the setting if it answers so and there is memory for it, and tells whether it did.
     fn keep(&mut self, label: &str, disabled: bool) -> bool {
         if !self.answer {
             return false;

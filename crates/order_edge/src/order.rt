@@ -21,7 +21,7 @@ fn spawn_answer(run: u64, started: Result<u32, EdgeFault>) -> Answer
 
 /// Carries out the order by the one call that it asks for: `start`, `term` or `kill`; `close` for a connection, and
 /// `release` for a job that is gone, which have no answer. `def` is the definition of the order's job.
-#[tactic(auto, using(crate::proofs::Made::made_start, crate::proofs::Made::made_term, crate::proofs::Made::made_kill, crate::proofs::Made::made_close, crate::proofs::Made::made_release))]
+#[tactic(auto, using(crate::proofs::CallsLemmas::made_start, crate::proofs::CallsLemmas::made_term, crate::proofs::CallsLemmas::made_kill, crate::proofs::CallsLemmas::made_close, crate::proofs::CallsLemmas::made_release))]
 pub fn carry<E: ChildEdge + SocketEdge>(edge: &mut E, order: Order, def: &Def) -> Option<Pending>
     ensures { Carries order result (E.told edge.old) (E.told edge.new) }
 {

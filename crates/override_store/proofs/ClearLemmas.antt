@@ -60,7 +60,7 @@ nothing_left : {X : Type 0} (xs : List X) → ((x : X) → Has xs x → ⊥) →
 nothing_left [] none = refl
 nothing_left (x ∷ xs) none = absurd (none x (inl refl))
 
--- where each row's rowid is taken out, no row is left
+-- if each row's rowid is taken out, no row is left
 all_gone : (rows : List Row) (ids : List ℤ) → ((x : Row) → Has rows x → Has ids (id_in (rowid x)) × (has_rowid (id_in (rowid x)) x ≡ true)) → without_all rows ids ≡ []
 all_gone rows ids each = nothing_left (without_all rows ids) (λ x h. let it = each x (without_all_has ids rows x h) in goes ids rows x (id_in (rowid x)) it.0 it.1 h)
 

@@ -26,6 +26,7 @@ use Rattle.sqlite.specs.Effect.{Database}
 use Rattle.override_store.specs.SettingRows.{Says, IsFlag}
 use Rattle.override_store.specs.OverrideStores.{AreOurs, rows_in}
 use Rattle.override_store.proofs.RowLemmas.{equal_texts}
+use Rattle.history_model.proofs.BooleanLemmas.{and-left, and-right, not-true}
 
 of_text : (v : Value) → is_null v ≡ false → is_of kind.Text v ≡ true → (t : List ℕ) × (v ≡ Text t)
 of_text Null some typed = absurd (true≢false some)
@@ -41,18 +42,6 @@ of_int (Real x) some typed = absurd (true≢false (sym typed))
 of_int (Text t) some typed = absurd (true≢false (sym typed))
 of_int (Blob b) some typed = absurd (true≢false (sym typed))
 
-not_false : (b : Bool) → not b ≡ true → b ≡ false
-not_false true h = absurd (true≢false (sym h))
-not_false false h = refl
-
-first_of : (a b : Bool) → (a && b) ≡ true → a ≡ true
-first_of true b h = refl
-first_of false b h = absurd (true≢false (sym h))
-
-second_of : (a b : Bool) → (a && b) ≡ true → b ≡ true
-second_of true b h = h
-second_of false b h = absurd (true≢false (sym h))
-
 -- the row has a label and a whole number
 abbrev pub IsTyped : Row → Type 0
 IsTyped row = ((t : List ℕ) × (column row 1 ≡ Text t)) × ((n : ℤ) × (column row 2 ≡ Int n))
@@ -60,17 +49,17 @@ IsTyped row = ((t : List ℕ) × (column row 1 ≡ Text t)) × ((n : ℤ) × (co
 typed_row : (schema : Schema) (db : Trees) (row : Row) → passes Datatype schema db (overrides 0) row ≡ true → passes NotNull schema db (overrides 0) row ≡ true → IsTyped row
 typed_row schema db [] typed there = absurd (true≢false (sym there))
 typed_row schema db (i ∷ []) typed there = absurd (true≢false (sym there))
-typed_row schema db (i ∷ v ∷ []) typed there = absurd (true≢false (sym (second_of (not (is_null v)) _ there)))
+typed_row schema db (i ∷ v ∷ []) typed there = absurd (true≢false (sym (and-right (not (is_null v)) _ there)))
 typed_row schema db (i ∷ v ∷ w ∷ more) typed there =
-    let all = first_of _ _ typed in
-    let v_there = not_false _ (first_of _ _ there) in
-    let w_there = not_false _ (first_of _ _ (second_of (not (is_null v)) _ there)) in
-    (of_text v v_there (first_of _ _ all), of_int w w_there (first_of _ _ (second_of (is_of kind.Text v) _ all)))
+    let all = and-left _ _ typed in
+    let v_there = not-true _ (and-left _ _ there) in
+    let w_there = not-true _ (and-left _ _ (and-right (not (is_null v)) _ there)) in
+    (of_text v v_there (and-left _ _ all), of_int w w_there (and-left _ _ (and-right (is_of kind.Text v) _ all)))
 
 labelled_row : (schema : Schema) (db : Trees) (row : Row) → passes Datatype schema db (settings 2) row ≡ true → passes NotNull schema db (settings 2) row ≡ true → (t : List ℕ) × (column row 1 ≡ Text t)
 labelled_row schema db [] typed there = absurd (true≢false (sym there))
 labelled_row schema db (i ∷ []) typed there = absurd (true≢false (sym there))
-labelled_row schema db (i ∷ v ∷ more) typed there = of_text v (not_false _ (first_of _ _ there)) (first_of _ _ (first_of _ _ typed))
+labelled_row schema db (i ∷ v ∷ more) typed there = of_text v (not-true _ (and-left _ _ there)) (and-left _ _ (and-left _ _ typed))
 
 -- each row of the second table has a label
 pub seconds_labelled : (db : Trees) → IsSound both_schema db → (row : Row) → Has (db 2) row → (t : List ℕ) × (column row 1 ≡ Text t)

@@ -95,5 +95,5 @@ HoldsOneMore old new setting =
     (settings : List Setting) → HoldsEach old settings → HoldsEach new (setting ∷ settings)
 
 -- both lists have the same last setting of each label
-abbrev pub TellAlike : List Setting → List Setting → Type 0
-TellAlike one other = (label : Label) → setting_in one label ≡ setting_in other label
+abbrev pub ListAlike : List Setting → List Setting → Type 0
+ListAlike one other = (label : Label) → setting_in one label ≡ setting_in other label

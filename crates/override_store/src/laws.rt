@@ -9,7 +9,7 @@ ghost use Rattle.sqlite.specs.State.{HasCleanDisk};
 ghost use Rattle.sqlite_wal.specs.Reads.{AreClean};
 ghost use Rattle.history_model.specs.declared.event.Setting.{Setting};
 ghost use Rattle.override_store.specs.OverrideStores.{HoldsNow, IsOpenedOn, HoldsOn, rows_now};
-ghost use Rattle.override_store.specs.Settings.{HoldsEach, TellAlike};
+ghost use Rattle.override_store.specs.Settings.{HoldsEach, ListAlike};
 
 use crate::OverrideStore;
 use sqlite::{Alter, Connection, FileStore};
@@ -50,7 +50,7 @@ pub fn a_store_over_its_files_holds_the_same<D: Disk>(
 pub fn what_all_lists_is_what_is_held<S: Alter>(store: &OverrideStore<S>)
     ensures { (settings listed : List Setting) → HoldsNow (state S.Store store.now) settings →
         HoldsEach (rows_now (state S.Store store.now)) (reverse listed) →
-        TellAlike (reverse listed) settings }
+        ListAlike (reverse listed) settings }
 {
     let _ = store;
 }

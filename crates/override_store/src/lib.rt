@@ -8,10 +8,11 @@ ghost use Rattle.sqlite.specs.State.{HasCleanDisk, Survives};
 ghost use Rattle.sqlite_disk.specs.Disk.{MoreFaults};
 ghost use Rattle.sqlite.specs.Tree.{Trees};
 ghost use Rattle.sqlite.specs.View.{IsClean};
+ghost use Rattle.history_model.specs.declared.TheConstants.{MAX_WALL};
 ghost use Rattle.history_model.specs.Labels.{is_label, is_same};
 ghost use Rattle.history_model.specs.declared.event.Setting.{Setting};
 ghost use Rattle.override_store.specs.OverrideStores.{AreFit, HoldsAs, HoldsSetting, HoldsSettings, IsOurs, Between, FromOurs, IsOpenedOn, LeavesAll, LeavesOr, OpensNone, SetsOne, StaysOurs, rows_now};
-ghost use Rattle.override_store.specs.Settings.{HoldsEach, ListsChanges, ListsSettings, change_of, HasForeign, HoldsOneMore, TellAlike, labels_changed, labels_set};
+ghost use Rattle.override_store.specs.Settings.{HoldsEach, ListsChanges, ListsSettings, change_of, HasForeign, HoldsOneMore, ListAlike, labels_changed, labels_set};
 
 pub mod again;
 mod batch;
@@ -66,7 +67,7 @@ impl<S: Alter> Model for OverrideStore<S> {
 }
 
 impl<S: Alter + Drop> OverrideStore<S> {
-    /// The store on a connection. In one transaction both tables are made where they aren't there, and the settings of
+    /// The store on a connection. In one transaction both tables are made if they aren't there, and the settings of
     /// `overrides`, the table of the first version, are moved to `settings` with the second 0. Names are not looked at.
     /// What was not committed on the connection is rolled back, and a limit or a clock that was set on it is gone.
     ///
@@ -111,11 +112,11 @@ impl<S: Alter> OverrideStore<S> {
     /// Keeps that the label is disabled, or that it is enabled, and the second of Unix time in which that was said.
     /// Once it answers Ok the setting lasts, whatever stops the machine.
     ///
-    /// `NoMemory` and `Refused` change nothing; where the disk failed in between, what an open then finds is the settings
+    /// `NoMemory` and `Refused` change nothing; if the disk failed in between, what an open then finds is the settings
     /// before, or those with this one.
     pub fn set(&mut self, label: &str, disabled: bool, changed: u64) -> Result<(), StoreFault>
         requires label { IsTrue (is_label label.now) }
-        requires second { changed ≤ 250000000000 }
+        requires second { changed ≤ MAX_WALL }
         ensures ok { FromOurs S.Store self.old self.new (λ old new.
             OnOk result (SetsOne old new label.now disabled changed)) }
         ensures newest { FromOurs S.Store self.old self.new (λ old new.
@@ -143,7 +144,7 @@ impl<S: Alter> OverrideStore<S> {
 
     /// Each label's setting, by rising bytes of the labels.
     ///
-    /// `NoMemory` and `Refused`, and `Foreign` where a stored name is no label. Nothing is changed by it.
+    /// `NoMemory` and `Refused`, and `Foreign` if a stored name is no label. Nothing is changed by it.
     pub fn all(&mut self, alloc: Global) -> Result<Vec<Setting>, StoreFault>
         ensures ok { FromOurs S.Store self.old self.new (λ old _.
             IfOk result (λ all. ListsSettings (rows_now old) all.items)) }
@@ -161,7 +162,7 @@ impl<S: Alter> OverrideStore<S> {
             (settings : List Setting) → HoldsSettings old settings → HoldsSettings new settings) }
         ensures told { Between S.Store self.old self.new (λ old new. HasCleanDisk new →
             (settings : List Setting) → HoldsSettings old settings →
-            IfOk result (λ all. TellAlike (reverse all.items) settings)) }
+            IfOk result (λ all. ListAlike (reverse all.items) settings)) }
         ensures crash { Between S.Store self.old self.new (λ old new.
             Survives old new (λ _. IsOurs old → ⊥)) }
     {

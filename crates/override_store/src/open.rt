@@ -43,7 +43,7 @@ pub(crate) fn renewed<S: Alter + Drop>(
     Ok(again)
 }
 
-/// Makes both tables where they aren't there, and moves the rows of the first, in one transaction.
+/// Makes both tables if they aren't there, and moves the rows of the first, in one transaction.
 pub(crate) fn open_tables<S: Alter>(conn: &mut Connection<S>) -> Result<(), StoreFault>
     ensures ok { Between S.Store conn.old conn.new (λ old new.
         HasCleanDisk new → OnOk result (HasMoved old new)) }

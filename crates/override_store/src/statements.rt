@@ -1,6 +1,7 @@
 //! The statement that sets a label, and the query that lists the labels.
 
 ghost use Rattle.std.specs.Prelude.{◌≡◌, ◌≢◌, ◌≤◌, IfErr, IfOk, IsTrue, OnErr, OnOk, false};
+ghost use Rattle.history_model.specs.declared.TheConstants.{MAX_WALL};
 ghost use Rattle.sqlite.specs.State.{HasCleanDisk, Survives};
 ghost use Rattle.override_store.specs.OverrideStores.{HoldsSetting, IsOurs, Between, FromOurs, LeavesAll, OpensNone, SetsOne, StaysOurs, rows_now};
 ghost use Rattle.override_store.specs.Settings.{IsSortedList};
@@ -14,7 +15,7 @@ pub(crate) fn put<S: Alter>(
     disabled: bool,
     changed: u64,
 ) -> Result<(), StoreFault>
-    requires second { changed ≤ 250000000000 }
+    requires second { changed ≤ MAX_WALL }
     ensures ok { FromOurs S.Store conn.old conn.new (λ old new.
         OnOk result (SetsOne old new label.now disabled changed)) }
     ensures err { FromOurs S.Store conn.old conn.new (λ old new.

@@ -1,1 +1,1 @@
-pub mod Periods
+pub mod IntervalLemmas

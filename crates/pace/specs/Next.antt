@@ -23,7 +23,7 @@ IsEndMoment e m =
     ((0 < e.timeout) × IsAfter (SECOND * e.timeout) e.term_ordered m)
     ⊎ (IsAfter SECOND e.term_refused m ⊎ IsAfter SECOND e.kill_refused m)
 
--- the least of these moments that is after the present one; none where none is
+-- the least of these moments that is after the present one; none if none is
 abbrev pub IsNext : (ℕ → Type 0) → ℕ → Option ℕ → Type 0
 IsNext IsMoment up None = (n : ℕ) → IsMoment n → n ≤ up
 IsNext IsMoment up (Some m) = IsMoment m × (up < m) × ((n : ℕ) → IsMoment n → up < n → m ≤ n)

@@ -1,4 +1,4 @@
-//! How a run is ended: TERM first, and KILL once `ExitTimeOut` of launchd.plist(5) is over; or KILL at once, where
+//! How a run is ended: TERM first, and KILL once `ExitTimeOut` of launchd.plist(5) is over; or KILL at once, if
 //! `kickstart -k` of launchctl(1) asked for it.
 
 ghost use Rattle.std.specs.Prelude.{◌≡◌, ◌≤◌, ℕ, ◌*◌, ◌||◌, ◌&&◌, not, nat_lt, Bool, true, false, Some, None, if◌then◌else◌};
@@ -58,7 +58,7 @@ impl Model for Ending {
 
 impl Ending {
     ghost use Rattle.pace.specs.Paces.{Ends, no_ends};
-    ghost use Rattle.pace.specs.Told.{done_after};
+    ghost use Rattle.pace.specs.Done.{done_after};
     ghost use Rattle.pace.specs.Next.{IsEndMoment};
     ghost use Rattle.pace.specs.Free.{may_term_of, may_kill_of, next_end_of};
     ghost use Rattle.pace.specs.OfPast.{ends_of, may_term_at, may_kill_at, end_moments, least_after};
@@ -141,7 +141,7 @@ impl Ending {
         self.is_struck
     }
 
-    /// The least moment from which TERM may be ordered for a run that is being stopped; none where it was answered ok,
+    /// The least moment from which TERM may be ordered for a run that is being stopped; none if it was answered ok,
     /// or KILL was, or a kickstart asks for KILL. That KILL may be due too is left aside.
     pub fn term_at(&self) -> Option<u64>
         ensures step { (up : ℕ) → is_from result up ≡ may_term_of self.now up }
@@ -162,7 +162,7 @@ impl Ending {
     }
 
     /// The least moment from which KILL may be ordered for a run that is being stopped, or that a kickstart struck; none
-    /// where it was answered ok, or where no time to end runs.
+    /// if it was answered ok, or if no time to end runs.
     pub fn kill_at(&self) -> Option<u64>
         ensures step { (up : ℕ) → is_from result up ≡ may_kill_of self.now up }
         ensures past { (past : History) → IsLawful past → self.now ≡ ends_of past → (up : ℕ) →

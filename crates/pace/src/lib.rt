@@ -16,7 +16,7 @@ use history_model::MAX_UP;
 pub use interval::Interval;
 pub use throttle::Throttle;
 
-/// The lesser of two moments; the one that there is, where the other is none.
+/// The lesser of two moments; the one that there is, if the other is none.
 pub fn sooner(a: Option<u64>, b: Option<u64>) -> Option<u64>
     ensures { result ≡ sooner a b }
 {
@@ -27,7 +27,7 @@ pub fn sooner(a: Option<u64>, b: Option<u64>) -> Option<u64>
     }
 }
 
-/// A moment so many milliseconds after this one, where it is still to come.
+/// A moment so many milliseconds after this one, if it is still to come.
 fn coming_after(up: u64, wait: u64, moment: Option<u64>) -> Option<u64>
     requires wait { wait < 2 ^ 43 }
     requires moment { ForSome moment (λ u. u ≤ MAX_UP) }

@@ -1,2 +1,3 @@
-pub mod Handled
-pub mod Going
+pub mod BooleanLemmas
+pub mod HandlingLemmas
+pub mod ReadingLemmas

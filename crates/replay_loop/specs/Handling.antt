@@ -13,14 +13,14 @@
 --     NoMemory  at some line: the lines before it are handled                       `Stops`
 --     Write     at some line: a front of the answer is written                      `Stops`
 --     TooLong   at a machine: the lines before the long one are handled             `PieceStops`
-use Rattle.std.specs.Prelude.{◌≡◌, ◌≢◌, ◌⊎◌, ℕ, List, [], ◌∷◌, ◌++◌, Option, Some, None, option_map, Bool, true, false, if◌then◌else◌}
+use Rattle.std.specs.Prelude.{◌≡◌, ◌≢◌, ◌⊎◌, [], ◌∷◌, ◌++◌, Option, Some, None, option_map, Bool, true, false, if◌then◌else◌}
 use Rattle.std.specs.Io.KnownBytes.{Appends}
 use Rattle.replay_loop.specs.declared.fault.ReplayFault.{ReplayFault}
 use Rattle.replay_loop.specs.declared.fault.ReplayFault.TheVariants.{NoMemory, Header, Read, Write, TooLong, ReadCount}
 use Rattle.line_feed.specs.Lines.{Feed, takes, fed, stopped}
 use Rattle.replay_loop.specs.Machine.{Bytes, Lines, Held, Output, Future, Will}
-use Rattle.replay_loop.specs.Outcomes.{Answers, last_line}
-use Rattle.replay_loop.specs.Ran.{WritesFront, OpensNone}
+use Rattle.replay_loop.specs.Writing.{AppendsFront}
+use Rattle.replay_loop.specs.Outcomes.{Answers, OpensNone}
 
 -- the machine, if the header has come, will write this
 abbrev pub Stands : {M : Type 0} → (M → Future → Type 0) → Option M → Option Future → Type 0
@@ -66,19 +66,25 @@ LeadsPast output will_write p lines =
     (past : Option Future) → Stands will_write p.old past
     → (next : Option Future) × (next ≢ None) × Handles output past next p.held p.holds lines
 
+-- lines to be handled, and what the writer held before and holds after that
+pub record Attempt : Type 0 where
+  pub lines : Lines
+  pub held : Held
+  pub holds : Held
+
 -- why no more lines were handled
-abbrev pub Stops : Output → Option Future → Held → Held → Lines → ReplayFault → Type 0
-Stops output old held holds lines Header =
-    (old ≡ None) × Appends held holds [] × OpensNone output lines
-Stops output old held holds lines NoMemory =
-    (done : Lines) × (rest : Lines) × (new : Option Future) × (lines ≡ done ++ rest)
-    × Handles output old new held holds done
-Stops output old held holds lines Write =
-    (more : Lines) → (all : Bytes) × (Answers output old (lines ++ more) (Some all))
-    × WritesFront held holds all
-Stops output old held holds lines Read = ⊥
-Stops output old held holds lines TooLong = ⊥
-Stops output old held holds lines ReadCount = ⊥
+abbrev pub Stops : Output → Attempt → ReplayFault → Option Future → Type 0
+Stops output a Header old =
+    (old ≡ None) × Appends a.held a.holds [] × OpensNone output a.lines
+Stops output a NoMemory old =
+    (done : Lines) × (rest : Lines) × (new : Option Future) × (a.lines ≡ done ++ rest)
+    × Handles output old new a.held a.holds done
+Stops output a Write old =
+    (more : Lines) → (all : Bytes) × (Answers output old (a.lines ++ more) (Some all))
+    × AppendsFront a.held a.holds all
+Stops output a Read old = ⊥
+Stops output a TooLong old = ⊥
+Stops output a ReadCount old = ⊥
 
 -- this holds of every future that the stage stands for
 abbrev pub Ends : {M : Type 0} → (M → Future → Type 0) → Option M → (Option Future → Type 0)
@@ -102,28 +108,37 @@ HandlesNext output will_write false f g p =
 abbrev pub come : Feed → Bytes → Lines
 come f piece = if takes f piece then (fed f piece).lines else (stopped f piece).lines
 
--- why a piece was not taken to its end
-abbrev pub PieceStops : Output → Feed → Bytes → Held → Held → ReplayFault → Option Future → Type 0
-PieceStops output f piece held holds Header old =
-    (old ≡ None) × Appends held holds []
-    × (OpensNone output (come f piece) ⊎ ((takes f piece ≡ false) × (come f piece ≡ [])))
-PieceStops output f piece held holds TooLong old =
-    (takes f piece ≡ false) × (new : Option Future) × (new ≢ None)
-    × Handles output old new held holds (stopped f piece).lines
-PieceStops output f piece held holds NoMemory old =
-    Stops output old held holds (come f piece) NoMemory
-PieceStops output f piece held holds Write old =
-    Stops output old held holds (come f piece) Write
-PieceStops output f piece held holds Read old = ⊥
-PieceStops output f piece held holds ReadCount old = ⊥
+-- a piece to be taken into a feed, and what the writer held before and holds after that
+pub record PieceAttempt : Type 0 where
+  pub feed : Feed
+  pub piece : Bytes
+  pub held : Held
+  pub holds : Held
 
--- why the last line was not taken
-abbrev pub LastStops : Output → Bytes → Held → Held → ReplayFault → Option Future → Type 0
-LastStops output line held holds Header old =
-    (old ≡ None) × Appends held holds [] × (Answers output old (last_line line) None)
-LastStops output line held holds TooLong old = ⊥
-LastStops output line held holds NoMemory old =
-    Stops output old held holds (last_line line) NoMemory
-LastStops output line held holds Write old = Stops output old held holds (last_line line) Write
-LastStops output line held holds Read old = ⊥
-LastStops output line held holds ReadCount old = ⊥
+-- the handling of the lines that the piece ends
+abbrev pub piece_lines : PieceAttempt → Attempt
+piece_lines a = record { lines = come a.feed a.piece; held = a.held; holds = a.holds }
+
+-- why a piece was not taken to its end
+abbrev pub PieceStops : Output → PieceAttempt → ReplayFault → Option Future → Type 0
+PieceStops output a Header old =
+    (old ≡ None) × Appends a.held a.holds []
+    × (OpensNone output (come a.feed a.piece)
+    ⊎ ((takes a.feed a.piece ≡ false) × (come a.feed a.piece ≡ [])))
+PieceStops output a TooLong old =
+    (takes a.feed a.piece ≡ false) × (new : Option Future) × (new ≢ None)
+    × Handles output old new a.held a.holds (stopped a.feed a.piece).lines
+PieceStops output a NoMemory old = Stops output (piece_lines a) NoMemory old
+PieceStops output a Write old = Stops output (piece_lines a) Write old
+PieceStops output a Read old = ⊥
+PieceStops output a ReadCount old = ⊥
+
+-- why the last line, if there is one, was not taken
+abbrev pub LastStops : Output → Attempt → ReplayFault → Option Future → Type 0
+LastStops output a Header old =
+    (old ≡ None) × Appends a.held a.holds [] × (Answers output old a.lines None)
+LastStops output a TooLong old = ⊥
+LastStops output a NoMemory old = Stops output a NoMemory old
+LastStops output a Write old = Stops output a Write old
+LastStops output a Read old = ⊥
+LastStops output a ReadCount old = ⊥

@@ -1,5 +1,5 @@
 -- The lines of a whole input, and what a machine answers to the lines that still come.
-use Rattle.std.specs.Prelude.{◌≡◌, ℕ, List, [], ◌∷◌, ◌++◌, Option, Some, None, if◌then◌else◌}
+use Rattle.std.specs.Prelude.{◌≡◌, [], ◌∷◌, ◌++◌, Option, Some, None, if◌then◌else◌}
 use Rattle.std.specs.List.{take_while}
 use Rattle.line_feed.specs.Lines.{lines_of, rest_of, is_short, fits, line_limit}
 use Rattle.replay_loop.specs.Machine.{Bytes, Lines, Output, Future}
@@ -23,3 +23,10 @@ abbrev pub counted : Bytes → Lines
 counted input =
     if fits line_limit input then input_lines input
     else take_while (is_short line_limit) (lines_of input)
+
+-- the first line came whole, and opens no machine, whatever comes after it
+pub record OpensNone (output : Output) (lines : Lines) : Type 0 where
+  pub line : Bytes
+  pub others : Lines
+  pub first : lines ≡ line ∷ others
+  pub none : (more : Lines) → output (line ∷ more) None

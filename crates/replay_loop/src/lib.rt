@@ -6,8 +6,10 @@ mod fault;
 mod lines;
 mod machine;
 mod reading;
+mod writing;
 
 pub use fault::ReplayFault;
 pub use line_feed::LINE_LIMIT;
 pub use machine::LineMachine;
 pub use reading::run_within;
+pub use writing::write_text;

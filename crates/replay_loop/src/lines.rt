@@ -1,32 +1,13 @@
 //! Handling lines: the header opens the machine, and what it answers to each later line is written.
 ghost use Rattle.std.specs.Prelude.{◌≡◌, IfOk, IfErr, OnOk, [], ◌∷◌};
-ghost use Rattle.std.specs.Io.KnownBytes.{Appends};
 ghost use Rattle.replay_loop.specs.Handling.{Leads, Ends, Stops, HandlesNext, drained};
-ghost use Rattle.replay_loop.specs.Ran.{WritesFront};
 
 use crate::fault::ReplayFault;
 use crate::machine::LineMachine;
+use crate::writing::write_text;
 use line_feed::LineFeed;
 use std::alloc::Global;
 use std::io::Write;
-
-/// Writes all of the text. After an `Err` a front of it was written.
-fn write_text<W: Write>(writer: &mut W, text: &[u8]) -> Result<(), ReplayFault>
-    ensures ok { OnOk result
-        (Appends (W.contents writer.old) (W.contents writer.new) text.now) }
-    ensures err { IfErr result (λ e. (e ≡ ReplayFault.Write)
-        × WritesFront (W.contents writer.old) (W.contents writer.new) text.now) }
-{
-    let mut rest = text;
-    while !rest.is_empty() {
-        match writer.write(rest) {
-            Ok(0) => return Err(ReplayFault::Write),
-            Ok(n) => rest = &rest[n..],
-            Err(_) => return Err(ReplayFault::Write),
-        }
-    }
-    Ok(())
-}
 
 /// Handles one line, the header or a later one.
 pub(crate) fn handle<M: LineMachine, W: Write>(
@@ -41,8 +22,11 @@ pub(crate) fn handle<M: LineMachine, W: Write>(
       held = W.contents writer.old;
       holds = W.contents writer.new;
     }) (line.now ∷ [])) }
-    ensures err { IfErr result (λ e. Ends M.will_write stage.old (λ past. Stops M.output past
-        (W.contents writer.old) (W.contents writer.new) (line.now ∷ []) e)) }
+    ensures err { IfErr result (λ e. Ends M.will_write stage.old (Stops M.output (record {
+      lines = line.now ∷ [];
+      held = W.contents writer.old;
+      holds = W.contents writer.new;
+    }) e)) }
 {
     match stage {
         None => match M::open(alloc, line) {
@@ -55,8 +39,8 @@ pub(crate) fn handle<M: LineMachine, W: Write>(
         },
         Some(machine) => match machine.handle(alloc, line) {
             Ok(text) => match write_text(writer, text.as_slice()) {
-                Ok(()) => Ok(()),
-                Err(e) => Err(e),
+                true => Ok(()),
+                false => Err(ReplayFault::Write),
             },
             Err(_) => Err(ReplayFault::NoMemory),
         },
@@ -77,8 +61,11 @@ fn handle_next<M: LineMachine, W: Write>(
           held = W.contents writer.old;
           holds = W.contents writer.new;
         })) }
-    ensures err { IfErr result (λ e. Ends M.will_write stage.old (λ past. Stops M.output past
-        (W.contents writer.old) (W.contents writer.new) feed.old.lines e)) }
+    ensures err { IfErr result (λ e. Ends M.will_write stage.old (Stops M.output (record {
+      lines = feed.old.lines;
+      held = W.contents writer.old;
+      holds = W.contents writer.new;
+    }) e)) }
 {
     let Ok(next) = feed.next_line() else {
         return Err(ReplayFault::NoMemory);
@@ -107,8 +94,11 @@ pub(crate) fn drain<M: LineMachine, W: Write>(
       holds = W.contents writer.new;
     }) feed.old.lines) }
     ensures feed { OnOk result (feed.new ≡ drained feed.old) }
-    ensures err { IfErr result (λ e. Ends M.will_write stage.old (λ past. Stops M.output past
-        (W.contents writer.old) (W.contents writer.new) feed.old.lines e)) }
+    ensures err { IfErr result (λ e. Ends M.will_write stage.old (Stops M.output (record {
+      lines = feed.old.lines;
+      held = W.contents writer.old;
+      holds = W.contents writer.new;
+    }) e)) }
 {
     'lines: loop {
         match handle_next(alloc, feed, stage, writer) {

@@ -6,13 +6,13 @@ use std::alloc::{AllocError, Global};
 
 /// A machine that a header line opens, and that answers each line after the header by a text.
 pub trait LineMachine: Drop + Sized {
-    /// This is written for all lines of an input, the header first: nothing, where it is missing or refused.
+    /// This is written for all lines of an input, the header first: nothing, if it is missing or refused.
     ghost output: { List (List ℕ) → Option (List ℕ) → Type 0 };
 
     /// The machine will write these texts for the lines that still come.
     ghost will_write: { Self → (List (List ℕ) → List ℕ) → Type 0 };
 
-    /// The machine of a header line, without its newline, or `None`, where the line is no header that can be read.
+    /// The machine of a header line, without its newline, or `None`, if the line is no header that can be read.
     fn open(alloc: Global, header: &[u8]) -> Result<Option<Self>, AllocError>
         ensures { IfOk result (λ opened. Opens output will_write header.now opened) };
 

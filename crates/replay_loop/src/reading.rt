@@ -3,7 +3,7 @@ ghost use Rattle.std.specs.Prelude.{◌≡◌, ◌≢◌, IfErr, OnOk, None, tru
 ghost use Rattle.line_feed.specs.Lines.{fed, takes};
 ghost use Rattle.replay_loop.specs.Handling.{Leads, LeadsPast, Ends, Stops, LastStops, PieceStops, drained};
 ghost use Rattle.replay_loop.specs.Outcomes.{last_line};
-ghost use Rattle.replay_loop.specs.Ran.{Answered, Failed};
+ghost use Rattle.replay_loop.specs.Reading.{Finished, Failed};
 
 use crate::fault::ReplayFault;
 use crate::lines::{drain, handle};
@@ -28,8 +28,12 @@ fn take_piece<M: LineMachine, W: Write>(
           held = W.contents writer.old;
           holds = W.contents writer.new;
         }) (fed feed.old piece.now).lines) }
-    ensures err { IfErr result (λ e. Ends M.will_write stage.old (PieceStops M.output feed.old
-        piece.now (W.contents writer.old) (W.contents writer.new) e)) }
+    ensures err { IfErr result (λ e. Ends M.will_write stage.old (PieceStops M.output (record {
+      feed = feed.old;
+      piece = piece.now;
+      held = W.contents writer.old;
+      holds = W.contents writer.new;
+    }) e)) }
 {
     match feed.feed(piece) {
         Ok(()) => match drain(alloc, feed, stage, writer) {
@@ -60,8 +64,11 @@ fn handle_last<M: LineMachine, W: Write>(
       held = W.contents writer.old;
       holds = W.contents writer.new;
     }) (last_line rest.now)) }
-    ensures err { IfErr result (λ e. Ends M.will_write stage.old (λ past. Stops M.output past
-        (W.contents writer.old) (W.contents writer.new) (last_line rest.now) e)) }
+    ensures err { IfErr result (λ e. Ends M.will_write stage.old (Stops M.output (record {
+      lines = last_line rest.now;
+      held = W.contents writer.old;
+      holds = W.contents writer.new;
+    }) e)) }
 {
     if rest.is_empty() {
         return Ok(());
@@ -85,8 +92,11 @@ fn finish<M: LineMachine, W: Write>(
       held = W.contents writer.old;
       holds = W.contents writer.new;
     }) (last_line rest.now)) }
-    ensures err { IfErr result (λ e. Ends M.will_write stage.old (LastStops M.output rest.now
-        (W.contents writer.old) (W.contents writer.new) e)) }
+    ensures err { IfErr result (λ e. Ends M.will_write stage.old (LastStops M.output (record {
+      lines = last_line rest.now;
+      held = W.contents writer.old;
+      holds = W.contents writer.new;
+    }) e)) }
 {
     match handle_last(alloc, rest, stage, writer) {
         Ok(()) => match stage {
@@ -108,10 +118,14 @@ pub fn run_within<M: LineMachine, R: Read, W: Write>(
     writer: &mut W,
     reads: u64,
 ) -> Result<(), ReplayFault>
-    ensures ok { OnOk result (Answered M.output (R.remaining reader.old) (R.remaining reader.new)
+    ensures ok { OnOk result (Finished M.output (R.remaining reader.old) (R.remaining reader.new)
         (W.contents writer.old) (W.contents writer.new)) }
-    ensures err { IfErr result (λ e. Failed M.output reads (R.remaining reader.old)
-        (R.remaining reader.new) (W.contents writer.old) (W.contents writer.new) e) }
+    ensures err { IfErr result (λ e. Failed M.output reads (record {
+      unread = R.remaining reader.old;
+      rest = R.remaining reader.new;
+      held = W.contents writer.old;
+      holds = W.contents writer.new;
+    }) e) }
 {
     let mut feed = LineFeed::new(alloc, LINE_LIMIT);
     let mut stage: Option<M> = None;

@@ -61,7 +61,7 @@ impl<T: SettingStore, E: ChildEdge + SocketEdge, W: Write> Inputs<T, E, W> {
         self.at
     }
 
-    /// The `up` of now, or of the round where the clock can't be read.
+    /// The `up` of now, or of the round if the clock can't be read.
     pub fn up_now(&mut self) -> u64
     where
         E: ClockEdge,
@@ -115,12 +115,12 @@ impl<T: SettingStore, E: ChildEdge + SocketEdge, W: Write> Inputs<T, E, W> {
             self.at = at;
         }
         if is_news(self.host.table(), self.at) {
-            self.tell_time(alloc);
+            self.hand_in_time(alloc);
         }
     }
 
     // Hands in the reading of the round, unless it is the launcher's own already.
-    fn tell_time(&mut self, alloc: Global) {
+    fn hand_in_time(&mut self, alloc: Global) {
         if self.host.table().reading() != self.at {
             let reply = self.host.turn(alloc, Input::Clock(self.at));
             self.is_refused = reply.refusal.is_some();
@@ -134,7 +134,7 @@ impl<T: SettingStore, E: ChildEdge + SocketEdge, W: Write> Inputs<T, E, W> {
     /// less.
     pub fn give(&mut self, alloc: Global, input: Input<'_>) -> Reply {
         let was_active = self.is_active;
-        self.tell_time(alloc);
+        self.hand_in_time(alloc);
         self.is_active = match input {
             Input::WaitRefused(_, _) => was_active,
             _ => true,

@@ -2,7 +2,7 @@
 
 use std::alloc::{AllocError, Global};
 
-/// How many blocks are held at most. Where that is not enough, the memory was not limited.
+/// How many blocks are held at most. If that is not enough, the memory was not limited.
 const BLOCKS: usize = 32_768;
 
 /// The greatest block that is asked for.

@@ -7,5 +7,5 @@ mod report;
 mod trial;
 
 pub use hoard::Hoard;
-pub use report::{run_with_little, tell};
+pub use report::{run_with_little, show_run};
 pub use trial::{Answer, Trial, Verdict, stand};

@@ -10,9 +10,9 @@ use std::process::Command;
 /// Runs a program again, by a shell that limits its memory to 512 MB.
 const SHELL: &str = "ulimit -v 524288 && exec \"$0\" short";
 
-/// Tries a call, and says how it stood that. An error where it answered or left something else than it should, or where the
+/// Tries a call, and says how it stood that. An error if it answered or left something else than it should, or if the
 /// memory was not limited.
-pub fn tell<T: Trial>(
+pub fn show_run<T: Trial>(
     rt: &impl Print,
     alloc: Global,
     hoard: &mut Hoard,
@@ -22,13 +22,13 @@ pub fn tell<T: Trial>(
     match stand(alloc, hoard, trial)? {
         Verdict::Stood(0) => bail!("{name}: was never refused memory"),
         Verdict::Stood(_) => println!(rt; "{name}: no memory, then made")?,
-        Verdict::Fell(left) => bail!("{name}: wrong with {left} bytes left"),
+        Verdict::Fell(remaining) => bail!("{name}: wrong with {remaining} bytes left"),
         Verdict::NotTried => bail!("{name}: not tried"),
     }
     Ok(())
 }
 
-/// Runs this program again with little memory and the word `short`. An error where that run fails.
+/// Runs this program again with little memory and the word `short`. An error if that run fails.
 pub fn run_with_little(rt: &HostRuntime) -> Result<()> {
     let own = env::current_exe(rt)?;
     let mut shell = Command::new(rt.alloc(), "/bin/sh")?;

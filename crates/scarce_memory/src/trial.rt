@@ -31,7 +31,7 @@ pub trait Trial {
 pub enum Verdict {
     /// It was refused memory so many times, each time answered so and left what it should, and then was made.
     Stood(u32),
-    /// It answered or left something else, where so many bytes were left to it.
+    /// It answered or left something else, if so many bytes were left to it.
     Fell(usize),
     /// The memory was not limited, or what the call needs was not to be had.
     NotTried,
@@ -50,33 +50,33 @@ pub fn stand<T: Trial>(
     hoard: &mut Hoard,
     trial: &mut T,
 ) -> Result<Verdict, AllocError> {
-    let mut left = 0usize;
+    let mut remaining = 0usize;
     for refused in 0..ROUNDS {
         if !trial.prepare(alloc) {
             return Ok(Verdict::NotTried);
         }
-        let Some(answer) = answer_with(alloc, hoard, trial, left)? else {
+        let Some(answer) = answer_with(alloc, hoard, trial, remaining)? else {
             return Ok(Verdict::NotTried);
         };
         if answer == Answer::Other || !trial.is_right(alloc, answer) {
-            return Ok(Verdict::Fell(left));
+            return Ok(Verdict::Fell(remaining));
         }
         if answer == Answer::Made {
             return Ok(Verdict::Stood(refused));
         }
-        left = left.saturating_add(16 + left / 64);
+        remaining = remaining.saturating_add(16 + remaining / 64);
     }
     Ok(Verdict::NotTried)
 }
 
-/// What the call answers where so many bytes are left. None where the memory is not limited.
+/// What the call answers if so many bytes are left. None if the memory is not limited.
 fn answer_with<T: Trial>(
     alloc: Global,
     hoard: &mut Hoard,
     trial: &mut T,
-    left: usize,
+    remaining: usize,
 ) -> Result<Option<Answer>, AllocError> {
-    let kept: Vec<u8> = Vec::with_capacity(alloc, FILLER.saturating_add(left))?;
+    let kept: Vec<u8> = Vec::with_capacity(alloc, FILLER.saturating_add(remaining))?;
     let is_all = hoard.take_all(alloc);
     drop(kept);
     let filler: Vec<u8> = Vec::with_capacity(alloc, FILLER)?;

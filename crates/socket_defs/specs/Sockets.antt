@@ -18,7 +18,7 @@ use Rattle.socket_defs.specs.declared.parts.Address.TheVariants.{Unix, Inet}
 use Rattle.json_kinds.specs.Digits.{is_digit}
 use Rattle.json_kinds.specs.Faults.{bad, or_fault, ◌>>=◌}
 use Rattle.json_kinds.specs.Names.{Key, secure_key, socket_type, passive, family, protocol, path_name, node_name, service_name, wait}
-use Rattle.json_kinds.specs.Kinds.{text_at, bool_at, object_at, in_range, is_among, filled_at, each_item, each_member, members_or_one, where_given, optional, refused}
+use Rattle.json_kinds.specs.Kinds.{text_at, bool_at, object_at, in_range, is_among, filled_at, each_item, each_member, members_or_one, where_there, optional, refused}
 
 -- ---- the keys of a socket
 
@@ -109,12 +109,12 @@ unfoldable pub socket_at : Data → Result Socket Fault
 socket_at d = do
   socket ← object_at keys.Sockets d
   insecure ← refused keys.Sockets (get secure_key d)
-  stream ← where_given (one_of (codes "stream" ∷ [])) tt (get socket_type d)
-  listens ← where_given passive_at tt (get passive d)
-  known ← where_given (one_of (codes "IPv4" ∷ codes "Unix" ∷ [])) tt (get family d)
-  tcp ← where_given (one_of (codes "TCP" ∷ [])) tt (get protocol d)
+  stream ← where_there (one_of (codes "stream" ∷ [])) tt (get socket_type d)
+  listens ← where_there passive_at tt (get passive d)
+  known ← where_there (one_of (codes "IPv4" ∷ codes "Unix" ∷ [])) tt (get family d)
+  tcp ← where_there (one_of (codes "TCP" ∷ [])) tt (get protocol d)
   path ← optional (filled_at 107 keys.Sockets) (get path_name d)
-  host ← where_given host_at any_host (get node_name d)
+  host ← where_there host_at any_host (get node_name d)
   port ← optional port_at (get service_name d)
   address ← address_of path host port
   Ok (record { address = address })
@@ -138,8 +138,8 @@ sockets_at d = do
       else each_member sockets_in named
 
 -- without the key there are none
-unfoldable pub sockets_row : Data → Result (List Socket) Fault
-sockets_row d = where_given sockets_at [] (get (key_text keys.Sockets) d)
+unfoldable pub sockets_key : Data → Result (List Socket) Fault
+sockets_key d = where_there sockets_at [] (get (key_text keys.Sockets) d)
 
 -- ---- inetdCompatibility
 
@@ -156,8 +156,8 @@ inetd_at has_sockets d = do
   if has_sockets && not (is_off waits) then Err (bad Unsupported keys.InetdCompatibility) else Ok tt
 
 -- a job with sockets has to say that it takes one connection a run
-unfoldable pub inetd_row : Bool → Data → Result ⊤ Fault
-inetd_row has_sockets d = inetd_by (get (key_text keys.InetdCompatibility) d) where
+unfoldable pub inetd_key : Bool → Data → Result ⊤ Fault
+inetd_key has_sockets d = inetd_by (get (key_text keys.InetdCompatibility) d) where
   inetd_by : Option Data → Result ⊤ Fault
   inetd_by (Some found) = inetd_at has_sockets found
   inetd_by None = if has_sockets then Err (bad Unsupported keys.InetdCompatibility) else Ok tt
@@ -171,6 +171,6 @@ has_some sockets = not (length sockets == 0)
 -- `Sockets` and `inetdCompatibility`
 unfoldable pub sockets_and_inetd : Data → Result (List Socket) Fault
 sockets_and_inetd d = do
-  sockets ← sockets_row d
-  inetd ← inetd_row (has_some sockets) d
+  sockets ← sockets_key d
+  inetd ← inetd_key (has_some sockets) d
   Ok sockets

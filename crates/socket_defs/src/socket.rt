@@ -7,18 +7,18 @@ ghost use Rattle.history_model.specs.declared.KeyName.TheVariants as keys;
 ghost use Rattle.json_kinds.specs.Faults.{Gives};
 ghost use Rattle.json_kinds.specs.Names as names;
 ghost use Rattle.socket_defs.specs.Sockets as sockets;
-ghost use Rattle.json_kinds.specs.Kinds.{where_given, optional, filled_at, texts_in};
+ghost use Rattle.json_kinds.specs.Kinds.{where_there, optional, filled_at, texts_in};
 ghost use Rattle.socket_defs.specs.Sockets.{one_of, passive_at, host_at, any_host, port_in, port_at, port_by, address_of, socket_at};
 
 use crate::host::{host_in, number_in};
 use crate::parts::{Address, Socket};
 use history_model::{KeyName, Reason, Text};
 use json_kinds::DefFault;
+use json_kinds::keys::refused_of;
 use json_kinds::kinds::{bool_of, filled_of, is_among, number_of, object_of, text_of};
 use json_kinds::names::{
     FAMILY, NODE_NAME, PASSIVE, PATH_NAME, PROTOCOL, SECURE_KEY, SERVICE_NAME, SOCKET_TYPE,
 };
-use json_kinds::rows::refused_of;
 use serde_json::Value;
 use std::alloc::Global;
 
@@ -31,13 +31,13 @@ pub(crate) fn socket_of(alloc: Global, found: &Value) -> Result<Socket, DefFault
 {
     object_of(found, KeyName::Sockets)?;
     refused_of(found, SECURE_KEY, KeyName::Sockets)?;
-    one_of_row(found, SOCKET_TYPE, &["stream"])?;
-    passive_row(found)?;
-    one_of_row(found, FAMILY, &["IPv4", "Unix"])?;
-    one_of_row(found, PROTOCOL, &["TCP"])?;
-    let path = path_row(alloc, found)?;
-    let host = host_row(found)?;
-    let port = port_row(found)?;
+    one_of_key(found, SOCKET_TYPE, &["stream"])?;
+    passive_key(found)?;
+    one_of_key(found, FAMILY, &["IPv4", "Unix"])?;
+    one_of_key(found, PROTOCOL, &["TCP"])?;
+    let path = path_key(alloc, found)?;
+    let host = host_key(found)?;
+    let port = port_key(found)?;
     Ok(Socket {
         address: address(path, host, port)?,
     })
@@ -58,9 +58,9 @@ fn address(path: Option<Text>, host: [u8; 4], port: Option<u16>) -> Result<Addre
 }
 
 /// A text that has to be one of `texts`.
-fn one_of_row(socket: &Value, name: &str, texts: &[&str]) -> Result<(), DefFault>
+fn one_of_key(socket: &Value, name: &str, texts: &[&str]) -> Result<(), DefFault>
     ensures { Gives (λ done. done) result
-        (where_given (one_of (texts_in texts.now)) tt (get name.now (view socket.now))) }
+        (where_there (one_of (texts_in texts.now)) tt (get name.now (view socket.now))) }
 {
     match socket.get(name) {
         Some(found) => one_of(found, texts),
@@ -83,9 +83,9 @@ fn one_of(found: &Value, texts: &[&str]) -> Result<(), DefFault>
     })
 }
 
-fn passive_row(socket: &Value) -> Result<(), DefFault>
+fn passive_key(socket: &Value) -> Result<(), DefFault>
     ensures { Gives (λ done. done) result
-        (where_given passive_at tt (get names.passive (view socket.now))) }
+        (where_there passive_at tt (get names.passive (view socket.now))) }
 {
     match socket.get(PASSIVE) {
         Some(found) => listens(found),
@@ -106,7 +106,7 @@ fn listens(found: &Value) -> Result<(), DefFault>
     })
 }
 
-fn path_row(alloc: Global, socket: &Value) -> Result<Option<Text>, DefFault>
+fn path_key(alloc: Global, socket: &Value) -> Result<Option<Text>, DefFault>
     ensures { Gives (λ path. path) result
         (optional (filled_at 107 keys.Sockets) (get names.path_name (view socket.now))) }
 {
@@ -119,9 +119,9 @@ fn path_row(alloc: Global, socket: &Value) -> Result<Option<Text>, DefFault>
     }
 }
 
-fn host_row(socket: &Value) -> Result<[u8; 4], DefFault>
+fn host_key(socket: &Value) -> Result<[u8; 4], DefFault>
     ensures { Gives (λ host. host) result
-        (where_given host_at any_host (get names.node_name (view socket.now))) }
+        (where_there host_at any_host (get names.node_name (view socket.now))) }
 {
     match socket.get(NODE_NAME) {
         Some(found) => host_of(found),
@@ -142,7 +142,7 @@ fn host_of(found: &Value) -> Result<[u8; 4], DefFault>
     }
 }
 
-fn port_row(socket: &Value) -> Result<Option<u16>, DefFault>
+fn port_key(socket: &Value) -> Result<Option<u16>, DefFault>
     ensures { Gives (λ port. port) result
         (optional port_at (get names.service_name (view socket.now))) }
 {

@@ -4,15 +4,15 @@ ghost use Rattle.std.specs.Prelude.{◌≡◌, ◌+◌, nat_lt};
 ghost use Rattle.serde_json.specs.View.{view, items_view, members_view};
 ghost use Rattle.json_kinds.specs.Faults.{Gives};
 ghost use Rattle.json_kinds.specs.Kinds.{each_item, each_member};
-ghost use Rattle.socket_defs.specs.Sockets.{socket_at, socket_count, sockets_in, sockets_at, sockets_row, inetd_at, inetd_row, has_some, sockets_and_inetd};
+ghost use Rattle.socket_defs.specs.Sockets.{socket_at, socket_count, sockets_in, sockets_at, sockets_key, inetd_at, inetd_key, has_some, sockets_and_inetd};
 
 use crate::parts::Socket;
 use crate::socket::socket_of;
 use history_model::{KeyName, Reason};
 use json_kinds::DefFault;
+use json_kinds::keys::optional_bool_of;
 use json_kinds::kinds::{members_or_one_of, object_of};
 use json_kinds::names::{WAIT, key_name};
-use json_kinds::rows::optional_bool_of;
 use serde_json::{Map, Value};
 use std::alloc::Global;
 
@@ -22,14 +22,14 @@ use std::alloc::Global;
 pub fn sockets_and_inetd_of(alloc: Global, def: &Value) -> Result<Vec<Socket>, DefFault>
     ensures { Gives (λ sockets. sockets.items) result (sockets_and_inetd (view def.now)) }
 {
-    let sockets = sockets_row_of(alloc, def)?;
-    inetd_row_of(!sockets.is_empty(), def)?;
+    let sockets = sockets_key_of(alloc, def)?;
+    inetd_key_of(!sockets.is_empty(), def)?;
     Ok(sockets)
 }
 
-#[tactic(auto, unfolding(crate::specs::Sockets::sockets_row))]
-fn sockets_row_of(alloc: Global, def: &Value) -> Result<Vec<Socket>, DefFault>
-    ensures { Gives (λ sockets. sockets.items) result (sockets_row (view def.now)) }
+#[tactic(auto, unfolding(crate::specs::Sockets::sockets_key))]
+fn sockets_key_of(alloc: Global, def: &Value) -> Result<Vec<Socket>, DefFault>
+    ensures { Gives (λ sockets. sockets.items) result (sockets_key (view def.now)) }
 {
     match def.get(key_name(KeyName::Sockets)) {
         Some(found) => sockets_of(alloc, found),
@@ -52,7 +52,7 @@ fn sockets_of(alloc: Global, found: &Value) -> Result<Vec<Socket>, DefFault>
 }
 
 /// Whether there are more than 8 sockets under all names.
-#[tactic(auto, using(json_kinds::proofs::Counts::items_count))]
+#[tactic(auto, using(json_kinds::proofs::CountLemmas::items_count))]
 fn has_too_many(members: &Map<String, Value>) -> bool
     ensures { result ≡ nat_lt 8 (socket_count (members_view members.now.entries)) }
 {
@@ -90,9 +90,9 @@ fn each_socket(alloc: Global, items: &[Value]) -> Result<Vec<Socket>, DefFault>
     Ok(sockets)
 }
 
-#[tactic(auto, unfolding(crate::specs::Sockets::inetd_row))]
-fn inetd_row_of(has_sockets: bool, def: &Value) -> Result<(), DefFault>
-    ensures { Gives (λ done. done) result (inetd_row has_sockets (view def.now)) }
+#[tactic(auto, unfolding(crate::specs::Sockets::inetd_key))]
+fn inetd_key_of(has_sockets: bool, def: &Value) -> Result<(), DefFault>
+    ensures { Gives (λ done. done) result (inetd_key has_sockets (view def.now)) }
 {
     match def.get(key_name(KeyName::InetdCompatibility)) {
         Some(found) => inetd_of(has_sockets, found),

@@ -40,7 +40,7 @@ impl Waiting {
         Ok(Waiting { conns })
     }
 
-    /// Adds a connection behind the others. Refused where `MAX_CONNECTIONS` wait already, which it then leaves as they are.
+    /// Adds a connection behind the others. Refused if `MAX_CONNECTIONS` wait already, which it then leaves as they are.
     #[tactic(auto, using(std::proofs::lemmas::List::Edits::insert_end))]
     pub fn came(&mut self, conn: u64) -> Result<(), Full>
         ensures room { IsOk result ↔ (length self.old < MAX_CONNECTIONS) }

@@ -51,7 +51,7 @@ impl<S: Alter> SettingStore for StoredSettings<S> {
 }
 
 /// The store on a connection, and the settings that it holds, by rising bytes of their labels. `NoMemory` and `Refused` as
-/// `OverrideStore::open_on`, and `Foreign` where a stored name is no label; what was handed in is then dropped.
+/// `OverrideStore::open_on`, and `Foreign` if a stored name is no label; what was handed in is then dropped.
 pub fn opened<S: Alter + Drop>(
     alloc: Global,
     conn: Connection<S>,

@@ -1,1 +1,1 @@
-pub mod HeaderTables
+pub mod OpeningsLemmas

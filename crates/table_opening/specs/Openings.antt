@@ -47,7 +47,7 @@ abbrev pub IsFileZone : List ℕ → Option Zone → Type 0
 IsFileZone bytes None = IsBadFile bytes
 IsFileZone bytes (Some zone) = (length bytes ≤ 65_536) × IsOfTable bytes (offsets zone)
 
--- the zone that the header tells, where it tells one
+-- the zone that the header tells, if it tells one
 abbrev pub IsZoneOf : ZoneText → Option Zone → Type 0
 IsZoneOf text None = IsNoZone text
 IsZoneOf text (Some zone) = Describes text (offsets zone)

@@ -56,7 +56,7 @@ fn file_zone(alloc: Global, bytes: &[u8]) -> Result<Option<Zone>, AllocError>
     }
 }
 
-/// The zone that a header tells, where there is one.
+/// The zone that a header tells, if there is one.
 fn zone_of(alloc: Global, zone: &ZoneText) -> Result<Option<Zone>, AllocError>
     ensures { IfOk result (IsZoneOf zone.now) }
 {
@@ -68,7 +68,7 @@ fn zone_of(alloc: Global, zone: &ZoneText) -> Result<Option<Zone>, AllocError>
 }
 
 /// The table of a header that tells this zone.
-#[tactic(auto, using(crate::proofs::HeaderTables::opened_in, crate::proofs::HeaderTables::bad_label, crate::proofs::HeaderTables::bad_reading))]
+#[tactic(auto, using(crate::proofs::OpeningsLemmas::opened_in, crate::proofs::OpeningsLemmas::bad_label, crate::proofs::OpeningsLemmas::bad_reading))]
 fn table_in(alloc: Global, header: Header, zone: Zone) -> Result<JobTable, OpeningFault>
     requires { Describes header.zone (offsets zone) }
     ensures { OpensAs header result }

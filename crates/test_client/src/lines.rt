@@ -1,6 +1,6 @@
 //! How long requests and replies may be.
 
-use control_client::{Answered, Fault, hear, request_of};
+use control_client::{Fault, Replied, hear, request_of};
 use history_model::{Event, Text};
 use std::alloc::{AllocError, Global};
 use std::test::Fail;
@@ -23,7 +23,7 @@ fn load(alloc: Global, count: usize) -> Result<Event, AllocError> {
     })
 }
 
-/// The length of a request for a definition of so many letters, with its newline; 0 where it is too long.
+/// The length of a request for a definition of so many letters, with its newline; 0 if it is too long.
 fn request_len(alloc: Global, count: usize) -> Result<usize, Fail> {
     let event = load(alloc, count)?;
     match request_of(alloc, &event) {
@@ -51,7 +51,7 @@ fn reply_of(alloc: Global, count: usize) -> Result<Vec<u8>, AllocError> {
     Ok(line)
 }
 
-fn heard(alloc: Global, line: &[u8]) -> Result<Answered, Fault> {
+fn heard(alloc: Global, line: &[u8]) -> Result<Replied, Fault> {
     let mut reader = line;
     hear(alloc, &mut reader)
 }

@@ -154,7 +154,7 @@ fn words_may_be_no_command(rt: HostRuntime) -> Result<(), Fail> {
     Ok(())
 }
 
-/// The status of the words where the output is closed, and whether that is the one line that is told.
+/// The status of the words if the output is closed, and whether that is the one line that is told.
 fn closed_outcome(rt: &HostRuntime, words: &[&str]) -> Result<(u8, bool), Fail> {
     let mut scene = Scene::new(rt, rows::A_TEXT.replies)?;
     scene.close_output()?;

@@ -57,7 +57,7 @@ pub fn accepts(rt: &HostRuntime, stage: &mut Stage, job: u32, tries: u32) -> Opt
     None
 }
 
-// What the client sends next: nothing where it half-closed, or did not send in time.
+// What the client sends next: nothing if it half-closed, or did not send in time.
 fn next_piece(rt: &HostRuntime, client: &mut Client, piece: &mut [u8]) -> usize
     ensures { result ≤ length piece.new }
 {

@@ -14,7 +14,7 @@ use std::test::Fail;
 use std::time::Duration;
 
 /// Refuses everything with this kind of error, but the clock since its start; a spawn gives a child with this process id
-/// where there is one.
+/// if there is one.
 #[derive(Clone, Drop)]
 struct Refusing {
     alloc: Global,
@@ -154,7 +154,7 @@ impl Net for Refusing {
     }
 }
 
-/// A job with a stream file where one is asked for, and a socket.
+/// A job with a stream file if one is asked for, and a socket.
 fn job(alloc: Global, more: &str) -> Result<Def, Fail> {
     let mut text = String::from_str(alloc, "{\"Label\":\"a\",\"Program\":\"/bin/x\"")?;
     text.push_str(more)?;

@@ -48,7 +48,7 @@ mod tests {
         assert!(rt; holds);
     }
 
-    /// Where the system refused to wait for the present child, nothing is asked of the outside.
+    /// If the system refused to wait for the present child, nothing is asked of the outside.
     #[test]
     fn a_refused_wait_orders_nothing(rt: HostRuntime) {
         let inputs = [
@@ -156,7 +156,7 @@ mod tests {
         assert!(rt; holds);
     }
 
-    /// The turn goes on where the journal's writer refuses, and its closing is told once.
+    /// The turn goes on if the journal's writer refuses, and its closing is told once.
     #[test]
     fn a_refused_line_stops_no_turn(rt: HostRuntime) {
         let holds = is_closed_once(rt.alloc()) == Ok(true);

@@ -165,13 +165,13 @@ pub fn is_bad_header(alloc: Global, zone: &str, up: u64) -> Result<bool, Refusal
     }
 }
 
-/// Says whether a turn goes on where the journal takes no line but its header, and that this is told once.
+/// Says whether a turn goes on if the journal takes no line but its header, and that this is told once.
 pub fn is_closed_once(alloc: Global) -> Result<bool, Refusal> {
     let mut stage = set_stage(alloc, &[(start(1), Scripted::Started(812))], true, 1)?;
-    let quiet = !stage.tell_journal_closing();
+    let quiet = !stage.report_journal_closing();
     let made = is_answered(alloc, &mut stage, Input::Line(LOAD), 0, "");
-    let first = stage.tell_journal_closing();
-    let second = stage.tell_journal_closing();
+    let first = stage.report_journal_closing();
+    let second = stage.report_journal_closing();
     let called = stage.edge().calls().len() == 1;
     Ok(quiet && made && first && !second && called)
 }

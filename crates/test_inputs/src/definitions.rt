@@ -167,7 +167,7 @@ Unsupported GroupName : "GroupName":"staff"
 Unsupported RootDirectory : "RootDirectory":1
 WrongKind ExitTimeOut : "UserName":"x","ExitTimeOut":"20""#;
 
-/// The names that nothing acts on, or `all` where all is acted on, and keys beside a label and a program.
+/// The names that nothing acts on, or `all` if all is acted on, and keys beside a label and a program.
 const ACCEPTED: &str = r#"all : "ProgramArguments":[""~255*,""~]
 all : "StartInterval":31536000,"ThrottleInterval":86400,"ExitTimeOut":0
 all : "WatchPaths":["~1024*w~"~63*,"/w"~]

@@ -117,7 +117,7 @@ fn daemon_meaning_of(alloc: Global, words: &[String]) -> Result<String, AllocErr
     }
 }
 
-/// The first line that does not mean what stands behind it, or that is no usage fault where nothing stands there.
+/// The first line that does not mean what stands behind it, or that is no usage fault if nothing stands there.
 fn misread(alloc: Global, cases: &str) -> Result<Option<&str>, AllocError> {
     for case in cases.lines() {
         let (line, wanted) = case.split_once(" | ").unwrap_or((case, "usage"));

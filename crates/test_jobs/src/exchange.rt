@@ -63,7 +63,7 @@ static TOO_LONG: [Step; 11] = [
     Bytes(65_536, Some(ExchangeFault::Closed)),
 ];
 
-/// A reply waits up to its room, and goes on where some was sent.
+/// A reply waits up to its room, and goes on if some was sent.
 static REPLY_WAITS: [Step; 9] = [
     RequestEnd,
     Asked(""),

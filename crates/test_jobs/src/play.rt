@@ -10,7 +10,7 @@ use std::alloc::Global;
 /// What happens, how that is refused, and what the job orders then.
 pub struct Step(pub JobEvent<'static>, pub Option<Refusal>, pub Option<Act>);
 
-/// The position of the first step that goes another way than it says, counted from 0; the number of steps where the job
+/// The position of the first step that goes another way than it says, counted from 0; the number of steps if the job
 /// is not loaded at all. The clock stands at 0 until the first reading.
 pub fn first_fault(alloc: Global, definition: &str, steps: &[Step]) -> Option<usize> {
     let Ok(def) = read_def(alloc, definition.as_bytes()) else {

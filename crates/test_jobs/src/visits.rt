@@ -23,7 +23,7 @@ enum Event {
     Shutdown,
 }
 
-/// An event, with how many jobs are asked and how many orders come; none where the event is refused.
+/// An event, with how many jobs are asked and how many orders come; none if the event is refused.
 type Row = (Event, Option<(u32, usize)>);
 
 /// Each label is one of `a000` to `a098`, of jobs that start each hour, or `x`, that starts each 30 seconds.
@@ -161,7 +161,7 @@ fn told(given: Result<Step<'_>, Refusal>) -> Option<(u32, usize)> {
 fn set(alloc: Global, table: &mut JobTable, label: &str, unload: bool) -> Option<(u32, usize)> {
     let ready = table.prepare_set(alloc, label, true, unload).ok()?;
     table.commit_set(ready);
-    let given = table.given();
+    let given = table.last_step();
     Some((given.visited, given.orders.len()))
 }
 
@@ -174,7 +174,7 @@ fn happens(alloc: Global, table: &mut JobTable, event: Event) -> Option<(u32, us
     match event {
         Load(definition) => {
             load(alloc, table, definition).ok()?;
-            let given = table.given();
+            let given = table.last_step();
             Some((given.visited, given.orders.len()))
         }
         Clock(up) => told(table.clock(alloc, at(up, 1_700_000_000 + up / 1_000))),
@@ -200,7 +200,7 @@ const OFTEN: &str = r#"{"Label":"x","Program":"/bin/x","StartInterval":30}"#;
 /// Loads one job, and says whether one job is then asked.
 fn is_loaded(alloc: Global, table: &mut JobTable, definition: &str) -> bool {
     let is_there = load(alloc, table, definition).is_ok();
-    is_there && table.given().visited == 1
+    is_there && table.last_step().visited == 1
 }
 
 /// Loads the hundred jobs.

@@ -25,7 +25,7 @@ mod tests {
         assert_eq!(rt; are_fronts(rt.alloc(), false), Ok(true));
     }
 
-    /// So where a write takes no byte.
+    /// So if a write takes no byte.
     #[test]
     fn a_write_of_no_byte_leaves_a_front(rt: HostRuntime) {
         assert_eq!(rt; are_fronts(rt.alloc(), true), Ok(true));
@@ -38,7 +38,7 @@ mod tests {
         assert_eq!(rt; is_closed_by_flush(rt.alloc()), Ok(true));
     }
 
-    /// Where no journal is kept, nothing is told and nothing is given back.
+    /// If no journal is kept, nothing is told and nothing is given back.
     #[test]
     fn no_journal_is_never_closed(rt: HostRuntime) {
         assert_eq!(rt; is_silent(rt.alloc()), Ok(true));

@@ -59,8 +59,8 @@ fn turned(alloc: Global, journal: Journal<&mut Sink>) -> Result<Told, AllocError
     journal.note(alloc, &Event::List);
     journal.note(alloc, &event);
     journal.flush();
-    let first = journal.tell_closing();
-    let second = journal.tell_closing();
+    let first = journal.report_closing();
+    let second = journal.report_closing();
     let given = journal.into_open().is_some();
     Ok(Told {
         first,
@@ -106,7 +106,7 @@ pub fn are_fronts(alloc: Global, is_full: bool) -> Result<bool, AllocError> {
 /// Says whether the writer is flushed once in a turn.
 pub fn is_flushed_once(alloc: Global) -> Result<bool, AllocError> {
     let mut writer = sink(alloc, 7, 1000);
-    let _told = write_to(alloc, &mut writer)?;
+    let _written = write_to(alloc, &mut writer)?;
     Ok(writer.flushes == 1)
 }
 

@@ -12,7 +12,7 @@ use std::alloc::Global;
 struct Case {
     /// What the database was made by.
     made: &'static str,
-    /// What a first store's connection runs before a second is opened on it; empty where there is no second.
+    /// What a first store's connection runs before a second is opened on it; empty if there is no second.
     between: &'static str,
     sets: &'static [Row<'static>],
     want: &'static [Row<'static>],
@@ -54,7 +54,7 @@ static OLD_BESIDE_NEW: Case = Case {
     want: &[("a", true, 0)],
 };
 
-/// The store on the connection, or the second one where a text is run between the two.
+/// The store on the connection, or the second one if a text is run between the two.
 fn store_on<S: Alter + Drop>(
     alloc: Global,
     conn: Connection<S>,

@@ -61,7 +61,7 @@ fn set_all<D: Disk + Drop>(store: &mut OverrideStore<FileStore<D>>, rows: &[Row<
     is_set
 }
 
-/// A store over the files, where that can be opened.
+/// A store over the files, if that can be opened.
 fn store_over<D: Disk + Drop>(
     alloc: Global,
     files: Files<D>,

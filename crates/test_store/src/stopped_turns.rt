@@ -24,7 +24,7 @@ const LOAD: &[u8] =
 /// The codes that `a`'s disabling and then a load of it were answered.
 type Codes = (u8, u8);
 
-/// A launcher over this store; none where the store refused.
+/// A launcher over this store; none if the store refused.
 fn launched<T: SettingStore + Drop>(alloc: Global, store: T) -> Option<Host<T, MemoryEdge, Sink>> {
     let header = header(alloc, "UTC0", 0).ok()?;
     let calls: [(EdgeCall, Scripted); 0] = [];
@@ -55,7 +55,7 @@ fn turned<T: SettingStore + Drop, E: ChildEdge + SocketEdge + Drop, W: Write + D
     ((disabled, loaded), store)
 }
 
-/// What stays of the connection, closed as far as that goes; none where a disk stopped before the launcher was made.
+/// What stays of the connection, closed as far as that goes; none if a disk stopped before the launcher was made.
 fn run_over<S: Alter + Drop>(alloc: Global, conn: Connection<S>) -> Option<(Codes, S)> {
     let (settings, _) = opened(alloc, conn).ok()?;
     let (codes, settings) = turned(alloc, launched(alloc, settings)?);
@@ -75,7 +75,7 @@ fn is_disabled(all: &[Setting]) -> bool {
     }
 }
 
-/// Whether a store may have these settings where those codes were answered.
+/// Whether a store may have these settings if those codes were answered.
 fn may_follow(codes: Codes, all: &[Setting]) -> bool {
     match codes {
         (0, 5) => is_disabled(all),
@@ -84,7 +84,7 @@ fn may_follow(codes: Codes, all: &[Setting]) -> bool {
     }
 }
 
-/// Whether the setting was acknowledged; none where what is found does not follow.
+/// Whether the setting was acknowledged; none if what is found does not follow.
 fn stops(alloc: Global, from: &Files<Memory>, log: u64, db: u64) -> Option<bool> {
     let Some((codes, files)) = run_from(alloc, fused(alloc, from, log, db)?) else {
         return Some(false);

@@ -87,7 +87,7 @@ fn may_follow(said: Said, all: &[Setting]) -> bool {
     }
 }
 
-/// Whether the second setting was acknowledged; none where what is found does not follow.
+/// Whether the second setting was acknowledged; none if what is found does not follow.
 fn stops(alloc: Global, from: &Files<Memory>, log: u64, db: u64) -> Option<bool> {
     let files = fused(alloc, from, log, db)?;
     let (said, files) = run_from(alloc, files)?;

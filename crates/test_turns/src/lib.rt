@@ -26,7 +26,7 @@ mod tests {
         Happening::ToJob("a", news)
     }
 
-    /// The job of a load is started at once where it has RunAtLoad, and the answer has its line.
+    /// The job of a load is started at once if it has RunAtLoad, and the answer has its line.
     #[test]
     fn a_load_and_its_start_have_their_lines(rt: HostRuntime) {
         let line = b"{\"ev\":\"spawned\",\"job\":\"a\",\"pid\":812,\"run\":1}\n";
@@ -57,7 +57,7 @@ mod tests {
         assert!(rt; holds);
     }
 
-    /// A job is started a second after a refused start at the soonest, also where its throttle is 0.
+    /// A job is started a second after a refused start at the soonest, also if its throttle is 0.
     #[test]
     fn a_refused_start_comes_again(rt: HostRuntime) {
         let events = [(at(999), 1), (at(1_000), 2)];
@@ -105,7 +105,7 @@ mod tests {
         assert!(rt; holds);
     }
 
-    /// Where the system refused to wait for the present child, nothing is asked of the edge.
+    /// If the system refused to wait for the present child, nothing is asked of the edge.
     #[test]
     fn a_refused_wait_makes_no_call(rt: HostRuntime) {
         let events = [(told(News::WaitRefused(1)), 1)];
@@ -127,7 +127,7 @@ mod tests {
         assert!(rt; holds);
     }
 
-    /// The turn goes on where the journal's writer refuses, and its closing is told once.
+    /// The turn goes on if the journal's writer refuses, and its closing is told once.
     #[test]
     fn a_refused_line_stops_no_turn(rt: HostRuntime) {
         let holds = is_closed_once(rt.alloc()) == Ok(true);

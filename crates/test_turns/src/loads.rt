@@ -44,7 +44,7 @@ pub fn is_noted(alloc: Global, answer: Scripted, line: &[u8]) -> Result<bool, Re
     Ok(made && holds(stage, LOADED, line))
 }
 
-/// Says whether the sockets are given up where the store refuses.
+/// Says whether the sockets are given up if the store refuses.
 pub fn is_released(alloc: Global) -> Result<bool, Refusal> {
     let mut stage = set_stage(alloc, &[Scripted::Done], false, 1000)?;
     let loaded = load_on(alloc, &mut stage, LISTENING, true);
@@ -60,7 +60,7 @@ pub fn is_released(alloc: Global) -> Result<bool, Refusal> {
     Ok(refused && called && asked && empty && noted)
 }
 
-/// Says whether the store is not asked where the sockets were not bound.
+/// Says whether the store is not asked if the sockets were not bound.
 pub fn is_unbound(alloc: Global) -> Result<bool, Refusal> {
     let mut stage = set_stage(alloc, &[Scripted::Refused], true, 1000)?;
     let loaded = load_on(alloc, &mut stage, LISTENING, true);

@@ -54,7 +54,7 @@ fn has_made(
     Ok(stage.edge.calls().len() == made)
 }
 
-/// Says whether a job that is loaded leads to these calls with these answers and to no other, where this happens after its
+/// Says whether a job that is loaded leads to these calls with these answers and to no other, if this happens after its
 /// load. Beside each event stands how many calls were then made in all.
 pub fn is_called(
     alloc: Global,
@@ -70,13 +70,13 @@ pub fn is_called(
     Ok(stage.edge.calls() == calls)
 }
 
-/// Says whether a turn goes on where the journal takes no line but its header, and that this is told once.
+/// Says whether a turn goes on if the journal takes no line but its header, and that this is told once.
 pub fn is_closed_once(alloc: Global) -> Result<bool, Refusal> {
     let calls = [(start(1), Scripted::Started(812)), (term(), Scripted::Done)];
     let mut stage = loaded(alloc, &calls, 1)?;
     let stop = Happening::ToJob("a", News::Stop);
     let goes_on = has_made(alloc, &mut stage, stop, 2)?;
-    let first = stage.journal.tell_closing();
-    let second = stage.journal.tell_closing();
+    let first = stage.journal.report_closing();
+    let second = stage.journal.report_closing();
     Ok(goes_on && first && !second)
 }

@@ -73,7 +73,7 @@ impl TimerHeap {
         self.tree.clear(job);
     }
 
-    /// The job with the least moment, and that moment; of equal moments that of the least job number. None where no job has
+    /// The job with the least moment, and that moment; of equal moments that of the least job number. None if no job has
     /// a moment.
     pub fn least(&self) -> Option<(JobNo, u64)>
         ensures { IsLeast self.now result }
@@ -81,7 +81,7 @@ impl TimerHeap {
         self.tree.least()
     }
 
-    /// Takes out the moment that `least` tells, if it is at most `now`, and gives its job. None where each moment is later.
+    /// Takes out the moment that `least` tells, if it is at most `now`, and gives its job. None if each moment is later.
     pub fn pop_due(&mut self, now: u64) -> Option<JobNo>
         ensures popped { IsPopped now self.old result self.new }
         // What a loop over all that are due counts down.

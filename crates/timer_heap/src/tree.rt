@@ -47,7 +47,7 @@ impl Tree {
         Ok(Tree { nodes, leaves })
     }
 
-    /// Makes room for the job numbers below `numbers`. It makes twice that room where it grows, so that many small steps
+    /// Makes room for the job numbers below `numbers`. It makes twice that room if it grows, so that many small steps
     /// cost little.
     pub fn reserve(&mut self, alloc: Global, numbers: usize) -> Result<(), AllocError>
         requires sound { IsTree self.old }

@@ -45,12 +45,12 @@ pub fn first_lines(text: &[u8], lines: usize) -> &[u8] {
     text
 }
 
-/// The outcome lines that are wanted where so many bytes of the journal were read: the header has none.
+/// The outcome lines that are wanted if so many bytes of the journal were read: the header has none.
 pub fn outcomes_of(bytes: usize) -> &'static [u8] {
     first_lines(OUTCOMES, newlines(JOURNAL, bytes).saturating_sub(1))
 }
 
-/// What is wanted where the journal ends after so many bytes: the outcome lines of its whole lines, and that of a line
+/// What is wanted if the journal ends after so many bytes: the outcome lines of its whole lines, and that of a line
 /// that is cut.
 pub fn wanted_of(bytes: usize) -> (&'static [u8], &'static [u8]) {
     if JOURNAL.get(bytes) == Some(&b'\n') {

@@ -3,7 +3,7 @@
 use jobd::{replay, status_of};
 use std::io;
 
-/// Replays the input, and tells the name where it wrote what is wanted and ended with the status that is wanted.
+/// Replays the input, and tells the name if it wrote what is wanted and ended with the status that is wanted.
 pub fn judge<R: Print + AllocGlobal>(
     rt: &R,
     name: &str,

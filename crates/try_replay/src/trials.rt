@@ -68,7 +68,7 @@ fn reads_are_counted(alloc: Global, reads: usize) -> bool {
 }
 
 /// Whether a journal that ends after so many bytes is answered as far as it goes. Its last line needs no newline, and is
-/// no event where it is cut.
+/// no event if it is cut.
 fn front_is_answered(alloc: Global, bytes: usize) -> bool {
     let mut reader = &JOURNAL[..bytes.min(JOURNAL.len())];
     let mut written = Vec::new(alloc);
@@ -105,7 +105,7 @@ fn all_fronts(alloc: Global) -> bool {
     (0..JOURNAL.len()).all(|bytes| front_is_answered(alloc, bytes))
 }
 
-fn tell<R: Print>(rt: &R, name: &str, passed: bool) -> io::Result<()> {
+fn show<R: Print>(rt: &R, name: &str, passed: bool) -> io::Result<()> {
     if passed {
         println!(rt; "{name}")
     } else {
@@ -116,33 +116,33 @@ fn tell<R: Print>(rt: &R, name: &str, passed: bool) -> io::Result<()> {
 /// Tries each kind of trial.
 pub fn try_all<R: Print + AllocGlobal>(rt: &R) -> io::Result<()> {
     let alloc = rt.alloc();
-    tell(rt, "pieces_of_any_length", all_pieces(alloc))?;
-    tell(
+    show(rt, "pieces_of_any_length", all_pieces(alloc))?;
+    show(
         rt,
         "each_read_of_a_byte_fails",
         all_reads(alloc, 1, ErrorKind::Other),
     )?;
-    tell(
+    show(
         rt,
         "each_read_of_seven_bytes_fails",
         all_reads(alloc, 7, ErrorKind::BrokenPipe),
     )?;
-    tell(
+    show(
         rt,
         "each_read_is_interrupted",
         all_reads(alloc, 1, ErrorKind::Interrupted),
     )?;
-    tell(
+    show(
         rt,
         "each_write_fails",
         all_writes(alloc, Some(ErrorKind::Other)),
     )?;
-    tell(
+    show(
         rt,
         "each_write_is_interrupted",
         all_writes(alloc, Some(ErrorKind::Interrupted)),
     )?;
-    tell(rt, "each_write_takes_no_byte", all_writes(alloc, None))?;
-    tell(rt, "reads_are_counted", all_counts(alloc))?;
-    tell(rt, "each_front_is_answered", all_fronts(alloc))
+    show(rt, "each_write_takes_no_byte", all_writes(alloc, None))?;
+    show(rt, "reads_are_counted", all_counts(alloc))?;
+    show(rt, "each_front_is_answered", all_fronts(alloc))
 }

@@ -16,7 +16,7 @@ use crate::store::{Call, Using};
 use crate::turning::{TURNS, Turning};
 use anyhow::{Result, bail};
 use job_defs::read_def;
-use scarce_memory::{Hoard, run_with_little, tell};
+use scarce_memory::{Hoard, run_with_little, show_run};
 use sqlite::{Alter, File, FileStore};
 use std::alloc::Global;
 use std::env;
@@ -32,7 +32,7 @@ fn parts(rt: &impl Print, alloc: Global, hoard: &mut Hoard) -> Result<()> {
         let Ok(def) = read_def(alloc, DEFINITION.as_bytes()) else {
             bail!("the definition was refused");
         };
-        tell(rt, alloc, hoard, name, &mut Making { part, def })?;
+        show_run(rt, alloc, hoard, name, &mut Making { part, def })?;
     }
     Ok(())
 }
@@ -47,7 +47,7 @@ fn try_opening<R: Print, S: Alter + Drop, P: Place<S> + Drop>(
         place,
         state: State::Nothing,
     };
-    tell(rt, alloc, hoard, "OverrideStore::open_on", &mut trial)
+    show_run(rt, alloc, hoard, "OverrideStore::open_on", &mut trial)
 }
 
 fn openings(rt: &HostRuntime, hoard: &mut Hoard) -> Result<()> {
@@ -61,7 +61,7 @@ fn open_stores(rt: &impl Print, alloc: Global, hoard: &mut Hoard) -> Result<()> 
         ("OverrideStore::changes", Call::Changes),
     ];
     for (name, call) in listed {
-        tell(rt, alloc, hoard, name, &mut Using { call, store: None })?;
+        show_run(rt, alloc, hoard, name, &mut Using { call, store: None })?;
     }
     Ok(())
 }
@@ -71,9 +71,9 @@ fn launchers(rt: &impl Print, alloc: Global, hoard: &mut Hoard) -> Result<()> {
         parts: None,
         host: None,
     };
-    tell(rt, alloc, hoard, "Host::new", &mut trial)?;
+    show_run(rt, alloc, hoard, "Host::new", &mut trial)?;
     for turn in TURNS {
-        tell(rt, alloc, hoard, turn.name, &mut Turning::new(turn))?;
+        show_run(rt, alloc, hoard, turn.name, &mut Turning::new(turn))?;
     }
     Ok(())
 }

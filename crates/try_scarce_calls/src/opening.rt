@@ -38,7 +38,7 @@ pub enum State<S: Alter> {
     Refused,
 }
 
-/// `OverrideStore::open_on`. Where it is refused, a new connection on the same file is opened, and the store on that
+/// `OverrideStore::open_on`. If it is refused, a new connection on the same file is opened, and the store on that
 /// has the settings of the first version.
 #[derive(Drop)]
 pub struct Opening<S: Alter, P> {
@@ -86,7 +86,7 @@ impl<S: Alter + Drop, P: Place<S>> Opening<S, P> {
         mem::replace(&mut self.state, State::Nothing)
     }
 
-    /// The store that was opened, or that is opened now where the opening was refused.
+    /// The store that was opened, or that is opened now if the opening was refused.
     fn store(&mut self, alloc: Global) -> Option<OverrideStore<S>> {
         match self.take() {
             State::Opened(store) => Some(store),

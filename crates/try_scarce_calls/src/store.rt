@@ -72,7 +72,7 @@ pub enum Call {
     Changes,
 }
 
-/// A call on a store that came from a database of the first version: where it is refused, the store has the settings that
+/// A call on a store that came from a database of the first version: if it is refused, the store has the settings that
 /// it had, and the same call with memory is not.
 #[derive(Drop)]
 pub struct Using {

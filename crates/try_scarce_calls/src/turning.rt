@@ -157,7 +157,7 @@ fn asked(alloc: Global, stage: &mut Stage, input: Input<'_>, text: &str) -> (u8,
 
 fn taken(alloc: Global, stage: &mut Stage, turn: &Turn) -> Outcome {
     let (code, is_text) = asked(alloc, stage, turn.input, turn.text);
-    let has_closed = stage.tell_journal_closing();
+    let has_closed = stage.report_journal_closing();
     match code {
         0 if is_text && has_closed => Outcome::Closed,
         0 if is_text => Outcome::Made,

@@ -23,7 +23,7 @@ fn told(fault: StoreFault) -> Told {
     }
 }
 
-/// The setting that the words behind the path ask for; none where there is no such word.
+/// The setting that the words behind the path ask for; none if there is no such word.
 fn wish_of(words: &[String]) -> Result<Option<Wish<'_>>, Told> {
     match (words.get(2), words.get(3), words.get(4)) {
         (Some(word), Some(label), Some(second)) => {
@@ -82,7 +82,7 @@ fn list_all<S: Alter>(rt: &HostRuntime, store: &mut OverrideStore<S>) -> Result<
     }
 }
 
-/// Opens a store on the connection, sets where that is asked for, lists, and gives the connection back. What lets a store
+/// Opens a store on the connection, sets if that is asked for, lists, and gives the connection back. What lets a store
 /// go is proved for its whole type, so this is generic over what the store stands on.
 fn use_store<S: Alter + Drop>(
     rt: &HostRuntime,
@@ -128,7 +128,7 @@ fn main(rt: HostRuntime) -> ExitCode {
     match ending {
         Ok(()) => ExitCode::SUCCESS,
         Err(told) => {
-            let _told = eprintln!(rt; "try_store: {told}");
+            let _written = eprintln!(rt; "try_store: {told}");
             ExitCode::FAILURE
         }
     }

@@ -238,7 +238,7 @@ impl Job {
             }
             _ => {}
         }
-        self.conditions.ended(run, how, self.is_told_to_end);
+        self.conditions.ended(run, how, self.is_ordered_to_end);
         self.stops = false;
         self.ending.spared();
         Ok(())

@@ -86,14 +86,14 @@ impl Job {
                 self.has_new_demand = false;
                 self.throttle.ordered(up);
                 self.ending.next_run();
-                self.is_told_to_end = false;
+                self.is_ordered_to_end = false;
                 self.stops = false;
             }
             Act::Term { .. } => {
                 self.ending.termed_at(up);
-                self.is_told_to_end = true;
+                self.is_ordered_to_end = true;
             }
-            Act::Kill { .. } => self.is_told_to_end = true,
+            Act::Kill { .. } => self.is_ordered_to_end = true,
             Act::Close { .. } | Act::Gone => return,
         }
         self.awaited = Some(act);

@@ -8,7 +8,7 @@ use std::test::Fail;
 
 const LONGEST: usize = 255;
 
-/// The line with a label of so many bytes behind the front, in place of the one that stands there; none where no label
+/// The line with a label of so many bytes behind the front, in place of the one that stands there; none if no label
 /// stands there.
 fn with_label(
     alloc: Global,
@@ -57,7 +57,7 @@ fn is_refused(alloc: Global, kind: Kind, line: &str) -> bool {
     }
 }
 
-/// Whether the line is kept with the longest label, and refused with a longer one; none where it names no job.
+/// Whether the line is kept with the longest label, and refused with a longer one; none if it names no job.
 fn is_bounded(alloc: Global, kind: Kind, line: &str) -> Result<Option<bool>, ReadFault> {
     let front = "\"job\":\"";
     let Some(long) = with_label(alloc, line, front, LONGEST)? else {

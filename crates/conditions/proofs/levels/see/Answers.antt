@@ -2,7 +2,7 @@
 use Rattle.std.proofs.Common.{◌≡◌, ◌<◌, length, true, false, cond, Some, get_or, ap, ◌∙◌, arith}
 use Rattle.history_model.specs.Demands.{is_same_path}
 use Rattle.conditions.specs.States.{after_sight}
-use Rattle.history_model.proofs.Written.{write_step}
+use Rattle.history_model.proofs.WrittenLemmas.{write_step}
 use Rattle.conditions.proofs.levels.see.Goals as goal
 use Rattle.conditions.proofs.levels.see.Goals.{then-eq, else-eq}
 

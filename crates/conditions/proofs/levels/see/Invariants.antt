@@ -1,7 +1,7 @@
 -- What holds at each turn of the loops of `levels::see`, and why each ends.
 use Rattle.std.proofs.Common.{◌≡◌}
 use Rattle.conditions.specs.States.{after_sight}
-use Rattle.history_model.proofs.Written.{written}
+use Rattle.history_model.proofs.WrittenLemmas.{written}
 use Rattle.conditions.proofs.levels.see.Given as goal
 
 abbrev pub invariant-loop-state : goal.invariant-loop-state

@@ -1,4 +1,4 @@
-use Rattle.ctl_protocol.proofs.Fronts.{byte_on}
+use Rattle.ctl_protocol.proofs.HexadecimalLemmas.{byte_on}
 use Rattle.ctl_protocol.proofs.header_reader.bytes_in.Goals as goal
 
 pub loop-rest-preserved : goal.loop-rest-preserved

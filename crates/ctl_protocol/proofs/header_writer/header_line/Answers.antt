@@ -2,8 +2,8 @@ use Rattle.std.proofs.Common.{ap, ◌∙◌}
 use Rattle.serde_json.specs.View.{view}
 use Rattle.serde_json.specs.Written.{has_float}
 use Rattle.ctl_protocol.proofs.ObjectsLemmas.{header_no_float}
-use Rattle.ctl_protocol.proofs.RoundTrips.{on_ok}
-use Rattle.ctl_protocol.proofs.HeaderTrips.{header_back}
+use Rattle.ctl_protocol.proofs.EventWriterLemmas.{on_ok}
+use Rattle.ctl_protocol.proofs.HeaderReaderLemmas.{header_back}
 use Rattle.ctl_protocol.proofs.header_writer.header_line.Goals as goal
 
 pub line_from-requires : goal.line_from-requires

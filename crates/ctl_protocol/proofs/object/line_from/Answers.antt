@@ -1,7 +1,7 @@
 use Rattle.std.proofs.Common.{◌≡◌, Some, subst}
 use Rattle.serde_json.specs.View.{view}
 use Rattle.json_kinds.specs.Json.{json_in}
-use Rattle.json_kinds.proofs.IsText.{json_read}
+use Rattle.json_kinds.proofs.JsonLemmas.{json_read}
 use Rattle.ctl_protocol.proofs.object.line_from.Goals as goal
 
 pub returns-clause-reads_back : goal.returns-clause-reads_back

@@ -1,8 +1,8 @@
 -- Each order by its pieces.
 use Rattle.std.proofs.Common.{◌∙◌, ap}
 use Rattle.history_model.specs.declared.Act.TheVariants.{Spawn}
-use Rattle.ctl_protocol.proofs.RoundTrips.{on_ok}
-use Rattle.ctl_protocol.proofs.OrderTexts.{spawn_written, carry_written, term_written, kill_written, close_written, gone_written}
+use Rattle.ctl_protocol.proofs.EventWriterLemmas.{on_ok}
+use Rattle.ctl_protocol.proofs.OrdersLemmas.{spawn_written, carry_written, term_written, kill_written, close_written, gone_written}
 use Rattle.ctl_protocol.proofs.orders.add_order.Goals as goal
 
 pub returns-in-None : goal.returns-in-None

@@ -1,8 +1,8 @@
 -- The goals of `laws::a_job_sleeps_until_its_next_moment` that the prover leaves open.
 use Rattle.history_model.specs.Clock.{now, definition_of}
 use Rattle.history_model.specs.Calendar.{crossed}
-use Rattle.history_model.proofs.Untouched.{none_at}
-use Rattle.history_model.proofs.Skipping.{facts-kept, due-kept, moment-kept, keeps-still, next-kept}
+use Rattle.history_model.proofs.UntouchedLemmas.{none_at}
+use Rattle.history_model.proofs.SkippingLemmas.{facts-kept, due-kept, moment-kept, keeps-still, next-kept}
 use Rattle.history_model.proofs.laws.a_job_sleeps_until_its_next_moment.Goals as goal
 
 pub returns-clause-facts : goal.returns-clause-facts

@@ -1,5 +1,5 @@
 -- The goals of `laws::a_turn_is_short` that the prover leaves open.
-use Rattle.history_model.proofs.TurnBound.{short}
+use Rattle.history_model.proofs.TurnBoundLemmas.{short}
 use Rattle.history_model.proofs.laws.a_turn_is_short.Goals as goal
 
 pub returns : goal.returns

@@ -1,7 +1,7 @@
 -- The goals of `laws::the_clock_does_not_fall` that the prover leaves open.
 use Rattle.history_model.specs.Machine.{opened}
-use Rattle.history_model.proofs.Standing.{good-opened, good-run}
-use Rattle.history_model.proofs.Rising.{rising}
+use Rattle.history_model.proofs.StepLemmas.{good-opened, good-run}
+use Rattle.history_model.proofs.ClockRisesLemmas.{rising}
 use Rattle.history_model.proofs.laws.the_clock_does_not_fall.Goals as goal
 
 pub returns-clause-rising : goal.returns-clause-rising

@@ -1,5 +1,5 @@
 -- The goals of `laws::the_next_moment_is_the_least` that the prover leaves open.
-use Rattle.history_model.proofs.Next.{is-one, is-least, is-none}
+use Rattle.history_model.proofs.MomentsLemmas.{is-one, is-least, is-none}
 use Rattle.history_model.proofs.laws.the_next_moment_is_the_least.Goals as goal
 
 pub returns-clause-one : goal.returns-clause-one

@@ -2,7 +2,7 @@
 use Rattle.std.proofs.Common.{◌≡◌, ◌<◌, length, true, false, cond, Some, get_or, ap, ◌∙◌, arith}
 use Rattle.history_model.specs.Demands.{is_same_path}
 use Rattle.job_core.specs.Listed.{queue_after}
-use Rattle.history_model.proofs.Written.{write_step}
+use Rattle.history_model.proofs.WrittenLemmas.{write_step}
 use Rattle.job_core.proofs.paths.see.Goals as goal
 use Rattle.job_core.proofs.paths.see.Goals.{then-eq, else-eq}
 

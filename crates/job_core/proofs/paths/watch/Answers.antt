@@ -3,9 +3,9 @@ use Rattle.std.proofs.Common.{◌≡◌, ◌+◌, ◌<◌, length, true, false, 
 use Rattle.std.specs.List.{list_any}
 use Rattle.history_model.specs.Demands.{is_same_path, differs}
 use Rattle.job_core.specs.Listed.{after_sight}
-use Rattle.history_model.proofs.Booleans.{or-false-right}
-use Rattle.job_core.proofs.Looked.{fires_at, any_more}
-use Rattle.history_model.proofs.Written.{at_written, write_step}
+use Rattle.history_model.proofs.BooleanLemmas.{or-false-right}
+use Rattle.job_core.proofs.PathsLemmas.{fires_at, any_more}
+use Rattle.history_model.proofs.WrittenLemmas.{at_written, write_step}
 use Rattle.job_core.proofs.paths.watch.Goals as goal
 use Rattle.job_core.proofs.paths.watch.Goals.{then-eq+then-fires, then-eq+else-fires, else-eq}
 

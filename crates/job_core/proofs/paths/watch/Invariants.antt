@@ -1,9 +1,9 @@
 -- What holds at each turn of the loops of `paths::watch`, and why each ends.
 use Rattle.std.proofs.Common.{◌≡◌, take}
 use Rattle.std.specs.List.{list_any}
-use Rattle.history_model.proofs.Written.{written}
+use Rattle.history_model.proofs.WrittenLemmas.{written}
 use Rattle.job_core.specs.Listed.{after_sight}
-use Rattle.job_core.proofs.Looked.{fires_at}
+use Rattle.job_core.proofs.PathsLemmas.{fires_at}
 use Rattle.job_core.proofs.paths.watch.Given as goal
 
 abbrev pub invariant-loop-watched : goal.invariant-loop-watched

@@ -2,7 +2,7 @@ use Rattle.std.proofs.Common.{◌≡◌}
 use Rattle.serde_json.specs.View.{members_view}
 use Rattle.json_kinds.specs.Kinds.{each_member}
 use Rattle.job_defs.specs.Variables.{variable_in}
-use Rattle.json_kinds.proofs.Each.{with_front}
+use Rattle.json_kinds.proofs.KindsLemmas.{with_front}
 use Rattle.job_defs.proofs.surroundings.each_variable.Given as goal
 
 abbrev pub invariant-loop-name : goal.invariant-loop-name

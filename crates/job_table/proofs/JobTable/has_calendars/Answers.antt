@@ -1,9 +1,9 @@
--- The rows are those of the jobs that have not left, and their calendars those of the machine's jobs.
+-- The rows are those of the jobs that are not gone, and their calendars those of the machine's jobs.
 use Rattle.std.proofs.Common.{◌≡◌, not, ◌&&◌, ap, sym, ◌∙◌}
 use Rattle.std.specs.List.{list_any}
 use Rattle.job_table.specs.Minutes.{is_some_entry, has_calendars}
-use Rattle.job_table.proofs.Waking.{calendars-rows, calendars-jobs}
-use Rattle.job_table.proofs.Handing.{calendars-rows as stay-rows, calendars-names}
+use Rattle.job_table.proofs.LeastMomentLemmas.{calendars-rows, calendars-jobs}
+use Rattle.job_table.proofs.EventsLemmas.{calendars-rows as stay-rows, calendars-names}
 use Rattle.job_table.proofs.JobTable.has_calendars.Goals as goal
 
 by-flag : (c : goal.Then-self) → c.self.inside.jobs.has_calendars ≡ has_calendars c.args.self.now.rows
@@ -23,7 +23,7 @@ pub returns-clause-jobs : goal.returns-clause-jobs
 returns-clause-jobs c = λ s keeps.
     let es = c.self.inside.jobs.entries.items in
     c.is_some_with_calendar.ensures
-    ∙ ap (list_any (λ e. not e.has_left && is_some_entry e.def.calendar)) c.deref.ensures.value
+    ∙ ap (list_any (λ e. not e.has_gone && is_some_entry e.def.calendar)) c.deref.ensures.value
     ∙ calendars-rows es
     ∙ ap (λ t. has_calendars t.rows) c.self.view_is
     ∙ calendars-jobs s.reading c.args.self.now.rows s.jobs keeps.jobs
@@ -31,6 +31,6 @@ returns-clause-jobs c = λ s keeps.
 pub returns-clause-rows : goal.returns-clause-rows
 returns-clause-rows c =
     c.is_some_with_calendar.ensures
-    ∙ ap (list_any (λ e. not e.has_left && is_some_entry e.def.calendar)) c.deref.ensures.value
+    ∙ ap (list_any (λ e. not e.has_gone && is_some_entry e.def.calendar)) c.deref.ensures.value
     ∙ calendars-rows c.self.inside.jobs.entries.items
     ∙ ap (λ t. has_calendars t.rows) c.self.view_is

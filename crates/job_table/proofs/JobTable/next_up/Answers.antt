@@ -9,7 +9,7 @@ use Rattle.job_table.specs.Tables.{Table}
 use Rattle.job_table.specs.Sound.{seen}
 use Rattle.job_table.specs.declared.jobs.Jobs.{Jobs}
 use Rattle.timer_heap.specs.Timers.{IsLeast}
-use Rattle.job_table.proofs.Waking.{none-up, least-up}
+use Rattle.job_table.proofs.LeastMomentLemmas.{none-up, least-up}
 use Rattle.job_table.proofs.JobTable.next_up.Goals as goal
 
 jobs-of : (table : Table) (jobs : Jobs) → seen jobs ≡ table → (s : State) → KeepsState table s → KeepsJobs s.reading (rows jobs.entries.items) s.jobs

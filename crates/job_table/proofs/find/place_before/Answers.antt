@@ -2,7 +2,7 @@
 use Rattle.std.proofs.Common.{not, rules}
 use Rattle.std.proofs.lemmas.List.Sorted.{IsPartitionPoint-from_clause}
 use Rattle.job_table.specs.Entries.{is_above}
-use Rattle.job_table.proofs.Ordering.{halves-no-later, above-at}
+use Rattle.job_table.proofs.ByteOrderLemmas.{halves-no-later, above-at}
 use Rattle.job_table.proofs.find.place_before.Goals as goal
 
 pub returns : goal.returns

@@ -2,8 +2,8 @@
 use Rattle.std.proofs.Common.{◌<◌, length, sym, ◌∙◌, arith, rules}
 use Rattle.std.proofs.lemmas.List.Sorted.{IsPartitionPoint-from_clause}
 use Rattle.history_model.specs.Labels.{is_before}
-use Rattle.job_table.proofs.Timing.{get-at}
-use Rattle.job_table.proofs.Ordering.{halves-below, label-past, label-at, label-other}
+use Rattle.job_table.proofs.MomentsLemmas.{get-at}
+use Rattle.job_table.proofs.ByteOrderLemmas.{halves-below, label-past, label-at, label-other}
 use Rattle.job_table.proofs.find.place_of.Goals as goal
 
 pub returns-then-place-entries : goal.returns-then-place-entries

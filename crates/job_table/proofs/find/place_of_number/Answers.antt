@@ -2,8 +2,8 @@
 use Rattle.std.proofs.Common.{◌<◌, length, arith}
 use Rattle.std.proofs.lemmas.Bool.Decides.{nat_tests}
 use Rattle.job_table.specs.Index.{place_in}
-use Rattle.job_table.proofs.Timing.{get-at}
-use Rattle.job_table.proofs.Finding.{no-place, no-entry, other-entry, this-entry}
+use Rattle.job_table.proofs.MomentsLemmas.{get-at}
+use Rattle.job_table.proofs.FindLemmas.{no-place, no-entry, other-entry, this-entry}
 use Rattle.job_table.proofs.find.place_of_number.Goals as goal
 
 pub returns-then-number-places : goal.returns-then-number-places

@@ -1,8 +1,8 @@
 -- Growth.
 use Rattle.std.proofs.Common.{sym, subst, ◌∙◌, length, drop, arith}
 use Rattle.job_table.specs.Index.{ArePlaced}
-use Rattle.job_table.proofs.Lists.{lent-back}
-use Rattle.job_table.proofs.Growing.{named-of}
+use Rattle.job_table.proofs.ListLemmas.{lent-back}
+use Rattle.job_table.proofs.IndexGrowthLemmas.{named-of}
 use Rattle.job_table.proofs.index.grow.Goals as goal
 
 pub remake-requires-clause-fits : goal.remake-requires-clause-fits

@@ -6,8 +6,8 @@ use Rattle.std.proofs.lemmas.Option.{slice_get_within}
 use Rattle.job_table.specs.Entries.{name}
 use Rattle.job_table.specs.Index.{place_in}
 use Rattle.job_table.specs.declared.entry.Entry.{Entry}
-use Rattle.job_table.proofs.Known.{named-at, all-named}
-use Rattle.job_table.proofs.Indexing.{one-more, place-same, place-other, is-named-at}
+use Rattle.job_table.proofs.KnownNumbersLemmas.{named-at, all-named}
+use Rattle.job_table.proofs.IndexLemmas.{one-more, place-same, place-other, is-named-at}
 use Rattle.job_table.proofs.index.place_all.Goals as goal
 
 pub loop-entry-preserved : goal.loop-entry-preserved

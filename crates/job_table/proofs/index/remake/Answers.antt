@@ -7,9 +7,9 @@ use Rattle.timer_heap.specs.Timers.{moment_in}
 use Rattle.job_table.specs.Entries.{name}
 use Rattle.job_table.specs.Index.{moment_for, place_in}
 use Rattle.job_table.specs.declared.entry.Entry.{Entry}
-use Rattle.job_table.proofs.Known.{named-at, all-named}
-use Rattle.job_table.proofs.Timing.{alone-after}
-use Rattle.job_table.proofs.Indexing.{one-more, place-same, place-other, is-named-at}
+use Rattle.job_table.proofs.KnownNumbersLemmas.{named-at, all-named}
+use Rattle.job_table.proofs.MomentsLemmas.{alone-after}
+use Rattle.job_table.proofs.IndexLemmas.{one-more, place-same, place-other, is-named-at}
 use Rattle.job_table.proofs.index.remake.Goals as goal
 
 pub loop-entry-preserved : goal.loop-entry-preserved

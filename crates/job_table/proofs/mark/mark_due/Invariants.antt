@@ -2,7 +2,7 @@
 use Rattle.std.proofs.Common.{◌≡◌, ℕ, Some}
 use Rattle.timer_heap.specs.Timers.{moment_in, room, timer_count}
 use Rattle.job_table.specs.Marking.{IsReachedAt}
-use Rattle.job_table.proofs.Marking.{IsSoFar}
+use Rattle.job_table.proofs.MarkingLemmas.{IsSoFar}
 use Rattle.job_table.proofs.mark.mark_due.Given as goal
 
 abbrev pub invariant-loop-number : goal.invariant-loop-number

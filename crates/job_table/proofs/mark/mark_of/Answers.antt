@@ -8,9 +8,9 @@ use Rattle.timer_heap.specs.Timers.{Updates}
 use Rattle.job_table.specs.Index.{place_in}
 use Rattle.job_table.specs.Marking.{stands_at}
 use Rattle.job_table.specs.Triggers.{rank_of, is_of, is_placed_at}
-use Rattle.job_table.proofs.Timing.{get-at}
-use Rattle.job_table.proofs.Triggering.{filter-at}
-use Rattle.job_table.proofs.Minutes.{more-marks, same-marks, one-mark}
+use Rattle.job_table.proofs.MomentsLemmas.{get-at}
+use Rattle.job_table.proofs.TriggersLemmas.{filter-at}
+use Rattle.job_table.proofs.MinutesLemmas.{more-marks, same-marks, one-mark}
 use Rattle.job_table.proofs.mark.mark_of.Goals as goal
 
 pub bounds-places-one : goal.bounds-places-one

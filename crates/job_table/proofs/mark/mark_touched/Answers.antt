@@ -1,4 +1,4 @@
--- The one that was told already, those that list the path, or all.
+-- The one that heard already, those that list the path, or all.
 use Rattle.std.proofs.Common.{◌≡◌, ◌⊎◌, inl, inr, ℕ, ◌∷◌, List, Bor, nat_lt, length, true, false, not, sym, ap, ◌∙◌, arith}
 use Rattle.std.proofs.lemmas.Option.{slice_get_within}
 use Rattle.history_model.specs.declared.CivilMinute.{CivilMinute}
@@ -7,22 +7,22 @@ use Rattle.history_model.specs.Step.{lists}
 use Rattle.job_defs.specs.Described.{Described}
 use Rattle.job_defs.specs.Definitions.{definition}
 use Rattle.job_table.specs.Marking.{stands_at}
-use Rattle.job_table.specs.News.{told_at, is_touched}
+use Rattle.job_table.specs.News.{heard_at, is_touched}
 use Rattle.job_table.specs.declared.entry.News.{News}
 use Rattle.job_table.specs.declared.entry.News.TheVariants.{Shutdown, Reading}
-use Rattle.job_table.proofs.Triggering.{or-none}
-use Rattle.job_table.proofs.Minutes.{exact-marks, new-mark, have-marks, stands, stood, listed-path}
+use Rattle.job_table.proofs.MinutesLemmas.{exact-marks, new-mark, have-marks, stands, stood, listed-path}
 use Rattle.job_table.proofs.mark.mark_touched.Goals as goal
+use Rattle.history_model.proofs.BooleanLemmas.{or-false-right}
 
 pub overflow_cast-place : goal.overflow_cast-place
 overflow_cast-place c =
-    let inside = c.requires.inside c.in-Told.place (ap told_at c.in-Told.is) in
+    let inside = c.requires.inside c.in-Heard.place (ap heard_at c.in-Heard.is) in
     let few = c.requires.few in
     omega (arith, inside, few)
 
 pub set-requires : goal.set-requires
 set-requires c =
-    let inside = c.requires.inside c.in-Told.place (ap told_at c.in-Told.is) in
+    let inside = c.requires.inside c.in-Heard.place (ap heard_at c.in-Heard.is) in
     let room = c.requires.room in
     omega (arith, inside, room)
 
@@ -34,7 +34,7 @@ returns-in-Sight-clause-touched c = λ place entry at.
     let path = c.in-Sight.path.now in
     exact-marks c.args.ready.now c.mark_of.new.ready (stands_at c.args.listed.now c.args.places.now (1 ∷ path)) c.mark_of.ensures c.requires.empty place
     ∙ ap not (stands c.args.places.now c.args.entries.now c.requires.placed c.args.listed.now c.requires.listed (1 ∷ path) place entry at ∙ listed-path path entry.def
-    ∙ sym (or-none (lists (definition entry.def) path)))
+    ∙ sym (or-false-right (lists (definition entry.def) path)))
     ∙ ap (λ n. not (is_touched n place entry.def)) (sym c.in-Sight.is)
 
 pub returns-in-Sight-clause-marks : goal.returns-in-Sight-clause-marks
@@ -44,13 +44,13 @@ returns-in-Sight-clause-marks c = λ place moment at.
     let found = stood c.args.places.now c.args.entries.now c.requires.placed c.args.listed.now c.requires.listed (1 ∷ path) place new.1 in
     (new.0, slice_get_within c.args.entries.now place found.0 found.1)
 
-all-told : (n : News) (place : ℕ) (d : Described) → (n ≡ Shutdown) ⊎ ((at : Moment) × (minutes : Bor (List CivilMinute)) × (n ≡ Reading at minutes)) → false ≡ not (is_touched n place d)
-all-told n place d (inl is) = ap (λ m. not (is_touched m place d)) (sym is)
-all-told n place d (inr read) = ap (λ m. not (is_touched m place d)) (sym read.2)
+all-heard : (n : News) (place : ℕ) (d : Described) → (n ≡ Shutdown) ⊎ ((at : Moment) × (minutes : Bor (List CivilMinute)) × (n ≡ Reading at minutes)) → false ≡ not (is_touched n place d)
+all-heard n place d (inl is) = ap (λ m. not (is_touched m place d)) (sym is)
+all-heard n place d (inr read) = ap (λ m. not (is_touched m place d)) (sym read.2)
 
 pub returns-in-Shutdown-clause-touched : goal.returns-in-Shutdown-clause-touched
 returns-in-Shutdown-clause-touched c = λ place entry at.
     let inside = slice_get_within c.args.entries.now place entry at in
     let low : nat_lt place (length c.args.entries.now) ≡ true = grind (arith, inside) in
     exact-marks c.args.ready.now c.mark_each.new.ready (λ p. nat_lt p (length c.args.entries.now)) c.mark_each.ensures c.requires.empty place
-    ∙ ap not low ∙ all-told c.args.news place entry.def c.in-Shutdown.is
+    ∙ ap not low ∙ all-heard c.args.news place entry.def c.in-Shutdown.is

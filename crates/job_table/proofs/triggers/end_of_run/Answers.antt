@@ -3,7 +3,7 @@ use Rattle.std.proofs.Common.{◌≡◌, ◌<◌, ◌∙◌, Some, sym, ap, leng
 use Rattle.std.specs.Prelude.{slice_get}
 use Rattle.std.proofs.lemmas.Option.{slice_get-get_or}
 use Rattle.job_table.specs.Triggers.{rank_of}
-use Rattle.job_table.proofs.Ranking.{behind-on}
+use Rattle.job_table.proofs.RankLemmas.{behind-on}
 use Rattle.job_table.proofs.triggers.end_of_run.Goals as goal
 
 pub returns-then-is_behind-clause-behind : goal.returns-then-is_behind-clause-behind

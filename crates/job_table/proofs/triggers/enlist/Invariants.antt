@@ -1,6 +1,5 @@
 -- Those that were taken are in the list, and there is room for those that are left.
-use Rattle.std.proofs.Common.{◌≡◌, ◌≤◌, ◌+◌, ◌||◌, Bool}
-use Rattle.std.specs.List.{list_any}
+use Rattle.std.proofs.Common.{◌≡◌, ◌≤◌, ◌+◌, Bool, count_by}
 use Rattle.std.specs.Vec.{vec_capacity, vec_len}
 use Rattle.job_table.specs.Triggers.{under, AreOrdered}
 use Rattle.job_table.specs.declared.trigger.Listed.{Listed}
@@ -8,12 +7,13 @@ use Rattle.job_table.proofs.triggers.enlist.Given as goal
 
 abbrev pub invariant-loop-trigger : goal.invariant-loop-trigger
 invariant-loop-trigger l = record {
-  exact : (test : Listed → Bool) → (list_any test l.listed.items || list_any (λ trigger. test (under l.number trigger)) l.left.items)
-      ≡ (list_any test l.fn.listed.items || list_any (λ trigger. test (under l.number trigger)) l.fn.triggers.items);
+  exact : (test : Listed → Bool) → count_by test l.listed.items + count_by (λ trigger. test (under l.number trigger)) l.unlisted.items
+      ≡ count_by test l.fn.listed.items + count_by (λ trigger. test (under l.number trigger)) l.fn.triggers.items;
+  count : vec_len l.listed + vec_len l.unlisted ≡ vec_len l.fn.listed + vec_len l.fn.triggers;
   order : AreOrdered l.listed.items;
-  room : vec_len l.listed + vec_len l.left ≤ vec_capacity l.listed;
+  room : vec_len l.listed + vec_len l.unlisted ≤ vec_capacity l.listed;
   capacity : vec_capacity l.listed ≡ vec_capacity l.fn.listed;
 }
 
 abbrev pub decreases-loop-trigger : goal.decreases-loop-trigger
-decreases-loop-trigger l = vec_len l.left
+decreases-loop-trigger l = vec_len l.unlisted

@@ -3,8 +3,9 @@ use Rattle.std.proofs.Common.{◌<◌, length, sym, subst, ◌∙◌, arith}
 use Rattle.std.proofs.lemmas.Option.{slice_get_within}
 use Rattle.job_table.specs.Entries.{rows}
 use Rattle.job_table.specs.Nearest.{IsNearestOf, paths_in}
-use Rattle.job_table.proofs.Timing.{get-at}
-use Rattle.job_table.proofs.Triggering.{none-after, next-found, pass-more}
+use Rattle.job_table.proofs.MomentsLemmas.{get-at}
+use Rattle.job_table.proofs.TriggerCountLemmas.{any-listed}
+use Rattle.job_table.proofs.TriggersLemmas.{none-after, next-found, pass-more}
 use Rattle.job_table.proofs.triggers.path_after.Goals as goal
 
 pub loop-place-preserved : goal.loop-place-preserved
@@ -28,7 +29,7 @@ returns-then-stays c =
     let one = c.index-listed-place.result in
     let at = get-at xs k one within c.index-listed-place.is in
     subst (IsNearestOf c.args.text.now (paths_in (rows c.args.entries.now))) (sym c.path.ensures)
-    (next-found c.args.places.now c.args.entries.now c.requires.placed xs c.requires.listed.exact c.requires.listed.order c.args.text.now k one at (inv.ahead k one at (omega arith))
+    (next-found c.args.places.now c.args.entries.now c.requires.placed xs (any-listed xs _ c.requires.listed.exact) c.requires.listed.order c.args.text.now k one at (inv.ahead k one at (omega arith))
     (sym c.stays.ensures ∙ c.if-stays.true) inv.passed)
 
 pub returns : goal.returns
@@ -36,5 +37,5 @@ returns c =
     let inv = c.loop-place.invariant in
     let xs = c.args.listed.now in
     let over = c.loop-place-test.false in
-    none-after c.args.places.now c.args.entries.now c.requires.placed xs c.requires.listed.exact c.args.text.now
+    none-after c.args.places.now c.args.entries.now c.requires.placed xs (any-listed xs _ c.requires.listed.exact) c.args.text.now
     (λ j one at. inv.passed j one at (let within = slice_get_within xs j one at in omega (arith, within, over)))

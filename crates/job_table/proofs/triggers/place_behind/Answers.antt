@@ -2,8 +2,8 @@
 use Rattle.std.proofs.Common.{not, rules}
 use Rattle.std.proofs.lemmas.List.Sorted.{IsPartitionPoint-from_clause}
 use Rattle.job_table.specs.Triggers.{rank_of, is_behind}
-use Rattle.job_table.proofs.Ordering.{not-true, not-false}
-use Rattle.job_table.proofs.Ranking.{halves-not-behind, left-half, right-half}
+use Rattle.job_table.proofs.ByteOrderLemmas.{not-true, not-false}
+use Rattle.job_table.proofs.RankLemmas.{halves-not-behind, left-half, right-half}
 use Rattle.job_table.proofs.triggers.place_behind.Goals as goal
 
 pub returns-clause-before : goal.returns-clause-before

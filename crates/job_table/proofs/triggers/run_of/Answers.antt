@@ -2,7 +2,7 @@
 use Rattle.std.proofs.Common.{◌≤◌, rules}
 use Rattle.std.proofs.lemmas.List.Sorted.{IsPartitionPoint-from_clause}
 use Rattle.job_table.specs.Triggers.{rank_of, is_below}
-use Rattle.job_table.proofs.Ranking.{halves-below, left-half, right-half, no-gap, not-behind-below, run-is}
+use Rattle.job_table.proofs.RankLemmas.{halves-below, left-half, right-half, no-gap, not-behind-below, run-is}
 use Rattle.job_table.proofs.triggers.run_of.Goals as goal
 
 pub slice_bounds-result-count : goal.slice_bounds-result-count

@@ -6,13 +6,13 @@ use Rattle.timer_heap.specs.Timers.{Timers, moment_in, Updates, IsNoLater, IsLea
 use Rattle.job_table.specs.Entries.{name}
 use Rattle.job_table.specs.Visiting.{is_spared}
 use Rattle.job_table.specs.declared.entry.Entry.{Entry}
-use Rattle.job_table.proofs.Lists.{set-map}
-use Rattle.job_table.proofs.Places.{stay-set}
-use Rattle.job_table.proofs.Known.{named-at, all-named}
-use Rattle.job_table.proofs.Timing.{retimed, alone-after}
+use Rattle.job_table.proofs.ListLemmas.{set-map}
+use Rattle.job_table.proofs.PlacesLemmas.{stay-set}
+use Rattle.job_table.proofs.KnownNumbersLemmas.{named-at, all-named}
+use Rattle.job_table.proofs.MomentsLemmas.{retimed, alone-after}
 use Rattle.job_table.specs.Tables.{IsOnce, definition_of_number}
 use Rattle.job_table.specs.Index.{moment_for}
-use Rattle.job_table.proofs.Visiting.{IsWalked, skip-to, visit-one, walk-over}
+use Rattle.job_table.proofs.VisitingLemmas.{IsWalked, skip-to, visit-one, walk-over}
 use Rattle.job_table.proofs.visit.visit_ready.Goals as goal
 use Rattle.job_table.proofs.visit.visit_ready.Goals.{then-not-entry, else-not-entry}
 
@@ -37,12 +37,12 @@ some-none : (o : Option ℕ) (m : ℕ) → o ≡ None → o ≡ Some m → ⊥
 some-none o m none some = let clash : None ≡ Some m = sym none ∙ some in absurd (cc clash)
 
 -- the marks that are left are those of the beginning
-left-marks : (now first : Timers) (front : ℕ) → ((place : ℕ) → place < front → moment_in now place ≡ None) → ((place : ℕ) → front ≤ place → moment_in now place ≡ moment_in first place) →
+going-marks : (now first : Timers) (front : ℕ) → ((place : ℕ) → place < front → moment_in now place ≡ None) → ((place : ℕ) → front ≤ place → moment_in now place ≡ moment_in first place) →
     (place m : ℕ) → moment_in now place ≡ Some m → (front ≤ place) × (moment_in first place ≡ Some m)
-left-marks now first front taken left place m there = go (nat_lt place front) refl where
+going-marks now first front taken behind place m there = go (nat_lt place front) refl where
   go : (b : Bool) → nat_lt place front ≡ b → (front ≤ place) × (moment_in first place ≡ Some m)
   go true is = absurd (some-none (moment_in now place) m (taken place (grind (arith, nat_tests, is))) there)
-  go false is = let after : front ≤ place = grind (arith, nat_tests, is) in (after, sym (left place after) ∙ there)
+  go false is = let after : front ≤ place = grind (arith, nat_tests, is) in (after, sym (behind place after) ∙ there)
 
 taken-next : (old new : Timers) (number k : ℕ) → Updates old new number None → ((j : ℕ) → j < number → moment_in old j ≡ None) → k < number + 1 → (b : Bool) → nat_lt k number ≡ b → moment_in new k ≡ None
 taken-next old new number k updates before below true is =
@@ -58,7 +58,7 @@ pub loop-number-init : goal.loop-number-init
 loop-number-init c = record {
   front = omega arith;
   taken = λ place below. (let clash : ⊥ = omega (arith, below) in absurd clash);
-  left = λ place above. refl;
+  behind = λ place above. refl;
   names = refl;
   fits = omega arith;
   capacity = refl;
@@ -84,7 +84,7 @@ retime-requires-clause-room c =
     let es = c.loop-number.entries in
     let number = c.in-Some.number in
     let popped = c.in-Some.ensures.popped in
-    let here = left-marks c.loop-number.ready c.args.ready.now c.loop-number.front inv.taken inv.left number popped.0 popped.2.0 in
+    let here = going-marks c.loop-number.ready c.args.ready.now c.loop-number.front inv.taken inv.behind number popped.0 popped.2.0 in
     let within : number < length c.args.entries.now = c.requires.inside number popped.0 here.1 in
     let long : length es ≡ length c.args.entries.now = omega arith in
     let inside : number < length es = omega (arith, within, long) in
@@ -106,7 +106,7 @@ loop-number-preserved c =
     let number = c.in-Some.number in
     let popped = c.in-Some.ensures.popped in
     let new = c.visit.new.self in
-    let marks = left-marks ready ready0 front inv.taken inv.left in
+    let marks = going-marks ready ready0 front inv.taken inv.behind in
     let here = marks number popped.0 popped.2.0 in
     let after : front ≤ number = here.0 in
     let within : number < length es0 = c.requires.inside number popped.0 here.1 in
@@ -115,7 +115,7 @@ loop-number-preserved c =
     let e : Entry = get_or es number c.index-entries-place.result in
     let is : e ≡ get_or es number e = ap (get_or es number) c.index-entries-place.is in
     let between : (k : ℕ) → front ≤ k → k < front + (number - front) → is_spared ready0 k ≡ true =
-    λ k low high. spared-is (moment_in ready0 k) (sym (inv.left k low)
+    λ k low high. spared-is (moment_in ready0 k) (sym (inv.behind k low)
     ∙ first-mark ready number popped.0 k popped.2 popped.1 (λ place m there. c.requires.marks place m (marks place m there).1) (omega (arith, high, after))) in
     let passed : IsWalked c.args.before c.args.now c.args.news ready0 es0 c.args.orders.now.items es number c.loop-number.orders.items c.loop-number.visited =
     subst (λ k. IsWalked c.args.before c.args.now c.args.news ready0 es0 c.args.orders.now.items es k c.loop-number.orders.items c.loop-number.visited) (omega (arith, after))
@@ -125,14 +125,14 @@ loop-number-preserved c =
     λ k before. first-mark ready number popped.0 k popped.2 popped.1 (λ place m there. c.requires.marks place m (marks place m there).1) before in
     let taken_next : (k : ℕ) → k < number + 1 → (b : Bool) → nat_lt k number ≡ b → moment_in c.pop_due.new.self k ≡ None =
     λ k below b is. taken-next ready c.pop_due.new.self number k popped.3 none_before below b is in
-    let counts : c.if-not-entry.visited ≡ cond new.has_left c.loop-number.visited (suc c.loop-number.visited) = elim c.if-not-entry.branch [
+    let counts : c.if-not-entry.visited ≡ cond new.has_gone c.loop-number.visited (suc c.loop-number.visited) = elim c.if-not-entry.branch [
       | then-not-entry w ↦ w.visited-is ∙ add-one c.loop-number.visited ∙ ap (λ b. cond b c.loop-number.visited (suc c.loop-number.visited)) (sym w.if-not-entry.true)
       | else-not-entry w ↦ w.visited-is ∙ ap (λ b. cond b c.loop-number.visited (suc c.loop-number.visited)) (sym w.if-not-entry.false)
     ] in
     record {
       front = omega (arith, within);
       taken = λ k below. taken_next k below (nat_lt k number) refl;
-      left = λ k above. popped.3.others k (λ same. (let clash : ⊥ = omega (arith, above, same) in clash)) ∙ inv.left k (omega (arith, above, after));
+      behind = λ k above. popped.3.others k (λ same. (let clash : ⊥ = omega (arith, above, same) in clash)) ∙ inv.behind k (omega (arith, above, after));
       names = set-map name es number e new inside is c.visit.ensures.name ∙ inv.names;
       fits = omega arith;
       capacity = c.visit.ensures.capacity ∙ inv.capacity;
@@ -156,38 +156,38 @@ loop-number-preserved c =
 -- no mark is left
 none-marked : (now first : Timers) (front : ℕ) → ((place : ℕ) → front ≤ place → moment_in now place ≡ moment_in first place) → ((place m : ℕ) → moment_in now place ≡ Some m → 0 < m) →
     ((place m : ℕ) → moment_in first place ≡ Some m → m ≡ 0) → (k : ℕ) → front ≤ k → is_spared first k ≡ true
-none-marked now first front left late marks k after =
-    spared-is (moment_in first k) (none-else (moment_in first k) (λ m there. (let above = late k m (left k after ∙ there) in let is = marks k m there in let clash : ⊥ = omega (arith, above, is) in clash)))
+none-marked now first front behind late marks k after =
+    spared-is (moment_in first k) (none-else (moment_in first k) (λ m there. (let above = late k m (behind k after ∙ there) in let is = marks k m there in let clash : ⊥ = omega (arith, above, is) in clash)))
 
 pub returns-clause-kept : goal.returns-clause-kept
 returns-clause-kept c =
     let inv = c.loop-number.invariant in
     (walk-over c.args.before c.args.now c.args.news c.args.ready.now c.requires.now c.args.entries.now c.args.orders.now.items c.loop-number.entries c.loop-number.front c.loop-number.orders.items c.loop-number.visited
-    c.requires.stay (omega arith) inv.front (none-marked c.loop-number.ready c.args.ready.now c.loop-number.front inv.left c.in_default.ensures.popped.1 c.requires.marks) inv.walked).kept
+    c.requires.stay (omega arith) inv.front (none-marked c.loop-number.ready c.args.ready.now c.loop-number.front inv.behind c.in_default.ensures.popped.1 c.requires.marks) inv.walked).kept
 
 pub returns-clause-orders : goal.returns-clause-orders
 returns-clause-orders c =
     let inv = c.loop-number.invariant in
     (walk-over c.args.before c.args.now c.args.news c.args.ready.now c.requires.now c.args.entries.now c.args.orders.now.items c.loop-number.entries c.loop-number.front c.loop-number.orders.items c.loop-number.visited
-    c.requires.stay (omega arith) inv.front (none-marked c.loop-number.ready c.args.ready.now c.loop-number.front inv.left c.in_default.ensures.popped.1 c.requires.marks) inv.walked).orders
+    c.requires.stay (omega arith) inv.front (none-marked c.loop-number.ready c.args.ready.now c.loop-number.front inv.behind c.in_default.ensures.popped.1 c.requires.marks) inv.walked).orders
 
 pub returns-clause-visited : goal.returns-clause-visited
 returns-clause-visited c =
     let inv = c.loop-number.invariant in
     (walk-over c.args.before c.args.now c.args.news c.args.ready.now c.requires.now c.args.entries.now c.args.orders.now.items c.loop-number.entries c.loop-number.front c.loop-number.orders.items c.loop-number.visited
-    c.requires.stay (omega arith) inv.front (none-marked c.loop-number.ready c.args.ready.now c.loop-number.front inv.left c.in_default.ensures.popped.1 c.requires.marks) inv.walked).counted
+    c.requires.stay (omega arith) inv.front (none-marked c.loop-number.ready c.args.ready.now c.loop-number.front inv.behind c.in_default.ensures.popped.1 c.requires.marks) inv.walked).counted
 
-pub returns-clause-asked : goal.returns-clause-asked
-returns-clause-asked c =
+pub returns-clause-visits : goal.returns-clause-visits
+returns-clause-visits c =
     let inv = c.loop-number.invariant in
     (walk-over c.args.before c.args.now c.args.news c.args.ready.now c.requires.now c.args.entries.now c.args.orders.now.items c.loop-number.entries c.loop-number.front c.loop-number.orders.items c.loop-number.visited
-    c.requires.stay (omega arith) inv.front (none-marked c.loop-number.ready c.args.ready.now c.loop-number.front inv.left c.in_default.ensures.popped.1 c.requires.marks) inv.walked).asked
+    c.requires.stay (omega arith) inv.front (none-marked c.loop-number.ready c.args.ready.now c.loop-number.front inv.behind c.in_default.ensures.popped.1 c.requires.marks) inv.walked).visits
 
 pub returns-clause-timed : goal.returns-clause-timed
 returns-clause-timed c = λ k e at.
     let inv = c.loop-number.invariant in
     inv.timed k e at (reached k c.loop-number.front (is_spared c.args.ready.now)
-    (none-marked c.loop-number.ready c.args.ready.now c.loop-number.front inv.left c.in_default.ensures.popped.1 c.requires.marks) (nat_lt k c.loop-number.front) refl)
+    (none-marked c.loop-number.ready c.args.ready.now c.loop-number.front inv.behind c.in_default.ensures.popped.1 c.requires.marks) (nat_lt k c.loop-number.front) refl)
   where
     reached : (k front : ℕ) (spared : ℕ → Bool) → ((j : ℕ) → front ≤ j → spared j ≡ true) → (b : Bool) → nat_lt k front ≡ b → (k < front) ⊎ (spared k ≡ true)
     reached k front spared rest true is = inl (grind (arith, nat_tests, is))

@@ -7,17 +7,18 @@ use Rattle.job_table.specs.Tables.{Name, is_known}
 use Rattle.job_table.specs.Entries.{is_named, name, AllStay}
 use Rattle.job_table.specs.Index.{AreAlone}
 use Rattle.job_table.specs.Visiting.{is_spared}
-use Rattle.job_table.proofs.Timing.{AreTimedTo}
-use Rattle.job_table.proofs.Visiting.{IsWalked}
+use Rattle.job_table.proofs.MomentsLemmas.{AreTimedTo}
+use Rattle.job_table.proofs.VisitingLemmas.{IsWalked}
 use Rattle.job_table.proofs.visit.visit_ready.Given as goal
+use Rattle.job_table.specs.declared.entry.TheConstants.{ORDERS}
 
 abbrev pub invariant-loop-number : goal.invariant-loop-number
 invariant-loop-number l = record {
   front : l.front ≤ length l.fn.entries;
   taken : (place : ℕ) → place < l.front → moment_in l.ready place ≡ None;
-  left : (place : ℕ) → l.front ≤ place → moment_in l.ready place ≡ moment_in l.fn.ready place;
+  behind : (place : ℕ) → l.front ≤ place → moment_in l.ready place ≡ moment_in l.fn.ready place;
   names : map name l.entries ≡ map name l.fn.entries;
-  fits : vec_len l.orders + 66 * length l.fn.entries ≤ vec_capacity l.orders + 66 * l.front;
+  fits : vec_len l.orders + ORDERS * length l.fn.entries ≤ vec_capacity l.orders + ORDERS * l.front;
   capacity : vec_capacity l.orders ≡ vec_capacity l.fn.orders;
   few : l.visited ≤ l.front;
   known : (names : List Name) → list_all (is_named names) l.fn.entries ≡ true → list_all (is_known names) l.fn.orders.items ≡ true → list_all (is_known names) l.orders.items ≡ true;

@@ -1,4 +1,4 @@
-use Rattle.jobd.proofs.OneOutput.{one_output, output_or_none}
+use Rattle.jobd.proofs.OneOutputLemmas.{one_output, output_or_none}
 use Rattle.jobd.proofs.laws.an_input_has_one_output.Goals as goal
 
 pub returns-clause-same : goal.returns-clause-same

@@ -1,9 +1,9 @@
 use Rattle.std.proofs.Common.{◌∙◌}
-use Rattle.jobd.proofs.Changing.{changed_line}
+use Rattle.jobd.proofs.SettingLineLemmas.{changed_line}
 use Rattle.jobd.proofs.loads.set.Goals as goal
 
 pub returns-else-not-store : goal.returns-else-not-store
 returns-else-not-store c =
     let made = c.in-Ok.ensures in
     changed_line _ _ c.args.table.now c.prepare_set.new.self c.commit_set.new.self c.in-Ok.ready c.args.job.now c.args.disabled c.args.unload c.args.store _
-    made.label made.disabled made.unload made.admitted c.if-not-store.false made.same c.commit_set.ensures.changes c.given.ensures.orders (rw (c.new-in-Ok.ensures ∙ c.new.ensures.bytes) at c.accepted_line.ensures)
+    made.label made.disabled made.unload made.admitted c.if-not-store.false made.same c.commit_set.ensures.changes c.last_step.ensures.orders (rw (c.new-in-Ok.ensures ∙ c.new.ensures.bytes) at c.accepted_line.ensures)

@@ -1,4 +1,4 @@
-use Rattle.jobd.proofs.Launching.{opened_from}
+use Rattle.jobd.proofs.LauncherLemmas.{opened_from}
 use Rattle.jobd.proofs.opening.opened.Goals as goal
 
 pub returns-in-Ok : goal.returns-in-Ok

@@ -1,5 +1,5 @@
 use Rattle.std.proofs.Common.{sym, ◌∙◌, true≢false}
-use Rattle.json_kinds.proofs.IsText.{json_read, json_refused}
+use Rattle.json_kinds.proofs.JsonLemmas.{json_read, json_refused}
 use Rattle.json_kinds.proofs.json.json_value.Goals as goal
 
 pub returns-in-Ok : goal.returns-in-Ok

@@ -1,4 +1,4 @@
-use Rattle.launchctl_words.proofs.Made.{grown}
+use Rattle.launchctl_words.proofs.RulesLemmas.{grown}
 use Rattle.launchctl_words.proofs.arguments.add_arg.Goals as goal
 
 pub returns-in-Ok : goal.returns-in-Ok

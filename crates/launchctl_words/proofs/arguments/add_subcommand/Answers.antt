@@ -1,4 +1,4 @@
-use Rattle.launchctl_words.proofs.Made.{joined}
+use Rattle.launchctl_words.proofs.RulesLemmas.{joined}
 use Rattle.launchctl_words.proofs.arguments.add_subcommand.Goals as goal
 
 pub returns-in-Ok-subcommand : goal.returns-in-Ok-subcommand

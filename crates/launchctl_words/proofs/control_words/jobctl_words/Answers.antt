@@ -1,4 +1,4 @@
-use Rattle.launchctl_words.proofs.Made.{asks_for_one}
+use Rattle.launchctl_words.proofs.RulesLemmas.{asks_for_one}
 use Rattle.launchctl_words.proofs.control_words.jobctl_words.Goals as goal
 
 pub returns : goal.returns

@@ -1,5 +1,5 @@
 use Rattle.std.proofs.Common.{◌∙◌, sym}
-use Rattle.launchctl_words.proofs.Meant.{meant_found, meant_faulty, says_fault}
+use Rattle.launchctl_words.proofs.MeaningLemmas.{meant_found, meant_faulty, says_fault}
 use Rattle.launchctl_words.proofs.jobctl.read_words.Goals as goal
 
 pub returns-in-Ok-Some : goal.returns-in-Ok-Some

@@ -1,5 +1,5 @@
 use Rattle.std.proofs.Common.{◌∙◌, sym}
-use Rattle.launchctl_words.proofs.Meant.{daemon_meant_found, daemon_meant_faulty, says_fault}
+use Rattle.launchctl_words.proofs.MeaningLemmas.{daemon_meant_found, daemon_meant_faulty, says_fault}
 use Rattle.launchctl_words.proofs.jobd.read_daemon_words.Goals as goal
 
 pub returns-in-Ok-Some : goal.returns-in-Ok-Some

@@ -1,14 +1,15 @@
 use Rattle.std.proofs.Common.{inl, inr}
-use Rattle.launchctl_words.proofs.Meant.{left_holds, none_left, some_left}
+use Rattle.history_model.proofs.BooleanLemmas.{and-left}
+use Rattle.launchctl_words.proofs.MeaningLemmas.{none_more, some_more}
 use Rattle.launchctl_words.proofs.parse.parse.Goals as goal
 
 pub returns-in-Ok-clause-found : goal.returns-in-Ok-clause-found
 returns-in-Ok-clause-found c = λ simple.
-    let found = c.in-Ok.ensures.matches (left_holds _ _ simple) in
-    record { none = none_left _ (c.in-Ok.ensures.kinds simple); rows = found.0; subcommand = found.1 }
+    let found = c.in-Ok.ensures.matches (and-left _ _ simple) in
+    record { none = none_more _ (c.in-Ok.ensures.kinds simple); rows = found.0; subcommand = found.1 }
 
 pub returns-in-Err-clause-usage : goal.returns-in-Err-clause-usage
 returns-in-Err-clause-usage c = λ simple is_usage. elim (c.in-Err.ensures.kinds simple) [
   | inl memory ↦ absurd (c.fault_in.ensures is_usage memory)
-  | inr among ↦ some_left _ _ among
+  | inr among ↦ some_more _ _ among
 ]

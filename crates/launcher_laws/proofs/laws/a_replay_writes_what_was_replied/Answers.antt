@@ -1,5 +1,5 @@
 -- The answers to the goals of `laws::a_replay_writes_what_was_replied`.
-use Rattle.launcher_laws.proofs.Replayed.{replayed}
+use Rattle.launcher_laws.proofs.ReplaysLemmas.{replayed}
 use Rattle.launcher_laws.proofs.laws.a_replay_writes_what_was_replied.Goals as goal
 
 pub returns : goal.returns

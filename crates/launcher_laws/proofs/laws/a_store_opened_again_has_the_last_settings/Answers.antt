@@ -1,7 +1,7 @@
 -- The answers to the goals of `laws::a_store_opened_again_has_the_last_settings`.
 use Rattle.sqlite.specs.Held.{state}
 use Rattle.stored_settings.specs.declared.StoredSettings.{StoredSettings}
-use Rattle.launcher_laws.proofs.Reopened.{reopened}
+use Rattle.launcher_laws.proofs.ReopenedLemmas.{reopened}
 use Rattle.launcher_laws.proofs.laws.a_store_opened_again_has_the_last_settings.Goals as goal
 
 pub returns : goal.returns

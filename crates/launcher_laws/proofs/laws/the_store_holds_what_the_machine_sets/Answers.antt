@@ -1,5 +1,5 @@
 -- The answers to the goals of `laws::the_store_holds_what_the_machine_sets`.
-use Rattle.launcher_laws.proofs.Lasted.{lasted}
+use Rattle.launcher_laws.proofs.LastingLemmas.{lasted}
 use Rattle.launcher_laws.proofs.laws.the_store_holds_what_the_machine_sets.Goals as goal
 
 pub returns : goal.returns

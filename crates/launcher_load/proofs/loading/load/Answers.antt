@@ -5,13 +5,12 @@ use Rattle.std.proofs.lemmas.Bool.{false≢true}
 use Rattle.history_model.specs.Machine.{State}
 use Rattle.history_model.specs.Acceptance.{refusal_in}
 use Rattle.job_table.specs.Kept.{KeepsState}
-use Rattle.job_table.specs.Loads.{IsAdmitted, load_of, described_in}
+use Rattle.job_table.specs.Loads.{IsAdmitted, load_of, described_in, refused_with}
 use Rattle.load_asking.specs.Asking.{is_done}
-use Rattle.launcher_turn.specs.Turns.{refusal_told}
 use Rattle.launcher_load.specs.declared.loading.Loaded.{Loaded}
 use Rattle.launcher_load.specs.LoadTurns.{LoadTurnOf, is_memory, settings_after}
-use Rattle.launcher_load.proofs.Loads.{load_ended, load_sets, never_asked, not_memory, told_unless}
-use Rattle.job_defs.proofs.Labels.{label_read}
+use Rattle.launcher_load.proofs.LoadTurnsLemmas.{load_ended, load_sets, never_called, not_memory, told_unless}
+use Rattle.job_defs.proofs.LabelLemmas.{label_read}
 use Rattle.launcher_load.proofs.loading.load.Goals as goal
 
 pub ask_and_make-ended-requires-clause-label : goal.ask_and_make-ended-requires-clause-label
@@ -20,7 +19,7 @@ ask_and_make-ended-requires-clause-label g c = label_read c.as_bytes.result.now 
 pub returns-in-Ok-loaded-clause-turn : goal.returns-in-Ok-loaded-clause-turn
 returns-in-Ok-loaded-clause-turn g c = λ other s led keeps.
     let admitted = subst (λ b. IsAdmitted c.args.table.now b c.args.writes_setting c.args.force (described_in c.in-Ok.ready)) c.as_bytes.ensures.value c.in-Ok.ensures.admitted in
-    let asked = c.ask_and_make-ended.result.asked in
+    let outside = c.ask_and_make-ended.result.outside in
     let told = g.E.Edge.told c.args.edge.now in
     let told' = g.E.Edge.told c.ask_and_make-ended.new.edge in
     let stored = g.T.SettingStore.told c.args.store.now in
@@ -28,43 +27,43 @@ returns-in-Ok-loaded-clause-turn g c = λ other s led keeps.
     let new = c.ask_and_make-ended.new.table in
     let written = c.args.journal.now in
     let written' = c.ask_and_make-ended.new.journal in
-    let done = load_ended s c.args.def.now c.args.writes_setting c.args.force asked c.args.table.now c.prepare_load.new.self new c.in-Ok.ready told told' stored stored' written written'
+    let done = load_ended s c.args.def.now c.args.writes_setting c.args.force outside c.args.table.now c.prepare_load.new.self new c.in-Ok.ready told told' stored stored' written written'
     admitted c.in-Ok.ensures.writes_setting c.in-Ok.ensures.same led keeps c.ask_and_make-ended.result.refusal c.ask_and_make-ended.ensures.ends in
-    subst (λ a. LoadTurnOf s c.args.def.now c.args.writes_setting c.args.force a (refusal_told c.reply_to.result.reply) new told told' stored stored' written written') (sym c.reply_to.ensures.asked)
-    (subst (λ r. LoadTurnOf s c.args.def.now c.args.writes_setting c.args.force asked r new told told' stored stored' written written') (sym c.reply_to.ensures.reply) done)
+    subst (λ a. LoadTurnOf s c.args.def.now c.args.writes_setting c.args.force a (refused_with c.reply_to.result.reply) new told told' stored stored' written written') (sym c.reply_to.ensures.outside)
+    (subst (λ r. LoadTurnOf s c.args.def.now c.args.writes_setting c.args.force outside r new told told' stored stored' written written') (sym c.reply_to.ensures.reply) done)
 
 pub returns-in-Ok-loaded-clause-stored : goal.returns-in-Ok-loaded-clause-stored
 returns-in-Ok-loaded-clause-stored g c = λ s keeps holds.
     let admitted = subst (λ b. IsAdmitted c.args.table.now b c.args.writes_setting c.args.force (described_in c.in-Ok.ready)) c.as_bytes.ensures.value c.in-Ok.ensures.admitted in
-    let asked = c.ask_and_make-ended.result.asked in
+    let outside = c.ask_and_make-ended.result.outside in
     let ends = c.ask_and_make-ended.ensures.ends in
     let store = c.ask_and_make-ended.new.store in
-    let sets = load_sets s c.args.def.now c.args.writes_setting c.args.force asked c.args.table.now (described_in c.in-Ok.ready) c.ask_and_make-ended.result.refusal admitted keeps ends.answer
+    let sets = load_sets s c.args.def.now c.args.writes_setting c.args.force outside c.args.table.now (described_in c.in-Ok.ready) c.ask_and_make-ended.result.refusal admitted keeps ends.answer
     (λ none. ends.asks.bind ∙ ap (λ h. if h then is_done ends.asks.bound else true) none) ends.asks.store in
     let kept = subst (g.T.SettingStore.holds store) (sym sets) (c.ask_and_make-ended.ensures.stored s.settings holds) in
-    subst (λ a. g.T.SettingStore.holds store (settings_after (refusal_told c.reply_to.result.reply) s (load_of c.args.def.now c.args.writes_setting c.args.force a.bind a.store))) (sym c.reply_to.ensures.asked)
-    (subst (λ r. g.T.SettingStore.holds store (settings_after r s (load_of c.args.def.now c.args.writes_setting c.args.force asked.bind asked.store))) (sym c.reply_to.ensures.reply) kept)
+    subst (λ a. g.T.SettingStore.holds store (settings_after (refused_with c.reply_to.result.reply) s (load_of c.args.def.now c.args.writes_setting c.args.force a.bind a.store))) (sym c.reply_to.ensures.outside)
+    (subst (λ r. g.T.SettingStore.holds store (settings_after r s (load_of c.args.def.now c.args.writes_setting c.args.force outside.bind outside.store))) (sym c.reply_to.ensures.reply) kept)
 
 pub returns-in-Err-clause-turn : goal.returns-in-Err-clause-turn
 returns-in-Err-clause-turn g c = λ other s led keeps.
     let told = g.E.Edge.told c.args.edge.now in
     let stored = g.T.SettingStore.told c.args.store.now in
     let new = c.prepare_load.new.self in
-    let is = c.unasked-in-Err.ensures in
-    let memory : is_memory (Some c.in-Err.refusal) ≡ false = subst (λ (l : Loaded). is_memory (refusal_told l.reply) ≡ false) is other in
+    let is = c.uncalled-in-Err.ensures in
+    let memory : is_memory (Some c.in-Err.refusal) ≡ false = subst (λ (l : Loaded). is_memory (refused_with l.reply) ≡ false) is other in
     let refused = told_unless c.in-Err.refusal
     ((s : State) (bind store : Bool) → KeepsState c.args.table.now s → refusal_in s (load_of c.as_bytes.result.now c.args.writes_setting c.args.force bind store) ≡ Some c.in-Err.refusal) c.in-Err.ensures.refused memory in
-    subst (λ (l : Loaded). LoadTurnOf s c.args.def.now c.args.writes_setting c.args.force l.asked (refusal_told l.reply) new told told stored stored c.args.journal.now c.note_load_refused.new.journal) (sym is)
-    (never_asked s c.args.def.now c.args.writes_setting c.args.force c.in-Err.refusal new told stored c.args.journal.now c.note_load_refused.new.journal
+    subst (λ (l : Loaded). LoadTurnOf s c.args.def.now c.args.writes_setting c.args.force l.outside (refused_with l.reply) new told told stored stored c.args.journal.now c.note_load_refused.new.journal) (sym is)
+    (never_called s c.args.def.now c.args.writes_setting c.args.force c.in-Err.refusal new told stored c.args.journal.now c.note_load_refused.new.journal
     (λ bind store. subst (λ b. refusal_in s (load_of b c.args.writes_setting c.args.force bind store) ≡ Some c.in-Err.refusal) c.as_bytes.ensures.value (refused s bind store keeps))
     (c.note_load_refused.ensures.noted memory) (c.in-Err.ensures.same s keeps) led)
 
 pub returns-in-Ok-loaded-clause-silent : goal.returns-in-Ok-loaded-clause-silent
 returns-in-Ok-loaded-clause-silent g c = λ memory.
-    let asked = c.ask_and_make-ended.result.asked in
-    let told = ap is_memory c.reply_to.ensures.reply ∙ ap is_memory c.ask_and_make-ended.ensures.ends.answer ∙ not_memory (described_in c.in-Ok.ready) c.args.writes_setting asked.bind asked.store in
+    let outside = c.ask_and_make-ended.result.outside in
+    let told = ap is_memory c.reply_to.ensures.reply ∙ ap is_memory c.ask_and_make-ended.ensures.ends.answer ∙ not_memory (described_in c.in-Ok.ready) c.args.writes_setting outside.bind outside.store in
     absurd (false≢true (sym told ∙ memory))
 
 pub returns-in-Err-clause-silent : goal.returns-in-Err-clause-silent
 returns-in-Err-clause-silent g c = λ memory.
-    c.note_load_refused.ensures.silent (subst (λ (l : Loaded). is_memory (refusal_told l.reply) ≡ true) c.unasked-in-Err.ensures memory)
+    c.note_load_refused.ensures.silent (subst (λ (l : Loaded). is_memory (refused_with l.reply) ≡ true) c.uncalled-in-Err.ensures memory)

@@ -5,7 +5,7 @@ use Rattle.history_model.specs.Machine.{Load}
 use Rattle.job_defs.specs.Definitions.{given}
 use Rattle.job_table.specs.Tables.{definition_of_number}
 use Rattle.job_table.specs.Loads.{described_in, number_in, setting_in}
-use Rattle.launcher_load.proofs.Loads.{label-short}
+use Rattle.launcher_load.proofs.LoadTurnsLemmas.{label-short}
 use Rattle.launcher_load.proofs.loading.make.Goals as goal
 
 pub returns : goal.returns

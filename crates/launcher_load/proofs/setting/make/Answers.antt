@@ -1,7 +1,7 @@
 -- The setting, and then what it orders.
 use Rattle.std.proofs.Common.{ap}
 use Rattle.job_table.specs.Changes.{set_of}
-use Rattle.launcher_load.proofs.Sets.{short_set}
+use Rattle.launcher_load.proofs.SetTurnsLemmas.{short_set}
 use Rattle.launcher_load.proofs.setting.make.Goals as goal
 
 pub returns : goal.returns

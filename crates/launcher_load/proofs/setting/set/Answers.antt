@@ -7,8 +7,8 @@ use Rattle.job_table.specs.Kept.{KeepsState}
 use Rattle.job_table.specs.Changes.{set_of}
 use Rattle.launcher_turn.specs.Turns.{TurnsOf}
 use Rattle.launcher_load.specs.Lines.{set_line}
-use Rattle.launcher_load.proofs.Loads.{nothing_done, told_unless}
-use Rattle.launcher_load.proofs.Sets.{bad_label, event_set, never_set, set_asked}
+use Rattle.launcher_load.proofs.LoadTurnsLemmas.{nothing_done, told_unless}
+use Rattle.launcher_load.proofs.SetTurnsLemmas.{bad_label, event_set, never_set, set_calls}
 use Rattle.launcher_load.proofs.setting.set.Goals as goal
 
 pub returns-then-not-is_label-clause-turn : goal.returns-then-not-is_label-clause-turn
@@ -22,7 +22,7 @@ returns-then-stored-clause-turn g c = λ other s led keeps.
     let kept = c.set-stored.result in
     let event = event_set c.in-Ok.ready.setting.label label c.in-Ok.ready.setting.disabled c.args.disabled c.in-Ok.ready.unload c.args.unload kept c.in-Ok.ensures.label c.in-Ok.ensures.disabled c.in-Ok.ensures.unload in
     record {
-      asks = set_asked s label c.args.disabled c.args.unload c.in-Ok.ready.setting.disabled kept c.reading-changed.result.wall (g.T.SettingStore.told c.args.store.now) (g.T.SettingStore.told c.set-stored.new.self)
+      asks = set_calls s label c.args.disabled c.args.unload c.in-Ok.ready.setting.disabled kept c.reading-changed.result.wall (g.T.SettingStore.told c.args.store.now) (g.T.SettingStore.told c.set-stored.new.self)
           (c.in-Ok.ensures.admitted s true keeps) c.in-Ok.ensures.disabled (ap (λ r. r.wall) (c.reading-changed.ensures.last ∙ keeps.reading)) c.set-stored.ensures.told;
       turn = subst (λ e. TurnsOf s e (set_line label c.args.disabled c.args.unload kept) None c.make.new.table (g.E.Edge.told c.args.edge.now) (g.E.Edge.told c.make.new.edge) c.args.journal.now c.make.new.journal) event
           (c.make.ensures s kept (set_line label c.args.disabled c.args.unload kept) c.args.journal.now c.note_set-in-Ok.ensures led (c.in-Ok.ensures.same s keeps) (ap (refusal_in s) event ∙ c.in-Ok.ensures.admitted s kept keeps ∙ ap (refusal_stored true) c.if-stored.true));
@@ -33,7 +33,7 @@ returns-else-stored-clause-turn g c = λ other s led keeps.
     let label = c.args.label.now in
     let kept = c.set-stored.result in
     record {
-      asks = set_asked s label c.args.disabled c.args.unload c.in-Ok.ready.setting.disabled kept c.reading-changed.result.wall (g.T.SettingStore.told c.args.store.now) (g.T.SettingStore.told c.set-stored.new.self)
+      asks = set_calls s label c.args.disabled c.args.unload c.in-Ok.ready.setting.disabled kept c.reading-changed.result.wall (g.T.SettingStore.told c.args.store.now) (g.T.SettingStore.told c.set-stored.new.self)
           (c.in-Ok.ensures.admitted s true keeps) c.in-Ok.ensures.disabled (ap (λ r. r.wall) (c.reading-changed.ensures.last ∙ keeps.reading)) c.set-stored.ensures.told;
       turn = nothing_done s (set_of label c.args.disabled c.args.unload kept) (set_line label c.args.disabled c.args.unload kept) c.prepare_set.new.self StoreRefused (g.E.Edge.told c.args.edge.now)
           c.args.journal.now c.note_set-in-Ok.new.journal (c.in-Ok.ensures.admitted s kept keeps ∙ ap (refusal_stored true) c.if-stored.false) c.note_set-in-Ok.ensures (c.in-Ok.ensures.same s keeps) led;

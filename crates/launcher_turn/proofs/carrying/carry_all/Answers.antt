@@ -2,10 +2,10 @@
 use Rattle.std.proofs.Common.{sym, subst, ◌∙◌}
 use Rattle.launcher_turn.proofs.CarryLemmas.{turn-more, IsKept}
 use Rattle.launcher_turn.proofs.carrying.carry_all.Goals as goal
-use Rattle.launcher_turn.proofs.carrying.carry_all.Given as given
+use Rattle.launcher_turn.proofs.carrying.carry_all.Given as premise
 use Rattle.launcher_turn.proofs.carrying.carry_all.Goals.{in-Some, in-None}
 
-kept : (g : given.Over) (c : goal.Joined-carry g) → IsKept c.carry.result c.loop-order.answers c.match-carry.answers
+kept : (g : premise.Over) (c : goal.Joined-carry g) → IsKept c.carry.result c.loop-order.answers c.match-carry.answers
 kept g c = elim c.match-carry.branch [
   | in-Some w ↦ subst (λ o. IsKept o c.loop-order.answers c.match-carry.answers) (sym w.in-Some.is) (λ room. w.answers-is ∙ w.keep.ensures room)
   | in-None w ↦ subst (λ o. IsKept o c.loop-order.answers c.match-carry.answers) (sym w.in-None.is) w.answers-is

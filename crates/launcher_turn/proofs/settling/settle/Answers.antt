@@ -1,6 +1,6 @@
--- One more answer is made an event, until none is left.
+-- One more answer is made an event, until none remains.
 use Rattle.std.proofs.Common.{arith}
-use Rattle.launcher_turn.proofs.SoFar.{so-far-start, so-far-turn, so-far-end}
+use Rattle.launcher_turn.proofs.SettlingLemmas.{so-far-start, so-far-turn, so-far-end}
 use Rattle.launcher_turn.proofs.settling.settle.Goals as goal
 
 pub loop-next-init : goal.loop-next-init

@@ -1,17 +1,18 @@
 -- The invariants of the loop of `settling::settle`.
 use Rattle.std.proofs.Common.{◌≤◌, ◌*◌, ◌-◌, List}
 use Rattle.history_model.specs.Machine.{State}
-use Rattle.history_model.specs.Turns.{Given}
-use Rattle.history_model.specs.Waits.{weigh_given}
+use Rattle.history_model.specs.Turns.{JobOrder}
+use Rattle.history_model.specs.Waits.{weigh_orders}
 use Rattle.job_table.specs.Tables.{Name}
 use Rattle.launcher_turn.specs.Turns.{IsWaiting}
-use Rattle.launcher_turn.proofs.SoFar.{IsSoFar}
+use Rattle.launcher_turn.proofs.SettlingLemmas.{IsSoFar}
 use Rattle.launcher_turn.proofs.settling.settle.Given as goal
+use Rattle.history_model.specs.declared.TheConstants.{MAX_JOBS}
 
 abbrev pub invariant-loop-next : goal.invariant-loop-next
 invariant-loop-next g l =
-    (s : State) (names : List Name) (waits : List Given) → IsWaiting l.fn.table s names waits l.fn.room.answers → weigh_given waits ≤ 3 * 1024 →
+    (s : State) (names : List Name) (waits : List JobOrder) → IsWaiting l.fn.table s names waits l.fn.room.answers → weigh_orders waits ≤ 3 * MAX_JOBS →
     IsSoFar s names l.fn.room.answers l.room.answers l.next l.table (g.E.Edge.told l.fn.edge) (g.E.Edge.told l.edge) l.fn.journal l.journal
 
 abbrev pub decreases-loop-next : goal.decreases-loop-next
-decreases-loop-next g l = 3 * 1024 - l.next
+decreases-loop-next g l = 3 * MAX_JOBS - l.next

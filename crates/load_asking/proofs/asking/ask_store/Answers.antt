@@ -1,4 +1,4 @@
--- Nothing was asked where nothing was wanted.
+-- Nothing was asked if nothing was wanted.
 use Rattle.std.proofs.Common.{sym, subst}
 use Rattle.load_asking.specs.Stores.{AreTold, store_calls}
 use Rattle.load_asking.proofs.AskLemmas.{told_none}

@@ -1,6 +1,6 @@
 use Rattle.std.proofs.Common.{[], ◌∷◌, ◌++◌, true, false, refl, sym, ap, ◌∙◌, subst, append_assoc, append-nil}
 use Rattle.replay_loop.specs.Handling.{HandlesNext, Leads}
-use Rattle.replay_loop.proofs.Handled.{nothing_leads, leads_more, ends_later}
+use Rattle.replay_loop.proofs.HandlingLemmas.{nothing_leads, leads_more, ends_later}
 use Rattle.replay_loop.proofs.lines.drain.Goals as goal
 
 pub lines-preserved : goal.lines-preserved

@@ -1,8 +1,6 @@
-use Rattle.std.proofs.Common.{◌≡◌, subst}
-use Rattle.std.specs.Io.KnownBytes.{Appends}
-use Rattle.replay_loop.specs.Ran.{WritesFront}
-use Rattle.replay_loop.specs.declared.fault.ReplayFault.TheVariants.{Write}
-use Rattle.replay_loop.proofs.Handled.{stands_quiet, out_of_memory, opens, answers, breaks_off, refuses}
+use Rattle.std.proofs.Common.{subst, true, false}
+use Rattle.replay_loop.specs.Writing.{Takes}
+use Rattle.replay_loop.proofs.HandlingLemmas.{stands_quiet, out_of_memory, opens, answers, breaks_off, refuses}
 use Rattle.replay_loop.proofs.lines.handle.Goals as goal
 
 pub returns-in-Ok-Some-clause-ok : goal.returns-in-Ok-Some-clause-ok
@@ -21,16 +19,18 @@ returns-in-None-clause-err g c = λ past stands. out_of_memory g.M.LineMachine.o
 pub returns-clause-err : goal.returns-clause-err
 returns-clause-err g c = λ past stands. out_of_memory g.M.LineMachine.output past _ _ (stands_quiet g.M.LineMachine.will_write c.args.stage.now past stands)
 
-pub returns-in-Ok-write_text-clause-ok : goal.returns-in-Ok-write_text-clause-ok
-returns-in-Ok-write_text-clause-ok g c =
+pub returns-in-true-clause-ok : goal.returns-in-true-clause-ok
+returns-in-true-clause-ok g c =
     let held = g.W.Write.contents c.args.writer.now in
     let holds = g.W.Write.contents c.write_text.new.writer in
+    let took = subst (λ xs. Takes true held holds xs) c.as_slice.ensures.value (subst (λ b. Takes b held holds c.as_slice.result.now) c.in-true.is c.write_text.ensures) in
     answers g.M.LineMachine.output g.M.LineMachine.will_write c.args.stage.now c.in-Some.machine c.handle.new.self held holds c.args.line.now c.in-Ok.text.items
-    c.in-Some.is c.in-Ok.ensures (subst (Appends held holds) c.as_slice.ensures.value c.in-Ok-write_text.ensures.ok)
+    c.in-Some.is c.in-Ok.ensures took
 
 pub returns-in-Ok-clause-err : goal.returns-in-Ok-clause-err
 returns-in-Ok-clause-err g c =
     let held = g.W.Write.contents c.args.writer.now in
     let holds = g.W.Write.contents c.write_text.new.writer in
-    breaks_off g.M.LineMachine.output g.M.LineMachine.will_write c.in-Err-write_text.e c.args.stage.now c.in-Some.machine c.handle.new.self held holds c.args.line.now c.in-Ok.text.items
-    c.in-Some.is c.in-Ok.ensures (subst (λ text. (c.in-Err-write_text.e ≡ Write) × WritesFront held holds text) c.as_slice.ensures.value c.in-Err-write_text.ensures.err)
+    let took = subst (λ xs. Takes false held holds xs) c.as_slice.ensures.value (subst (λ b. Takes b held holds c.as_slice.result.now) c.in-false.is c.write_text.ensures) in
+    breaks_off g.M.LineMachine.output g.M.LineMachine.will_write c.args.stage.now c.in-Some.machine c.handle.new.self held holds c.args.line.now c.in-Ok.text.items
+    c.in-Some.is c.in-Ok.ensures took

@@ -1,7 +1,7 @@
 use Rattle.std.proofs.Common.{◌≡◌, [], ◌∷◌, ◌++◌, ap, subst}
 use Rattle.line_feed.specs.Lines.{Feed}
 use Rattle.replay_loop.specs.Handling.{Ends, Stops}
-use Rattle.replay_loop.proofs.Handled.{stands_quiet, nothing_leads, ends_later, out_of_memory}
+use Rattle.replay_loop.proofs.HandlingLemmas.{stands_quiet, nothing_leads, ends_later, out_of_memory}
 use Rattle.replay_loop.proofs.lines.handle_next.Goals as goal
 
 pub returns-in_default-clause-err : goal.returns-in_default-clause-err
@@ -15,6 +15,6 @@ returns-clause-err g c =
     let will_write = g.M.LineMachine.will_write in
     let held = g.W.Write.contents c.args.writer.now in
     let holds = g.W.Write.contents c.handle-handled.new.writer in
-    let now = subst (λ bytes. Ends will_write c.args.stage.now (λ past. Stops output past held holds (bytes ∷ []) c.in-Err.e)) c.as_slice.ensures c.in-Err.ensures.err in
+    let now = subst (λ bytes. Ends will_write c.args.stage.now (Stops output (record { lines = bytes ∷ []; held = held; holds = holds }) c.in-Err.e)) c.as_slice.ensures c.in-Err.ensures.err in
     ends_later output will_write c.in-Err.e c.args.stage.now c.args.stage.now held held holds [] (c.in-Some.line ∷ []) c.next_line.new.self.lines c.args.feed.now.lines all
     (nothing_leads output will_write c.args.stage.now held) now

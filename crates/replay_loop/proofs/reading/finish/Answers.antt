@@ -1,5 +1,5 @@
 use Rattle.replay_loop.specs.Outcomes.{last_line}
-use Rattle.replay_loop.proofs.Handled.{last_stops, no_header_yet, stands_none}
+use Rattle.replay_loop.proofs.HandlingLemmas.{last_stops, no_header_yet, stands_none}
 use Rattle.replay_loop.proofs.reading.finish.Goals as goal
 
 pub returns-in-None-clause-err : goal.returns-in-None-clause-err

@@ -3,7 +3,7 @@ use Rattle.replay_loop.specs.Handling.{Handles, LastStops}
 use Rattle.replay_loop.specs.Outcomes.{last_line}
 use Rattle.std.proofs.lemmas.List.{length-take-le}
 use Rattle.std.proofs.KnownBytes.{Keeps-refl}
-use Rattle.replay_loop.proofs.Going.{start, more, no_more, all, fails, last_fails}
+use Rattle.replay_loop.proofs.ReadingLemmas.{start, more, no_more, all, fails, last_fails}
 use Rattle.replay_loop.proofs.reading.run_within.Goals as goal
 
 pub reads-init : goal.reads-init
@@ -61,4 +61,4 @@ returns-in-Err-finish-clause-err g c =
     let room : 0 < length c.read.new.buf = omega arith in
     last_fails g.M.LineMachine.output g.met.M.LineMachine.no_header c.in-Err-finish.e c.args.reads c.reads.counter (g.R.Read.remaining c.args.reader.now) (g.R.Read.remaining c.reads.reader) (g.R.Read.remaining c.read.new.self) (g.W.Write.contents c.args.writer.now) (g.W.Write.contents c.reads.writer)
     (g.W.Write.contents c.finish.new.writer) c.reads.feed past going came (read.1 c.in-Ok-eq0.field-0-test room)
-    (subst (λ rest. LastStops g.M.LineMachine.output rest (g.W.Write.contents c.reads.writer) (g.W.Write.contents c.finish.new.writer) c.in-Err-finish.e past) c.rest.ensures (c.in-Err-finish.ensures.err past stands))
+    (subst (λ rest. LastStops g.M.LineMachine.output (record { lines = last_line rest; held = g.W.Write.contents c.reads.writer; holds = g.W.Write.contents c.finish.new.writer }) c.in-Err-finish.e past) c.rest.ensures (c.in-Err-finish.ensures.err past stands))

@@ -1,7 +1,7 @@
 use Rattle.std.proofs.Common.{Option}
 use Rattle.replay_loop.specs.Machine.{Future}
 use Rattle.replay_loop.specs.Handling.{Stands}
-use Rattle.replay_loop.proofs.Going.{Going}
+use Rattle.replay_loop.proofs.ReadingLemmas.{Going}
 use Rattle.replay_loop.proofs.reading.run_within.Given as goal
 
 abbrev pub invariant-reads : goal.invariant-reads

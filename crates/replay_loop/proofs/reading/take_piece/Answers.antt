@@ -1,6 +1,6 @@
 use Rattle.std.proofs.Common.{refl}
 use Rattle.replay_loop.specs.Handling.{come}
-use Rattle.replay_loop.proofs.Handled.{stands_quiet, out_of_memory, piece_stops, long_stops, long_header, stands_none}
+use Rattle.replay_loop.proofs.HandlingLemmas.{stands_quiet, out_of_memory, piece_stops, long_stops, long_header, stands_none}
 use Rattle.replay_loop.proofs.reading.take_piece.Goals as goal
 
 pub returns-in-Err-NoMemory-clause-err : goal.returns-in-Err-NoMemory-clause-err

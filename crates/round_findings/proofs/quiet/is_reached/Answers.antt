@@ -1,7 +1,7 @@
 -- The answers to the goals of `quiet::is_reached`.
 use Rattle.std.proofs.Common.{sym, ap, ◌∙◌}
 use Rattle.round_findings.specs.Quiet.{is_reached as has_reached}
-use Rattle.round_findings.proofs.Reached.{reached}
+use Rattle.round_findings.proofs.QuietLemmas.{reached}
 use Rattle.round_findings.proofs.quiet.is_reached.Goals as goal
 
 pub returns-in-None : goal.returns-in-None

@@ -1,5 +1,5 @@
 -- The job's moment is taken away.
-use Rattle.timer_heap.proofs.Fewer.{one-less}
+use Rattle.timer_heap.proofs.FewerLemmas.{one-less}
 use Rattle.timer_heap.proofs.TimerHeap.pop_due.Goals as goal
 
 pub returns-clause-fewer : goal.returns-clause-fewer

@@ -4,7 +4,7 @@ use Rattle.job_defs.specs.Definitions.{definition, path_wish}
 use Rattle.conditions.specs.Kept.{kept_of}
 use Rattle.history_model.specs.Items.{Loaded}
 use Rattle.std.proofs.Common.{[], ◌∷◌}
-use Rattle.conditions.proofs.Looked.{unseen}
+use Rattle.conditions.proofs.SightsLemmas.{unseen}
 use Rattle.conditions.proofs.levels.Conditions.new.Goals as goal
 
 pub returns : goal.returns

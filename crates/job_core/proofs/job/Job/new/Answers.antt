@@ -2,7 +2,7 @@
 use Rattle.std.proofs.Common.{◌≡◌, ◌∙◌, ap, sym, false, ◌||◌, None, is_some}
 use Rattle.job_core.specs.Sights.{unseen}
 use Rattle.job_core.specs.Fields.{facts}
-use Rattle.history_model.proofs.Booleans.{or-false-right}
+use Rattle.history_model.proofs.BooleanLemmas.{or-false-right}
 use Rattle.pace.specs.Paces.{no_ends}
 use Rattle.job_core.proofs.job.Job.new.Goals as goal
 
@@ -25,7 +25,7 @@ returns c =
       interval = (c.new-interval.ensures ∙ ap (λ s. record { seconds = s; load_up = c.args.at.up }) c.start_interval.ensures.value) i;
       throttle = (c.new-throttle.ensures ∙ ap (λ s. record { seconds = s; order = None; refusal = None }) c.throttle_interval.ensures.value) i;
       ending = (c.new-ending.ensures ∙ ap no_ends c.exit_time_out.ensures.value) i;
-      is_told_to_end = false;
+      is_ordered_to_end = false;
       runs = 0;
       child = None;
       awaited = None;

@@ -13,32 +13,32 @@ use Rattle.history_model.specs.Calendar.{crossed, calendar_fires}
 use Rattle.history_model.specs.Refusals.{is_clock_refused}
 use Rattle.history_model.specs.Acceptance.{refused_if}
 use Rattle.history_model.specs.Machine.{State, Job, Tick}
-use Rattle.history_model.specs.Step.{told, stays}
+use Rattle.history_model.specs.Step.{heard, stays}
 use Rattle.job_table.specs.Tables.{IsOnce, is_known}
 use Rattle.job_table.specs.Kept.{KeepsJobs, KeepsState, numbered_all}
 use Rattle.job_table.specs.Counts.{counts, count_in, IsCounted}
 use Rattle.job_table.specs.Triggers.{AreListed, AreOrdered}
-use Rattle.job_table.proofs.Minutes.{have-marks}
+use Rattle.job_table.proofs.MinutesLemmas.{have-marks}
 use Rattle.job_table.specs.Entries.{name, rows, AllStay, is_named}
 use Rattle.job_table.specs.Index.{AreTimed, AreAlone, ArePlaced, HaveRoom, place_in}
 use Rattle.job_table.specs.Marking.{HavePlaces}
 use Rattle.job_table.specs.Minutes.{has_calendars, some_calendar}
-use Rattle.job_table.specs.Outcomes.{given_by}
+use Rattle.job_table.specs.Outcomes.{plain_outcome}
 use Rattle.job_table.specs.Sound.{seen, AreFree}
-use Rattle.job_table.specs.Telling.{AreFor, IsAccepted}
+use Rattle.job_table.specs.Hearing.{AreFor, IsAccepted}
 use Rattle.job_table.specs.Visiting.{is_spared, AreSpared, AreAtRest, AreVisitedOnce}
 use Rattle.job_table.specs.declared.entry.News.TheVariants as news
 use Rattle.job_table.specs.declared.jobs.Jobs.{Jobs}
-use Rattle.job_table.proofs.Lists.{lent-back}
-use Rattle.job_table.proofs.Places.{rows-all}
-use Rattle.job_table.proofs.Known.{all-named}
-use Rattle.job_table.proofs.Holding.{held-names}
-use Rattle.job_table.proofs.Steps.{IsDone, accepted}
-use Rattle.job_table.proofs.Handing.{own-jobs, readings, readings-fine}
-use Rattle.job_table.proofs.Advancing.{have-places, is-spare, spare-timed, alone-still, mark-at, mark-reason, are-marked, spared-all, rest-all, told-labelled, visits-counted, name-get}
-use Rattle.job_table.proofs.Numbering.{names-begun}
-use Rattle.job_table.proofs.Growing.{named-of}
-use Rattle.job_table.proofs.Touching.{spared-count, marks-touch}
+use Rattle.job_table.proofs.ListLemmas.{lent-back}
+use Rattle.job_table.proofs.PlacesLemmas.{rows-all}
+use Rattle.job_table.proofs.KnownNumbersLemmas.{all-named}
+use Rattle.job_table.proofs.HeldNumbersLemmas.{held-names}
+use Rattle.job_table.proofs.OutcomesLemmas.{IsDone, accepted}
+use Rattle.job_table.proofs.EventsLemmas.{own-jobs, readings, readings-fine}
+use Rattle.job_table.proofs.AdvanceLemmas.{have-places, is-spare, spare-timed, alone-still, mark-at, mark-reason, are-marked, spared-all, rest-all, heard-labelled, visits-counted, name-get}
+use Rattle.job_table.proofs.NumbersLemmas.{names-begun}
+use Rattle.job_table.proofs.IndexGrowthLemmas.{named-of}
+use Rattle.job_table.proofs.TouchingLemmas.{spared-count, marks-touch}
 use Rattle.history_model.specs.WholeLaws.{AreInOrder}
 use Rattle.job_table.specs.Tables.{labels_in}
 use Rattle.job_table.proofs.jobs.Jobs.advance.Goals as goal
@@ -132,7 +132,7 @@ returns-clause-counted c =
     let whole = lent-back after (drop (length after) es) c.args.self.now.entries.len (omega arith) in
     subst (λ all. IsCounted (counts (rows es)) (rows all) c.visit_ready-visited.result.0) (sym whole)
     (visits-counted c.mark_minutes.new.ready es after c.visit_ready-visited.result.0 c.requires.stay c.requires.sound.once
-    (subst (λ all. AreVisitedOnce c.mark_minutes.new.ready 0 all after) c.deref_mut.ensures.value c.visit_ready-visited.ensures.asked) c.visit_ready-visited.ensures.visited)
+    (subst (λ all. AreVisitedOnce c.mark_minutes.new.ready 0 all after) c.deref_mut.ensures.value c.visit_ready-visited.ensures.visits) c.visit_ready-visited.ensures.visited)
 
 pub returns-clause-indexed : goal.returns-clause-indexed
 returns-clause-indexed c =
@@ -190,8 +190,8 @@ returns-clause-names c =
     ∙ names-begun es es c.requires.stay refl
 
 -- the table that is left
-abbrev left-as : goal.After-at-1 → Jobs
-left-as c = record c.args.self.now {
+abbrev going-as : goal.After-at-1 → Jobs
+going-as c = record c.args.self.now {
   reading = c.args.at;
   entries = with_items c.args.self.now.entries c.visit_ready-visited.new.entries;
   orders = c.visit_ready-visited.new.orders;
@@ -200,7 +200,7 @@ left-as c = record c.args.self.now {
 }
 
 -- the machine's next state, and its outcome
-done : (c : goal.After-at-1) (s : State) → KeepsState (seen c.args.self.now) s → IsDone s (Tick c.args.at) (seen (left-as c)) (given_by (Ok tt) (seen (left-as c)))
+done : (c : goal.After-at-1) (s : State) → KeepsState (seen c.args.self.now) s → IsDone s (Tick c.args.at) (seen (going-as c)) (plain_outcome (Ok tt) (seen (going-as c)))
 done c s keeps =
     let old = c.args.self.now in
     let at = c.args.at in
@@ -219,7 +219,7 @@ done c s keeps =
     let for : AreFor (news.Reading at c.args.minutes) item (rows es) s.jobs = readings s.zone s.reading at c.args.minutes (rows es) s.jobs crosses keeps.jobs in
     let fine : IsAccepted old.reading item =
     readings-fine old.reading at (λ job. calendar_fires s.zone (definition_of job.past).calendar s.reading.wall at.wall) c.requires.accepted in
-    let rests : AreAtRest ready 0 (told item s.jobs) =
+    let rests : AreAtRest ready 0 (heard item s.jobs) =
     rest-all old.reading at c.args.minutes (later old.reading at c.requires.accepted).0 ready item fine 0 es s.jobs
     (λ k e there none. is-spare es c.requires.stay old.reading at c.args.minutes.now old.index.timers c.mark_due.new.timers old.index.places.items c.mark_due.new.ready ready
     indexed.timed indexed.alone indexed.placed m.marked m.reached m.spared m.minute k e there (subst (λ p. is_spared ready p ≡ true) (omega arith) none))
@@ -227,18 +227,18 @@ done c s keeps =
     let lent = c.deref_mut.ensures.value in
     let for_lent = subst (λ xs. AreFor (news.Reading at c.args.minutes) item (rows xs) s.jobs) (sym lent) for in
     let own_lent = subst (λ xs. KeepsJobs old.reading (rows xs) s.jobs) (sym lent) own in
-    let kept : KeepsJobs at (rows after) (filter_map stays (told item s.jobs)) = c.visit_ready-visited.ensures.kept s.jobs item for_lent fine rests own_lent in
-    let orders : c.visit_ready-visited.new.orders.items ≡ numbered_all (rows es) (told item s.jobs) =
-    c.visit_ready-visited.ensures.orders s.jobs item for_lent fine rests own_lent ∙ (λ i. c.requires.empty i ++ numbered_all (rows (lent i)) (told item s.jobs)) in
-    accepted (seen old) (seen (left-as c)) s (Tick at) [] c.requires.sound.in_range keeps
+    let kept : KeepsJobs at (rows after) (filter_map stays (heard item s.jobs)) = c.visit_ready-visited.ensures.kept s.jobs item for_lent fine rests own_lent in
+    let orders : c.visit_ready-visited.new.orders.items ≡ numbered_all (rows es) (heard item s.jobs) =
+    c.visit_ready-visited.ensures.orders s.jobs item for_lent fine rests own_lent ∙ (λ i. c.requires.empty i ++ numbered_all (rows (lent i)) (heard item s.jobs)) in
+    accepted (seen old) (seen (going-as c)) s (Tick at) [] c.requires.sound.in_range keeps
     (ap (λ b. refused_if b ClockRefused None) (ap (λ r. is_clock_refused r at) (sym keeps.reading) ∙ c.requires.accepted))
     (record {
       reading = refl;
       zone = keeps.zone;
       settings = keeps.settings;
       shutdown = keeps.shutdown;
-      jobs = subst (λ xs. KeepsJobs at (rows xs) (filter_map stays (told item s.jobs))) (sym whole) kept;
-      orders = told-labelled old.reading item _ es c.visit_ready-visited.new.orders.items s.jobs names c.requires.stay c.requires.sound.once own orders;
+      jobs = subst (λ xs. KeepsJobs at (rows xs) (filter_map stays (heard item s.jobs))) (sym whole) kept;
+      orders = heard-labelled old.reading item _ es c.visit_ready-visited.new.orders.items s.jobs names c.requires.stay c.requires.sound.once own orders;
     }) refl
 
 pub returns-clause-answer : goal.returns-clause-answer
@@ -259,9 +259,9 @@ returns-clause-untouched c = λ s keeps label past found positive none.
     c.deref.ensures.value refl c.mark_due.ensures.marked c.mark_due.ensures.marks (c.mark_minutes.ensures.spared c.args.self.now.entries.items (subst (λ ls. AreListed ls (map name c.args.self.now.entries.items)) (sym c.deref-2.ensures.value) c.requires.sound.listed) (subst (λ ps. ArePlaced ps c.args.self.now.entries.items) (sym c.deref-3.ensures.value) c.requires.indexed.placed)) (c.mark_minutes.ensures.marks c.args.self.now.entries.items (subst (λ ls. AreListed ls (map name c.args.self.now.entries.items)) (sym c.deref-2.ensures.value) c.requires.sound.listed) (subst (λ ps. ArePlaced ps c.args.self.now.entries.items) (sym c.deref-3.ensures.value) c.requires.indexed.placed)) in
     let crosses : has_calendars (rows es) ≡ true → c.args.minutes.now ≡ map s.zone (crossed old.reading.wall c.args.at.wall) =
     λ some. c.requires.minutes some ∙ (λ i. map (keeps.zone i) (crossed old.reading.wall c.args.at.wall)) in
-    let asked = subst (λ all. AreVisitedOnce c.mark_minutes.new.ready 0 all after) c.deref_mut.ensures.value c.visit_ready-visited.ensures.asked in
+    let visits = subst (λ all. AreVisitedOnce c.mark_minutes.new.ready 0 all after) c.deref_mut.ensures.value c.visit_ready-visited.ensures.visits in
     ap (λ xs. count_in (counts (rows xs)) label) whole
-    ∙ spared-count s.zone old.reading c.args.at c.mark_minutes.new.ready 0 es after s.jobs label past c.requires.stay asked
+    ∙ spared-count s.zone old.reading c.args.at c.mark_minutes.new.ready 0 es after s.jobs label past c.requires.stay visits
     (subst (λ rs. KeepsJobs old.reading rs s.jobs) (rows-all es c.requires.stay) own)
     (marks-touch s.zone old.reading c.args.at c.args.minutes.now c.mark_minutes.new.ready 0 es s.jobs
     (λ k e there marked. mark-reason es c.requires.stay old.reading c.args.at c.args.minutes.now old.index.timers c.mark_due.new.timers old.index.places.items c.mark_due.new.ready c.mark_minutes.new.ready

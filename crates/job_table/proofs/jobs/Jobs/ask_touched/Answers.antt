@@ -2,7 +2,7 @@
 use Rattle.std.proofs.Common.{◌≡◌, ◌<◌, ◌++◌, true, false, not, map, drop, length, ap, sym, subst, ◌∙◌, arith}
 use Rattle.std.specs.Prelude.{slice_get}
 use Rattle.std.specs.List.{list_all, filter_map}
-use Rattle.history_model.specs.Step.{told, stays}
+use Rattle.history_model.specs.Step.{heard, stays}
 use Rattle.job_table.specs.Tables.{IsOnce, is_known}
 use Rattle.job_table.specs.Kept.{KeepsJobs, numbered_all}
 use Rattle.job_table.specs.Counts.{counts, count_in, IsCounted}
@@ -13,18 +13,18 @@ use Rattle.job_table.specs.Index.{IsIndexOf, AreTimed, AreAlone, HaveRoom, place
 use Rattle.job_table.specs.Minutes.{some_calendar}
 use Rattle.job_table.specs.News.{is_touched}
 use Rattle.job_table.specs.Sound.{AreFree}
-use Rattle.job_table.specs.Telling.{AreFor}
+use Rattle.job_table.specs.Hearing.{AreFor}
 use Rattle.job_table.specs.Touched.{RestBut}
 use Rattle.job_table.specs.Visiting.{is_spared, AreSpared, AreVisitedOnce}
 use Rattle.std.specs.Vec.{with_items}
 use Rattle.job_table.specs.declared.jobs.Index.{Index}
-use Rattle.job_table.proofs.Lists.{lent-back}
-use Rattle.job_table.proofs.Places.{rows-all}
-use Rattle.job_table.proofs.Known.{all-named}
-use Rattle.job_table.proofs.Holding.{held-names}
-use Rattle.job_table.proofs.Advancing.{told-labelled, visits-counted, name-get}
-use Rattle.job_table.proofs.Growing.{named-of, length-names}
-use Rattle.job_table.proofs.Touched.{spared-all, rest-all, spared-count, not-true, marked-at}
+use Rattle.job_table.proofs.ListLemmas.{lent-back}
+use Rattle.job_table.proofs.PlacesLemmas.{rows-all}
+use Rattle.job_table.proofs.KnownNumbersLemmas.{all-named}
+use Rattle.job_table.proofs.HeldNumbersLemmas.{held-names}
+use Rattle.job_table.proofs.AdvanceLemmas.{heard-labelled, visits-counted, name-get}
+use Rattle.job_table.proofs.IndexGrowthLemmas.{named-of, length-names}
+use Rattle.job_table.proofs.TouchedLemmas.{spared-all, rest-all, spared-count, not-true, marked-at}
 use Rattle.history_model.specs.WholeLaws.{AreInOrder}
 use Rattle.job_table.specs.Tables.{labels_in}
 use Rattle.job_table.proofs.jobs.Jobs.ask_touched.Goals as goal
@@ -62,7 +62,7 @@ returns-clause-kept c = λ jobs item for fine rests keeps.
     let all = rows-all es c.requires.stay in
     let idle = rest-all c.args.news ready old.reading item 0 es jobs (marked-at c.args.news ready c.deref.result.now es c.deref.ensures.value c.mark_touched.ensures.touched)
     (subst (λ rs. AreFor c.args.news item rs jobs) all for) (subst (λ rs. KeepsJobs old.reading rs jobs) all keeps) (subst (λ rs. RestBut c.args.news 0 rs jobs) all rests) in
-    subst (λ xs. KeepsJobs old.reading (rows xs) (filter_map stays (told item jobs))) (sym whole)
+    subst (λ xs. KeepsJobs old.reading (rows xs) (filter_map stays (heard item jobs))) (sym whole)
     (c.visit_ready-visited.ensures.kept jobs item (subst (λ xs. AreFor c.args.news item (rows xs) jobs) (sym lent) for) fine idle (subst (λ xs. KeepsJobs old.reading (rows xs) jobs) (sym lent) keeps))
 
 pub returns-clause-orders : goal.returns-clause-orders
@@ -77,9 +77,9 @@ returns-clause-orders c = λ jobs item for fine rests keeps.
     let all = rows-all es c.requires.stay in
     let idle = rest-all c.args.news ready old.reading item 0 es jobs (marked-at c.args.news ready c.deref.result.now es c.deref.ensures.value c.mark_touched.ensures.touched)
     (subst (λ rs. AreFor c.args.news item rs jobs) all for) (subst (λ rs. KeepsJobs old.reading rs jobs) all keeps) (subst (λ rs. RestBut c.args.news 0 rs jobs) all rests) in
-    told-labelled old.reading item _ es c.visit_ready-visited.new.orders.items jobs names c.requires.stay c.requires.sound.once keeps
+    heard-labelled old.reading item _ es c.visit_ready-visited.new.orders.items jobs names c.requires.stay c.requires.sound.once keeps
     (c.visit_ready-visited.ensures.orders jobs item (subst (λ xs. AreFor c.args.news item (rows xs) jobs) (sym lent) for) fine idle (subst (λ xs. KeepsJobs old.reading (rows xs) jobs) (sym lent) keeps)
-    ∙ (λ i. c.requires.empty i ++ numbered_all (rows (lent i)) (told item jobs)))
+    ∙ (λ i. c.requires.empty i ++ numbered_all (rows (lent i)) (heard item jobs)))
 
 pub returns-clause-counted : goal.returns-clause-counted
 returns-clause-counted c =
@@ -88,7 +88,7 @@ returns-clause-counted c =
     let whole = lent-back after (drop (length after) es) c.args.self.now.entries.len (omega arith) in
     subst (λ all. IsCounted (counts (rows es)) (rows all) c.visit_ready-visited.result.0) (sym whole)
     (visits-counted c.mark_touched.new.ready es after c.visit_ready-visited.result.0 c.requires.stay c.requires.sound.once
-    (subst (λ all. AreVisitedOnce c.mark_touched.new.ready 0 all after) c.deref_mut.ensures.value c.visit_ready-visited.ensures.asked) c.visit_ready-visited.ensures.visited)
+    (subst (λ all. AreVisitedOnce c.mark_touched.new.ready 0 all after) c.deref_mut.ensures.value c.visit_ready-visited.ensures.visits) c.visit_ready-visited.ensures.visited)
 
 pub returns-clause-spared : goal.returns-clause-spared
 returns-clause-spared c = λ label others.
@@ -98,7 +98,7 @@ returns-clause-spared c = λ label others.
     let whole = lent-back after (drop (length after) es) c.args.self.now.entries.len (omega arith) in
     let marked = marked-at c.args.news ready c.deref.result.now es c.deref.ensures.value c.mark_touched.ensures.touched in
     ap (λ xs. count_in (counts (rows xs)) label) whole
-    ∙ spared-count ready 0 es after label c.requires.stay (subst (λ all. AreVisitedOnce ready 0 all after) c.deref_mut.ensures.value c.visit_ready-visited.ensures.asked)
+    ∙ spared-count ready 0 es after label c.requires.stay (subst (λ all. AreVisitedOnce ready 0 all after) c.deref_mut.ensures.value c.visit_ready-visited.ensures.visits)
     (λ k e there has. marked k e there ∙ ap not (subst (λ p. is_touched c.args.news p e.def ≡ false) (omega arith) (others k e there has)))
     ∙ ap (λ rs. count_in (counts rs) label) (sym (rows-all es c.requires.stay))
 

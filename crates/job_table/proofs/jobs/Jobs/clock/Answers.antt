@@ -1,7 +1,7 @@
--- What the reading spares is told of the table before the event, of which the beginning changes no row.
+-- What the reading spares is said of the table before the event, of which the beginning changes no row.
 use Rattle.std.proofs.Common.{ap, ◌∙◌}
 use Rattle.job_table.specs.Counts.{counts, count_in}
-use Rattle.job_table.proofs.Handing.{alike-state}
+use Rattle.job_table.proofs.EventsLemmas.{alike-state}
 use Rattle.job_table.proofs.jobs.Jobs.clock.Goals as goal
 
 pub returns-clause-untouched : goal.returns-clause-untouched

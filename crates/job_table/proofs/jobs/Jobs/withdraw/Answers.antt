@@ -4,7 +4,7 @@ use Rattle.history_model.specs.Machine.{State}
 use Rattle.job_table.specs.Kept.{KeepsState}
 use Rattle.job_table.specs.Changes.{withdrawn}
 use Rattle.job_table.specs.Sound.{seen}
-use Rattle.job_table.proofs.Withdrawing.{IsWithdrawn, none-withdrawn, one-withdrawn, never-refused}
+use Rattle.job_table.proofs.ChangesLemmas.{IsWithdrawn, none-withdrawn, one-withdrawn, never-refused}
 use Rattle.job_table.proofs.jobs.Jobs.withdraw.Goals as goal
 
 none : (c : goal.After-ask_none) (s : State) → KeepsState (seen c.args.self.now) s → IsWithdrawn c.ask_none.new.self (withdrawn c.args.label.now c.args.unload s)

@@ -1,4 +1,4 @@
-use Rattle.jobd.proofs.Launching.{answered_goes_on}
+use Rattle.jobd.proofs.LauncherLemmas.{answered_goes_on}
 use Rattle.jobd.proofs.launcher.LauncherLineMachine.handle.Goals as goal
 
 pub returns-in-Ok : goal.returns-in-Ok

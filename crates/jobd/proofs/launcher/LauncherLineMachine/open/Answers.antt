@@ -1,4 +1,4 @@
-use Rattle.jobd.proofs.Launching.{opened_writes}
+use Rattle.jobd.proofs.LauncherLemmas.{opened_writes}
 use Rattle.jobd.proofs.launcher.LauncherLineMachine.open.Goals as goal
 
 pub returns-in_ok-new-in-Ok-Some : goal.returns-in_ok-new-in-Ok-Some

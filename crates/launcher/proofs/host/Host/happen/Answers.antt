@@ -1,10 +1,10 @@
 -- What happened, with its reply.
 use Rattle.std.proofs.Common.{[], Some}
-use Rattle.launcher_turn.specs.Lines.{told_by}
-use Rattle.launcher_turn.specs.Turns.{refusal_told}
+use Rattle.launcher_turn.specs.Lines.{journaled_by}
+use Rattle.job_table.specs.Loads.{refused_with}
 use Rattle.launcher.specs.Hosts.{standing}
-use Rattle.launcher.proofs.Heard.{as_replied}
-use Rattle.launcher.proofs.Happened.{happened}
+use Rattle.launcher.proofs.HostsLemmas.{as_replied}
+use Rattle.launcher.proofs.HearingLemmas.{happened}
 use Rattle.launcher.proofs.host.Host.happen.Goals as goal
 
 pub returns-clause-hears : goal.returns-clause-hears
@@ -12,5 +12,5 @@ returns-clause-hears g c =
     let old = standing c.args.self.now.table (g.E.Edge.told c.args.self.now.edge) (g.T.SettingStore.told c.args.self.now.store) c.args.self.now.journal in
     let new = standing c.turn-answer.new.table (g.E.Edge.told c.turn-answer.new.edge) old.stores c.turn-answer.new.journal in
     let held = g.T.SettingStore.holds c.args.self.now.store in
-    as_replied (Some (told_by c.args.what)) c.done.result.refusal (refusal_told c.turn-answer.result) c.done.result.text [] old new held held c.done.ensures.refusal c.done.ensures.text
+    as_replied (Some (journaled_by c.args.what)) c.done.result.refusal (refused_with c.turn-answer.result) c.done.result.text [] old new held held c.done.ensures.refusal c.done.ensures.text
     (happened c.args.what c.turn-answer.result old.table new.table old.calls new.calls old.stores old.journal new.journal held c.turn-answer.ensures.turn c.turn-answer.ensures.memory)

@@ -2,10 +2,10 @@
 use Rattle.std.proofs.Common.{Some, refl}
 use Rattle.std.specs.String.{string_bytes}
 use Rattle.history_model.specs.declared.event.Event.TheVariants as events
-use Rattle.launcher_turn.specs.Turns.{refusal_told}
+use Rattle.job_table.specs.Loads.{refused_with}
 use Rattle.launcher.specs.Hosts.{standing}
-use Rattle.launcher.proofs.Heard.{as_replied}
-use Rattle.launcher.proofs.Asked.{listed}
+use Rattle.launcher.proofs.HostsLemmas.{as_replied}
+use Rattle.launcher.proofs.AskingLemmas.{listed}
 use Rattle.launcher.proofs.host.Host.list.Goals as goal
 
 pub returns : goal.returns
@@ -13,5 +13,5 @@ returns g c =
     let old = standing c.args.self.now.table (g.E.Edge.told c.args.self.now.edge) (g.T.SettingStore.told c.args.self.now.store) c.args.self.now.journal in
     let new = standing old.table old.calls old.stores c.list-text.new.journal in
     let held = g.T.SettingStore.holds c.args.self.now.store in
-    as_replied (Some events.List) c.told.result.refusal (refusal_told c.list-text.result) c.told.result.text c.told.result.text old new held held c.told.ensures.refusal refl
-    (listed string_bytes old.table old.calls old.stores old.journal new.journal held c.told.result.text c.list-text.result c.list-text.ensures.text c.list-text.ensures.memory c.list-text.ensures.noted c.list-text.ensures.silent c.tell_numbers.ensures c.told.ensures.text)
+    as_replied (Some events.List) c.told.result.refusal (refused_with c.list-text.result) c.told.result.text c.told.result.text old new held held c.told.ensures.refusal refl
+    (listed string_bytes old.table old.calls old.stores old.journal new.journal held c.told.result.text c.list-text.result c.list-text.ensures.text c.list-text.ensures.memory c.list-text.ensures.noted c.list-text.ensures.silent c.lend_numbers.ensures c.told.ensures.text)

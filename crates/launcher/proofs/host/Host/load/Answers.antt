@@ -4,11 +4,10 @@ use Rattle.std.specs.String.{string_bytes}
 use Rattle.history_model.specs.declared.event.Event.TheVariants as events
 use Rattle.history_model.specs.Step.{outcome}
 use Rattle.job_table.specs.Kept.{KeepsState}
-use Rattle.job_table.specs.Loads.{load_of}
-use Rattle.launcher_turn.specs.Turns.{refusal_told}
+use Rattle.job_table.specs.Loads.{load_of, refused_with}
 use Rattle.launcher.specs.Hosts.{standing}
-use Rattle.launcher.proofs.Heard.{as_replied}
-use Rattle.launcher.proofs.Asked.{loaded, load_words}
+use Rattle.launcher.proofs.HostsLemmas.{as_replied}
+use Rattle.launcher.proofs.AskingLemmas.{loaded, load_words}
 use Rattle.launcher.proofs.host.Host.load.Goals as goal
 
 pub returns : goal.returns
@@ -18,7 +17,7 @@ returns g c =
     let new = standing c.load-loaded.new.table (g.E.Edge.told c.load-loaded.new.edge) (g.T.SettingStore.told c.load-loaded.new.store) c.load-loaded.new.journal in
     let before = g.T.SettingStore.holds c.args.self.now.store in
     let after = g.T.SettingStore.holds c.load-loaded.new.store in
-    as_replied (Some (events.Load c.args.def.now c.args.writes_setting c.args.force true true)) c.told.result.refusal (refusal_told did.reply) c.told.result.text c.told.result.text old new before after c.told.ensures.refusal refl
-    (loaded c.args.def.now c.args.writes_setting c.args.force did.asked (refusal_told did.reply) c.told.result.text old new before after c.load-loaded.ensures.memory c.load-loaded.ensures.silent c.load-loaded.ensures.turn
+    as_replied (Some (events.Load c.args.def.now c.args.writes_setting c.args.force true true)) c.told.result.refusal (refused_with did.reply) c.told.result.text c.told.result.text old new before after c.told.ensures.refusal refl
+    (loaded c.args.def.now c.args.writes_setting c.args.force did.outside (refused_with did.reply) c.told.result.text old new before after c.load-loaded.ensures.memory c.load-loaded.ensures.silent c.load-loaded.ensures.turn
     c.load-loaded.ensures.stored
-    (load_words string_bytes did.reply c.told.result.text (λ s. KeepsState old.table s) (λ s. (outcome s (load_of c.args.def.now c.args.writes_setting c.args.force did.asked.bind did.asked.store)).text) c.load-loaded.ensures.text c.told.ensures.text))
+    (load_words string_bytes did.reply c.told.result.text (λ s. KeepsState old.table s) (λ s. (outcome s (load_of c.args.def.now c.args.writes_setting c.args.force did.outside.bind did.outside.store)).text) c.load-loaded.ensures.text c.told.ensures.text))

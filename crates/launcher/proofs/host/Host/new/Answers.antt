@@ -6,7 +6,7 @@ use Rattle.ctl_protocol.specs.HeaderLines.{header_line}
 use Rattle.event_journal.specs.Journals.{Grows, fresh, held}
 use Rattle.table_opening.specs.Openings.{StandsOpened}
 use Rattle.launcher.specs.Faults.{IsFaultOf, IsFaultWith, IsBadHeader}
-use Rattle.launcher.proofs.First.{made_new, stores_fault, same_fault}
+use Rattle.launcher.proofs.MakingLemmas.{made_new, stores_fault, same_fault}
 use Rattle.launcher.proofs.host.Host.new.Goals as goal
 
 pub returns-in-Ok-make_inside-clause-new : goal.returns-in-Ok-make_inside-clause-new

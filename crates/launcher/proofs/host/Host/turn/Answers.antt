@@ -1,12 +1,12 @@
 -- The flush at the end.
 use Rattle.launcher.specs.Hosts.{standing}
-use Rattle.launcher.specs.Inputs.{event_given}
-use Rattle.launcher.proofs.Heard.{flushed}
+use Rattle.launcher.specs.Inputs.{input_event}
+use Rattle.launcher.proofs.HostsLemmas.{flushed}
 use Rattle.launcher.proofs.host.Host.turn.Goals as goal
 
 pub returns-clause-hears : goal.returns-clause-hears
 returns-clause-hears g c =
     let old = standing c.args.self.now.table (g.E.Edge.told c.args.self.now.edge) (g.T.SettingStore.told c.args.self.now.store) c.args.self.now.journal in
     let mid = c.hear-reply.new.self in
-    flushed (event_given c.args.input) c.hear-reply.result.refusal c.hear-reply.result.text old mid.table (g.E.Edge.told mid.edge) (g.T.SettingStore.told mid.store) mid.journal c.flush.new.self
+    flushed (input_event c.args.input) c.hear-reply.result.refusal c.hear-reply.result.text old mid.table (g.E.Edge.told mid.edge) (g.T.SettingStore.told mid.store) mid.journal c.flush.new.self
     (g.T.SettingStore.holds c.args.self.now.store) (g.T.SettingStore.holds mid.store) c.hear-reply.ensures.hears c.flush.ensures

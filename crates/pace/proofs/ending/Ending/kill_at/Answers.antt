@@ -1,4 +1,4 @@
--- Some refusal is too near exactly where the newest is.
+-- Some refusal is too near exactly if the newest is.
 use Rattle.std.proofs.Common.{true, false, not, ◌*◌, ◌&&◌, ◌||◌, nat_lt, sym, ap, ◌∙◌}
 use Rattle.std.specs.List.{list_any}
 use Rattle.history_model.specs.Search.{last}
@@ -6,7 +6,7 @@ use Rattle.history_model.specs.Clock.{definition_of, moments}
 use Rattle.history_model.specs.Runs.{is_term_order, is_kill_answer, runs, is_struck}
 use Rattle.history_model.specs.Due.{is_over}
 use Rattle.history_model.specs.ByFacts.{is_newest_within}
-use Rattle.history_model.proofs.Times.{any-within}
+use Rattle.history_model.proofs.ClockLemmas.{any-within}
 use Rattle.pace.specs.Paces.{Ends}
 use Rattle.pace.proofs.ending.Ending.kill_at.Goals as goal
 use Rattle.history_model.specs.declared.TheConstants.{SECOND}

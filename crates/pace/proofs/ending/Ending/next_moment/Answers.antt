@@ -2,7 +2,7 @@
 use Rattle.std.proofs.Common.{◌*◌, nat_lt, cond, None, sym, ap, ◌∙◌}
 use Rattle.history_model.specs.Runs.{runs}
 use Rattle.history_model.specs.Coming.{sooner, coming_after}
-use Rattle.history_model.proofs.Coming.{next-end}
+use Rattle.history_model.proofs.ComingLemmas.{next-end}
 use Rattle.pace.specs.Paces.{Ends}
 use Rattle.pace.proofs.ending.Ending.next_moment.Goals as goal
 use Rattle.history_model.specs.declared.TheConstants.{SECOND}

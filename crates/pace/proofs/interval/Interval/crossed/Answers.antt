@@ -2,7 +2,7 @@
 use Rattle.std.proofs.Common.{◌≡◌, ◌<◌, ◌*◌, ◌/◌, Some, sym, ap, ◌∙◌, nat_lt, rules}
 use Rattle.history_model.specs.Clock.{crosses_interval}
 use Rattle.pace.specs.Paces.{Every}
-use Rattle.pace.proofs.Periods.{crossed-period}
+use Rattle.pace.proofs.IntervalLemmas.{crossed-period}
 use Rattle.pace.proofs.interval.Interval.crossed.Goals as goal
 use Rattle.history_model.specs.declared.TheConstants.{SECOND}
 

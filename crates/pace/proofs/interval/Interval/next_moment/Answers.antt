@@ -1,7 +1,7 @@
 -- The goals of `Interval::next_moment` that the prover leaves open.
 use Rattle.std.proofs.Common.{ℕ, ◌+◌, ◌*◌, ◌/◌, ◌-◌, ◌<◌, ◌≤◌, sym, ap, subst, ◌∙◌, rules}
 use Rattle.pace.specs.Paces.{Every}
-use Rattle.pace.proofs.Periods.{next-period}
+use Rattle.pace.proofs.IntervalLemmas.{next-period}
 use Rattle.pace.proofs.interval.Interval.next_moment.Goals as goal
 use Rattle.history_model.specs.declared.TheConstants.{SECOND}
 

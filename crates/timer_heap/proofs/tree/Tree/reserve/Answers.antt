@@ -5,7 +5,7 @@ use Rattle.std.proofs.lemmas.List.{get_or_default}
 use Rattle.std.proofs.lemmas.Bool.Decides.{nat_tests}
 use Rattle.timer_heap.specs.Nodes.{leaf, moment_of, IsTree}
 use Rattle.timer_heap.specs.declared.tree.Tree.{Tree}
-use Rattle.timer_heap.proofs.Leaves.{moment_in-timers_of, room-timers_of, beyond}
+use Rattle.timer_heap.proofs.LeavesLemmas.{moment_in-timers_of, room-timers_of, beyond}
 use Rattle.timer_heap.proofs.tree.Tree.reserve.Goals as goal
 
 pub put-requires-clause-own : goal.put-requires-clause-own

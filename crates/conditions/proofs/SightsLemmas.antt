@@ -1,0 +1,44 @@
+-- Paths with what was seen there last, and what a past says of them.
+use Rattle.std.proofs.Common.{◌≡◌, ℕ, Bool, ◌||◌, Option, Some, None, List, [], ◌∷◌, map, refl, ap}
+use Rattle.std.specs.List.{list_any}
+use Rattle.history_model.specs.declared.Obs.{Obs}
+use Rattle.history_model.specs.declared.Ended.{Ended}
+use Rattle.history_model.specs.declared.Reading.{Reading}
+use Rattle.history_model.specs.Items.{Definition, History, Loaded, Saw}
+use Rattle.job_defs.specs.declared.parts.PathState.{PathState}
+use Rattle.job_defs.specs.Definitions.{path_wish}
+use Rattle.history_model.specs.Clock.{definition_of}
+use Rattle.history_model.specs.Demands.{is_same_path, last_seen}
+use Rattle.history_model.specs.Levels.{presence_holds}
+use Rattle.history_model.specs.ByFacts.{any_seen, seen_after}
+use Rattle.history_model.proofs.SeenLemmas.{any-seen}
+use Rattle.history_model.proofs.WrittenLemmas.{newer}
+use Rattle.history_model.proofs.ConnectionLemmas.{seen-more}
+use Rattle.conditions.specs.Kept.{kept_of, conditions_hold, holds_by}
+use Rattle.conditions.specs.States.{wanted_of, sight_of, after_sight}
+use Rattle.conditions.specs.declared.levels.State.{State}
+
+pub any-holds : (ss : List State) → list_any (λ (s : State). presence_holds s.present s.last) ss ≡ any_seen (λ (state : List ℕ × Bool). presence_holds state.1) (map wanted_of ss) (map sight_of ss)
+any-holds [] = refl
+any-holds (s ∷ ss) = ap (λ b. presence_holds s.present s.last || b) (any-holds ss)
+
+pub seen-after : (path : List ℕ) (obs : Obs) (ss : List State) →
+    map sight_of (map (after_sight path obs) ss) ≡ seen_after (λ (state : List ℕ × Bool). state.0) (map wanted_of ss) path obs (map sight_of ss)
+seen-after path obs [] = refl
+seen-after path obs (s ∷ ss) = λ i. newer (is_same_path s.path path) obs s.last i ∷ seen-after path obs ss i
+
+pub wanted-after : (path : List ℕ) (obs : Obs) (ss : List State) → map wanted_of (map (after_sight path obs) ss) ≡ map wanted_of ss
+wanted-after path obs [] = refl
+wanted-after path obs (s ∷ ss) = ap (λ l. wanted_of s ∷ l) (wanted-after path obs ss)
+
+pub holds-by : (t : History) → conditions_hold t ≡ holds_by (kept_of t)
+holds-by t =
+    rw (any-seen (λ (state : List ℕ × Bool). presence_holds state.1) (λ state. last_seen state.0 t) (definition_of t).path_state) refl
+
+pub kept-Saw : (t : History) (path : List ℕ) (obs : Obs) →
+    kept_of (Saw path obs ∷ t) ≡ record (kept_of t) { seen = seen_after (λ (state : List ℕ × Bool). state.0) (kept_of t).path_state path obs (kept_of t).seen }
+kept-Saw t path obs = λ i. record (kept_of t) { seen = seen-more (λ (state : List ℕ × Bool). state.0) (definition_of t).path_state t path obs i }
+
+pub unseen : (d : Definition) (at : Reading) (ps : List PathState) → map (λ _. None) ps ≡ map (λ (state : List ℕ × Bool). last_seen state.0 (Loaded d at ∷ [])) (map path_wish ps)
+unseen d at [] = refl
+unseen d at (p ∷ ps) = ap (λ l. None ∷ l) (unseen d at ps)

@@ -1,0 +1,43 @@
+//! The exit statuses, and how a fault is told: one line on standard error, with the path and the reason.
+
+use std::fmt::Display;
+use std::io;
+
+pub(crate) const NO_MEMORY: u8 = 1;
+
+/// The output was refused.
+pub(crate) const OUTPUT: u8 = 3;
+
+pub(crate) const STORE: u8 = 5;
+
+pub(crate) const CONTROL_SOCKET: u8 = 6;
+
+pub(crate) const ZONE: u8 = 7;
+
+pub(crate) const JOURNAL: u8 = 8;
+
+/// The clock was refused, or waiting for sockets.
+pub(crate) const CLOCK_OR_WAITING: u8 = 9;
+
+/// Words that are no command (`EX_USAGE` of sysexits.h).
+pub(crate) const USAGE: u8 = 64;
+
+/// Tells what of the program failed, at which path, and why.
+pub(crate) fn report(rt: &impl Eprint, part: &str, path: &str, reason: &impl Display) {
+    let _written = eprintln!(rt; "jobd: {part} {path}: {reason}");
+}
+
+/// The status for an error of the system, which is told unless memory was wanting.
+pub(crate) fn refuse(
+    rt: &impl Eprint,
+    status: u8,
+    part: &str,
+    path: &str,
+    error: &io::Error,
+) -> u8 {
+    if error.kind() == io::ErrorKind::OutOfMemory {
+        return NO_MEMORY;
+    }
+    report(rt, part, path, error);
+    status
+}

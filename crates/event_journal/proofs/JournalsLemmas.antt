@@ -1,0 +1,68 @@
+-- How a journal grows by one line after another.
+use Rattle.std.proofs.Common.{◌≡◌, ℕ, false, List, [], ◌++◌, Option, Some, None, refl, sym, ap, subst, ◌∙◌, append_assoc}
+use Rattle.std.specs.Io.KnownBytes.{Appends}
+use Rattle.std.specs.Prelude.{is_some}
+use Rattle.std.proofs.KnownBytes.{Appends-nil, Appends-trans}
+use Rattle.replay_loop.specs.Writing.{AppendsFront}
+use Rattle.event_journal.specs.declared.journal.Phase.{Phase}
+use Rattle.event_journal.specs.declared.journal.Phase.TheVariants.{Open, Closed, Reported}
+use Rattle.event_journal.specs.Journals.{Kept, Grows, GrowsIn, held, is_writing}
+
+unchanged_in : (phase : Phase) (kept : Kept) → GrowsIn phase phase kept kept []
+unchanged_in Open kept = Appends-nil kept.bytes
+unchanged_in Closed kept = refl
+unchanged_in Reported kept = refl
+
+-- no line was written
+pub grows_nothing : (kept : Kept) → Grows kept kept []
+grows_nothing kept = record { has_writer = refl; grew = unchanged_in kept.phase kept }
+
+-- a front of the first text is one of both
+pub front_first : (old new : Option (List ℕ)) (s t : List ℕ) → AppendsFront old new s → AppendsFront old new (s ++ t)
+front_first old new s t grew = record { front = grew.front; rest = grew.rest ++ t; split = ap (λ l. l ++ t) grew.split ∙ append_assoc grew.front grew.rest t; wrote = grew.wrote }
+
+-- the first text, and a front of the second
+pub front_second : (a b c : Option (List ℕ)) (s t : List ℕ) → Appends a b s → AppendsFront b c t → AppendsFront a c (s ++ t)
+front_second a b c s t first grew = record {
+  front = s ++ grew.front;
+  rest = grew.rest;
+  split = ap (λ l. s ++ l) grew.split ∙ sym (append_assoc s grew.front grew.rest);
+  wrote = Appends-trans a b c s grew.front first grew.wrote;
+}
+
+both_in : (p q r : Phase) (a b c : Kept) (s t : List ℕ) → GrowsIn p q a b s → GrowsIn q r b c t → GrowsIn p r a c (s ++ t)
+both_in Open Open Open a b c s t first second = Appends-trans a.bytes b.bytes c.bytes s t first second
+both_in Open Open Closed a b c s t first second = front_second a.bytes b.bytes c.bytes s t first second
+both_in Open Open Reported a b c s t first second = absurd second
+both_in Open Closed Open a b c s t first second = absurd second
+both_in Open Closed Closed a b c s t first second = front_first a.bytes c.bytes s t (subst (λ (k : Kept). AppendsFront a.bytes k.bytes s) (sym second) first)
+both_in Open Closed Reported a b c s t first second = absurd second
+both_in Open Reported r a b c s t first second = absurd first
+both_in Closed Open r a b c s t first second = absurd first
+both_in Closed Closed Open a b c s t first second = absurd second
+both_in Closed Closed Closed a b c s t first second = second ∙ first
+both_in Closed Closed Reported a b c s t first second = absurd second
+both_in Closed Reported r a b c s t first second = absurd first
+both_in Reported Open r a b c s t first second = absurd first
+both_in Reported Closed r a b c s t first second = absurd first
+both_in Reported Reported Open a b c s t first second = absurd second
+both_in Reported Reported Closed a b c s t first second = absurd second
+both_in Reported Reported Reported a b c s t first second = second ∙ first
+
+-- one text after another
+pub grows_append : (a b c : Kept) (s t : List ℕ) → Grows a b s → Grows b c t → Grows a c (s ++ t)
+grows_append a b c s t first second = record {
+  has_writer = second.has_writer ∙ first.has_writer;
+  grew = both_in a.phase b.phase c.phase a b c s t first.grew second.grew;
+}
+
+-- ---- a journal by its parts
+
+module _ {W : Type 0} (contents : W → Option (List ℕ)) where
+  -- if no line is written, none is missed
+  pub shut_grows : (writer : Option W) (phase : Phase) (text : List ℕ) → is_writing (record { has_writer = is_some writer; bytes = held contents writer; phase = phase }) ≡ false →
+      Grows (record { has_writer = is_some writer; bytes = held contents writer; phase = phase }) (record { has_writer = is_some writer; bytes = held contents writer; phase = phase }) text
+  shut_grows None Open text shut = record { has_writer = refl; grew = tt }
+  shut_grows (Some writer) Open text shut = cc
+  shut_grows writer Closed text shut = record { has_writer = refl; grew = refl }
+  shut_grows writer Reported text shut = record { has_writer = refl; grew = refl }

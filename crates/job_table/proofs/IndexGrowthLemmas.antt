@@ -1,0 +1,249 @@
+-- The index goes by names, by rows, and grows.
+use Rattle.std.proofs.Common.{◌≡◌, ◌⊎◌, inl, inr, ℕ, zero, suc, ◌+◌, ◌==◌, ◌<◌, ◌≤◌, Bool, true, false, not, cond, List, [], ◌∷◌, ◌++◌, map, take, drop, length, Some, None, is_some, refl, sym, ap, ◌∙◌, subst, arith}
+use Rattle.std.specs.Prelude.{slice_get, slice_index_or, get_or, unwrap_or}
+use Rattle.std.specs.List.{filter}
+use Rattle.std.proofs.lemmas.Bool.Decides.{nat_tests}
+use Rattle.timer_heap.specs.Timers.{moment_in, room, KeepsMoments}
+use Rattle.history_model.specs.Coming.{next_by}
+use Rattle.job_table.specs.Tables.{Row, Name, definition_of_number}
+use Rattle.job_table.specs.Entries.{row, rows, name, stays, AllStay}
+use Rattle.job_table.specs.Index.{moment_for, AreTimed, AreAlone, ArePlaced, IsNamed, IsIndexOf}
+use Rattle.job_table.specs.declared.entry.Entry.{Entry}
+use Rattle.job_table.specs.declared.jobs.Index.{Index}
+use Rattle.job_table.proofs.PlacesLemmas.{rows-all}
+use Rattle.job_table.proofs.AdvanceLemmas.{holder}
+use Rattle.job_table.specs.Sound.{IsSound, IsWhole}
+use Rattle.job_table.specs.declared.jobs.Jobs.{Jobs}
+
+pub length-names : (es : List Entry) → length (map name es) ≡ length es
+length-names [] = refl
+length-names (e ∷ es) = ap suc (length-names es)
+
+-- an index beside its entries has what goes by their names
+pub named-of : (index : Index) (up : ℕ) (es : List Entry) → IsIndexOf index up es → IsNamed index (map name es)
+named-of index up es is = record {
+  alone = is.alone;
+  space = is.space;
+  fits = λ number named. (let found = holder es number named in subst (λ n. n < length index.places.items) found.3 (is.placed found.0 found.1 found.2).0);
+  empty = is.empty;
+  marks = let marks = is.marks in let long = length-names es in omega (arith, marks, long);
+}
+
+pub indexed-of : (index : Index) (up : ℕ) (es : List Entry) → IsNamed index (map name es) → AreTimed index.timers up es → ArePlaced index.places.items es → IsIndexOf index up es
+indexed-of index up es is timed placed = record {
+  timed = timed;
+  alone = is.alone;
+  space = is.space;
+  placed = placed;
+  empty = is.empty;
+  marks = let marks = is.marks in let long = length-names es in omega (arith, marks, long);
+}
+
+-- ---- growth
+
+pub grown-index : (old new : Index) (up : ℕ) (es : List Entry) → KeepsMoments old.timers new.timers → KeepsMoments old.ready new.ready → new.places ≡ old.places → IsIndexOf old up es → IsIndexOf new up es
+grown-index old new up es timers ready places is = record {
+  timed = λ k e at. timers.moments e.number ∙ is.timed k e at;
+  alone = λ number moment there. is.alone number moment (sym (timers.moments number) ∙ there);
+  space = λ number named. (let more = timers.room in let fits = is.space number named in omega (arith, more, fits));
+  placed = subst (λ ps. ArePlaced ps.items es) (sym places) is.placed;
+  empty = λ place. ready.moments place ∙ is.empty place;
+  marks = let more = ready.room in let fits = is.marks in omega (arith, more, fits);
+}
+
+-- ---- the jobs that left have no moment, so none is left behind by them
+
+named-stays : (es : List Entry) (k : ℕ) (e : Entry) → slice_get es k ≡ Some e → e.has_gone ≡ false → is_some (definition_of_number (map name (filter stays es)) e.number) ≡ true
+named-stays [] zero e at stay = cc
+named-stays [] (suc k) e at stay = cc
+named-stays (x ∷ xs) zero e at stay =
+    let same : x ≡ e = cc in
+    let here : x.has_gone ≡ false = ap (λ y. y.has_gone) same ∙ stay in
+    subst (λ b. is_some (definition_of_number (map name (cond (not b) (x ∷ filter stays xs) (filter stays xs))) e.number) ≡ true) (sym here)
+    (subst (λ y. is_some (definition_of_number (map name (x ∷ filter stays xs)) y.number) ≡ true) same
+    (ap (λ b. is_some (cond b (Some x.def) (definition_of_number (map name (filter stays xs)) x.number))) (same-number x.number)))
+  where
+    same-number : (n : ℕ) → (n == n) ≡ true
+    same-number n = grind arith
+named-stays (x ∷ xs) (suc k) e at stay = go x.has_gone (named-stays xs k e at stay)
+  where
+    later : (b : Bool) → is_some (definition_of_number (map name (filter stays xs)) e.number) ≡ true → is_some (cond b (Some x.def) (definition_of_number (map name (filter stays xs)) e.number)) ≡ true
+    later true is = refl
+    later false is = is
+
+    go : (b : Bool) → is_some (definition_of_number (map name (filter stays xs)) e.number) ≡ true →
+        is_some (definition_of_number (map name (cond (not b) (x ∷ filter stays xs) (filter stays xs))) e.number) ≡ true
+    go true is = is
+    go false is = later (x.number == e.number) is
+
+named-before : (es : List Entry) (number : ℕ) → is_some (definition_of_number (map name (filter stays es)) number) ≡ true → is_some (definition_of_number (map name es) number) ≡ true
+named-before [] number named = named
+named-before (x ∷ xs) number named = go x.has_gone named (named-before xs number)
+  where
+    more : (b : Bool) → is_some (definition_of_number (map name xs) number) ≡ true → is_some (cond b (Some x.def) (definition_of_number (map name xs) number)) ≡ true
+    more true is = refl
+    more false is = is
+
+    first : (b : Bool) → is_some (cond b (Some x.def) (definition_of_number (map name (filter stays xs)) number)) ≡ true →
+        (is_some (definition_of_number (map name (filter stays xs)) number) ≡ true → is_some (definition_of_number (map name xs) number) ≡ true) →
+        is_some (cond b (Some x.def) (definition_of_number (map name xs) number)) ≡ true
+    first true is later = refl
+    first false is later = later is
+
+    go : (b : Bool) → is_some (definition_of_number (map name (cond (not b) (x ∷ filter stays xs) (filter stays xs))) number) ≡ true →
+        (is_some (definition_of_number (map name (filter stays xs)) number) ≡ true → is_some (definition_of_number (map name xs) number) ≡ true) →
+        is_some (definition_of_number (map name (x ∷ xs)) number) ≡ true
+    go true is later = more (x.number == number) (later is)
+    go false is later = first (x.number == number) is later
+
+fewer : (es : List Entry) → length (filter stays es) ≤ length es
+fewer [] = omega arith
+fewer (e ∷ es) = go e.has_gone (fewer es)
+  where
+    go : (b : Bool) → length (filter stays es) ≤ length es → length (cond (not b) (e ∷ filter stays es) (filter stays es)) ≤ suc (length es)
+    go true later = omega (arith, later)
+    go false later = omega (arith, later)
+
+pub tidy-named : (index : Index) (up : ℕ) (es : List Entry) → IsIndexOf index up es → IsNamed index (map name (filter stays es))
+tidy-named index up es is = record {
+  alone = λ number moment there. (let found = holder es number (is.alone number moment there) in
+      let own : moment_in index.timers found.1.number ≡ Some moment = ap (moment_in index.timers) found.3 ∙ there in
+      subst (λ n. is_some (definition_of_number (map name (filter stays es)) n) ≡ true) found.3
+      (named-stays es found.0 found.1 found.2 (kept found.1 moment (sym (is.timed found.0 found.1 found.2) ∙ own))));
+  space = λ number named. is.space number (named-before es number named);
+  fits = λ number named. (named-of index up es is).fits number (named-before es number named);
+  empty = is.empty;
+  marks = let marks = is.marks in let less = fewer es in let long = length-names (filter stays es) in omega (arith, marks, less, long);
+}
+  where
+    kept : (e : Entry) (moment : ℕ) → moment_for e up ≡ Some moment → e.has_gone ≡ false
+    kept e moment there = go e.has_gone refl there where
+      go : (b : Bool) → e.has_gone ≡ b → cond b None (next_by e.core.facts up) ≡ Some moment → e.has_gone ≡ false
+      go true is there = cc
+      go false is there = is
+
+-- ---- the index goes by rows, if all stay
+
+module _ {A B : Type 0} (f : A → B) where
+  map-get : (es later : List A) (k : ℕ) (e : A) → map f later ≡ map f es → slice_get later k ≡ Some e → (old : A) × (slice_get es k ≡ Some old) × (f old ≡ f e)
+  map-get es [] zero e same at = cc
+  map-get es [] (suc k) e same at = cc
+  map-get [] (y ∷ ys) k e same at = cc
+  map-get (x ∷ xs) (y ∷ ys) zero e same at =
+      (x, refl, sym (ap (λ bs. get_or bs 0 (f x)) same) ∙ ap (λ o. f (unwrap_or o e)) at)
+  map-get (x ∷ xs) (y ∷ ys) (suc k) e same at = map-get xs ys k e (ap (drop 1) same) at
+
+stays-at : (es : List Entry) (k : ℕ) (e : Entry) → AllStay es → slice_get es k ≡ Some e → e.has_gone ≡ false
+stays-at [] zero e stay at = cc
+stays-at [] (suc k) e stay at = cc
+stays-at (x ∷ xs) zero e stay at = let same : x ≡ e = cc in ap (λ y. y.has_gone) (sym same) ∙ stay.0
+stays-at (x ∷ xs) (suc k) e stay at = stays-at xs k e stay.1 at
+
+abbrev name_in : Row → Name
+name_in r = record { number = r.number; described = r.described }
+
+names-rows : (es : List Entry) → map name es ≡ map name_in (map row es)
+names-rows [] = refl
+names-rows (e ∷ es) = ap (λ rest. name e ∷ rest) (names-rows es)
+
+pub by-rows : (index : Index) (up : ℕ) (es later : List Entry) → AllStay es → AllStay later → rows later ≡ rows es → IsIndexOf index up es → IsIndexOf index up later
+by-rows index up es later stay after same is =
+    let all : map row later ≡ map row es = sym (rows-all later after) ∙ same ∙ rows-all es stay in
+    let names : map name later ≡ map name es = names-rows later ∙ ap (map name_in) all ∙ sym (names-rows es) in
+    let before = named-of index up es is in
+    indexed-of index up later (subst (IsNamed index) (sym names) before)
+    (λ k e at. (let found = map-get row es later k e all at in
+    ap (λ r. moment_in index.timers r.number) (sym found.2) ∙ is.timed k found.0 found.1
+    ∙ ap (λ b. cond b None (next_by found.0.core.facts up)) (stays-at es k found.0 stay found.1)
+    ∙ ap (λ r. next_by r.facts up) found.2
+    ∙ sym (ap (λ b. cond b None (next_by e.core.facts up)) (stays-at later k e after at))))
+    (λ k e at. (let found = map-get row es later k e all at in
+    let own = is.placed k found.0 found.1 in
+    subst (λ r. (r.number < length index.places.items) × (slice_index_or index.places.items r.number 0 ≡ k)) found.2 own))
+
+-- ---- one more name
+
+more-names : (new : Entry) (es : List Entry) (k number : ℕ) → is_some (definition_of_number (map name es) number) ≡ true →
+    is_some (definition_of_number (map name (take k es ++ new ∷ drop k es)) number) ≡ true
+more-names new es zero number named = go (new.number == number) named
+  where
+    go : (b : Bool) → is_some (definition_of_number (map name es) number) ≡ true → is_some (cond b (Some new.def) (definition_of_number (map name es) number)) ≡ true
+    go true is = refl
+    go false is = is
+more-names new [] (suc k) number named = cc
+more-names new (e ∷ es) (suc k) number named = go (e.number == number) named (more-names new es k number)
+  where
+    go : (b : Bool) → is_some (cond b (Some e.def) (definition_of_number (map name es) number)) ≡ true →
+        (is_some (definition_of_number (map name es) number) ≡ true → is_some (definition_of_number (map name (take k es ++ new ∷ drop k es)) number) ≡ true) →
+        is_some (cond b (Some e.def) (definition_of_number (map name (take k es ++ new ∷ drop k es)) number)) ≡ true
+    go true is later = refl
+    go false is later = later is
+
+-- a number that is named is the new one or was named before
+is-new-or-named : (new : Entry) (es : List Entry) (k number : ℕ) → is_some (definition_of_number (map name (take k es ++ new ∷ drop k es)) number) ≡ true →
+    (new.number ≡ number) ⊎ (is_some (definition_of_number (map name es) number) ≡ true)
+is-new-or-named new es zero number named = go (new.number == number) refl named
+  where
+    go : (b : Bool) → (new.number == number) ≡ b → is_some (cond b (Some new.def) (definition_of_number (map name es) number)) ≡ true →
+        (new.number ≡ number) ⊎ (is_some (definition_of_number (map name es) number) ≡ true)
+    go true is named = inl (grind (arith, nat_tests, is))
+    go false is named = inr named
+is-new-or-named new [] (suc k) number named = go (new.number == number) refl named
+  where
+    go : (b : Bool) → (new.number == number) ≡ b → is_some (cond b (Some new.def) None) ≡ true →
+        (new.number ≡ number) ⊎ (is_some (definition_of_number [] number) ≡ true)
+    go true is named = inl (grind (arith, nat_tests, is))
+    go false is named = cc
+is-new-or-named new (e ∷ es) (suc k) number named = go (e.number == number) named (is-new-or-named new es k number)
+  where
+    go : (b : Bool) → is_some (cond b (Some e.def) (definition_of_number (map name (take k es ++ new ∷ drop k es)) number)) ≡ true →
+        (is_some (definition_of_number (map name (take k es ++ new ∷ drop k es)) number) ≡ true → (new.number ≡ number) ⊎ (is_some (definition_of_number (map name es) number) ≡ true)) →
+        (new.number ≡ number) ⊎ (is_some (cond b (Some e.def) (definition_of_number (map name es) number)) ≡ true)
+    go true named later = inr refl
+    go false named later = later named
+
+-- what holds of the new number and of those named holds of all
+one-more-name : {P : ℕ → Type 0} (new : Entry) (es : List Entry) (k : ℕ) → P new.number → ((number : ℕ) → is_some (definition_of_number (map name es) number) ≡ true → P number) →
+    (number : ℕ) → is_some (definition_of_number (map name (take k es ++ new ∷ drop k es)) number) ≡ true → P number
+one-more-name {P} new es k own others number named = go (is-new-or-named new es k number named)
+  where
+    go : (new.number ≡ number) ⊎ (is_some (definition_of_number (map name es) number) ≡ true) → P number
+    go (inl same) = subst P same own
+    go (inr before) = others number before
+
+placed-length : (new : Entry) (es : List Entry) (k : ℕ) → length (map name (take k es ++ new ∷ drop k es)) ≡ suc (length es)
+placed-length new es zero = ap suc (length-names es)
+placed-length new [] (suc k) = refl
+placed-length new (e ∷ es) (suc k) = ap suc (placed-length new es k)
+
+pub index-placed : (index : Index) (new : Entry) (es : List Entry) (k : ℕ) → new.number < room index.timers → new.number < length index.places.items → length es + 1 ≤ room index.ready →
+    IsNamed index (map name es) → IsNamed index (map name (take k es ++ new ∷ drop k es))
+index-placed index new es k timed placed marks is = record {
+  alone = λ number moment there. more-names new es k number (is.alone number moment there);
+  space = one-more-name {P = λ number. number < room index.timers} new es k timed is.space;
+  fits = one-more-name {P = λ number. number < length index.places.items} new es k placed is.fits;
+  empty = is.empty;
+  marks = let long = placed-length new es k in omega (arith, long, marks);
+}
+
+-- the index made anew, of which the marks and the rooms stayed
+pub remade : (old new : Index) (up : ℕ) (es : List Entry) → IsNamed old (map name es) → AreTimed new.timers up es → ArePlaced new.places.items es → AreAlone new.timers (map name es) →
+    room new.timers ≡ room old.timers → new.ready ≡ old.ready → IsIndexOf new up es
+remade old new up es is timed placed alone rooms ready = record {
+  timed = timed;
+  alone = alone;
+  space = λ number named. (let space = is.space number named in omega (arith, space, rooms));
+  placed = placed;
+  empty = λ place. ap (λ r. moment_in r place) ready ∙ is.empty place;
+  marks = let marks = is.marks in let long = length-names es in let same = ap room ready in omega (arith, marks, long, same);
+}
+
+-- a refused event leaves the index right
+pub refused-whole : (begun heard : Jobs) → IsWhole begun → AllStay begun.entries.items → IsSound heard → AllStay heard.entries.items → rows heard.entries.items ≡ rows begun.entries.items →
+    heard.index ≡ begun.index → heard.reading ≡ begun.reading → IsWhole heard
+refused-whole begun heard whole stay sound after same index reading = record {
+  sound = sound;
+  indexed = subst (λ i. IsIndexOf i heard.reading.up heard.entries.items) (sym index) (subst (λ at. IsIndexOf begun.index at.up heard.entries.items) (sym reading)
+      (by-rows begun.index begun.reading.up begun.entries.items heard.entries.items stay after same whole.indexed));
+  stay = λ is. after;
+}

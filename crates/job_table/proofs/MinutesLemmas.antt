@@ -1,0 +1,276 @@
+-- Places that are marked, run after run.
+use Rattle.std.proofs.Common.{◌≡◌, ◌⊎◌, inl, inr, ℕ, ◌+◌, ◌==◌, ◌<◌, ◌≤◌, Bool, true, false, not, ◌&&◌, ◌||◌, List, [], ◌∷◌, ◌++◌, map, take, length, get_or, Option, Some, None, refl, sym, ap, ◌∙◌, arith}
+use Rattle.std.specs.Prelude.{slice_get, is_none, is_some}
+use Rattle.std.specs.List.{list_any}
+use Rattle.std.proofs.lemmas.Bool.Decides.{nat_tests}
+use Rattle.std.proofs.lemmas.List.Folds.{list_any_more, list_any-append}
+use Rattle.timer_heap.specs.Timers.{Timers, moment_in, room, Updates}
+use Rattle.history_model.specs.declared.CivilMinute.{CivilMinute}
+use Rattle.history_model.specs.declared.Entry.{Entry as Due}
+use Rattle.history_model.specs.Calendar.{allows}
+use Rattle.history_model.specs.Demands.{is_same_path}
+use Rattle.history_model.specs.Labels.{is_same}
+use Rattle.history_model.specs.Step.{lists}
+use Rattle.job_defs.specs.Described.{Described}
+use Rattle.job_defs.specs.Definitions.{definition, path_wish}
+use Rattle.job_defs.specs.declared.parts.PathState.{PathState}
+use Rattle.job_table.specs.Entries.{name}
+use Rattle.job_table.specs.Index.{ArePlaced, is_minute_among}
+use Rattle.job_table.specs.Visiting.{is_spared}
+use Rattle.job_table.specs.Marking.{IsMinuteAt, HaveMarks, Marks, stands_at}
+use Rattle.job_table.specs.Triggers.{rank, rank_of_minute, is_of, triggers_of, is_placed_at, AreListed}
+use Rattle.job_table.specs.declared.entry.Entry.{Entry}
+use Rattle.job_table.specs.declared.trigger.Trigger.{Trigger}
+use Rattle.job_table.specs.declared.trigger.Trigger.TheVariants.{Minute, Path}
+use Rattle.job_table.specs.declared.trigger.Listed.{Listed}
+use Rattle.job_table.proofs.ListLemmas.{any-map}
+use Rattle.job_table.proofs.TriggerCountLemmas.{any-listed}
+use Rattle.job_table.proofs.TriggersLemmas.{any-agree, any-none, any-filter, at-place, from-place, each-placed}
+use Rattle.history_model.proofs.BooleanLemmas.{or-assoc, or-second}
+
+-- ---- marks
+
+pub no-marks : (ready : Timers) (passes : ℕ → Bool) → ((place : ℕ) → passes place ≡ false) → Marks ready ready passes
+no-marks ready passes none = record { spared = λ place is. (is, none place); marks = λ place moment at. inl at; room = refl }
+
+or-first : (a b : Bool) → a ≡ true → (a || b) ≡ true
+or-first a b is = ap (λ c. c || b) is
+
+both-none : (a b : Bool) → a ≡ false → b ≡ false → (a || b) ≡ false
+both-none a b first second = λ i. first i || second i
+
+-- marks beside marks, seen as one
+pub more-marks : (first ready later : Timers) (before more all : ℕ → Bool) → ((place : ℕ) → all place ≡ (before place || more place)) → Marks first ready before → Marks ready later more → Marks first later all
+more-marks first ready later before more all is marked marks = record {
+  spared = λ place none. (
+      let own = marks.spared place none in
+      let old = marked.spared place own.0 in
+      (old.0, is place ∙ both-none (before place) (more place) old.1 own.1));
+  marks = λ place moment at. go place moment (marks.marks place moment at);
+  room = marks.room ∙ marked.room;
+}
+  where
+    go : (place moment : ℕ) → (moment_in ready place ≡ Some moment) ⊎ ((moment ≡ 0) × (more place ≡ true)) → (moment_in first place ≡ Some moment) ⊎ ((moment ≡ 0) × (all place ≡ true))
+    go place moment (inr new) = inr (new.0, is place ∙ or-second (before place) (more place) new.1)
+    go place moment (inl at) = old (marked.marks place moment at)
+      where
+        old : (moment_in first place ≡ Some moment) ⊎ ((moment ≡ 0) × (before place ≡ true)) → (moment_in first place ≡ Some moment) ⊎ ((moment ≡ 0) × (all place ≡ true))
+        old (inl there) = inl there
+        old (inr own) = inr (own.0, is place ∙ or-first (before place) (more place) own.1)
+
+pub same-marks : (first later : Timers) (passes all : ℕ → Bool) → ((place : ℕ) → all place ≡ passes place) → Marks first later passes → Marks first later all
+same-marks first later passes all is marked = record {
+  spared = λ place none. (let own = marked.spared place none in (own.0, is place ∙ own.1));
+  marks = λ place moment at. go place moment (marked.marks place moment at);
+  room = marked.room;
+}
+  where
+    go : (place moment : ℕ) → (moment_in first place ≡ Some moment) ⊎ ((moment ≡ 0) × (passes place ≡ true)) → (moment_in first place ≡ Some moment) ⊎ ((moment ≡ 0) × (all place ≡ true))
+    go place moment (inl at) = inl at
+    go place moment (inr new) = inr (new.0, is place ∙ new.1)
+
+-- one mark
+pub one-mark : (ready later : Timers) (place : ℕ) → Updates ready later place (Some 0) → Marks ready later (λ p. place == p)
+one-mark ready later place sets = record {
+  spared = λ p none. spare p none (place == p) refl;
+  marks = λ p moment at. mark p moment at (place == p) refl;
+  room = sets.room;
+}
+  where
+    spare : (p : ℕ) → is_spared later p ≡ true → (b : Bool) → (place == p) ≡ b → (is_spared ready p ≡ true) × (b ≡ false)
+    spare p none true is =
+        let same : place ≡ p = grind (arith, nat_tests, is) in
+        let clash : false ≡ true = sym (ap (λ q. is_spared later q) (sym same) ∙ ap is_none sets.changed) ∙ none in absurd (cc clash)
+    spare p none false is = (ap is_none (sym (sets.others p (λ same. (let clash : ⊥ = grind (arith, nat_tests, is, same) in clash)))) ∙ none, refl)
+
+    mark : (p moment : ℕ) → moment_in later p ≡ Some moment → (b : Bool) → (place == p) ≡ b → (moment_in ready p ≡ Some moment) ⊎ ((moment ≡ 0) × (b ≡ true))
+    mark p moment at true is =
+        let same : place ≡ p = grind (arith, nat_tests, is) in
+        let zero_moment : Some 0 ≡ Some moment = sym sets.changed ∙ ap (moment_in later) same ∙ at in inr (cc zero_moment, refl)
+    mark p moment at false is = inl (sym (sets.others p (λ same. (let clash : ⊥ = grind (arith, nat_tests, is, same) in clash))) ∙ at)
+
+-- if no place was marked, those that pass are the marked ones
+pub exact-marks : (old new : Timers) (passes : ℕ → Bool) → Marks old new passes → ((place : ℕ) → moment_in old place ≡ None) → (place : ℕ) → is_spared new place ≡ not (passes place)
+exact-marks old new passes marked empty place = go (moment_in new place) refl
+  where
+    go : (o : Option ℕ) → moment_in new place ≡ o → is_none o ≡ not (passes place)
+    go None is = ap not (sym (marked.spared place (ap is_none is)).1)
+    go (Some moment) is = by (marked.marks place moment is)
+      where
+        by : (moment_in old place ≡ Some moment) ⊎ ((moment ≡ 0) × (passes place ≡ true)) → false ≡ not (passes place)
+        by (inl at) = let clash : None ≡ Some moment = sym (empty place) ∙ at in absurd (cc clash)
+        by (inr new) = ap not (sym new.1)
+
+pub new-mark : (old new : Timers) (passes : ℕ → Bool) → Marks old new passes → ((place : ℕ) → moment_in old place ≡ None) → (place moment : ℕ) → moment_in new place ≡ Some moment → (moment ≡ 0) × (passes place ≡ true)
+new-mark old new passes marked empty place moment is = by (marked.marks place moment is)
+  where
+    by : (moment_in old place ≡ Some moment) ⊎ ((moment ≡ 0) × (passes place ≡ true)) → (moment ≡ 0) × (passes place ≡ true)
+    by (inl at) = let clash : None ≡ Some moment = sym (empty place) ∙ at in absurd (cc clash)
+    by (inr new) = new
+
+-- each listed job has a place for its mark
+pub have-marks : (places : List ℕ) (es : List Entry) (listed : List Listed) (ready : Timers) → ArePlaced places es → AreListed listed (map name es) → length es ≤ room ready → HaveMarks listed places ready
+have-marks places es listed ready placed are fits k one at =
+    let own = each-placed places es placed listed (any-listed listed _ are.exact) k one at in
+    let low = own.1 in (own.0, omega (arith, low, fits))
+
+-- ---- what a run of one rank marks
+
+module _ (places : List ℕ) (es : List Entry) (placed : ArePlaced places es) (listed : List Listed) (are : AreListed listed (map name es)) where
+  -- the definition has a trigger of this rank
+  abbrev pub has : List ℕ → Described → Bool
+  has r d = list_any (λ trigger. is_same r (rank trigger)) (triggers_of d)
+
+  pub stands : (r : List ℕ) (k : ℕ) (e : Entry) → slice_get es k ≡ Some e → stands_at listed places r k ≡ has r e.def
+  stands r k e at = any-filter (is_placed_at places k) (is_of r) listed ∙ at-place places es placed listed (any-listed listed _ are.exact) k e at (λ trigger. is_same r (rank trigger))
+
+  pub stood : (r : List ℕ) (k : ℕ) → stands_at listed places r k ≡ true → (e : Entry) × (slice_get es k ≡ Some e) × (has r e.def ≡ true)
+  stood r k is = from-place places es placed listed (any-listed listed _ are.exact) k (λ trigger. is_same r (rank trigger)) (sym (any-filter (is_placed_at places k) (is_of r) listed) ∙ is)
+
+-- ---- the triggers of a definition
+
+minutes-alone : (f : Trigger → Bool) (d : Described) → ((path : List ℕ) → f (Path path) ≡ false) → list_any f (triggers_of d) ≡ list_any (λ due. f (Minute due.minute)) d.calendar
+minutes-alone f d none =
+    let states = map (λ (state : PathState). Path state.path) d.path_state in
+    let rest = map Path d.watch_paths ++ map Path d.queue_directories in
+    list_any-append f (map (λ due. Minute due.minute) d.calendar) (states ++ rest)
+    ∙ (λ i. any-map f (λ due. Minute due.minute) d.calendar i || (list_any-append f states rest
+    ∙ (λ j. (any-map f (λ (state : PathState). Path state.path) d.path_state ∙ any-none (λ (state : PathState). f (Path state.path)) d.path_state (λ k state at. none state.path)) j
+    || (list_any-append f (map Path d.watch_paths) (map Path d.queue_directories)
+    ∙ (λ k. (any-map f Path d.watch_paths ∙ any-none (λ path. f (Path path)) d.watch_paths (λ n path at. none path)) k
+    || (any-map f Path d.queue_directories ∙ any-none (λ path. f (Path path)) d.queue_directories (λ n path at. none path)) k)) j)) i)
+    ∙ closed (list_any (λ due. f (Minute due.minute)) d.calendar)
+  where
+    closed : (b : Bool) → (b || (false || (false || false))) ≡ b
+    closed true = refl
+    closed false = refl
+
+-- a path of the definition, list by list
+pub listed-path : (path : List ℕ) (d : Described) → list_any (λ trigger. is_same (1 ∷ path) (rank trigger)) (triggers_of d) ≡ lists (definition d) path
+listed-path path d =
+    let f : Trigger → Bool = λ trigger. is_same (1 ∷ path) (rank trigger) in
+    let states = map (λ (state : PathState). Path state.path) d.path_state in
+    let rest = map Path d.watch_paths ++ map Path d.queue_directories in
+    list_any-append f (map (λ due. Minute due.minute) d.calendar) (states ++ rest)
+    ∙ (λ i. (any-map f (λ due. Minute due.minute) d.calendar ∙ any-none (λ due. f (Minute due.minute)) d.calendar (λ k due at. no-minute due.minute)) i || list_any-append f states rest i)
+    ∙ (λ i. any-map f (λ (state : PathState). Path state.path) d.path_state i || list_any-append f (map Path d.watch_paths) (map Path d.queue_directories) i)
+    ∙ (λ i. (any-agree (λ (state : PathState). f (Path state.path)) (λ (state : PathState). is_same_path path state.path) d.path_state (λ k state at. ranked state.path)
+    ∙ sym (any-map (λ (wish : List ℕ × Bool). is_same_path path wish.0) path_wish d.path_state)) i
+    || ((any-map f Path d.watch_paths ∙ any-agree (λ x. f (Path x)) (is_same_path path) d.watch_paths (λ k x at. ranked x)) i
+    || (any-map f Path d.queue_directories ∙ any-agree (λ x. f (Path x)) (is_same_path path) d.queue_directories (λ k x at. ranked x)) i))
+    ∙ or-assoc (list_any (λ (wish : List ℕ × Bool). is_same_path path wish.0) (map path_wish d.path_state)) (list_any (is_same_path path) d.watch_paths) (list_any (is_same_path path) d.queue_directories)
+  where
+    ranked : (x : List ℕ) → is_same (1 ∷ path) (1 ∷ x) ≡ is_same_path path x
+    ranked x = refl
+
+    no-minute : (minute : Option ℕ) → is_same (1 ∷ path) (rank_of_minute minute) ≡ false
+    no-minute None = refl
+    no-minute (Some n) = refl
+
+-- an entry without a minute, or one with this minute
+pub allowed : (minute : ℕ) (d : Described) →
+    (list_any (λ trigger. is_same (0 ∷ []) (rank trigger)) (triggers_of d) || list_any (λ trigger. is_same (0 ∷ minute ∷ []) (rank trigger)) (triggers_of d))
+    ≡ list_any (λ due. allows due.minute minute) d.calendar
+allowed minute d =
+    (λ i. minutes-alone (λ trigger. is_same (0 ∷ []) (rank trigger)) d (λ path. refl) i || minutes-alone (λ trigger. is_same (0 ∷ minute ∷ []) (rank trigger)) d (λ path. refl) i) ∙ go d.calendar
+  where
+    turned : (m n : ℕ) → ((m == n) && true) ≡ (n == m)
+    turned m n = both (m == n) refl (n == m) refl
+      where
+        both : (a : Bool) → (m == n) ≡ a → (b : Bool) → (n == m) ≡ b → (a && true) ≡ b
+        both true first true second = refl
+        both true first false second = let clash : ⊥ = grind (arith, nat_tests, first, second) in absurd clash
+        both false first true second = let clash : ⊥ = grind (arith, nat_tests, first, second) in absurd clash
+        both false first false second = refl
+
+    one : (wanted : Option ℕ) → (is_same (0 ∷ []) (rank_of_minute wanted) || is_same (0 ∷ minute ∷ []) (rank_of_minute wanted)) ≡ allows wanted minute
+    one None = refl
+    one (Some n) = turned minute n
+
+    paired : (a b c d : Bool) → ((a || c) || (b || d)) ≡ ((a || b) || (c || d))
+    paired true b c d = refl
+    paired false true true d = refl
+    paired false true false d = refl
+    paired false false true d = refl
+    paired false false false d = refl
+
+    go : (calendar : List Due) → (list_any (λ due. is_same (0 ∷ []) (rank_of_minute due.minute)) calendar || list_any (λ due. is_same (0 ∷ minute ∷ []) (rank_of_minute due.minute)) calendar)
+        ≡ list_any (λ due. allows due.minute minute) calendar
+    go [] = refl
+    go (due ∷ dues) =
+        paired (is_same (0 ∷ []) (rank_of_minute due.minute)) (is_same (0 ∷ minute ∷ []) (rank_of_minute due.minute))
+        (list_any (λ due. is_same (0 ∷ []) (rank_of_minute due.minute)) dues) (list_any (λ due. is_same (0 ∷ minute ∷ []) (rank_of_minute due.minute)) dues)
+        ∙ (λ i. one due.minute i || go dues i)
+
+-- ---- the minutes that are crossed
+
+pub some-first : (ms : List CivilMinute) → (length ms == 0) ≡ false → is_some (slice_get ms 0) ≡ true
+some-first [] none = cc
+some-first (m ∷ ms) none = refl
+
+-- at the place stands a job with an entry that has no minute, or with one of these
+abbrev pub stands_among : List Listed → List ℕ → List CivilMinute → ℕ → Bool
+stands_among listed places minutes place = stands_at listed places (0 ∷ []) place || list_any (λ minute. stands_at listed places (0 ∷ minute.minute ∷ []) place) minutes
+
+pub minute-more : (first ready later : Timers) (listed : List Listed) (places : List ℕ) (minutes : List CivilMinute) (i : ℕ) (d : CivilMinute) → i < length minutes →
+    Marks first ready (stands_among listed places (take i minutes)) → Marks ready later (stands_at listed places (0 ∷ (get_or minutes i d).minute ∷ [])) → Marks first later (stands_among listed places (take (i + 1) minutes))
+minute-more first ready later listed places minutes i d within marked marks =
+    more-marks first ready later (stands_among listed places (take i minutes)) (stands_at listed places (0 ∷ (get_or minutes i d).minute ∷ [])) (stands_among listed places (take (i + 1) minutes))
+    (λ place. ap (λ b. stands_at listed places (0 ∷ []) place || b) (list_any_more (λ m. stands_at listed places (0 ∷ m.minute ∷ []) place) minutes i d within)
+    ∙ or-assoc (stands_at listed places (0 ∷ []) place) (list_any (λ m. stands_at listed places (0 ∷ m.minute ∷ []) place) (take i minutes)) (stands_at listed places (0 ∷ (get_or minutes i d).minute ∷ []) place))
+    marked marks
+
+module _ (places : List ℕ) (es : List Entry) (placed : ArePlaced places es) (listed : List Listed) (are : AreListed listed (map name es)) (first later : Timers) (minutes : List CivilMinute) (some : is_some (slice_get minutes 0) ≡ true)
+    (marks : Marks first later (stands_among listed places minutes)) where
+  spread : (a : Bool) (b c : CivilMinute → Bool) → ((m : CivilMinute) → (a || b m) ≡ c m) → (ms : List CivilMinute) → is_some (slice_get ms 0) ≡ true → (a || list_any b ms) ≡ list_any c ms
+  spread a b c each [] some = cc
+  spread a b c each (m ∷ ms) some = go a each
+    where
+      any : (x : Bool) → ((n : CivilMinute) → (x || b n) ≡ c n) → (ns : List CivilMinute) → x ≡ false → list_any b ns ≡ list_any c ns
+      any x each [] is = refl
+      any x each (n ∷ ns) is = λ i. (ap (λ y. y || b n) (sym is) ∙ each n) i || any x each ns is i
+
+      go : (x : Bool) → ((n : CivilMinute) → (x || b n) ≡ c n) → (x || list_any b (m ∷ ms)) ≡ list_any c (m ∷ ms)
+      go true each = ap (λ y. y || list_any c ms) (each m)
+      go false each = any false each (m ∷ ms) refl
+
+  has_none : Described → Bool
+  has_none d = has places es placed listed are (0 ∷ []) d
+
+  among : (d : Described) → (has places es placed listed are (0 ∷ []) d || list_any (λ (minute : CivilMinute). has places es placed listed are (0 ∷ minute.minute ∷ []) d) minutes) ≡ is_minute_among d.calendar minutes
+  among d = spread (has places es placed listed are (0 ∷ []) d) (λ minute. has places es placed listed are (0 ∷ minute.minute ∷ []) d) (λ minute. list_any (λ due. allows due.minute minute.minute) d.calendar)
+      (λ minute. allowed minute.minute d) minutes some
+
+  stands-all : (ms : List CivilMinute) (place : ℕ) (e : Entry) → slice_get es place ≡ Some e →
+      list_any (λ (minute : CivilMinute). stands_at listed places (0 ∷ minute.minute ∷ []) place) ms ≡ list_any (λ (minute : CivilMinute). has places es placed listed are (0 ∷ minute.minute ∷ []) e.def) ms
+  stands-all [] place e at = refl
+  stands-all (m ∷ ms) place e at = λ i. stands places es placed listed are (0 ∷ m.minute ∷ []) place e at i || stands-all ms place e at i
+
+  here : (place : ℕ) (e : Entry) → slice_get es place ≡ Some e → stands_among listed places minutes place ≡ is_minute_among e.def.calendar minutes
+  here place e at = (λ i. stands places es placed listed are (0 ∷ []) place e at i || stands-all minutes place e at i) ∙ among e.def
+
+  some-job : (place : ℕ) → stands_among listed places minutes place ≡ true → (e : Entry) × (slice_get es place ≡ Some e)
+  some-job place is = go (stands_at listed places (0 ∷ []) place) refl is
+    where
+      by : (ms : List CivilMinute) → list_any (λ (minute : CivilMinute). stands_at listed places (0 ∷ minute.minute ∷ []) place) ms ≡ true → (e : Entry) × (slice_get es place ≡ Some e)
+      by [] is = cc
+      by (m ∷ ms) is = pick (stands_at listed places (0 ∷ m.minute ∷ []) place) refl is (by ms)
+        where
+          pick : (b : Bool) → stands_at listed places (0 ∷ m.minute ∷ []) place ≡ b → (b || list_any (λ (minute : CivilMinute). stands_at listed places (0 ∷ minute.minute ∷ []) place) ms) ≡ true →
+              (list_any (λ (minute : CivilMinute). stands_at listed places (0 ∷ minute.minute ∷ []) place) ms ≡ true → (e : Entry) × (slice_get es place ≡ Some e)) → (e : Entry) × (slice_get es place ≡ Some e)
+          pick true one is later = let found = stood places es placed listed are (0 ∷ m.minute ∷ []) place one in (found.0, found.1)
+          pick false one is later = later is
+
+      go : (b : Bool) → stands_at listed places (0 ∷ []) place ≡ b → (b || list_any (λ (minute : CivilMinute). stands_at listed places (0 ∷ minute.minute ∷ []) place) minutes) ≡ true → (e : Entry) × (slice_get es place ≡ Some e)
+      go true one is = let found = stood places es placed listed are (0 ∷ []) place one in (found.0, found.1)
+      go false one is = by minutes is
+
+  pub minute-spared : (place : ℕ) (e : Entry) → slice_get es place ≡ Some e → is_spared later place ≡ true → (is_spared first place ≡ true) × (is_minute_among e.def.calendar minutes ≡ false)
+  minute-spared place e at none = let both = marks.spared place none in (both.0, sym (here place e at) ∙ both.1)
+
+  pub minute-marks : (place moment : ℕ) → moment_in later place ≡ Some moment → (moment_in first place ≡ Some moment) ⊎ IsMinuteAt es minutes place moment
+  minute-marks place moment at = go (marks.marks place moment at)
+    where
+      go : (moment_in first place ≡ Some moment) ⊎ ((moment ≡ 0) × (stands_among listed places minutes place ≡ true)) → (moment_in first place ≡ Some moment) ⊎ IsMinuteAt es minutes place moment
+      go (inl old) = inl old
+      go (inr new) = let found = some-job place new.1 in inr (new.0, (found.0, found.1, sym (here place found.0 found.1) ∙ new.1))

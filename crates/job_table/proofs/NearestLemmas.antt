@@ -1,0 +1,62 @@
+-- Byte order, the paths of rows and of jobs, and the entry with a label.
+use Rattle.std.proofs.Common.{◌≡◌, ℕ, zero, suc, Bool, true, false, not, ◌&&◌, List, [], ◌∷◌, ◌++◌, get_or, refl, sym, ap, ◌∙◌}
+use Rattle.std.specs.Ordering.{nat_cmp, is_eq, ordering_reverse}
+use Rattle.std.specs.Cmp.Lexicographic.{slice_cmp, nat_list_cmp_total, texts_ties}
+use Rattle.std.specs.declared.cmp.Ordering.{Ordering}
+use Rattle.std.specs.declared.cmp.Ordering.TheVariants.{Less, Equal, Greater}
+use Rattle.history_model.specs.declared.Reading.{Reading}
+use Rattle.history_model.specs.Labels.{Label, is_same, is_less, is_before}
+use Rattle.history_model.specs.Machine.{Job}
+use Rattle.job_table.specs.Tables.{Row}
+use Rattle.job_table.specs.Kept.{KeepsJobs}
+use Rattle.job_table.specs.Entries.{has_label, is_here}
+use Rattle.job_table.specs.Nearest.{paths_of, listed_paths, paths_in}
+use Rattle.job_table.specs.declared.entry.Entry.{Entry}
+use Rattle.job_table.proofs.FirstLemmas.{IsFirstWhere}
+use Rattle.job_table.proofs.SettingLemmas.{is-label}
+
+-- ---- byte order
+
+is_less-Less : (o : Ordering) → is_less o ≡ true → o ≡ Less
+is_less-Less Less e = refl
+is_less-Less Equal e = cc
+is_less-Less Greater e = cc
+
+pub before-trans : (a b c : Label) → is_before a b ≡ true → is_before b c ≡ true → is_before a c ≡ true
+before-trans a b c ab bc = rw (nat_list_cmp_total.trans a b c (is_less-Less (slice_cmp nat_cmp a b) ab) (is_less-Less (slice_cmp nat_cmp b c) bc)) refl
+
+self-equal : (a : Label) → slice_cmp nat_cmp a a ≡ Equal
+self-equal a = go (slice_cmp nat_cmp a a) refl (nat_list_cmp_total.antisymm a a)
+  where
+    go : (o : Ordering) → slice_cmp nat_cmp a a ≡ o → slice_cmp nat_cmp a a ≡ ordering_reverse (slice_cmp nat_cmp a a) → slice_cmp nat_cmp a a ≡ Equal
+    go Less is same = let clash : Less ≡ Greater = sym is ∙ same ∙ ap ordering_reverse is in absurd (cc clash)
+    go Equal is same = is
+    go Greater is same = let clash : Greater ≡ Less = sym is ∙ same ∙ ap ordering_reverse is in absurd (cc clash)
+
+pub same-self : (a : Label) → is_same a a ≡ true
+same-self a = texts_ties a a ∙ ap is_eq (self-equal a)
+
+pub not-before-self : (a : Label) → is_before a a ≡ false
+not-before-self a = ap is_less (self-equal a)
+
+-- ---- the paths of rows and of jobs
+
+pub paths-same : (at : Reading) (rs : List Row) (jobs : List Job) → KeepsJobs at rs jobs → paths_in rs ≡ listed_paths jobs
+paths-same at [] [] keeps = refl
+paths-same at [] (job ∷ jobs) keeps = absurd keeps
+paths-same at (r ∷ rs) [] keeps = absurd keeps
+paths-same at (r ∷ rs) (job ∷ jobs) keeps = λ i. paths_of (keeps.0.definition i) ++ paths-same at rs jobs keeps.1 i
+
+-- ---- the entry with a label
+
+here-at : (label : Label) (es : List Entry) (k : ℕ) (d : Entry) → IsFirstWhere (is_here label) es k → is_here label (get_or es k d) ≡ true
+here-at label [] k d at = absurd at
+here-at label (e ∷ es) zero d at = at
+here-at label (e ∷ es) (suc k) d at = here-at label es k d at.1
+
+and-second : (a b : Bool) → (a && b) ≡ true → b ≡ true
+and-second true b e = e
+and-second false b e = cc
+
+pub here-labelled : (label : Label) (es : List Entry) (k : ℕ) (e : Entry) → IsFirstWhere (is_here label) es k → e ≡ get_or es k e → label ≡ e.def.label
+here-labelled label es k e at is = is-label label e.def.label (and-second (not e.has_gone) (has_label label e) (ap (is_here label) is ∙ here-at label es k e at))

@@ -1,0 +1,315 @@
+-- The walk passes the jobs without a mark as they are, and comes one place further at each job with one.
+use Rattle.std.proofs.Common.{◌≡◌, ℕ, zero, suc, ◌+◌, ◌-◌, ◌<◌, ◌≤◌, Bool, true, false, ◌||◌, cond, List, [], ◌∷◌, ◌++◌, map, take, drop, length, get_or, Option, Some, None, refl, sym, ap, ◌∙◌, subst, append_assoc, append-nil, arith}
+use Rattle.std.specs.Prelude.{slice_set}
+use Rattle.std.specs.List.{filter_map, cons_option}
+use Rattle.timer_heap.specs.Timers.{Timers}
+use Rattle.history_model.specs.declared.Reading.{Reading}
+use Rattle.history_model.specs.declared.Order.{Order}
+use Rattle.history_model.specs.declared.Act.TheVariants.{Close, Gone}
+use Rattle.history_model.specs.Demands.{waiting}
+use Rattle.history_model.specs.Items.{Item}
+use Rattle.history_model.specs.Clock.{now}
+use Rattle.history_model.specs.Runs.{is_gone}
+use Rattle.history_model.specs.Due.{due}
+use Rattle.history_model.specs.Keeps.{Keeps, ordered}
+use Rattle.history_model.specs.Machine.{Job}
+use Rattle.history_model.specs.Step.{acts_of, listed, stays, heard, with_item}
+use Rattle.job_defs.specs.Definitions.{definition}
+use Rattle.job_table.specs.Tables.{Row}
+use Rattle.job_table.specs.Kept.{KeepsJob, KeepsJobs, IsAtRest, numbered, numbered_all}
+use Rattle.job_table.specs.Counts.{next_count}
+use Rattle.job_table.specs.Entries.{row, name, rows, AllStay}
+use Rattle.job_table.specs.News.{item_for}
+use Rattle.job_table.specs.Hearing.{followed, refusal_if, IsHeard, AreFor, IsAccepted, present_with}
+use Rattle.job_table.specs.Visiting.{is_spared, IsVisit, AreSpared, AreAtRest, IsOnWay, AreVisitedOnce, count_visited}
+use Rattle.job_table.specs.declared.entry.Entry.{Entry}
+use Rattle.job_table.specs.declared.entry.News.{News}
+use Rattle.job_table.proofs.ListLemmas.{at-drop, set-drop, set-take, drop-suc}
+use Rattle.job_table.proofs.ScanLemmas.{KeepsJobs-append, now-ordered, definition-ordered, rows-append, rows-stay}
+use Rattle.job_table.proofs.HearingLemmas.{heard-rows, label-with, past-with, definition-with, present-news, take-of-drop}
+
+-- ---- a job that rests gives nothing and stays as it is
+
+rest-stays : (job : Job) → IsAtRest job → stays job ≡ Some job
+rest-stays job rest = λ i. cond (rest.1 i) None (Some (record job { past = ordered (rest.0 i) job.past }))
+
+rest-acts : (job : Job) → IsAtRest job → acts_of job.past ≡ []
+rest-acts job rest = λ i. cond (rest.1 i) (map Close (waiting job.past) ++ Gone ∷ []) (listed (rest.0 i))
+
+module _ (before at : Reading) (news : News) (item : Job → Option Item) (ready : Timers) (is_now : at ≡ present_with news before) (accepted : IsAccepted before item) where
+  skip-head : (place : ℕ) (e : Entry) (done todo : List Row) (earlier all : List Order) (after : List Job) → is_spared ready place ≡ true → IsHeard before (item_for news e.def) e e →
+      IsOnWay before at news item ready place done (row e ∷ todo) earlier all after → IsOnWay before at news item ready (suc place) (done ++ row e ∷ []) todo earlier all after
+  skip-head place e done todo earlier all after spared heard_self way = go way.rest way.waits way.for way.rests way.leads way.gives where
+    go : (rest : List Job) → KeepsJobs before (row e ∷ todo) rest → AreFor news item (row e ∷ todo) rest → AreAtRest ready place (heard item rest) →
+        way.past ++ filter_map stays (heard item rest) ≡ after → earlier ++ numbered_all (row e ∷ todo) (heard item rest) ≡ all →
+        IsOnWay before at news item ready (suc place) (done ++ row e ∷ []) todo earlier all after
+    go [] waits for rests leads gives = absurd waits
+    go (job ∷ rest) waits for rests leads gives =
+        let next = with_item job (item job) in
+        let idle : IsAtRest next = rests.0 spared in
+        let keeps : KeepsJob at (row e) next =
+        subst (λ r. KeepsJob r (row e) next) (sym is_now) (heard-rows before news item (e ∷ []) (e ∷ []) (job ∷ []) (heard_self, tt) (for.0, tt) accepted (waits.0, tt)).0 in
+        record {
+          past = way.past ++ next ∷ [];
+          rest = rest;
+          kept = KeepsJobs-append at done (row e ∷ []) way.past (next ∷ []) way.kept (keeps, tt);
+          waits = waits.1;
+          for = for.1;
+          rests = rests.1;
+          leads = append_assoc way.past (next ∷ []) (filter_map stays (heard item rest)) ∙ ap (λ o. way.past ++ cons_option o (filter_map stays (heard item rest))) (sym (rest-stays next idle)) ∙ leads;
+          gives = ap (λ acts. earlier ++ (numbered e.number acts ++ numbered_all todo (heard item rest))) (sym (rest-acts next idle)) ∙ gives;
+        }
+
+  visit-head : (place : ℕ) (e new : Entry) (done todo : List Row) (earlier later all : List Order) (after : List Job) → IsVisit before at (item_for news e.def) e new earlier later →
+      IsOnWay before at news item ready place done (row e ∷ todo) earlier all after → IsOnWay before at news item ready (suc place) (done ++ rows (new ∷ [])) todo later all after
+  visit-head place e new done todo earlier later all after visit way = go way.rest way.waits way.for way.rests way.leads way.gives where
+    end : (b : Bool) (job : Job) (rest : List Job) → KeepsJob before (row e) job → KeepsJobs before todo rest → AreFor news item todo rest → AreAtRest ready (suc place) (heard item rest) →
+        item_for news e.def ≡ item job → Keeps e.core.facts job.past →
+        is_gone (with_item job (item job)).past ≡ b → new.has_gone ≡ b →
+        (is_gone (with_item job (item job)).past ≡ false → Keeps new.core.facts (ordered (due (with_item job (item job)).past) (with_item job (item job)).past)) →
+        way.past ++ cons_option (cond b None (Some (record (with_item job (item job)) { past = ordered (due (with_item job (item job)).past) (with_item job (item job)).past }))) (filter_map stays (heard item rest)) ≡ after →
+        later ++ numbered_all todo (heard item rest) ≡ all →
+        IsOnWay before at news item ready (suc place) (done ++ cond b [] (row new ∷ [])) todo later all after
+    end true job rest this waits for rests same keeps gone going kept leads gives = record {
+      past = way.past;
+      rest = rest;
+      kept = rw append-nil way.kept;
+      waits = waits;
+      for = for;
+      rests = rests;
+      leads = leads;
+      gives = gives;
+    }
+    end false job rest this waits for rests same keeps gone going kept leads gives =
+        let heard_job = with_item job (item job) in
+        let next : Job = record heard_job { past = ordered (due heard_job.past) heard_job.past } in
+        let stays_on : KeepsJob at (row new) next = record {
+          label = ap (λ n. n.described.label) visit.name ∙ this.label ∙ label-with job (item job);
+          definition = ap (λ n. definition n.described) visit.name ∙ this.definition ∙ definition-with job news e.def (item job) same ∙ sym (definition-ordered (due heard_job.past) heard_job.past);
+          keeps = kept gone;
+          present = is_now ∙ present-news news before e.def (item job) job same this.present ∙ sym (now-ordered (due heard_job.past) heard_job.past);
+        } in
+        record {
+          past = way.past ++ next ∷ [];
+          rest = rest;
+          kept = KeepsJobs-append at done (row new ∷ []) way.past (next ∷ []) way.kept (stays_on, tt);
+          waits = waits;
+          for = for;
+          rests = rests;
+          leads = append_assoc way.past (next ∷ []) (filter_map stays (heard item rest)) ∙ leads;
+          gives = gives;
+        }
+
+    go : (rest : List Job) → KeepsJobs before (row e ∷ todo) rest → AreFor news item (row e ∷ todo) rest → AreAtRest ready place (heard item rest) →
+        way.past ++ filter_map stays (heard item rest) ≡ after → earlier ++ numbered_all (row e ∷ todo) (heard item rest) ≡ all →
+        IsOnWay before at news item ready (suc place) (done ++ rows (new ∷ [])) todo later all after
+    go [] waits for rests leads gives = absurd waits
+    go (job ∷ rest) waits for rests leads gives =
+        let this = waits.0 in
+        let same : item_for news e.def ≡ item job = for.0 in
+        let next = with_item job (item job) in
+        let past : followed (item_for news e.def) job.past ≡ next.past = ap (λ o. followed o job.past) same ∙ past-with job (item job) in
+        let fine : refusal_if (item_for news e.def) job.past ≡ None = ap (λ o. refusal_if o job.past) same ∙ accepted job this.present in
+        let is : at ≡ now (followed (item_for news e.def) job.past) = is_now ∙ present-news news before e.def (item job) job same this.present ∙ ap now (sym past) in
+        let going : new.has_gone ≡ is_gone next.past = visit.going job.past this.keeps this.present fine is ∙ ap is_gone past in
+        let orders : later ≡ earlier ++ numbered e.number (acts_of next.past) =
+        visit.orders job.past this.keeps this.present fine is ∙ ap (λ t. earlier ++ numbered e.number (acts_of t)) past in
+        let kept : is_gone next.past ≡ false → Keeps new.core.facts (ordered (due next.past) next.past) =
+        λ staying. subst (λ t. Keeps new.core.facts (ordered (due t) t)) past (visit.kept job.past this.keeps this.present fine is (ap is_gone past ∙ staying)) in
+        rw going
+        (end (is_gone next.past) job rest this waits.1 for.1 rests.1 same this.keeps refl going kept leads
+        (ap (λ os. os ++ numbered_all todo (heard item rest)) orders ∙ append_assoc earlier (numbered e.number (acts_of next.past)) (numbered_all todo (heard item rest)) ∙ gives))
+
+-- ---- along the entries
+
+stay-drop : (es : List Entry) (i : ℕ) → AllStay es → AllStay (drop i es)
+stay-drop [] zero stay = tt
+stay-drop [] (suc i) stay = tt
+stay-drop (e ∷ es) zero stay = stay
+stay-drop (e ∷ es) (suc i) stay = stay-drop es i stay.1
+
+head-at : (es : List Entry) (i : ℕ) → i < length es → (e : Entry) × (drop i es ≡ e ∷ drop (suc i) es)
+head-at [] i within = let clash : ⊥ = omega (arith, within) in absurd clash
+head-at (e ∷ es) zero within = (e, refl)
+head-at (e ∷ es) (suc i) within = head-at es i (omega (arith, within))
+
+take-none : {X : Type 0} (xs : List X) → length (take 0 xs) ≡ 0
+take-none [] = refl
+take-none (x ∷ xs) = refl
+
+take-length : {X : Type 0} (xs : List X) (i : ℕ) → i ≤ length xs → length (take i xs) ≡ i
+take-length xs zero within = take-none xs
+take-length [] (suc i) within = let clash : ⊥ = omega (arith, within) in absurd clash
+take-length (x ∷ xs) (suc i) within = ap suc (take-length xs i (omega (arith, within)))
+
+drop-some : (es : List Entry) (i : ℕ) (e : Entry) (rest : List Entry) → drop i es ≡ e ∷ rest → i ≤ length es
+drop-some [] zero e rest is = cc
+drop-some [] (suc i) e rest is = cc
+drop-some (x ∷ xs) zero e rest is = omega arith
+drop-some (x ∷ xs) (suc i) e rest is = let less = drop-some xs i e rest is in omega (arith, less)
+
+take-whole : {X : Type 0} (xs : List X) → take (length xs) xs ≡ xs
+take-whole [] = refl
+take-whole (x ∷ xs) = ap (λ ys. x ∷ ys) (take-whole xs)
+
+drop-whole : {X : Type 0} (xs : List X) → drop (length xs) xs ≡ []
+drop-whole [] = refl
+drop-whole (x ∷ xs) = drop-whole xs
+
+or-right : (a b : Bool) → b ≡ true → (a || b) ≡ true
+or-right true b is = refl
+or-right false b is = is
+
+or-left : (a b : Bool) → b ≡ false → (a || b) ≡ a
+or-left true b is = refl
+or-left false b is = is
+
+module _ (ready : Timers) where
+  once-snoc : (place : ℕ) (es later : List Entry) (e new : Entry) → AreVisitedOnce ready place es later → name new ≡ name e →
+      new.core.decided ≡ cond (new.has_gone || is_spared ready (place + length es)) e.core.decided (next_count e.core.decided) → (is_spared ready (place + length es) ≡ true → new ≡ e) → AreVisitedOnce ready place (es ++ e ∷ []) (later ++ new ∷ [])
+  once-snoc place [] [] e new all named up same = (named, subst (λ p. new.core.decided ≡ cond (new.has_gone || is_spared ready p) e.core.decided (next_count e.core.decided)) (omega arith) up, subst (λ p. is_spared ready p ≡ true → new ≡ e) (omega arith) same, tt)
+  once-snoc place [] (n ∷ ns) e new all named up same = absurd all
+  once-snoc place (x ∷ xs) [] e new all named up same = absurd all
+  once-snoc place (x ∷ xs) (n ∷ ns) e new all named up same = (
+    all.0,
+    all.1,
+    all.2,
+    once-snoc (suc place) xs ns e new all.3 named
+        (subst (λ p. new.core.decided ≡ cond (new.has_gone || is_spared ready p) e.core.decided (next_count e.core.decided)) (omega arith) up)
+        (subst (λ p. is_spared ready p ≡ true → new ≡ e) (omega arith) same),
+  )
+
+  count-snoc : (place : ℕ) (es : List Entry) (e : Entry) (b : Bool) → (e.has_gone || is_spared ready (place + length es)) ≡ b →
+      count_visited ready place (es ++ e ∷ []) ≡ cond b (count_visited ready place es) (suc (count_visited ready place es))
+  count-snoc place [] e b is = ap (λ v. cond v 0 1) (subst (λ p. (e.has_gone || is_spared ready p) ≡ b) (omega arith) is)
+  count-snoc place (x ∷ xs) e b is = go (x.has_gone || is_spared ready place) b (count-snoc (suc place) xs e b (subst (λ p. (e.has_gone || is_spared ready p) ≡ b) (omega arith) is)) where
+    go : (v b : Bool) → count_visited ready (suc place) (xs ++ e ∷ []) ≡ cond b (count_visited ready (suc place) xs) (suc (count_visited ready (suc place) xs)) →
+        cond v (count_visited ready (suc place) (xs ++ e ∷ [])) (suc (count_visited ready (suc place) (xs ++ e ∷ [])))
+        ≡ cond b (cond v (count_visited ready (suc place) xs) (suc (count_visited ready (suc place) xs))) (suc (cond v (count_visited ready (suc place) xs) (suc (count_visited ready (suc place) xs))))
+    go true true is = is
+    go true false is = is
+    go false true is = ap suc is
+    go false false is = ap suc is
+
+module _ (before at : Reading) (news : News) (ready : Timers) (es0 : List Entry) (first : List Order) where
+  -- the walk has come so far
+  pub record IsWalked (es : List Entry) (front : ℕ) (earlier : List Order) (visited : ℕ) : Type 0 where
+    pub untouched : drop front es ≡ drop front es0
+    pub spared : AreSpared ready before news front (drop front es0)
+    pub once : AreVisitedOnce ready 0 (take front es0) (take front es)
+    pub count : visited ≡ count_visited ready 0 (take front es)
+    pub way : (jobs : List Job) (item : Job → Option Item) → AreFor news item (rows es0) jobs → IsAccepted before item → AreAtRest ready 0 (heard item jobs) → KeepsJobs before (rows es0) jobs →
+        IsOnWay before at news item ready front (rows (take front es)) (rows (drop front es0)) earlier (first ++ numbered_all (rows es0) (heard item jobs)) (filter_map stays (heard item jobs))
+
+module _ (before at : Reading) (news : News) (ready : Timers) (is_now : at ≡ present_with news before) (es0 : List Entry) (first : List Order) where
+  abbrev IsWalkedHere : List Entry → ℕ → List Order → ℕ → Type 0
+  IsWalkedHere es front earlier visited = IsWalked before at news ready es0 first es front earlier visited
+
+  pub skip-one : (es : List Entry) (i : ℕ) (earlier : List Order) (visited : ℕ) → AllStay es0 → i < length es0 → is_spared ready i ≡ true → IsWalkedHere es i earlier visited → IsWalkedHere es (suc i) earlier visited
+  skip-one es i earlier visited stay within spared walked =
+      let found = head-at es0 i within in
+      let e = found.0 in
+      let rest0 = drop (suc i) es0 in
+      let here0 : drop i es0 ≡ e ∷ rest0 = found.1 in
+      let here : drop i es ≡ e ∷ rest0 = walked.untouched ∙ here0 in
+      let staying : AllStay (e ∷ rest0) = subst AllStay here0 (stay-drop es0 i stay) in
+      let spares : AreSpared ready before news i (e ∷ rest0) = subst (AreSpared ready before news i) here0 walked.spared in
+      let taken0 : take (suc i) es0 ≡ take i es0 ++ e ∷ [] = take-of-drop es0 i e rest0 here0 in
+      let taken : take (suc i) es ≡ take i es ++ e ∷ [] = take-of-drop es i e rest0 here in
+      let done : rows (take (suc i) es) ≡ rows (take i es) ++ row e ∷ [] = ap rows taken ∙ rows-append (take i es) (e ∷ []) ∙ ap (λ rs. rows (take i es) ++ rs) (rows-stay e [] staying.0) in
+      let todo : rows (drop i es0) ≡ row e ∷ rows rest0 = ap rows here0 ∙ rows-stay e rest0 staying.0 in
+      let at-front : (v : Bool) → (v || is_spared ready (0 + length (take i es0))) ≡ true =
+      let long = take-length es0 i (omega (arith, within)) in λ v. or-right v _ (subst (λ p. is_spared ready p ≡ true) (omega (arith, long)) spared) in
+      let at-done : (v : Bool) → (v || is_spared ready (0 + length (take i es))) ≡ true =
+      let long = take-length es i (drop-some es i e rest0 here) in λ v. or-right v _ (subst (λ p. is_spared ready p ≡ true) (omega (arith, long)) spared) in
+      record {
+        untouched = drop-suc es es0 i walked.untouched;
+        spared = spares.1;
+        once = subst (λ xs. AreVisitedOnce ready 0 xs (take (suc i) es)) (sym taken0) (subst (λ ys. AreVisitedOnce ready 0 (take i es0 ++ e ∷ []) ys) (sym taken)
+            (once-snoc ready 0 (take i es0) (take i es) e e walked.once refl (ap (λ b. cond b e.core.decided (next_count e.core.decided)) (sym (at-front e.has_gone))) (λ none. refl)));
+        count = walked.count ∙ sym (ap (count_visited ready 0) taken ∙ count-snoc ready 0 (take i es) e true (at-done e.has_gone));
+        way = λ jobs item for accepted rests keeps.
+            subst (λ d. IsOnWay before at news item ready (suc i) d (rows rest0) earlier (first ++ numbered_all (rows es0) (heard item jobs)) (filter_map stays (heard item jobs))) (sym done)
+            (skip-head before at news item ready is_now accepted i e (rows (take i es)) (rows rest0) earlier _ _ spared (spares.0 spared)
+            (subst (λ t. IsOnWay before at news item ready i (rows (take i es)) t earlier (first ++ numbered_all (rows es0) (heard item jobs)) (filter_map stays (heard item jobs))) todo
+            (walked.way jobs item for accepted rests keeps)));
+      }
+
+  pub skip-to : (es : List Entry) (n i : ℕ) (earlier : List Order) (visited : ℕ) → AllStay es0 → i + n ≤ length es0 → ((k : ℕ) → i ≤ k → k < i + n → is_spared ready k ≡ true) →
+      IsWalkedHere es i earlier visited → IsWalkedHere es (i + n) earlier visited
+  skip-to es zero i earlier visited stay within spared walked = subst (λ k. IsWalkedHere es k earlier visited) (omega arith) walked
+  skip-to es (suc n) i earlier visited stay within spared walked =
+      subst (λ k. IsWalkedHere es k earlier visited) (omega arith)
+      (skip-to es n (suc i) earlier visited stay (omega (arith, within)) (λ k low high. spared k (omega (arith, low)) (omega (arith, high)))
+      (skip-one es i earlier visited stay (omega (arith, within)) (spared i (omega arith) (omega arith)) walked))
+
+  pub visit-one : (es : List Entry) (i : ℕ) (e new : Entry) (earlier later : List Order) (visited more : ℕ) → AllStay es0 → i < length es0 → i < length es → e ≡ get_or es i e → is_spared ready i ≡ false →
+      IsVisit before at (item_for news e.def) e new earlier later → new.core.decided ≡ cond new.has_gone e.core.decided (next_count e.core.decided) → more ≡ cond new.has_gone visited (suc visited) →
+      IsWalkedHere es i earlier visited → IsWalkedHere (slice_set es i new) (suc i) later more
+  visit-one es i e new earlier later visited more stay within inside is marked visit decided counts walked =
+      let here : drop i es ≡ e ∷ drop (suc i) es = at-drop es i e inside is in
+      let here0 : drop i es0 ≡ e ∷ drop (suc i) es = sym walked.untouched ∙ here in
+      let rest0 : drop (suc i) es0 ≡ drop (suc i) es = sym (drop-suc es es0 i walked.untouched) in
+      let staying : AllStay (e ∷ drop (suc i) es) = subst AllStay here0 (stay-drop es0 i stay) in
+      let spares : AreSpared ready before news i (e ∷ drop (suc i) es) = subst (AreSpared ready before news i) here0 walked.spared in
+      let taken0 : take (suc i) es0 ≡ take i es0 ++ e ∷ [] = take-of-drop es0 i e (drop (suc i) es) here0 in
+      let taken : take (suc i) (slice_set es i new) ≡ take i es ++ new ∷ [] = set-take es i new inside in
+      let done : rows (take (suc i) (slice_set es i new)) ≡ rows (take i es) ++ rows (new ∷ []) = ap rows taken ∙ rows-append (take i es) (new ∷ []) in
+      let todo : rows (drop i es0) ≡ row e ∷ rows (drop (suc i) es0) = ap rows here0 ∙ rows-stay e (drop (suc i) es) staying.0 ∙ ap (λ r. row e ∷ rows r) (sym rest0) in
+      let front : (v : Bool) → (v || is_spared ready (0 + length (take i es0))) ≡ v =
+      let long = take-length es0 i (omega (arith, within)) in λ v. or-left v _ (subst (λ p. is_spared ready p ≡ false) (omega (arith, long)) marked) in
+      let front_done : (v : Bool) → (v || is_spared ready (0 + length (take i es))) ≡ v =
+      let long = take-length es i (omega (arith, inside)) in λ v. or-left v _ (subst (λ p. is_spared ready p ≡ false) (omega (arith, long)) marked) in
+      record {
+        untouched = set-drop es i new ∙ drop-suc es es0 i walked.untouched;
+        spared = subst (AreSpared ready before news (suc i)) (sym rest0) spares.1;
+        once = subst (λ xs. AreVisitedOnce ready 0 xs (take (suc i) (slice_set es i new))) (sym taken0) (subst (λ ys. AreVisitedOnce ready 0 (take i es0 ++ e ∷ []) ys) (sym taken)
+            (once-snoc ready 0 (take i es0) (take i es) e new walked.once visit.name (decided ∙ ap (λ b. cond b e.core.decided (next_count e.core.decided)) (sym (front new.has_gone))) (λ none. (let clash : true ≡ false = sym none ∙ front false in absurd (cc clash)))));
+        count = counts ∙ ap (λ n. cond new.has_gone n (suc n)) walked.count ∙ sym (ap (count_visited ready 0) taken ∙ count-snoc ready 0 (take i es) new new.has_gone (front_done new.has_gone));
+        way = λ jobs item for accepted rests keeps.
+            subst (λ d. IsOnWay before at news item ready (suc i) d (rows (drop (suc i) es0)) later (first ++ numbered_all (rows es0) (heard item jobs)) (filter_map stays (heard item jobs))) (sym done)
+            (visit-head before at news item ready is_now accepted i e new (rows (take i es)) (rows (drop (suc i) es0)) earlier later _ _ visit
+            (subst (λ t. IsOnWay before at news item ready i (rows (take i es)) t earlier (first ++ numbered_all (rows es0) (heard item jobs)) (filter_map stays (heard item jobs))) todo
+            (walked.way jobs item for accepted rests keeps)));
+      }
+
+  pub record IsThrough (es : List Entry) (earlier : List Order) (visited : ℕ) : Type 0 where
+    pub kept : (jobs : List Job) (item : Job → Option Item) → AreFor news item (rows es0) jobs → IsAccepted before item → AreAtRest ready 0 (heard item jobs) → KeepsJobs before (rows es0) jobs →
+        KeepsJobs at (rows es) (filter_map stays (heard item jobs))
+    pub orders : (jobs : List Job) (item : Job → Option Item) → AreFor news item (rows es0) jobs → IsAccepted before item → AreAtRest ready 0 (heard item jobs) → KeepsJobs before (rows es0) jobs →
+        earlier ≡ first ++ numbered_all (rows es0) (heard item jobs)
+    pub counted : visited ≡ count_visited ready 0 es
+    pub visits : AreVisitedOnce ready 0 es0 es
+
+  -- the walk is over
+  pub walk-end : (es : List Entry) (earlier : List Order) (visited : ℕ) → length es ≡ length es0 → IsWalkedHere es (length es0) earlier visited → IsThrough es earlier visited
+  walk-end es earlier visited long walked =
+      let whole : take (length es0) es ≡ es = ap (λ n. take n es) (sym long) ∙ take-whole es in
+      let whole0 : take (length es0) es0 ≡ es0 = take-whole es0 in
+      record {
+        kept = λ jobs item for accepted rests keeps.
+            end-kept (filter_map stays (heard item jobs)) (first ++ numbered_all (rows es0) (heard item jobs)) item
+            (subst (λ d. IsOnWay before at news item ready (length es0) d (rows (drop (length es0) es0)) earlier (first ++ numbered_all (rows es0) (heard item jobs)) (filter_map stays (heard item jobs))) (ap rows whole)
+            (walked.way jobs item for accepted rests keeps));
+        orders = λ jobs item for accepted rests keeps.
+            end-orders (filter_map stays (heard item jobs)) (first ++ numbered_all (rows es0) (heard item jobs)) item (walked.way jobs item for accepted rests keeps);
+        counted = walked.count ∙ ap (count_visited ready 0) whole;
+        visits = subst (λ xs. AreVisitedOnce ready 0 xs es) whole0 (subst (AreVisitedOnce ready 0 (take (length es0) es0)) whole walked.once);
+      } where
+        end-kept : (after : List Job) (all : List Order) (item : Job → Option Item) → IsOnWay before at news item ready (length es0) (rows es) (rows (drop (length es0) es0)) earlier all after → KeepsJobs at (rows es) after
+        end-kept after all item way = go way.rest (subst (λ t. KeepsJobs before (rows t) way.rest) (drop-whole es0) way.waits) way.leads where
+          go : (rest : List Job) → KeepsJobs before [] rest → way.past ++ filter_map stays (heard item rest) ≡ after → KeepsJobs at (rows es) after
+          go [] waits leads = subst (KeepsJobs at (rows es)) (sym (append-nil way.past) ∙ leads) way.kept
+          go (job ∷ rest) waits leads = absurd waits
+
+        end-orders : (after : List Job) (all : List Order) (item : Job → Option Item) → IsOnWay before at news item ready (length es0) (rows (take (length es0) es)) (rows (drop (length es0) es0)) earlier all after → earlier ≡ all
+        end-orders after all item way = go way.rest (rows (drop (length es0) es0)) (ap rows (drop-whole es0)) way.gives where
+          go : (rest : List Job) (todo : List Row) → todo ≡ [] → earlier ++ numbered_all todo (heard item rest) ≡ all → earlier ≡ all
+          go rest [] none gives = sym (append-nil earlier) ∙ gives
+          go rest (r ∷ rs) none gives = cc
+
+  pub walk-over : (es : List Entry) (front : ℕ) (earlier : List Order) (visited : ℕ) → AllStay es0 → length es ≡ length es0 → front ≤ length es0 → ((k : ℕ) → front ≤ k → is_spared ready k ≡ true) →
+      IsWalkedHere es front earlier visited → IsThrough es earlier visited
+  walk-over es front earlier visited stay long within spared walked =
+      walk-end es earlier visited long (subst (λ k. IsWalkedHere es k earlier visited) (omega (arith, within))
+      (skip-to es (length es0 - front) front earlier visited stay (omega (arith, within)) (λ k low high. spared k low) walked))

@@ -1,0 +1,55 @@
+-- What every job hears.
+use Rattle.std.specs.Prelude.{◌≡◌, List, [], ◌∷◌, Option, Some, None}
+use Rattle.history_model.specs.declared.Reading.{Reading}
+use Rattle.history_model.specs.declared.Refusal.{Refusal}
+use Rattle.history_model.specs.Items.{Item, History}
+use Rattle.history_model.specs.Clock.{now}
+use Rattle.history_model.specs.Refusals.{refusal_of}
+use Rattle.history_model.specs.Keeps.{Keeps}
+use Rattle.history_model.specs.Machine.{Job}
+use Rattle.job_table.specs.Tables.{Row}
+use Rattle.job_table.specs.Entries.{name}
+use Rattle.job_table.specs.News.{item_for}
+use Rattle.job_table.specs.declared.entry.Entry.{Entry}
+use Rattle.job_table.specs.declared.entry.News.{News}
+use Rattle.job_table.specs.declared.entry.News.TheVariants as news
+
+-- the past with the item, if there is one
+abbrev pub followed : Option Item → History → History
+followed None past = past
+followed (Some item) past = item ∷ past
+
+abbrev pub refusal_if : Option Item → History → Option Refusal
+refusal_if None past = None
+refusal_if (Some item) past = refusal_of item past
+
+-- an entry once its core has seen the item
+pub record IsHeard (at : Reading) (item : Option Item) (e new : Entry) : Type 0 where
+  pub name : name new ≡ name e
+  pub going : new.has_gone ≡ e.has_gone
+  pub decided : new.core.decided ≡ e.core.decided
+  pub kept : (past : History) → Keeps e.core.facts past → at ≡ now past →
+      refusal_if item past ≡ None → Keeps new.core.facts (followed item past)
+
+abbrev pub AreHeard : Reading → News → List Entry → List Entry → Type 0
+AreHeard at news [] [] = Unit {0}
+AreHeard at news [] (new ∷ rest) = ⊥
+AreHeard at news (e ∷ es) [] = ⊥
+AreHeard at news (e ∷ es) (new ∷ rest) =
+    IsHeard at (item_for news e.def) e new × AreHeard at news es rest
+
+-- the items that the news are for each job are these
+abbrev pub AreFor : News → (Job → Option Item) → List Row → List Job → Type 0
+AreFor news item [] jobs = Unit {0}
+AreFor news item (row ∷ rows) [] = Unit {0}
+AreFor news item (row ∷ rows) (job ∷ jobs) =
+    (item_for news row.described ≡ item job) × AreFor news item rows jobs
+
+-- no job refuses its item
+abbrev pub IsAccepted : Reading → (Job → Option Item) → Type 0
+IsAccepted at item = (job : Job) → at ≡ now job.past → refusal_if (item job) job.past ≡ None
+
+-- the reading once the news are heard
+abbrev pub present_with : News → Reading → Reading
+present_with (news.Reading at minutes) before = at
+present_with _ before = before

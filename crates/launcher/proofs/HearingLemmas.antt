@@ -1,0 +1,193 @@
+-- The turn of what happens, if the outside is first asked nothing.
+use Rattle.std.proofs.Common.{◌≡◌, ℕ, Bool, true, false, List, [], ◌∷◌, Option, Some, None, refl, sym, ap, subst, ◌∙◌}
+use Rattle.std.specs.Prelude.{Result, Ok, Err}
+use Rattle.history_model.specs.declared.Answer.{Answer}
+use Rattle.history_model.specs.declared.Answer.TheVariants as answers
+use Rattle.history_model.specs.declared.Refusal.{Refusal}
+use Rattle.history_model.specs.declared.Refusal.TheVariants.{NoMemory}
+use Rattle.history_model.specs.declared.event.Event as journal
+use Rattle.history_model.specs.declared.event.Setting.{Setting}
+use Rattle.history_model.specs.Labels.{Label}
+use Rattle.history_model.specs.Items.{Item}
+use Rattle.history_model.specs.Machine.{State, Event, OfJob}
+use Rattle.history_model.specs.Acceptance.{refusal_in}
+use Rattle.history_model.specs.Step.{outcome, step, step_by}
+use Rattle.history_model.specs.Texts.{text_after}
+use Rattle.job_table.specs.Tables.{Table, Name}
+use Rattle.job_table.specs.Kept.{KeepsState}
+use Rattle.job_table.specs.Outcomes.{UnlessMemory}
+use Rattle.order_edge.specs.Calls.{Entry}
+use Rattle.load_asking.specs.declared.asking.Outside.{Outside}
+use Rattle.load_asking.specs.Stores.{StoreCall}
+use Rattle.event_journal.specs.Journals.{Kept, Grows}
+use Rattle.event_journal.proofs.JournalsLemmas.{grows_nothing}
+use Rattle.ctl_protocol.specs.EventWriter.{event_line}
+use Rattle.launcher_turn.specs.declared.happening.Happening.{Happening}
+use Rattle.launcher_turn.specs.declared.happening.Happening.TheVariants as happenings
+use Rattle.launcher_turn.specs.declared.happening.News.{News}
+use Rattle.launcher_turn.specs.declared.happening.News.TheVariants as news
+use Rattle.launcher_turn.specs.Events as turns
+use Rattle.launcher_turn.specs.Events.{is_clock, item_heard}
+use Rattle.launcher_turn.specs.Lines.{journaled_by, journaled_of, journaled_answer}
+use Rattle.launcher_turn.specs.Turns.{IsLed, TurnsOf, Turns, IsUntouched}
+use Rattle.job_table.specs.Loads.{refused_with}
+use Rattle.launcher_load.specs.LoadTurns.{is_memory}
+use Rattle.table_opening.specs.Events.{event_of}
+use Rattle.launcher.specs.Inputs.{answered}
+use Rattle.launcher.specs.Hosts.{Standing, standing, AsksOutside, IsOwn, HostTurnOf, IsSpared, Hears}
+use Rattle.launcher.proofs.HostsLemmas.{no_call, no_store, hears, wordless, is_want}
+
+abbrev well : Outside
+well = record { bind = true; store = true }
+
+-- ---- the line tells the event that happened
+
+same_answer : (label : Label) (a : Answer) → answered well (journaled_answer label a) ≡ journaled_answer label a
+same_answer label (answers.Spawned run pid) = refl
+same_answer label (answers.SpawnRefused run) = refl
+same_answer label (answers.Termed run ok) = refl
+same_answer label (answers.Killed run ok) = refl
+
+same_news : (label : Label) (n : News) → answered well (journaled_of label n) ≡ journaled_of label n
+same_news label news.Start = refl
+same_news label news.Stop = refl
+same_news label (news.Kickstart kills_first) = refl
+same_news label (news.Came conn) = refl
+same_news label (news.Left conn) = refl
+same_news label (news.Ended run how) = refl
+same_news label (news.WaitRefused run) = refl
+same_news label (news.Answered a) = same_answer label a
+
+same_line : (what : Happening) → answered well (journaled_by what) ≡ journaled_by what
+same_line (happenings.Clock at) = refl
+same_line (happenings.Saw path obs) = refl
+same_line (happenings.ToJob label n) = same_news label.now n
+same_line (happenings.Unload label) = refl
+same_line happenings.Shutdown = refl
+
+answer_event : (label : Label) (a : Answer) → event_of (journaled_answer label a) ≡ OfJob label (item_heard (news.Answered a))
+answer_event label (answers.Spawned run pid) = refl
+answer_event label (answers.SpawnRefused run) = refl
+answer_event label (answers.Termed run ok) = refl
+answer_event label (answers.Killed run ok) = refl
+
+news_event : (label : Label) (n : News) → event_of (journaled_of label n) ≡ OfJob label (item_heard n)
+news_event label news.Start = refl
+news_event label news.Stop = refl
+news_event label (news.Kickstart kills_first) = refl
+news_event label (news.Came conn) = refl
+news_event label (news.Left conn) = refl
+news_event label (news.Ended run how) = refl
+news_event label (news.WaitRefused run) = refl
+news_event label (news.Answered a) = answer_event label a
+
+same_event : (what : Happening) → event_of (journaled_by what) ≡ turns.event_of what
+same_event (happenings.Clock at) = refl
+same_event (happenings.Saw path obs) = refl
+same_event (happenings.ToJob label n) = news_event label.now n
+same_event (happenings.Unload label) = refl
+same_event happenings.Shutdown = refl
+
+-- ---- nothing is asked for it
+
+module _ (s : State) (a : Option (List Entry)) (t : Option (List StoreCall)) where
+  asks_answer : (label : Label) (x : Answer) → AsksOutside s (journaled_answer label x) 0 well a a t t
+  asks_answer label (answers.Spawned run pid) = record { bind = refl; store = refl; tells = no_call a; stores = no_store t }
+  asks_answer label (answers.SpawnRefused run) = record { bind = refl; store = refl; tells = no_call a; stores = no_store t }
+  asks_answer label (answers.Termed run ok) = record { bind = refl; store = refl; tells = no_call a; stores = no_store t }
+  asks_answer label (answers.Killed run ok) = record { bind = refl; store = refl; tells = no_call a; stores = no_store t }
+
+  asks_news : (label : Label) (n : News) → AsksOutside s (journaled_of label n) 0 well a a t t
+  asks_news label news.Start = record { bind = refl; store = refl; tells = no_call a; stores = no_store t }
+  asks_news label news.Stop = record { bind = refl; store = refl; tells = no_call a; stores = no_store t }
+  asks_news label (news.Kickstart kills_first) = record { bind = refl; store = refl; tells = no_call a; stores = no_store t }
+  asks_news label (news.Came conn) = record { bind = refl; store = refl; tells = no_call a; stores = no_store t }
+  asks_news label (news.Left conn) = record { bind = refl; store = refl; tells = no_call a; stores = no_store t }
+  asks_news label (news.Ended run how) = record { bind = refl; store = refl; tells = no_call a; stores = no_store t }
+  asks_news label (news.WaitRefused run) = record { bind = refl; store = refl; tells = no_call a; stores = no_store t }
+  asks_news label (news.Answered x) = asks_answer label x
+
+  asks_none : (what : Happening) → AsksOutside s (journaled_by what) 0 well a a t t
+  asks_none (happenings.Clock at) = record { bind = refl; store = refl; tells = no_call a; stores = no_store t }
+  asks_none (happenings.Saw path obs) = record { bind = refl; store = refl; tells = no_call a; stores = no_store t }
+  asks_none (happenings.ToJob label n) = asks_news label.now n
+  asks_none (happenings.Unload label) = record { bind = refl; store = refl; tells = no_call a; stores = no_store t }
+  asks_none happenings.Shutdown = record { bind = refl; store = refl; tells = no_call a; stores = no_store t }
+
+own_answer : (label : Label) (x : Answer) (names : List Name) → IsOwn (journaled_answer label x) names 0
+own_answer label (answers.Spawned run pid) names = tt
+own_answer label (answers.SpawnRefused run) names = tt
+own_answer label (answers.Termed run ok) names = tt
+own_answer label (answers.Killed run ok) names = tt
+
+own_news : (label : Label) (n : News) (names : List Name) → IsOwn (journaled_of label n) names 0
+own_news label news.Start names = tt
+own_news label news.Stop names = tt
+own_news label (news.Kickstart kills_first) names = tt
+own_news label (news.Came conn) names = tt
+own_news label (news.Left conn) names = tt
+own_news label (news.Ended run how) names = tt
+own_news label (news.WaitRefused run) names = tt
+own_news label (news.Answered x) names = own_answer label x names
+
+own_none : (what : Happening) (names : List Name) → IsOwn (journaled_by what) names 0
+own_none (happenings.Clock at) names = tt
+own_none (happenings.Saw path obs) names = tt
+own_none (happenings.ToJob label n) names = own_news label.now n names
+own_none (happenings.Unload label) names = tt
+own_none happenings.Shutdown names = tt
+
+-- ---- what it does to words and settings
+
+quiet : (what : Happening) (t : State) → text_after (turns.event_of what) t ≡ []
+quiet (happenings.Clock at) t = refl
+quiet (happenings.Saw path obs) t = refl
+quiet (happenings.ToJob label n) t = refl
+quiet (happenings.Unload label) t = refl
+quiet happenings.Shutdown t = refl
+
+unset : (s : State) (what : Happening) → (step s (turns.event_of what)).settings ≡ s.settings
+unset s what = go what (refusal_in s (turns.event_of what)) where
+  go : (w : Happening) (o : Option Refusal) → (step_by o s (turns.event_of w)).settings ≡ s.settings
+  go w (Some refusal) = refl
+  go (happenings.Clock at) None = refl
+  go (happenings.Saw path obs) None = refl
+  go (happenings.ToJob label n) None = refl
+  go (happenings.Unload label) None = refl
+  go happenings.Shutdown None = refl
+
+-- ---- the turn
+
+unless : (P : Type 0) (answer : Result (Unit {0}) Refusal) → UnlessMemory answer P → is_memory (refused_with answer) ≡ false → P
+unless P (Ok done) holds other = holds
+unless P (Err NoMemory) holds other = cc
+unless P (Err _) holds other = holds
+
+pub happened : (what : Happening) (answer : Result (Unit {0}) Refusal) (old new : Table) (a c : Option (List Entry)) (t : Option (List StoreCall)) (k n : Kept) (before : List Setting → Type 0) →
+    UnlessMemory answer (Turns (turns.event_of what) (event_line (journaled_by what)) (refused_with answer) old new a c k n) →
+    (answer ≡ Err NoMemory → (is_clock what ≡ true) × IsUntouched old new a c × (n ≡ k)) →
+    Hears (Some (journaled_by what)) (refused_with answer) [] (standing old a t k) (standing new c t n) before before
+happened what answer old new a c t k n before turned none =
+    hears (journaled_by what) (refused_with answer) [] (standing old a t k) (standing new c t n) before before
+    (λ memory.
+    let left = none (is_want answer memory) in
+    record {
+      untouched = record { same = left.1.same; tells = left.1.tells; stores = no_store t };
+      silent = subst (λ (x : Kept). Grows k x []) (sym left.2) (grows_nothing k);
+      stored = λ s keeps holds. holds;
+    })
+    (λ other s led keeps.
+    let turn = (unless (Turns (turns.event_of what) (event_line (journaled_by what)) (refused_with answer) old new a c k n) answer turned other s led keeps).0 in
+    let event : event_of (answered well (journaled_by what)) ≡ turns.event_of what = ap event_of (same_line what) ∙ same_event what in
+    let told = subst (λ (e : Event). TurnsOf s e (event_line (answered well (journaled_by what))) (refused_with answer) new a c k n) (sym event)
+    (subst (λ (l : journal.Event). TurnsOf s (turns.event_of what) (event_line l) (refused_with answer) new a c k n) (sym (same_line what)) turn) in
+    record {
+      outside = well;
+      job = 0;
+      mid = a;
+      asks = asks_none s a t what;
+      turn = told;
+      own = λ accepted. own_none what told.names;
+      text = λ accepted. ap (λ (e : Event). (outcome s e).text) event ∙ wordless s (turns.event_of what) (quiet what) (turn.replies ∙ accepted);
+      stored = subst before (sym (ap (λ (e : Event). (step s e).settings) event ∙ unset s what));
+    })

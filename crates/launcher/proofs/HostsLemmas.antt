@@ -1,0 +1,134 @@
+-- What a launcher leaves that heard an input, by whether memory ran out.
+use Rattle.std.proofs.Common.{◌≡◌, ℕ, Bool, true, false, List, [], ◌∷◌, ◌++◌, Option, Some, None, refl, sym, ap, subst, ◌∙◌}
+use Rattle.std.specs.Prelude.{Result, Ok, Err, if◌then◌else◌}
+use Rattle.std.proofs.lemmas.List.{append-nil}
+use Rattle.history_model.specs.declared.Refusal.{Refusal}
+use Rattle.history_model.specs.declared.Refusal.TheVariants.{NoMemory, BadRequest}
+use Rattle.history_model.specs.declared.event.Event as journal
+use Rattle.history_model.specs.declared.event.Setting.{Setting}
+use Rattle.history_model.specs.Machine.{State, Event}
+use Rattle.history_model.specs.Acceptance.{refusal_in}
+use Rattle.history_model.specs.Step.{outcome, outcome_by, step}
+use Rattle.history_model.specs.Texts.{text_after}
+use Rattle.job_table.specs.Tables.{Table}
+use Rattle.job_table.specs.Kept.{KeepsState}
+use Rattle.child_edge.specs.Calls.{Tells}
+use Rattle.order_edge.specs.Calls.{Entry, answers_in}
+use Rattle.load_asking.specs.Stores.{StoreCall, AreTold}
+use Rattle.ctl_protocol.specs.EventWriter.{event_line}
+use Rattle.event_journal.specs.Journals.{Kept, Grows}
+use Rattle.event_journal.proofs.JournalsLemmas.{grows_append, grows_nothing}
+use Rattle.launcher_turn.specs.Turns.{IsLed}
+use Rattle.job_table.specs.Loads.{refused_with}
+use Rattle.launcher_turn.specs.Lines.{answer_texts}
+use Rattle.launcher_load.specs.LoadTurns.{is_memory, settings_after}
+use Rattle.launcher.specs.Inputs.{answered}
+use Rattle.launcher.specs.Hosts.{Standing, standing, HostTurnOf, IsSpared, HearsBy, Hears}
+
+-- ---- nothing asked
+
+pub no_call : (a : Option (List Entry)) → Tells a [] a
+no_call a = λ after is. (after, is, sym (append-nil after))
+
+pub no_store : (s : Option (List StoreCall)) → AreTold s [] s
+no_store s = λ after is. (after, is, sym (append-nil after))
+
+-- nothing changed at all
+pub spared : (old : Standing) (before : List Setting → Type 0) → IsSpared old old before before
+spared old before = record {
+  untouched = record { same = λ s keeps. keeps; tells = no_call old.calls; stores = no_store old.stores };
+  silent = grows_nothing old.journal;
+  stored = λ s keeps holds. holds;
+}
+
+-- ---- by whether memory ran out
+
+pub hears : (event : journal.Event) (refusal : Option Refusal) (words : List ℕ) (old new : Standing) (before after : List Setting → Type 0) →
+    (is_memory refusal ≡ true → IsSpared old new before after) →
+    (is_memory refusal ≡ false → (s : State) → IsLed s → KeepsState old.table s → HostTurnOf s event refusal words old new before after) →
+    Hears (Some event) refusal words old new before after
+hears event refusal words old new before after memory other = go (is_memory refusal) refl where
+  go : (b : Bool) → is_memory refusal ≡ b → HearsBy b (Some event) refusal words old new before after
+  go true is = memory is
+  go false is = other is
+
+-- the reply that was given
+pub as_replied : (event : Option journal.Event) (refusal found : Option Refusal) (words told : List ℕ) (old new : Standing) (before after : List Setting → Type 0) → refusal ≡ found → words ≡ told →
+    Hears event found told old new before after → Hears event refusal words old new before after
+as_replied event refusal found words told old new before after same_refusal same_words heard =
+    subst (λ (r : Option Refusal). Hears event r words old new before after) (sym same_refusal) (subst (λ (w : List ℕ). Hears event found w old new before after) (sym same_words) heard)
+
+-- a line that is no event
+pub unheard : (event : Option journal.Event) (refusal : Option Refusal) (words : List ℕ) (old : Standing) (before : List Setting → Type 0) →
+    refusal ≡ Some BadRequest → event ≡ None → Hears event refusal words old old before before
+unheard event refusal words old before is none =
+    subst (λ (r : Option Refusal). Hears event r words old old before before) (sym is)
+    (subst (λ (e : Option journal.Event). Hears e (Some BadRequest) words old old before before) (sym none) (refl, spared old before))
+
+-- a line that found no memory
+pub unread : (event : Option journal.Event) (refusal : Option Refusal) (words : List ℕ) (old : Standing) (before : List Setting → Type 0) → refusal ≡ Some NoMemory → Hears event refusal words old old before before
+unread event refusal words old before is = subst (λ (r : Option Refusal). Hears event r words old old before before) (sym is) (spared old before)
+
+-- ---- the flush
+
+line_flushed : (k m n : Kept) (line : List ℕ) → Grows k m line → Grows m n [] → Grows k n line
+line_flushed k m n line noted grew = subst (Grows k n) (append-nil line) (grows_append k m n line [] noted grew)
+
+spared_flushed : (old : Standing) (table : Table) (calls : Option (List Entry)) (stores : Option (List StoreCall)) (m n : Kept) (before after : List Setting → Type 0) →
+    IsSpared old (standing table calls stores m) before after → Grows m n [] → IsSpared old (standing table calls stores n) before after
+spared_flushed old table calls stores m n before after none grew = record {
+  untouched = none.untouched;
+  silent = grows_append old.journal m n [] [] none.silent grew;
+  stored = none.stored;
+}
+
+pub flushed : (event : Option journal.Event) (refusal : Option Refusal) (words : List ℕ) (old : Standing) (table : Table) (calls : Option (List Entry)) (stores : Option (List StoreCall)) (m n : Kept) (before after : List Setting → Type 0) →
+    Hears event refusal words old (standing table calls stores m) before after → Grows m n [] → Hears event refusal words old (standing table calls stores n) before after
+flushed event refusal words old table calls stores m n before after heard grew = go (is_memory refusal) event heard where
+  go : (b : Bool) (e : Option journal.Event) → HearsBy b e refusal words old (standing table calls stores m) before after → HearsBy b e refusal words old (standing table calls stores n) before after
+  go true e none = spared_flushed old table calls stores m n before after none grew
+  go false None (is, none) = (is, spared_flushed old table calls stores m n before after none grew)
+  go false (Some e) turned = λ s led keeps.
+      let turn = turned s led keeps in
+      record {
+        outside = turn.outside;
+        job = turn.job;
+        mid = turn.mid;
+        asks = turn.asks;
+        turn = record {
+          names = turn.turn.names;
+          entries = turn.turn.entries;
+          tells = turn.turn.tells;
+          turn = turn.turn.turn;
+          led = turn.turn.led;
+          replies = turn.turn.replies;
+          numbers = turn.turn.numbers;
+          noted = line_flushed old.journal m n (event_line (answered turn.outside e) ++ answer_texts turn.turn.names (answers_in turn.turn.entries)) turn.turn.noted grew;
+        };
+        own = turn.own;
+        text = turn.text;
+        stored = turn.stored;
+      }
+
+-- ---- the machine's words and settings
+
+-- an event whose acceptance has no words
+pub wordless : (s : State) (e : Event) → ((t : State) → text_after e t ≡ []) → (outcome s e).refusal ≡ None → (outcome s e).text ≡ []
+wordless s e quiet none = go (refusal_in s e) none where
+  go : (o : Option Refusal) → (outcome_by o s e).refusal ≡ None → (outcome_by o s e).text ≡ []
+  go None is = quiet _
+  go (Some refusal) is = cc
+
+-- want of memory is told as such
+pub is_want : {A : Type 0} (answer : Result A Refusal) → is_memory (refused_with answer) ≡ true → answer ≡ Err NoMemory
+is_want (Ok a) is = cc
+is_want (Err NoMemory) is = refl
+is_want (Err _) is = cc
+
+-- the settings after an event that found its memory
+pub settled : (P : List Setting → Type 0) (refusal : Option Refusal) (s : State) (e : Event) → is_memory refusal ≡ false → P (settings_after refusal s e) → P (step s e).settings
+settled P refusal s e other holds = subst P (ap (λ (b : Bool). if b then s.settings else (step s e).settings) other) holds
+
+-- and after one that did not
+pub unsettled : (P : List Setting → Type 0) (refusal : Option Refusal) (s : State) (e : Event) → is_memory refusal ≡ true → P (settings_after refusal s e) → P s.settings
+unsettled P refusal s e memory holds = subst P (ap (λ (b : Bool). if b then s.settings else (step s e).settings) memory) holds

@@ -1,0 +1,152 @@
+-- What a load leaves, from its parts.
+use Rattle.std.proofs.Common.{◌≡◌, ℕ, ◌≤◌, Bool, true, false, not, ◌&&◌, List, [], length, Option, Some, None, refl, sym, ap, subst, ◌∙◌, arith}
+use Rattle.std.specs.Prelude.{Ok, is_some, nat_lt, nat_le, if◌then◌else◌}
+use Rattle.std.specs.List.{list_any}
+use Rattle.std.proofs.lemmas.List.{append-nil}
+use Rattle.std.proofs.lemmas.Bool.Decides.{nat_tests}
+use Rattle.history_model.specs.declared.Refusal.{Refusal}
+use Rattle.history_model.specs.declared.Refusal.TheVariants.{NoMemory, SocketRefused, StoreRefused}
+use Rattle.history_model.specs.Labels.{is_label, is_forbidden}
+use Rattle.history_model.specs.Machine.{State, Event, Load}
+use Rattle.history_model.specs.Acceptance.{refusal_in, refusal_stored, refused_if}
+use Rattle.history_model.specs.Step.{outcome, outcome_by, step, step_by, set_if}
+use Rattle.history_model.specs.Texts.{load_text}
+use Rattle.job_defs.specs.Described.{Described}
+use Rattle.job_defs.specs.Definitions.{given, has_sockets}
+use Rattle.job_defs.specs.Keys.{def_of}
+use Rattle.job_table.specs.Tables.{Table}
+use Rattle.job_table.specs.Kept.{KeepsState}
+use Rattle.job_table.specs.Loads.{IsAdmitted, load_of, given_in, refusal_outside, described_in, number_in, setting_in}
+use Rattle.job_table.specs.Outcomes.{IsSameFor, Means}
+use Rattle.job_table.specs.declared.loading.Ready.{Ready}
+use Rattle.child_edge.specs.Calls.{Tells}
+use Rattle.order_edge.specs.Calls.{Entry}
+use Rattle.load_asking.specs.declared.asking.Outside.{Outside}
+use Rattle.load_asking.specs.Asking.{Asks}
+use Rattle.load_asking.specs.Stores.{StoreCall, AreTold}
+use Rattle.event_journal.specs.Journals.{Kept, Grows}
+use Rattle.launcher_turn.specs.Turns.{IsLed, TurnsOf}
+use Rattle.launcher_turn.proofs.StoredSettingsLemmas.{load_settings}
+use Rattle.launcher_load.specs.Lines.{load_line}
+use Rattle.launcher_load.specs.LoadTurns.{AsksFor, EndsLoad, LoadTurnOf, Makes, is_memory, settings_after}
+
+pub clash : {P : Type 0} (o : Option Refusal) (r : Refusal) → o ≡ None → o ≡ Some r → P
+clash {P} o r none some = let no : None ≡ Some r = sym none ∙ some in cc
+
+pub label-short : (bytes : List ℕ) → is_label bytes ≡ true → length bytes ≤ 255
+label-short bytes e = go (nat_lt 0 (length bytes)) (nat_le (length bytes) 255) refl (list_any is_forbidden bytes) e where
+  go : (a b : Bool) → nat_le (length bytes) 255 ≡ b → (c : Bool) → (a && b && not c) ≡ true → length bytes ≤ 255
+  go true true is c e = grind (arith, nat_tests, is)
+  go true false is c e = cc
+  go false b is c e = cc
+
+-- ---- refusals
+
+-- what the table says of a refusal other than want of memory
+pub told_unless : (r : Refusal) (P : Type 0) → Means r P → is_memory (Some r) ≡ false → P
+told_unless NoMemory P h other = cc
+told_unless _ P h other = h
+
+-- nothing is refused if the outside answers well
+pub well_answered : (d : Described) (writes_setting : Bool) → refusal_outside d writes_setting true true ≡ None
+well_answered d writes_setting = go (has_sockets d) writes_setting where
+  go : (h v : Bool) → refused_if (h && not true) SocketRefused (refusal_stored v true) ≡ None
+  go true true = refl
+  go true false = refl
+  go false true = refl
+  go false false = refl
+
+-- the outside doesn't answer that memory ran out
+pub not_memory : (d : Described) (writes_setting bind store : Bool) → is_memory (refusal_outside d writes_setting bind store) ≡ false
+not_memory d writes_setting bind store = go (has_sockets d && not bind) (writes_setting && not store) where
+  go : (p q : Bool) → is_memory (refused_if p SocketRefused (refused_if q StoreRefused None)) ≡ false
+  go true q = refl
+  go false true = refl
+  go false false = refl
+
+-- ---- turns
+
+none_told : (a : Option (List Entry)) → Tells a [] a
+none_told a = λ after is. (after, is, sym (append-nil after))
+
+pub no_store_told : (s : Option (List StoreCall)) → AreTold s [] s
+no_store_told s = λ after is. (after, is, sym (append-nil after))
+
+-- an event that is refused is the whole turn
+pub nothing_done : (s : State) (e : Event) (line : List ℕ) (new : Table) (r : Refusal) (a : Option (List Entry)) (k n : Kept) → refusal_in s e ≡ Some r → Grows k n line → KeepsState new s → IsLed s →
+    TurnsOf s e line (Some r) new a a k n
+nothing_done s e line new r a k n is noted keeps led = record {
+  names = [];
+  entries = [];
+  tells = none_told a;
+  turn = record {
+    orders = [];
+    calls = refl;
+    by_label = sym (append-nil (outcome s e).orders ∙ ap (λ o. (outcome_by o s e).orders) is);
+    kept = subst (λ o. KeepsState new (step_by o s e)) (sym is) keeps;
+  };
+  led = subst (λ o. IsLed (step_by o s e)) (sym is) led;
+  replies = ap (λ o. (outcome_by o s e).refusal) is;
+  numbers = λ none. let no : Some r ≡ None = none in cc;
+  noted = subst (Grows k n) (sym (append-nil line)) noted;
+}
+
+-- a load that was refused before the outside was asked
+pub never_called : (s : State) (bytes : List ℕ) (writes_setting force : Bool) (r : Refusal) (new : Table) (a : Option (List Entry)) (t : Option (List StoreCall)) (k n : Kept) →
+    ((bind store : Bool) → refusal_in s (load_of bytes writes_setting force bind store) ≡ Some r) → Grows k n (load_line bytes writes_setting force (record { bind = true; store = true })) → KeepsState new s → IsLed s →
+    LoadTurnOf s bytes writes_setting force (record { bind = true; store = true }) (Some r) new a a t t k n
+never_called s bytes writes_setting force r new a t k n is noted keeps led = record {
+  job = 0;
+  mid = a;
+  asks = subst (λ o. AsksFor o (def_of bytes) 0 writes_setting s.reading.wall (record { bind = true; store = true }) a a t t) (sym (is true true))
+      (record { bind = refl; store = refl; tells = none_told a; stores = no_store_told t });
+  turn = nothing_done s (load_of bytes writes_setting force true true) (load_line bytes writes_setting force (record { bind = true; store = true })) new r a k n (is true true) noted keeps led;
+  own = λ none. let no : Some r ≡ None = none in cc;
+}
+
+module _ (s : State) (bytes : List ℕ) (writes_setting force : Bool) (outside : Outside) (old mid new : Table) (ready : Ready) (a c : Option (List Entry)) (t u : Option (List StoreCall)) (k n : Kept)
+    (admitted : IsAdmitted old bytes writes_setting force (described_in ready)) (setting : is_some (setting_in ready) ≡ writes_setting) (same : IsSameFor old mid) (led : IsLed s) (keeps : KeepsState old s) where
+  as_read : Load (Ok (given (described_in ready))) (is_some (setting_in ready)) force outside.bind outside.store ≡ load_of bytes writes_setting force outside.bind outside.store
+  as_read = λ i. Load (given_in (sym admitted.read i)) (setting i) force outside.bind outside.store
+
+  asks_for : (middle : Option (List Entry)) → Asks (number_in ready) (described_in ready) writes_setting mid.reading.wall outside a middle t u →
+      AsksFor (refusal_in s (load_of bytes writes_setting force true true)) (def_of bytes) (number_in ready) writes_setting s.reading.wall outside a middle t u
+  asks_for middle asks =
+      subst (λ o. AsksFor o (def_of bytes) (number_in ready) writes_setting s.reading.wall outside a middle t u) (sym (admitted.remains s true true keeps ∙ well_answered (described_in ready) writes_setting))
+      (subst (λ d. AsksFor None d (number_in ready) writes_setting s.reading.wall outside a middle t u) (sym admitted.read)
+      (subst (λ n. Asks (number_in ready) (described_in ready) writes_setting n outside a middle t u) (ap (λ r. r.wall) (same s keeps).reading) asks))
+
+  -- a load that the outside was asked about
+  pub load_ended : (refusal : Option Refusal) → EndsLoad ready writes_setting mid.reading.wall outside refusal (load_line bytes writes_setting force outside) mid new a c t u k n →
+      LoadTurnOf s bytes writes_setting force outside refusal new a c t u k n
+  load_ended None ends =
+      let none : refusal_in s (load_of bytes writes_setting force outside.bind outside.store) ≡ None = admitted.remains s outside.bind outside.store keeps ∙ sym ends.answer in
+      let first = ends.made refl s force outside.bind outside.store led (same s keeps) (ap (refusal_in s) as_read ∙ none) in
+      let made = subst (λ (x : Event). Makes s x (load_line bytes writes_setting force outside) (number_in ready) (described_in ready) new ends.mid c k n) as_read first in
+      record {
+        job = number_in ready;
+        mid = ends.mid;
+        asks = asks_for ends.mid ends.asks;
+        turn = made.turn;
+        own = λ is d read. let both : Ok (described_in ready) ≡ Ok d = sym admitted.read ∙ read in made.own ∙ (cc);
+      }
+  load_ended (Some r) ends =
+      let refused : refusal_in s (load_of bytes writes_setting force outside.bind outside.store) ≡ Some r = admitted.remains s outside.bind outside.store keeps ∙ sym ends.answer in
+      let remains = ends.refused r refl in
+      record {
+        job = number_in ready;
+        mid = ends.mid;
+        asks = asks_for ends.mid ends.asks;
+        turn = subst (λ x. TurnsOf s (load_of bytes writes_setting force outside.bind outside.store) (load_line bytes writes_setting force outside) (Some r) new ends.mid x k n) (sym remains.1)
+            (nothing_done s (load_of bytes writes_setting force outside.bind outside.store) (load_line bytes writes_setting force outside) new r ends.mid k n refused remains.2 (subst (λ x. KeepsState x s) (sym remains.0) (same s keeps)) led);
+        own = λ none. let no : Some r ≡ None = none in cc;
+      }
+
+-- what the machine then sets is what was stored
+pub load_sets : (s : State) (bytes : List ℕ) (writes_setting force : Bool) (outside : Outside) (old : Table) (d : Described) (refusal : Option Refusal) → IsAdmitted old bytes writes_setting force d → KeepsState old s →
+    refusal ≡ refusal_outside d writes_setting outside.bind outside.store → (has_sockets d ≡ false → outside.bind ≡ true) → ((writes_setting && outside.bind) ≡ false → outside.store ≡ true) →
+    settings_after refusal s (load_of bytes writes_setting force outside.bind outside.store) ≡ set_if (writes_setting && (outside.bind && outside.store)) d.label false s.settings
+load_sets s bytes writes_setting force outside old d refusal admitted keeps answer unbound unstored =
+    let e = load_of bytes writes_setting force outside.bind outside.store in
+    ap (λ b. if b then s.settings else (step s e).settings) (ap is_memory answer ∙ not_memory d writes_setting outside.bind outside.store)
+    ∙ load_settings s bytes d writes_setting force outside.bind outside.store admitted.read (admitted.remains s outside.bind outside.store keeps) unbound unstored

@@ -1,0 +1,60 @@
+-- What a setting of a label leaves, from its parts.
+use Rattle.std.proofs.Common.{◌≡◌, ℕ, Bool, true, false, not, ◌||◌, List, [], ◌∷◌, Option, Some, None, refl, sym, ap, subst, ◌∙◌}
+use Rattle.history_model.specs.declared.Refusal.{Refusal}
+use Rattle.history_model.specs.declared.Refusal.TheVariants.{BadRequest}
+use Rattle.history_model.specs.declared.Ask.TheVariants.{Unload}
+use Rattle.history_model.specs.Items.{Asked}
+use Rattle.history_model.specs.Search.{or_else}
+use Rattle.history_model.specs.Labels.{Label, is_label}
+use Rattle.history_model.specs.Machine.{State, past_of}
+use Rattle.history_model.specs.Acceptance.{refusal_in, refusal_at, refusal_stored, refused_if}
+use Rattle.history_model.specs.Step.{step, step_by, set_if}
+use Rattle.job_table.specs.Changes.{set_of}
+use Rattle.job_table.specs.Tables.{Table}
+use Rattle.job_table.specs.Kept.{KeepsState}
+use Rattle.order_edge.specs.Calls.{Entry}
+use Rattle.load_asking.specs.Stores.{StoreCall, AreTold}
+use Rattle.event_journal.specs.Journals.{Kept, Grows}
+use Rattle.launcher_turn.specs.Turns.{IsLed, IsShort}
+use Rattle.launcher_load.specs.Lines.{set_line}
+use Rattle.launcher_load.specs.LoadTurns.{AsksStore, SetTurnOf}
+use Rattle.launcher_load.proofs.LoadTurnsLemmas.{no_store_told, nothing_done}
+
+-- a setting names no label that comes
+pub short_set : (label : Label) (disabled unload store : Bool) → IsShort (set_of label disabled unload store)
+short_set label disabled true store = tt
+short_set label disabled false store = tt
+
+-- an unload disables, whatever else was said
+pub same_set : (label : Label) (disabled unload store : Bool) → set_of label (disabled || unload) unload store ≡ set_of label disabled unload store
+same_set label true true store = refl
+same_set label false true store = refl
+same_set label true false store = refl
+same_set label false false store = refl
+
+-- so the event of the setting that was made ready is the one that was asked for
+pub event_set : (ready_label label : Label) (said disabled gone unload store : Bool) → ready_label ≡ label → said ≡ (disabled || unload) → gone ≡ unload → set_of ready_label said gone store ≡ set_of label disabled unload store
+event_set ready_label label said disabled gone unload store same_label same_said same_gone = (λ i. set_of (same_label i) (same_said i) (same_gone i) store) ∙ same_set label disabled unload store
+
+-- what is no label gets no setting
+pub bad_label : (s : State) (label : Label) (disabled unload store : Bool) → is_label label ≡ false → refusal_in s (set_of label disabled unload store) ≡ Some BadRequest
+bad_label s label disabled true store is = ap (λ b. refused_if (not b) BadRequest (or_else (refusal_at (past_of s label) (Asked Unload)) (refusal_stored true store))) is
+bad_label s label disabled false store is = ap (λ b. refused_if (not b) BadRequest (refusal_stored true store)) is
+
+-- a setting that was refused before the store was asked
+pub never_set : (s : State) (label : Label) (disabled unload : Bool) (r : Refusal) (new : Table) (a : Option (List Entry)) (t : Option (List StoreCall)) (k n : Kept) →
+    ((store : Bool) → refusal_in s (set_of label disabled unload store) ≡ Some r) → Grows k n (set_line label disabled unload true) → KeepsState new s → IsLed s →
+    SetTurnOf s label disabled unload true (Some r) new a a t t k n
+never_set s label disabled unload r new a t k n is noted keeps led = record {
+  asks = subst (λ o. AsksStore o label (disabled || unload) s.reading.wall true t t) (sym (is true)) (refl, no_store_told t);
+  turn = nothing_done s (set_of label disabled unload true) (set_line label disabled unload true) new r a k n (is true) noted keeps led;
+}
+
+-- the store was asked once, in the reading's second
+pub set_calls : (s : State) (label : Label) (disabled unload said kept : Bool) (wall : ℕ) (t u : Option (List StoreCall)) → refusal_in s (set_of label disabled unload true) ≡ None → said ≡ (disabled || unload) →
+    wall ≡ s.reading.wall → AreTold t (record { label = label; disabled = said; changed = wall; stored = kept } ∷ []) u →
+    AsksStore (refusal_in s (set_of label disabled unload true)) label (disabled || unload) s.reading.wall kept t u
+set_calls s label disabled unload said kept wall t u none same_said same_wall told =
+    subst (λ o. AsksStore o label (disabled || unload) s.reading.wall kept t u) (sym none)
+    (subst (λ b. AreTold t (record { label = label; disabled = b; changed = s.reading.wall; stored = kept } ∷ []) u) same_said
+    (subst (λ n. AreTold t (record { label = label; disabled = said; changed = n; stored = kept } ∷ []) u) same_wall told))

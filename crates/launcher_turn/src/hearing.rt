@@ -1,0 +1,43 @@
+//! Tells the table what happens, and carries out what it orders.
+
+ghost use Rattle.std.specs.Prelude.{◌≡◌, Err, true};
+ghost use Rattle.history_model.specs.declared.Refusal.TheVariants.{NoMemory};
+ghost use Rattle.job_table.specs.Outcomes.{UnlessMemory};
+ghost use Rattle.launcher_turn.specs.Events.{event_of, is_clock};
+ghost use Rattle.launcher_turn.specs.Turns.{Happens, IsUntouched};
+ghost use Rattle.job_table.specs.Loads.{refused_with};
+
+use crate::carrying::carry_step;
+use crate::happening::{Happening, job_event};
+use crate::room::AnswerQueue;
+use child_edge::{ChildEdge, SocketEdge};
+use history_model::Refusal;
+use job_table::JobTable;
+use std::alloc::Global;
+
+/// Tells the table what happens, and carries out what it orders. NoMemory only to a reading of the clocks, before anything was
+/// carried out.
+pub(crate) fn hear<E: ChildEdge + SocketEdge>(
+    table: &mut JobTable,
+    edge: &mut E,
+    alloc: Global,
+    what: Happening<'_>,
+    answers: &mut AnswerQueue,
+) -> Result<(), Refusal>
+    ensures happens { UnlessMemory result
+        (Happens (event_of what.entry) (refused_with result) table.old table.new
+        answers.old answers.new (E.told edge.old) (E.told edge.new)) }
+    ensures memory { result ≡ Err NoMemory →
+        (is_clock what.entry ≡ true) × IsUntouched table.old table.new
+        (E.told edge.old) (E.told edge.new) }
+{
+    match what {
+        Happening::Clock(at) => carry_step(edge, table.clock(alloc, at), answers),
+        Happening::Saw(path, obs) => carry_step(edge, table.saw(path, obs), answers),
+        Happening::ToJob(label, news) => {
+            carry_step(edge, table.hear(label, job_event(news)), answers)
+        }
+        Happening::Unload(label) => carry_step(edge, table.unload(label), answers),
+        Happening::Shutdown => carry_step(edge, table.shutdown(), answers),
+    }
+}

@@ -1,0 +1,63 @@
+-- The least of all moments is reached if some moment is, and a minute is crossed if the number of whole minutes rises.
+use Rattle.std.proofs.Common.{◌≡◌, ℕ, zero, suc, ◌+◌, ◌-◌, ◌*◌, ◌/◌, ◌==◌, ◌<◌, ◌≤◌, Bool, true, false, ◌||◌, Option, Some, None, List, [], ◌∷◌, refl, sym, ap, ◌∙◌, arith}
+use Rattle.std.specs.Prelude.{max, nat_le, nat_lt}
+use Rattle.std.proofs.lemmas.Bool.{eqb-true}
+use Rattle.std.proofs.lemmas.Bool.Decides.{nat_tests}
+use Rattle.std.specs.Option.{ForSome}
+use Rattle.std.specs.List.{list_any, AllByRecursion}
+use Rattle.history_model.specs.Moments.{next_moment}
+use Rattle.history_model.specs.Machine.{Job}
+use Rattle.history_model.specs.Calendar.{minutes_above, last_before, crossed}
+use Rattle.job_table.specs.Moments.{is_moment, IsNextUp}
+use Rattle.round_findings.specs.Quiet.{is_reached, is_minute_crossed}
+
+or-in : (a b : Bool) → b ≡ true → (a || b) ≡ true
+or-in true b e = refl
+or-in false b e = e
+
+module _ (up : ℕ) where
+  abbrev are_reached : List Job → Bool
+  are_reached jobs = list_any (λ job. is_reached up (next_moment job.past)) jobs
+
+  none : (jobs : List Job) → AllByRecursion (λ job. next_moment job.past ≡ None) jobs → are_reached jobs ≡ false
+  none [] all = refl
+  none (job ∷ jobs) (is, all) = ap (λ o. is_reached up o || are_reached jobs) is ∙ none jobs all
+
+  some : (m : ℕ) (jobs : List Job) → nat_le m up ≡ true → list_any (λ job. is_moment m (next_moment job.past)) jobs ≡ true → are_reached jobs ≡ true
+  some m [] less e = cc
+  some m (job ∷ jobs) less e = go (next_moment job.past) (some m jobs less) e where
+    at : (n : ℕ) (b : Bool) → (n == m) ≡ b → (list_any (λ j. is_moment m (next_moment j.past)) jobs ≡ true → are_reached jobs ≡ true) →
+        (b || list_any (λ j. is_moment m (next_moment j.past)) jobs) ≡ true → (nat_le n up || are_reached jobs) ≡ true
+    at n true is later e = ap (λ k. nat_le k up || are_reached jobs) (eqb-true n m is) ∙ ap (λ b. b || are_reached jobs) less
+    at n false is later e = or-in (nat_le n up) (are_reached jobs) (later e)
+
+    go : (o : Option ℕ) → (list_any (λ j. is_moment m (next_moment j.past)) jobs ≡ true → are_reached jobs ≡ true) →
+        (is_moment m o || list_any (λ j. is_moment m (next_moment j.past)) jobs) ≡ true → (is_reached up o || are_reached jobs) ≡ true
+    go None later e = later e
+    go (Some n) later e = at n (n == m) refl later e
+
+  late : (m : ℕ) (jobs : List Job) → nat_le m up ≡ false → AllByRecursion (λ job. ForSome (next_moment job.past) (λ n. m ≤ n)) jobs → are_reached jobs ≡ false
+  late m [] less all = refl
+  late m (job ∷ jobs) less (far, all) = go (late m jobs less all) (next_moment job.past) far where
+    go : are_reached jobs ≡ false → (o : Option ℕ) → ForSome o (λ n. m ≤ n) → (is_reached up o || are_reached jobs) ≡ false
+    go rest None far = rest
+    go rest (Some n) far =
+        let above : m ≤ n = far n refl in
+        let apart : nat_le n up ≡ false = grind (arith, nat_tests, less, above) in
+        ap (λ b. b || are_reached jobs) apart ∙ rest
+
+  pub reached : (moment : Option ℕ) (jobs : List Job) → IsNextUp jobs moment → is_reached up moment ≡ list_any (λ job. is_reached up (next_moment job.past)) jobs
+  reached None jobs all = sym (none jobs all)
+  reached (Some m) jobs (there, all) = go (nat_le m up) refl where
+    go : (b : Bool) → nat_le m up ≡ b → nat_le m up ≡ are_reached jobs
+    go true is = is ∙ sym (some m jobs is there)
+    go false is = is ∙ sym (late m jobs is all)
+
+some-above : (k n : ℕ) → nat_lt 0 n ≡ list_any (λ minute. true) (minutes_above k n)
+some-above k zero = refl
+some-above k (suc n) = grind (arith, nat_tests)
+
+pub minute-crossed : (before wall : ℕ) → nat_lt (before / 60) (wall / 60) ≡ is_minute_crossed before wall
+minute-crossed before wall =
+    let same : nat_lt (before / 60) (wall / 60) ≡ nat_lt 0 (wall / 60 - last_before before wall) = grind (arith, nat_tests) in
+    same ∙ some-above (last_before before wall) (wall / 60 - last_before before wall)
