@@ -1,6 +1,5 @@
 -- The date and the time that jiff gives for a second are the civil minute that a clock shows then.
-use Rattle.std.proofs.Common.{◌≡◌, ℕ, zero, suc, ◌+◌, ◌-◌, ◌%◌, ◌<◌, ◌≤◌, ℤ, pos, ◌-ℤ◌, ◌≤ℤ◌, negsuc, refl, ap, ◌∙◌, arith, inl, inr, unsigned_abs}
-use Rattle.std.proofs.Common.{w8, to_z, of_z}
+use Rattle.std.proofs.Common.{◌≡◌, ℕ, zero, suc, ◌+◌, ◌-◌, ◌%◌, ◌<◌, ◌≤◌, ℤ, pos, ◌-ℤ◌, ◌≤ℤ◌, negsuc, refl, ap, ◌∙◌, arith, inl, inr, unsigned_abs, w8, to_z, of_z}
 use Rattle.jiff_core.proofs.SignedLemmas.{back_small}
 use Rattle.std.proofs.lemmas.Bool.Decides.{leb_tells}
 use Rattle.std.specs.Int.{int_div_euclid, int_rem_euclid}

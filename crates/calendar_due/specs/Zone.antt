@@ -9,6 +9,7 @@ use Rattle.jiff_tz.specs.declared.posix.TimeZone.{TimeZone as Rule}
 use Rattle.jiff_tz.specs.declared.tzif.Tzif.{Tzif as Table}
 use Rattle.jiff_core.specs.declared.error.TzifFault.{TzifFault}
 use Rattle.calendar_due.specs.Offsets.{Offsets, nanos_at}
+use Rattle.calendar_due.specs.declared.zone.TheConstants.{LONGEST_FILE}
 
 -- the offsets of a POSIX rule
 abbrev pub offsets_of_rule : Rule → Offsets
@@ -39,4 +40,4 @@ pub record IsUnreadable (bytes : List ℕ) : Type 0 where
 -- a zone file that is refused: it is too long, no zone file, or its footer does not agree with its
 -- last row
 abbrev pub IsBadFile : List ℕ → Type 0
-IsBadFile bytes = (65_536 < length bytes) ⊎ (IsUnreadable bytes ⊎ HasBadRule (read_tzif bytes))
+IsBadFile bytes = (LONGEST_FILE < length bytes) ⊎ (IsUnreadable bytes ⊎ HasBadRule (read_tzif bytes))

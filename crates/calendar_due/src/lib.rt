@@ -7,4 +7,4 @@ pub mod laws;
 mod zone;
 
 pub use calendar::Calendar;
-pub use zone::{Zone, ZoneFault};
+pub use zone::{LONGEST_FILE, Zone, ZoneFault};

@@ -11,6 +11,7 @@ ghost use Rattle.calendar_due.specs.Minute.{shown_minute};
 ghost use Rattle.calendar_due.specs.Offsets.{always, clock_seconds};
 ghost use Rattle.calendar_due.specs.Rules.{offsets, minute_at};
 ghost use Rattle.calendar_due.specs.Zone.{IsOfRule, IsOfTable, IsUnreadable, IsBadFile};
+ghost use Rattle.calendar_due.specs.declared.zone.TheConstants.{LONGEST_FILE};
 
 use history_model::{CivilMinute, MAX_WALL};
 use jiff::civil::DateTime;
@@ -40,7 +41,8 @@ pub enum ZoneFault {
     BadZone,
 }
 
-const LONGEST_FILE: usize = 65_536;
+/// The longest zone file, in bytes.
+pub const LONGEST_FILE: usize = 65_536;
 
 const DAYS_400: u64 = 34_560_000;
 
@@ -81,7 +83,7 @@ impl Zone {
     /// The zone of the bytes of a zone file (RFC 9636). BadZone past 65,536 bytes, if the bytes are no zone file, and
     /// if the file's footer does not agree with its last row. NoMemory if the table found no room.
     pub fn tzif(alloc: Global, bytes: &[u8]) -> Result<Zone, ZoneFault>
-        ensures long { 65_536 < length bytes.now → result ≡ Err ZoneFault.BadZone }
+        ensures long { LONGEST_FILE < length bytes.now → result ≡ Err ZoneFault.BadZone }
         ensures unreadable { IsUnreadable bytes.now → result ≡ Err ZoneFault.BadZone }
         ensures bad_rule { HasBadRule (read_tzif bytes.now) → IsErr result }
         ensures bad { result ≡ Err ZoneFault.BadZone → IsBadFile bytes.now }

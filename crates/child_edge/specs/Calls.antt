@@ -1,5 +1,5 @@
 -- What an edge tells: the calls that were made of it, oldest first, each with its answer.
-use Rattle.std.specs.Prelude.{◌≡◌, ℕ, ◌+◌, ◌%◌, ◌^◌, List, [], ◌∷◌, ◌++◌, Option, Some, None, Result, Ok, Err}
+use Rattle.std.specs.Prelude.{◌≡◌, ℕ, ◌+◌, ◌%◌, ◌^◌, List, [], ◌∷◌, ◌++◌, Option, Some, None, Result, Ok, Err, Bool, true, false}
 use Rattle.history_model.specs.declared.Ended.{Ended}
 use Rattle.history_model.specs.declared.Obs.{Obs}
 use Rattle.history_model.specs.declared.Reading.{Reading}
@@ -27,6 +27,17 @@ TellsOne old entry new = Tells old (entry ∷ []) new
 -- the count of failures after one more; after the greatest u64 comes 0
 abbrev pub one_more : ℕ → ℕ
 one_more n = (n + 1) % 2 ^ 64
+
+-- the edge did what it was called for
+abbrev pub is_done : Scripted → Bool
+is_done Done = true
+is_done (Started pid) = false
+is_done Running = false
+is_done (Over ended) = false
+is_done (Seen seen) = false
+is_done (At reading) = false
+is_done Refused = false
+is_done NoMemory = false
 
 -- the answer that a fault is
 abbrev pub fault_answer : EdgeFault → Scripted

@@ -4,14 +4,14 @@ use Rattle.child_edge.specs.declared.plain.EdgeCall.{EdgeCall}
 use Rattle.child_edge.specs.declared.plain.EdgeCall.TheVariants.{Start, Term, Kill, Poll, Bind, Close, Release, Look, Clock}
 use Rattle.child_edge.specs.declared.plain.Scripted.{Scripted}
 use Rattle.child_edge.specs.declared.plain.Scripted.TheVariants.{Started, Done, Running, Over, Seen, At, Refused, NoMemory}
-use Rattle.child_edge.specs.Calls.{one_more}
+use Rattle.child_edge.specs.Calls.{one_more, is_done, Entry}
 
 -- The script, how many of its answers were given, the calls with their answers, how many of them
 -- there is room for, whether all calls that were made are among them, and the count of failures.
 pub record Memory : Type 0 where
   pub script : List Scripted
   pub used : ℕ
-  pub calls : List (EdgeCall × Scripted)
+  pub calls : List Entry
   pub room : ℕ
   pub is_telling : Bool
   pub failures : ℕ
@@ -28,7 +28,7 @@ uncalled script room = record {
 }
 
 -- what the edge tells
-abbrev pub calls_told : Memory → Option (List (EdgeCall × Scripted))
+abbrev pub calls_told : Memory → Option (List Entry)
 calls_told m = if m.is_telling then Some m.calls else None
 
 -- a further call can be listed
@@ -56,17 +56,6 @@ is_start (Seen seen) = false
 is_start (At reading) = false
 is_start Refused = false
 is_start NoMemory = false
-
--- to what is done or not
-abbrev pub is_done : Scripted → Bool
-is_done Done = true
-is_done (Started pid) = false
-is_done Running = false
-is_done (Over ended) = false
-is_done (Seen seen) = false
-is_done (At reading) = false
-is_done Refused = false
-is_done NoMemory = false
 
 -- to a look
 abbrev pub is_seen : Scripted → Bool

@@ -1,8 +1,7 @@
 -- Paths with what was seen there last, and what a past says of them.
-use Rattle.std.proofs.Common.{◌≡◌, ℕ, Bool, ◌||◌, Option, Some, None, List, [], ◌∷◌, map, refl, ap}
+use Rattle.std.proofs.Common.{◌≡◌, ℕ, Bool, ◌||◌, None, List, [], ◌∷◌, map, refl, ap}
 use Rattle.std.specs.List.{list_any}
 use Rattle.history_model.specs.declared.Obs.{Obs}
-use Rattle.history_model.specs.declared.Ended.{Ended}
 use Rattle.history_model.specs.declared.Reading.{Reading}
 use Rattle.history_model.specs.Items.{Definition, History, Loaded, Saw}
 use Rattle.job_defs.specs.declared.parts.PathState.{PathState}

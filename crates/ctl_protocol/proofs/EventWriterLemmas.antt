@@ -1,5 +1,5 @@
 -- What was written for an event is read as that event.
-use Rattle.std.proofs.Common.{◌≡◌, ℕ, ◌^◌, List, [], ◌∷◌, Bool, true, false, ◌&&◌, ◌||◌, ◌==◌, not, length, nat_lt, nat_le, Some, None, refl, sym, ap, ◌∙◌, subst, ◌≤◌, Result, Ok, Err, if◌then◌else◌, arith, true≢false}
+use Rattle.std.proofs.Common.{◌≡◌, ℕ, ◌^◌, List, [], ◌∷◌, Bool, true, false, ◌&&◌, ◌||◌, ◌==◌, not, length, nat_lt, nat_le, Some, None, refl, sym, ap, ◌∙◌, subst, ◌≤◌, Result, Ok, Err, if◌then◌else◌, true≢false}
 use Rattle.std.specs.Prelude.{OnOk}
 use Rattle.std.specs.List.{list_any}
 use Rattle.serde_json.specs.Data.{Data, depth}

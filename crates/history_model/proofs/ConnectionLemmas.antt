@@ -6,6 +6,7 @@ use Rattle.std.proofs.lemmas.Bool.Decides.{nat_tests}
 use Rattle.history_model.specs.declared.Obs.{Obs}
 use Rattle.history_model.specs.declared.Act.TheVariants.{Spawn, Term, Kill, Close, Gone}
 use Rattle.history_model.specs.declared.Refusal.TheVariants.{Removing, TooManyConnections, Stale}
+use Rattle.history_model.specs.declared.TheConstants.{MAX_CONNECTIONS}
 use Rattle.history_model.specs.Items.{Definition, Item, Loaded, Read, Saw, Asked, Came, Left, Ordered, Answered, RunEnded, WaitRefused, History}
 use Rattle.history_model.specs.Search.{first, latest, in_order}
 use Rattle.history_model.specs.Clock.{definition_of}
@@ -71,7 +72,7 @@ first-carried c (x ∷ xs) none = (or-false (x == c) (list_any (λ d. d == c) xs
 
 -- an accepted number is above each earlier one
 pub IsNew-from : (t : History) (conn : ℕ) → refusal_of (Came conn) t ≡ None → is_number_used (latest came_in t) conn ≡ false
-IsNew-from t conn e = go (is_removed t) (not (definition_of t).has_sockets) (is_number_used (latest came_in t) conn) (nat_lt (length (waiting t)) 64) e where
+IsNew-from t conn e = go (is_removed t) (not (definition_of t).has_sockets) (is_number_used (latest came_in t) conn) (nat_lt (length (waiting t)) MAX_CONNECTIONS) e where
   go : (r s n w : Bool) → cond r (Some Removing) (cond (s || n) (Some Stale) (unless w TooManyConnections)) ≡ None → n ≡ false
   go true s n w h = cc
   go false true n w h = cc

@@ -9,6 +9,7 @@ use Rattle.history_model.specs.declared.Act.{Act}
 use Rattle.history_model.specs.declared.Ask.TheVariants.{Unload, Shutdown}
 use Rattle.history_model.specs.declared.Refusal.{Refusal}
 use Rattle.history_model.specs.declared.Refusal.TheVariants.{TooManyJobs, ShuttingDown, Disabled, SocketRefused}
+use Rattle.history_model.specs.declared.TheConstants.{MAX_JOBS}
 use Rattle.history_model.specs.Items.{Definition, Item, Loaded, Read, Saw, Asked, History}
 use Rattle.history_model.specs.Search.{or_else, first}
 use Rattle.history_model.specs.Clock.{definition_of}
@@ -155,13 +156,13 @@ module _ (l : Label) where
   loading : (s : State) (d : Definition) (writes_setting force bind store : Bool) → refusal_of_load s l d writes_setting force bind store ≢ Some TooManyJobs →
       refusal_of_load (only l s) l d writes_setting force bind store ≡ refusal_of_load s l d writes_setting force bind store
   loading s d writes_setting force bind store room =
-      rw (filter-idem (is_of l) s.jobs, filter-idem (sets l) s.settings) (go s.is_shutting_down (filter (is_of l) s.jobs) (nat_lt (length s.jobs) 1024) room) where
+      rw (filter-idem (is_of l) s.jobs, filter-idem (sets l) s.settings) (go s.is_shutting_down (filter (is_of l) s.jobs) (nat_lt (length s.jobs) MAX_JOBS) room) where
         rest : Option Refusal
         rest = refused_if (not writes_setting && not force && is_disabled s l d.disabled) Disabled (refused_if (d.has_sockets && not bind) SocketRefused (refusal_stored writes_setting store))
 
         go : (b : Bool) (jobs : List Job) (v : Bool) →
             refused_if b ShuttingDown (or_else (refusal_there (past_in (first jobs))) (refused_if (not v) TooManyJobs rest)) ≢ Some TooManyJobs →
-            refused_if b ShuttingDown (or_else (refusal_there (past_in (first jobs))) (refused_if (not (nat_lt (length jobs) 1024)) TooManyJobs rest))
+            refused_if b ShuttingDown (or_else (refusal_there (past_in (first jobs))) (refused_if (not (nat_lt (length jobs) MAX_JOBS)) TooManyJobs rest))
             ≡ refused_if b ShuttingDown (or_else (refusal_there (past_in (first jobs))) (refused_if (not v) TooManyJobs rest))
         go true jobs v room = refl
         go false [] true room = refl

@@ -1,11 +1,10 @@
 -- Worked examples of what list and print show of a job in each state (launchctl(1): list, print; the layout is this
 -- project's own). Each is a theorem that computes.
-use Rattle.std.specs.Prelude.{◌≡◌, [], ◌∷◌, true, false, refl, codes}
+use Rattle.std.specs.Prelude.{◌≡◌, [], ◌∷◌, true, false, refl, codes, None}
 use Rattle.std.specs.Fmt.{digits}
 use Rattle.history_model.specs.declared.Ended.TheVariants.{Code, Signal}
 use Rattle.history_model.specs.declared.Act.TheVariants.{Spawn, Term, Kill, Gone}
 use Rattle.history_model.specs.declared.Ask.TheVariants.{Start, Stop, Kickstart}
-use Rattle.std.specs.Prelude.{None}
 use Rattle.history_model.specs.Clock.{no_definition}
 use Rattle.history_model.specs.Machine.{UnloadJob, ListJobs, PrintJob, ShutDown}
 use Rattle.history_model.specs.Step.{outcomes}

@@ -8,7 +8,7 @@ use Rattle.history_model.specs.declared.Act.TheVariants.{Spawn, Term, Kill, Clos
 use Rattle.history_model.specs.declared.Ask.TheVariants.{Unload, Shutdown}
 use Rattle.history_model.specs.declared.Refusal.{Refusal}
 use Rattle.history_model.specs.declared.Refusal.TheVariants.{ShuttingDown, TooManyJobs}
-use Rattle.history_model.specs.declared.TheConstants.{MAX_UP}
+use Rattle.history_model.specs.declared.TheConstants.{MAX_JOBS, MAX_UP}
 use Rattle.history_model.specs.Items.{Loaded, Read, Saw, Asked, Definition, History}
 use Rattle.history_model.specs.Due.{due}
 use Rattle.history_model.specs.Clock.{definition_of}
@@ -37,15 +37,15 @@ length-with_job new (job ∷ jobs) = go (is_before new.label job.label) (length-
   go true rest = refl
   go false rest = ap (λ n. suc n) rest
 
-has-room : (s : State) (label : Label) (d : Definition) (writes_setting force bind store : Bool) → refusal_of_load s label d writes_setting force bind store ≡ None → length s.jobs < 1024
+has-room : (s : State) (label : Label) (d : Definition) (writes_setting force bind store : Bool) → refusal_of_load s label d writes_setting force bind store ≡ None → length s.jobs < MAX_JOBS
 has-room s label d writes_setting force bind store accepted =
     let open_still = refused-None s.is_shutting_down ShuttingDown _ accepted in
     let absent = or_else-None (refusal_there (past_of s label)) _ open_still.1 in
-    let few = refused-None (not (nat_lt (length s.jobs) 1024)) TooManyJobs _ absent.1 in
-    let below : nat_lt (length s.jobs) 1024 ≡ true = not-false (nat_lt (length s.jobs) 1024) few.0 in
+    let few = refused-None (not (nat_lt (length s.jobs) MAX_JOBS)) TooManyJobs _ absent.1 in
+    let below : nat_lt (length s.jobs) MAX_JOBS ≡ true = not-false (nat_lt (length s.jobs) MAX_JOBS) few.0 in
     grind (arith, nat_tests, below)
 
-within-taken : (s : State) (e : Event) → refusal_in s e ≡ None → length s.jobs ≤ 1024 → length (taken s e).jobs ≤ 1024
+within-taken : (s : State) (e : Event) → refusal_in s e ≡ None → length s.jobs ≤ MAX_JOBS → length (taken s e).jobs ≤ MAX_JOBS
 within-taken s Unreadable accepted few = few
 within-taken s (Load (Err fault) writes_setting force bind store) accepted few = few
 within-taken s (Load (Ok given) writes_setting force bind store) accepted few =
@@ -61,13 +61,13 @@ within-taken s (Tick at) accepted few =
 within-taken s (Sight path obs) accepted few = omega (arith, length-heard (sight_of path (Saw path obs)) s.jobs)
 within-taken s (OfJob label item) accepted few = omega (arith, length-heard_one label item s.jobs)
 
-pub within-step : (s : State) (e : Event) → length s.jobs ≤ 1024 → length (step s e).jobs ≤ 1024
+pub within-step : (s : State) (e : Event) → length s.jobs ≤ MAX_JOBS → length (step s e).jobs ≤ MAX_JOBS
 within-step s e few = go (refusal_in s e) refl where
-  go : (o : Option Refusal) → refusal_in s e ≡ o → length (step_by o s e).jobs ≤ 1024
+  go : (o : Option Refusal) → refusal_in s e ≡ o → length (step_by o s e).jobs ≤ MAX_JOBS
   go (Some refusal) is = few
   go None is = omega (arith, within-taken s e is few, length-stays (taken s e).jobs)
 
-pub within-run : (es : List Event) (s : State) → length s.jobs ≤ 1024 → length (run es s).jobs ≤ 1024
+pub within-run : (es : List Event) (s : State) → length s.jobs ≤ MAX_JOBS → length (run es s).jobs ≤ MAX_JOBS
 within-run [] s few = few
 within-run (e ∷ es) s few = within-run es (step s e) (within-step s e few)
 
@@ -88,10 +88,10 @@ weigh-all [] = omega arith
 weigh-all (job ∷ jobs) =
     omega (arith, weigh-append (orders_of job) (flat_map orders_of jobs), weigh-labelled job.label (acts_of job.past), one-order job.past, weigh-all jobs)
 
-pub turning-start : (s : State) (e : Event) → IsGood s → AreInOrder (labels_of s.jobs) → length s.jobs ≤ 1024 →
-    IsTurning (step s e) (wanting (outcome s e).orders) × (weigh_orders (wanting (outcome s e).orders) ≤ 3 * 1024)
+pub turning-start : (s : State) (e : Event) → IsGood s → AreInOrder (labels_of s.jobs) → length s.jobs ≤ MAX_JOBS →
+    IsTurning (step s e) (wanting (outcome s e).orders) × (weigh_orders (wanting (outcome s e).orders) ≤ 3 * MAX_JOBS)
 turning-start s e good order few = go (refusal_in s e) refl where
-  go : (o : Option Refusal) → refusal_in s e ≡ o → IsTurning (step_by o s e) (wanting (outcome_by o s e).orders) × (weigh_orders (wanting (outcome_by o s e).orders) ≤ 3 * 1024)
+  go : (o : Option Refusal) → refusal_in s e ≡ o → IsTurning (step_by o s e) (wanting (outcome_by o s e).orders) × (weigh_orders (wanting (outcome_by o s e).orders) ≤ 3 * MAX_JOBS)
   go (Some refusal) is = (record { good = good; order = order; fresh = tt; heavy = tt }, omega arith)
   go None is =
       let jobs : List Job = (taken s e).jobs in (
@@ -121,7 +121,7 @@ bounded (e ∷ es) s (job_order ∷ waits) turning answer =
 
 pub short : (h : Header) (es : List Event) (e : Event) (answers : List Event) → h.reading.up ≤ MAX_UP →
     AreAnswers (step (run es (opened h)) e) (wanting (outcome (run es (opened h)) e).orders) answers →
-    length answers + length (still_waiting (step (run es (opened h)) e) (wanting (outcome (run es (opened h)) e).orders) answers) ≤ 3 * 1024
+    length answers + length (still_waiting (step (run es (opened h)) e) (wanting (outcome (run es (opened h)) e).orders) answers) ≤ 3 * MAX_JOBS
 short h es e answers range answer =
     let s : State = run es (opened h) in
     let start = turning-start s e (good-run es (opened h) (good-opened h range)) (order-run es (opened h) tt) (within-run es (opened h) (omega arith)) in

@@ -1,5 +1,5 @@
 -- The watched paths and queue directories of a job, with what was seen there last: searches and sights.
-use Rattle.std.proofs.Common.{◌≡◌, ℕ, ◌+◌, ◌<◌, Bool, true, false, ◌||◌, ◌&&◌, Option, List, [], ◌∷◌, ◌++◌, map, take, get_or, length, refl, ap, ◌∙◌}
+use Rattle.std.proofs.Common.{◌≡◌, ℕ, ◌+◌, ◌<◌, Bool, true, ◌||◌, ◌&&◌, Option, List, [], ◌∷◌, ◌++◌, map, take, get_or, length, refl, ap, ◌∙◌}
 use Rattle.std.specs.List.{list_any, filter}
 use Rattle.std.proofs.lemmas.List.{take_more}
 use Rattle.history_model.specs.declared.Obs.{Obs}

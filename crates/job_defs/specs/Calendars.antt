@@ -11,9 +11,9 @@ use Rattle.history_model.specs.declared.KeyName.TheVariants.{StartCalendarInterv
 use Rattle.history_model.specs.Machine.{Fault}
 use Rattle.history_model.specs.Texts.{key_text}
 use Rattle.json_kinds.specs.Faults.{bad, ◌>>=◌}
-use Rattle.job_defs.specs.Paths.{list_limit}
 use Rattle.json_kinds.specs.Names.{Key, day, hour, minute, month, weekday}
 use Rattle.json_kinds.specs.Kinds.{object_at, integer_at, each_item, members_or_one, where_there, optional}
+use Rattle.job_defs.specs.declared.parts.TheConstants.{LIST_LIMIT}
 
 -- one key of an entry
 unfoldable pub part : ℕ → ℕ → Key → Data → Result (Option ℕ) Fault
@@ -39,7 +39,7 @@ entry_at d = do
 -- at most so many entries
 unfoldable pub calendar_at : Data → Result (List Entry) Fault
 calendar_at d =
-    if nat_lt list_limit (items_len (members_or_one d)) then Err (bad TooLong StartCalendarInterval)
+    if nat_lt LIST_LIMIT (items_len (members_or_one d)) then Err (bad TooLong StartCalendarInterval)
     else each_item entry_at (members_or_one d)
 
 -- without the key there is no calendar

@@ -9,10 +9,11 @@ use Rattle.history_model.specs.declared.KeyName.TheVariants.{KeepAlive}
 use Rattle.history_model.specs.Machine.{Fault}
 use Rattle.history_model.specs.Texts.{key_text}
 use Rattle.job_defs.specs.declared.parts.PathState.{PathState}
-use Rattle.job_defs.specs.Paths.{list_limit}
+use Rattle.job_defs.specs.declared.parts.TheConstants.{LIST_LIMIT}
 use Rattle.json_kinds.specs.Faults.{bad, ◌>>=◌}
 use Rattle.json_kinds.specs.Names.{Key, crashed, path_state, successful_exit}
-use Rattle.json_kinds.specs.Kinds.{bool_at, object_at, filled, each_member, where_there, optional, path_limit}
+use Rattle.json_kinds.specs.Kinds.{bool_at, object_at, filled, each_member, where_there, optional}
+use Rattle.json_kinds.specs.declared.keys.TheConstants.{PATH_LIMIT}
 
 -- what `KeepAlive` says
 pub record Keep : Type 0 where
@@ -33,7 +34,7 @@ unconditional always = record {
 -- a path, and whether something is to be there
 unfoldable pub path_state_in : Key → Data → Result (List PathState) Fault
 path_state_in name d = do
-  path ← filled path_limit KeepAlive name
+  path ← filled PATH_LIMIT KeepAlive name
   present ← bool_at KeepAlive d
   Ok (record { path = path; present = present } ∷ [])
 
@@ -41,7 +42,7 @@ path_state_in name d = do
 unfoldable pub path_state_at : Data → Result (List PathState) Fault
 path_state_at d = do
   paths ← object_at KeepAlive d
-  if nat_lt list_limit (members_len paths) then Err (bad TooLong KeepAlive)
+  if nat_lt LIST_LIMIT (members_len paths) then Err (bad TooLong KeepAlive)
       else each_member path_state_in paths
 
 -- the conditions that can hold

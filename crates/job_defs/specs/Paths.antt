@@ -9,16 +9,13 @@ use Rattle.history_model.specs.Machine.{Fault}
 use Rattle.history_model.specs.Texts.{key_text}
 use Rattle.json_kinds.specs.Faults.{bad, ◌>>=◌}
 use Rattle.json_kinds.specs.Kinds.{array_at, path_at, each_item, where_there}
-
--- the most paths of a definition, paths of `KeepAlive`, and calendar entries
-abbrev pub list_limit : ℕ
-list_limit = 64
+use Rattle.job_defs.specs.declared.parts.TheConstants.{LIST_LIMIT}
 
 -- at most so many paths in a definition, of which some were counted before
 unfoldable pub paths_at : ℕ → KeyName → Data → Result (List (List ℕ)) Fault
 paths_at before key d = do
   paths ← array_at key d
-  if nat_lt list_limit (before + items_len paths) then Err (bad TooLong key)
+  if nat_lt LIST_LIMIT (before + items_len paths) then Err (bad TooLong key)
       else each_item (path_at key) paths
 
 -- without the key there are none

@@ -5,8 +5,8 @@ ghost use Rattle.serde_json.specs.View.{view, members_view};
 ghost use Rattle.json_kinds.specs.Faults.{Gives};
 ghost use Rattle.json_kinds.specs.Kinds.{each_member};
 ghost use Rattle.job_defs.specs.Conditions.{path_state_in, path_state_at, conditions_at, keep_at, keep_key};
-ghost use Rattle.job_defs.specs.Paths.{list_limit};
 ghost use Rattle.job_defs.specs.Parts.{keep_of};
+ghost use Rattle.job_defs.specs.declared.parts.TheConstants.{LIST_LIMIT};
 
 use crate::parts::{Keep, LIST_LIMIT, PathState};
 use history_model::{KeyName, Reason, Text};
@@ -21,7 +21,7 @@ use std::alloc::Global;
 #[tactic(auto, unfolding(crate::specs::Conditions::keep_key))]
 pub(crate) fn keep_key_of(alloc: Global, on_demand: bool, def: &Value) -> Result<Keep, DefFault>
     ensures value { Gives keep_of result (keep_key on_demand (view def.now)) }
-    ensures count { IfOk result (λ keep. vec_len keep.path_state ≤ list_limit) }
+    ensures count { IfOk result (λ keep. vec_len keep.path_state ≤ LIST_LIMIT) }
 {
     match def.get(key_name(KeyName::KeepAlive)) {
         Some(found) => keep_of(alloc, found),
@@ -44,7 +44,7 @@ fn unconditional(alloc: Global, always: bool) -> Keep
 #[tactic(auto, unfolding(crate::specs::Conditions::keep_at))]
 fn keep_of(alloc: Global, found: &Value) -> Result<Keep, DefFault>
     ensures value { Gives keep_of result (keep_at (view found.now)) }
-    ensures count { IfOk result (λ keep. vec_len keep.path_state ≤ list_limit) }
+    ensures count { IfOk result (λ keep. vec_len keep.path_state ≤ LIST_LIMIT) }
 {
     match found.as_bool() {
         Some(always) => Ok(unconditional(alloc, always)),
@@ -55,7 +55,7 @@ fn keep_of(alloc: Global, found: &Value) -> Result<Keep, DefFault>
 #[tactic(auto, unfolding(crate::specs::Conditions::conditions_at))]
 fn conditions_of(alloc: Global, found: &Value) -> Result<Keep, DefFault>
     ensures value { Gives keep_of result (conditions_at (view found.now)) }
-    ensures count { IfOk result (λ keep. vec_len keep.path_state ≤ list_limit) }
+    ensures count { IfOk result (λ keep. vec_len keep.path_state ≤ LIST_LIMIT) }
 {
     object_of(found, KeyName::KeepAlive)?;
     let crashed = optional_bool_of(found, CRASHED, KeyName::KeepAlive)?;
@@ -75,7 +75,7 @@ fn conditions_of(alloc: Global, found: &Value) -> Result<Keep, DefFault>
 #[tactic(auto, using(json_kinds::proofs::CountLemmas::members_count), unfolding(crate::specs::Conditions::path_state_at))]
 fn path_state_of(alloc: Global, found: &Value) -> Result<Vec<PathState>, DefFault>
     ensures value { Gives (λ paths. paths.items) result (path_state_at (view found.now)) }
-    ensures count { IfOk result (λ paths. vec_len paths ≤ list_limit) }
+    ensures count { IfOk result (λ paths. vec_len paths ≤ LIST_LIMIT) }
 {
     let members = object_of(found, KeyName::KeepAlive)?;
     if members.len() > LIST_LIMIT {

@@ -4,9 +4,10 @@ ghost use Rattle.std.specs.Prelude.{◌≡◌, ◌≤◌, ◌+◌, length, vec_l
 ghost use Rattle.serde_json.specs.View.{view, items_view};
 ghost use Rattle.json_kinds.specs.Faults.{Gives};
 ghost use Rattle.json_kinds.specs.Kinds.{each_item, path_at};
-ghost use Rattle.job_defs.specs.Paths.{list_limit, paths_at, paths_key};
+ghost use Rattle.job_defs.specs.Paths.{paths_at, paths_key};
 ghost use Rattle.job_defs.specs.Keys.{demand_at, pace_at};
 ghost use Rattle.job_defs.specs.Parts.{demand_of, pace_of};
+ghost use Rattle.job_defs.specs.declared.parts.TheConstants.{LIST_LIMIT};
 
 use crate::calendars::calendar_key_of;
 use crate::conditions::keep_key_of;
@@ -64,9 +65,9 @@ fn paths_key_of(
     def: &Value,
     key: KeyName,
 ) -> Result<Vec<Text>, DefFault>
-    requires { before ≤ list_limit }
+    requires { before ≤ LIST_LIMIT }
     ensures value { Gives (λ paths. paths.items) result (paths_key before key (view def.now)) }
-    ensures count { IfOk result (λ paths. before + vec_len paths ≤ list_limit) }
+    ensures count { IfOk result (λ paths. before + vec_len paths ≤ LIST_LIMIT) }
 {
     match def.get(key_name(key)) {
         Some(found) => paths_of(alloc, before, found, key),
@@ -81,9 +82,9 @@ fn paths_of(
     found: &Value,
     key: KeyName,
 ) -> Result<Vec<Text>, DefFault>
-    requires { before ≤ list_limit }
+    requires { before ≤ LIST_LIMIT }
     ensures value { Gives (λ paths. paths.items) result (paths_at before key (view found.now)) }
-    ensures count { IfOk result (λ paths. before + vec_len paths ≤ list_limit) }
+    ensures count { IfOk result (λ paths. before + vec_len paths ≤ LIST_LIMIT) }
 {
     let items = array_of(found, key)?;
     if items.len() > LIST_LIMIT - before {

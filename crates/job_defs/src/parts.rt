@@ -3,7 +3,7 @@
 use history_model::{Entry, Text};
 
 /// The most paths of a definition, paths of `KeepAlive`, and calendar entries.
-pub(crate) const LIST_LIMIT: usize = 64;
+pub const LIST_LIMIT: usize = 64;
 
 /// A condition of `KeepAlive.PathState`: the job is wanted while something is at the path (`present`), or while nothing
 /// is.

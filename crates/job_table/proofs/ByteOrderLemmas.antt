@@ -19,7 +19,7 @@ use Rattle.job_table.specs.declared.entry.Entry.{Entry}
 use Rattle.job_table.proofs.FirstLemmas.{IsFirstWhere, NonePasses, first-where, none-where, where-none, where-first, none-at, passes-at, within-where}
 use Rattle.job_table.proofs.NearestLemmas.{before-trans, not-before-self}
 use Rattle.job_table.proofs.SettingLemmas.{is-label}
-use Rattle.history_model.proofs.BooleanLemmas.{unless-true}
+use Rattle.history_model.proofs.BooleanLemmas.{unless-true, not-true, not-false}
 
 reversed : (a b : Label) (o : Ordering) → slice_cmp nat_cmp a b ≡ o → is_less o ≡ false → is_eq o ≡ false → is_before b a ≡ true
 reversed a b Less e later differ = cc
@@ -29,14 +29,6 @@ reversed a b Greater e later differ = rw (nat_list_cmp_total.antisymm b a, e) re
 -- of two labels that differ one is before the other
 pub after : (a b : Label) → is_before a b ≡ false → is_same a b ≡ false → is_before b a ≡ true
 after a b not_before differ = reversed a b (slice_cmp nat_cmp a b) refl not_before (sym (texts_ties a b) ∙ differ)
-
-pub not-true : (b : Bool) → not b ≡ true → b ≡ false
-not-true true e = cc
-not-true false e = refl
-
-pub not-false : (b : Bool) → not b ≡ false → b ≡ true
-not-false true e = refl
-not-false false e = cc
 
 -- ---- two jobs
 

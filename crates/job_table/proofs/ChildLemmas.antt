@@ -14,6 +14,7 @@ use Rattle.history_model.specs.Keeps.{Keeps}
 use Rattle.history_model.specs.WholeLaws.{AreInOrder}
 use Rattle.history_model.specs.Machine.{Job, is_of, past_in}
 use Rattle.history_model.proofs.RunsLemmas.{sound, child-present}
+use Rattle.history_model.proofs.BooleanLemmas.{or-second, and-both}
 use Rattle.job_table.specs.Tables.{Name, IsOther, IsOnce, labels_in}
 use Rattle.job_table.specs.Kept.{KeepsJobs}
 use Rattle.job_table.specs.Entries.{row, name, rows, is_above, place_for}
@@ -136,11 +137,7 @@ one-with-child at (x ∷ xs) jobs (suc k) e keeps there stay has = go x.has_gone
       where
         one : (o : Option (ℕ × ℕ)) → list_any (is_same e.def.label) (cons_option (option_map (λ c. job.label) o) (with_child jobs)) ≡ true
         one None = later jobs keeps.1
-        one (Some c) = or-last (is_same e.def.label job.label) (list_any (is_same e.def.label) (with_child jobs)) (later jobs keeps.1)
-          where
-            or-last : (a b : Bool) → b ≡ true → (a || b) ≡ true
-            or-last true b is = refl
-            or-last false b is = is
+        one (Some c) = or-second (is_same e.def.label job.label) (list_any (is_same e.def.label) (with_child jobs)) (later jobs keeps.1)
 
 -- no job that was passed, of those behind the text, has a child
 abbrev pub ArePassedBy : List ℕ → List Entry → ℕ → Type 0
@@ -158,10 +155,6 @@ passed-more text es place one at own before k e there low behind stay = go (k ==
         let equal : one ≡ e = cc in
         subst (λ x. (past : History) → Keeps x.core.facts past → is_some (child past) ≡ false) equal (own (ap (λ x. x.has_gone) equal ∙ stay))
     go false apart = before k e there (grind (arith, nat_tests, low, apart)) behind stay
-
-and-both : (a b : Bool) → (a && b) ≡ true → (a ≡ true) × (b ≡ true)
-and-both true b e = (refl, e)
-and-both false b e = cc
 
 pub nearest-child : (at : Reading) (text : List ℕ) (es : List Entry) (order : AreInOrder (labels_in (map name es))) (jobs : List Job) (k : ℕ) (e : Entry) → KeepsJobs at (rows es) jobs →
     slice_get es k ≡ Some e → is_before text e.def.label ≡ true → e.has_gone ≡ false → ((past : History) → Keeps e.core.facts past → is_some (child past) ≡ true) → ArePassedBy text es k →

@@ -6,10 +6,11 @@ use Rattle.std.proofs.lemmas.List.{get_or-set_same, get_or-set_other}
 use Rattle.std.specs.List.{list_all}
 use Rattle.job_table.specs.Tables.{Name, IsOnce}
 use Rattle.job_table.specs.Entries.{name, is_named}
-use Rattle.job_table.proofs.KnownNumbersLemmas.{all-named, and-both}
+use Rattle.job_table.proofs.KnownNumbersLemmas.{all-named}
 use Rattle.job_table.specs.Index.{place_in}
 use Rattle.job_table.specs.declared.entry.Entry.{Entry}
 use Rattle.job_table.proofs.MomentsLemmas.{get-at, apart}
+use Rattle.history_model.proofs.BooleanLemmas.{and-both}
 
 module _ (es : List Entry) (once : IsOnce (map name es)) (i : ℕ) (e : Entry) (within : i < length es) (is : e ≡ get_or es i e) where
   -- what holds of the entries before this place and of the one at it holds of one more

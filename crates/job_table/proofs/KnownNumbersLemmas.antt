@@ -3,6 +3,7 @@ use Rattle.std.proofs.Common.{◌≡◌, ℕ, zero, suc, ◌==◌, ◌<◌, Bool
 use Rattle.std.specs.List.{list_all}
 use Rattle.std.proofs.lemmas.List.Folds.{list_all-append}
 use Rattle.history_model.specs.declared.Order.{Order}
+use Rattle.history_model.proofs.BooleanLemmas.{and-both}
 use Rattle.job_table.specs.Tables.{Name, definition_of_number, is_known}
 use Rattle.job_table.specs.Entries.{name, is_named}
 use Rattle.job_table.specs.declared.entry.Entry.{Entry}
@@ -12,10 +13,6 @@ pub known-more : (names : List Name) (earlier later : List Order) (order : Order
     list_all (is_known names) earlier ≡ true → list_all (is_known names) later ≡ true
 known-more names earlier later order pushed is all =
     ap (list_all (is_known names)) pushed ∙ list_all-append (is_known names) earlier (order ∷ []) ∙ (λ i. all i && (is i && true))
-
-pub and-both : (a b : Bool) → (a && b) ≡ true → (a ≡ true) × (b ≡ true)
-and-both true b e = (refl, e)
-and-both false b e = cc
 
 all-drop : {X : Type 0} (p : X → Bool) (xs : List X) (i : ℕ) → list_all p xs ≡ true → list_all p (drop i xs) ≡ true
 all-drop p [] zero all = refl

@@ -9,6 +9,7 @@ use Rattle.history_model.specs.Moments.{next_moment}
 use Rattle.history_model.specs.Coming.{next_by}
 use Rattle.history_model.specs.Machine.{Job}
 use Rattle.history_model.proofs.ComingLemmas.{next-by}
+use Rattle.history_model.proofs.BooleanLemmas.{or-second}
 use Rattle.job_table.specs.Tables.{Row}
 use Rattle.job_table.specs.Kept.{KeepsJob, KeepsJobs}
 use Rattle.job_table.specs.Entries.{row, rows, name}
@@ -42,10 +43,6 @@ each-moment P at timers (e ∷ es) jobs timed each keeps =
 
 same-number : (n : ℕ) → (n == n) ≡ true
 same-number n = grind arith
-
-or-second : (a b : Bool) → b ≡ true → (a || b) ≡ true
-or-second true b e = refl
-or-second false b e = e
 
 -- the moment of a job that is not gone is that of some job
 some-moment : (at : Reading) (m : ℕ) (es : List Entry) (k : ℕ) (e : Entry) (jobs : List Job) → slice_get es k ≡ Some e → moment_for e at.up ≡ Some m → KeepsJobs at (rows es) jobs →

@@ -26,18 +26,12 @@ use Rattle.job_table.specs.declared.trigger.Listed.{Listed}
 use Rattle.job_table.proofs.ListLemmas.{any-map}
 use Rattle.job_table.proofs.TriggerCountLemmas.{any-listed}
 use Rattle.job_table.proofs.TriggersLemmas.{any-agree, any-none, any-filter, at-place, from-place, each-placed}
-use Rattle.history_model.proofs.BooleanLemmas.{or-assoc, or-second}
+use Rattle.history_model.proofs.BooleanLemmas.{or-assoc, or-second, or-first, false-or}
 
 -- ---- marks
 
 pub no-marks : (ready : Timers) (passes : ℕ → Bool) → ((place : ℕ) → passes place ≡ false) → Marks ready ready passes
 no-marks ready passes none = record { spared = λ place is. (is, none place); marks = λ place moment at. inl at; room = refl }
-
-or-first : (a b : Bool) → a ≡ true → (a || b) ≡ true
-or-first a b is = ap (λ c. c || b) is
-
-both-none : (a b : Bool) → a ≡ false → b ≡ false → (a || b) ≡ false
-both-none a b first second = λ i. first i || second i
 
 -- marks beside marks, seen as one
 pub more-marks : (first ready later : Timers) (before more all : ℕ → Bool) → ((place : ℕ) → all place ≡ (before place || more place)) → Marks first ready before → Marks ready later more → Marks first later all
@@ -45,7 +39,7 @@ more-marks first ready later before more all is marked marks = record {
   spared = λ place none. (
       let own = marks.spared place none in
       let old = marked.spared place own.0 in
-      (old.0, is place ∙ both-none (before place) (more place) old.1 own.1));
+      (old.0, is place ∙ false-or (before place) (more place) old.1 own.1));
   marks = λ place moment at. go place moment (marks.marks place moment at);
   room = marks.room ∙ marked.room;
 }

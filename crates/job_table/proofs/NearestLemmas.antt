@@ -1,5 +1,5 @@
 -- Byte order, the paths of rows and of jobs, and the entry with a label.
-use Rattle.std.proofs.Common.{◌≡◌, ℕ, zero, suc, Bool, true, false, not, ◌&&◌, List, [], ◌∷◌, ◌++◌, get_or, refl, sym, ap, ◌∙◌}
+use Rattle.std.proofs.Common.{◌≡◌, ℕ, zero, suc, true, false, not, List, [], ◌∷◌, ◌++◌, get_or, refl, sym, ap, ◌∙◌}
 use Rattle.std.specs.Ordering.{nat_cmp, is_eq, ordering_reverse}
 use Rattle.std.specs.Cmp.Lexicographic.{slice_cmp, nat_list_cmp_total, texts_ties}
 use Rattle.std.specs.declared.cmp.Ordering.{Ordering}
@@ -7,6 +7,7 @@ use Rattle.std.specs.declared.cmp.Ordering.TheVariants.{Less, Equal, Greater}
 use Rattle.history_model.specs.declared.Reading.{Reading}
 use Rattle.history_model.specs.Labels.{Label, is_same, is_less, is_before}
 use Rattle.history_model.specs.Machine.{Job}
+use Rattle.history_model.proofs.BooleanLemmas.{and-right}
 use Rattle.job_table.specs.Tables.{Row}
 use Rattle.job_table.specs.Kept.{KeepsJobs}
 use Rattle.job_table.specs.Entries.{has_label, is_here}
@@ -54,9 +55,5 @@ here-at label [] k d at = absurd at
 here-at label (e ∷ es) zero d at = at
 here-at label (e ∷ es) (suc k) d at = here-at label es k d at.1
 
-and-second : (a b : Bool) → (a && b) ≡ true → b ≡ true
-and-second true b e = e
-and-second false b e = cc
-
 pub here-labelled : (label : Label) (es : List Entry) (k : ℕ) (e : Entry) → IsFirstWhere (is_here label) es k → e ≡ get_or es k e → label ≡ e.def.label
-here-labelled label es k e at is = is-label label e.def.label (and-second (not e.has_gone) (has_label label e) (ap (is_here label) is ∙ here-at label es k e at))
+here-labelled label es k e at is = is-label label e.def.label (and-right (not e.has_gone) (has_label label e) (ap (is_here label) is ∙ here-at label es k e at))

@@ -30,7 +30,7 @@ use Rattle.job_table.specs.Minutes.{is_some_entry, has_calendars}
 use Rattle.job_table.specs.Visiting.{is_spared, AreVisitedOnce}
 use Rattle.job_table.specs.declared.entry.Entry.{Entry}
 use Rattle.history_model.specs.declared.TheConstants.{SECOND}
-use Rattle.history_model.proofs.BooleanLemmas.{or-true}
+use Rattle.history_model.proofs.BooleanLemmas.{or-true, or-false}
 
 any-in : (previous up m : ℕ) (ws : List ℕ) → previous < m → m ≤ up → list_any (λ w. w == m) ws ≡ true → list_any (is_reached previous up) ws ≡ true
 any-in previous up m [] after due there = cc
@@ -42,10 +42,7 @@ any-in previous up m (w ∷ ws) after due there = go (w == m) refl there (any-in
       let low : nat_lt previous w ≡ true = grind (arith, nat_tests, same, after) in
       let high : nat_le w up ≡ true = grind (arith, nat_tests, same, due) in
       λ i. (low i && high i) || list_any (is_reached previous up) ws
-  go false is there rest = ap (λ b. is_reached previous up w || b) (rest there) ∙ or-true (is_reached previous up w) where
-    or-true : (b : Bool) → (b || true) ≡ true
-    or-true true = refl
-    or-true false = refl
+  go false is there rest = ap (λ b. is_reached previous up w || b) (rest there) ∙ or-true (is_reached previous up w)
 
 period-crossed : (o : Option ℕ) (load previous up m : ℕ) → ForSome o (λ seconds. 0 < seconds) → IsPeriod o load m → previous < m → m ≤ up → crosses_interval o load previous up ≡ true
 period-crossed None load previous up m positive period after due = absurd period
@@ -92,22 +89,18 @@ none-swapped zone cal (m ∷ ms) none = λ i. head cal none i || none-swapped zo
   parts true b c e = cc
   parts false b c e = (refl, e)
 
-  or-none : (a b : Bool) → (a || b) ≡ false → (a ≡ false) × (b ≡ false)
-  or-none true b e = cc
-  or-none false b e = (refl, e)
-
   head : (cal : List Due) → list_any (is_minute_crossed zone (m ∷ ms)) cal ≡ false → list_any (λ entry. allows entry.minute (zone m).minute) cal ≡ false
   head [] none = refl
   head (entry ∷ rest) none =
-      let both = or-none (allows entry.minute (zone m).minute || list_any (λ n. allows entry.minute (zone n).minute) ms) (list_any (is_minute_crossed zone (m ∷ ms)) rest) none in
-      let one = or-none (allows entry.minute (zone m).minute) (list_any (λ n. allows entry.minute (zone n).minute) ms) both.0 in
+      let both = or-false (allows entry.minute (zone m).minute || list_any (λ n. allows entry.minute (zone n).minute) ms) (list_any (is_minute_crossed zone (m ∷ ms)) rest) none in
+      let one = or-false (allows entry.minute (zone m).minute) (list_any (λ n. allows entry.minute (zone n).minute) ms) both.0 in
       λ i. one.0 i || head rest both.1 i
 
   tail : (cal : List Due) → list_any (is_minute_crossed zone (m ∷ ms)) cal ≡ false → list_any (is_minute_crossed zone ms) cal ≡ false
   tail [] none = refl
   tail (entry ∷ rest) none =
-      let both = or-none (allows entry.minute (zone m).minute || list_any (λ n. allows entry.minute (zone n).minute) ms) (list_any (is_minute_crossed zone (m ∷ ms)) rest) none in
-      let one = or-none (allows entry.minute (zone m).minute) (list_any (λ n. allows entry.minute (zone n).minute) ms) both.0 in
+      let both = or-false (allows entry.minute (zone m).minute || list_any (λ n. allows entry.minute (zone n).minute) ms) (list_any (is_minute_crossed zone (m ∷ ms)) rest) none in
+      let one = or-false (allows entry.minute (zone m).minute) (list_any (λ n. allows entry.minute (zone n).minute) ms) both.0 in
       λ i. one.1 i || tail rest both.1 i
 
 pub touch-minute : (zone : Zone) (at : Moment) (past : History) (minutes : List CivilMinute) → minutes ≡ map zone (crossed (now past).wall at.wall) →

@@ -21,8 +21,7 @@ use Rattle.job_table.proofs.TriggerCountLemmas.{sum-agree, sum-filter, count-and
 use Rattle.job_table.proofs.ListLemmas.{any-map}
 use Rattle.job_table.proofs.RankLemmas.{in-order}
 use Rattle.job_table.proofs.NearestLemmas.{same-self, not-before-self}
-use Rattle.history_model.proofs.BooleanLemmas.{or-false}
-use Rattle.history_model.proofs.BooleanLemmas.{and-both, not-false, or-assoc, or-false-right, or-swap, unless-true}
+use Rattle.history_model.proofs.BooleanLemmas.{or-false, and-false, and-true, and-both, not-false, or-false-right, or-swap, unless-true}
 
 -- ---- lists of which something passes
 
@@ -224,22 +223,14 @@ module _ (places : List ℕ) (es : List Entry) (placed : ArePlaced places es) wh
     at-place k e at f =
         exact (λ one. f one.trigger && is_placed_at places k one) ∙ by-entries (λ one. f one.trigger && is_placed_at places k one) es
         ∙ any-only (own (λ one. f one.trigger && is_placed_at places k one)) es k e at
-        (λ j y there apart. own-place k j y there f ∙ ap (λ b. list_any f (triggers_of y.def) && b) (differs j apart) ∙ never (list_any f (triggers_of y.def)))
-        ∙ own-place k k e at f ∙ ap (λ b. list_any f (triggers_of e.def) && b) (same k) ∙ always (list_any f (triggers_of e.def))
+        (λ j y there apart. own-place k j y there f ∙ ap (λ b. list_any f (triggers_of y.def) && b) (differs j apart) ∙ and-false (list_any f (triggers_of y.def)))
+        ∙ own-place k k e at f ∙ ap (λ b. list_any f (triggers_of e.def) && b) (same k) ∙ and-true (list_any f (triggers_of e.def))
       where
         differs : (j : ℕ) → k ≢ j → (j == k) ≡ false
         differs j apart = unless-true (j == k) (λ is. (let same : k ≡ j = grind (arith, nat_tests, is) in apart same))
 
         same : (n : ℕ) → (n == n) ≡ true
         same n = grind arith
-
-        never : (b : Bool) → (b && false) ≡ false
-        never true = refl
-        never false = refl
-
-        always : (b : Bool) → (b && true) ≡ b
-        always true = refl
-        always false = refl
 
     -- an item that passes is that of a job at its place
     pub from-place : (k : ℕ) (f : Trigger → Bool) → list_any (λ one. f one.trigger && is_placed_at places k one) listed ≡ true →

@@ -14,6 +14,7 @@ use Rattle.history_model.specs.Due.{due}
 use Rattle.history_model.specs.Keeps.{Keeps, ordered}
 use Rattle.history_model.specs.Machine.{Job}
 use Rattle.history_model.specs.Step.{acts_of, listed, stays, heard, with_item}
+use Rattle.history_model.proofs.BooleanLemmas.{or-second}
 use Rattle.job_defs.specs.Definitions.{definition}
 use Rattle.job_table.specs.Tables.{Row}
 use Rattle.job_table.specs.Kept.{KeepsJob, KeepsJobs, IsAtRest, numbered, numbered_all}
@@ -156,10 +157,6 @@ drop-whole : {X : Type 0} (xs : List X) → drop (length xs) xs ≡ []
 drop-whole [] = refl
 drop-whole (x ∷ xs) = drop-whole xs
 
-or-right : (a b : Bool) → b ≡ true → (a || b) ≡ true
-or-right true b is = refl
-or-right false b is = is
-
 or-left : (a b : Bool) → b ≡ false → (a || b) ≡ a
 or-left true b is = refl
 or-left false b is = is
@@ -219,9 +216,9 @@ module _ (before at : Reading) (news : News) (ready : Timers) (is_now : at ≡ p
       let done : rows (take (suc i) es) ≡ rows (take i es) ++ row e ∷ [] = ap rows taken ∙ rows-append (take i es) (e ∷ []) ∙ ap (λ rs. rows (take i es) ++ rs) (rows-stay e [] staying.0) in
       let todo : rows (drop i es0) ≡ row e ∷ rows rest0 = ap rows here0 ∙ rows-stay e rest0 staying.0 in
       let at-front : (v : Bool) → (v || is_spared ready (0 + length (take i es0))) ≡ true =
-      let long = take-length es0 i (omega (arith, within)) in λ v. or-right v _ (subst (λ p. is_spared ready p ≡ true) (omega (arith, long)) spared) in
+      let long = take-length es0 i (omega (arith, within)) in λ v. or-second v _ (subst (λ p. is_spared ready p ≡ true) (omega (arith, long)) spared) in
       let at-done : (v : Bool) → (v || is_spared ready (0 + length (take i es))) ≡ true =
-      let long = take-length es i (drop-some es i e rest0 here) in λ v. or-right v _ (subst (λ p. is_spared ready p ≡ true) (omega (arith, long)) spared) in
+      let long = take-length es i (drop-some es i e rest0 here) in λ v. or-second v _ (subst (λ p. is_spared ready p ≡ true) (omega (arith, long)) spared) in
       record {
         untouched = drop-suc es es0 i walked.untouched;
         spared = spares.1;

@@ -1,11 +1,9 @@
 -- Marks for the jobs whose moment is reached. Places lie by job number.
-use Rattle.std.specs.Prelude.{◌≡◌, ◌⊎◌, ℕ, ◌≤◌, ◌<◌, List, length, Some, None}
+use Rattle.std.specs.Prelude.{◌≡◌, ◌⊎◌, ℕ, ◌≤◌, ◌<◌, List, length, Some, None, slice_get, true, Bool, false}
 use Rattle.timer_heap.specs.Timers.{Timers, moment_in, room}
-use Rattle.std.specs.Prelude.{slice_get, true}
 use Rattle.history_model.specs.declared.CivilMinute.{CivilMinute}
 use Rattle.job_table.specs.Index.{is_minute_among, place_in}
 use Rattle.job_table.specs.declared.entry.Entry.{Entry}
-use Rattle.std.specs.Prelude.{Bool, false}
 use Rattle.std.specs.List.{list_any, filter}
 use Rattle.job_table.specs.Visiting.{is_spared}
 use Rattle.job_table.specs.Triggers.{is_of, is_placed_at}

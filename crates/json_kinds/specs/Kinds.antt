@@ -12,6 +12,7 @@ use Rattle.history_model.specs.Machine.{Fault}
 use Rattle.history_model.specs.Texts.{key_text}
 use Rattle.json_kinds.specs.Faults.{bad, or_fault, ◌>>=◌}
 use Rattle.json_kinds.specs.Names.{Key}
+use Rattle.json_kinds.specs.declared.keys.TheConstants.{PATH_LIMIT}
 
 -- ---- one value
 
@@ -74,13 +75,9 @@ filled_at limit key d = do
   text ← text_at key d
   filled limit key text
 
--- the most bytes of a path
-abbrev pub path_limit : ℕ
-path_limit = 1024
-
 -- a path
 abbrev pub path_at : KeyName → Data → Result (List ℕ) Fault
-path_at key d = filled_at path_limit key d
+path_at key d = filled_at PATH_LIMIT key d
 
 -- texts without where they lie in memory
 abbrev pub texts_in : List (Bor (List ℕ)) → List (List ℕ)

@@ -1,5 +1,5 @@
 -- From what clap finds to what the words mean.
-use Rattle.std.proofs.Common.{◌≡◌, ◌∙◌, ap, ap₂, sym, subst, refl, List, [], ◌∷◌, Bool, true, false, ◌&&◌, Option, None, Err, if◌then◌else◌}
+use Rattle.std.proofs.Common.{◌≡◌, ◌∙◌, ap, ap₂, sym, subst, refl, List, [], ◌∷◌, true, false, Option, None, Err, if◌then◌else◌}
 use Rattle.clap.specs.Kinds.{Kinds, IsAmong}
 use Rattle.clap.specs.Words.{App, Text, fault_of, found_of, rows_of, matches_of, subcommand_of, subcommand_rows_of, is_simple_and_free}
 use Rattle.clap.specs.declared.error.kind.ErrorKind.{ErrorKind}

@@ -1,5 +1,5 @@
 -- The turn of what a client asks: a load, a setting, a question.
-use Rattle.std.proofs.Common.{◌≡◌, ℕ, Bool, true, false, List, [], ◌∷◌, Option, Some, None, refl, sym, ap, subst, ◌∙◌}
+use Rattle.std.proofs.Common.{◌≡◌, ℕ, Bool, true, false, List, [], Option, Some, None, refl, sym, ap, subst, ◌∙◌}
 use Rattle.std.specs.Prelude.{Result, Ok, Err, IfOk, IfErr, OnOk, OnErr}
 use Rattle.std.proofs.lemmas.List.{append-nil}
 use Rattle.history_model.specs.declared.Refusal.{Refusal}
@@ -16,18 +16,20 @@ use Rattle.job_table.specs.Loads.{load_of, refused_with}
 use Rattle.job_table.specs.Changes.{set_of}
 use Rattle.job_table.specs.Numbers.{IsNumbered}
 use Rattle.job_table.specs.Outcomes.{UnlessMemory, IsReplyText, Means}
-use Rattle.order_edge.specs.Calls.{Entry}
 use Rattle.load_asking.specs.declared.asking.Outside.{Outside}
 use Rattle.load_asking.specs.Stores.{StoreCall}
+use Rattle.load_asking.proofs.AskLemmas.{told_nothing}
 use Rattle.event_journal.specs.Journals.{Kept, Grows}
 use Rattle.event_journal.proofs.JournalsLemmas.{grows_nothing}
 use Rattle.ctl_protocol.specs.EventWriter.{event_line}
 use Rattle.launcher_turn.specs.Turns.{IsLed, TurnsOf}
-use Rattle.launcher_load.specs.Lines.{journaled_set, load_line, set_line}
+use Rattle.launcher_load.specs.Lines.{journaled_set}
 use Rattle.launcher_load.specs.LoadTurns.{LoadTurnOf, SetTurnOf, IsUntouched, is_memory, settings_after}
 use Rattle.launcher_load.proofs.LoadTurnsLemmas.{nothing_done}
 use Rattle.launcher.specs.Hosts.{Standing, standing, HostTurnOf, IsSpared, Hears}
-use Rattle.launcher.proofs.HostsLemmas.{no_call, no_store, hears, spared, wordless, settled, unsettled, is_want}
+use Rattle.launcher.proofs.HostsLemmas.{hears, wordless, settled, unsettled}
+use Rattle.child_edge.specs.Calls.{Entry}
+use Rattle.child_edge.proofs.CallsLemmas.{tells_nothing}
 
 -- ---- loads and settings
 
@@ -125,7 +127,7 @@ question : (s : State) (e : Event) (line text : List ℕ) (table : Table) (a : O
 question s e line text table a k n (is, same) numbered noted keeps led = record {
   names = table.names;
   entries = [];
-  tells = no_call a;
+  tells = tells_nothing a;
   turn = record {
     orders = [];
     calls = refl;
@@ -141,7 +143,7 @@ question s e line text table a k n (is, same) numbered noted keeps led = record 
 -- no memory, and no line
 uncalled : (table : Table) (a : Option (List Entry)) (t : Option (List StoreCall)) (k n : Kept) (before : List Setting → Type 0) → n ≡ k → IsSpared (standing table a t k) (standing table a t n) before before
 uncalled table a t k n before is = record {
-  untouched = record { same = λ s keeps. keeps; tells = no_call a; stores = no_store t };
+  untouched = record { same = λ s keeps. keeps; tells = tells_nothing a; stores = told_nothing t };
   silent = subst (λ (x : Kept). Grows k x []) (sym is) (grows_nothing k);
   stored = λ s keeps holds. holds;
 }
@@ -153,7 +155,7 @@ module _ {A : Type 0} (bytes : A → List ℕ) (table : Table) (a : Option (List
     outside = record { bind = true; store = true };
     job = 0;
     mid = a;
-    asks = record { bind = refl; store = refl; tells = no_call a; stores = no_store t };
+    asks = record { bind = refl; store = refl; tells = tells_nothing a; stores = told_nothing t };
     turn = question s ListJobs (event_line journaled.List) (bytes x) table a k n (text s keeps) numbered noted keeps led;
     own = λ none. tt;
     text = λ none. ap (λ (o : Outcome). o.text) (text s keeps).0 ∙ sym is;
@@ -169,7 +171,7 @@ module _ {A : Type 0} (bytes : A → List ℕ) (table : Table) (a : Option (List
     outside = record { bind = true; store = true };
     job = 0;
     mid = a;
-    asks = record { bind = refl; store = refl; tells = no_call a; stores = no_store t };
+    asks = record { bind = refl; store = refl; tells = tells_nothing a; stores = told_nothing t };
     turn = nothing_done s (PrintJob label) (event_line (journaled.Print label)) table r a k n (is s keeps) noted keeps led;
     own = λ none. tt;
     text = λ none. cc;
@@ -183,7 +185,7 @@ module _ {A : Type 0} (bytes : A → List ℕ) (table : Table) (a : Option (List
     outside = record { bind = true; store = true };
     job = 0;
     mid = a;
-    asks = record { bind = refl; store = refl; tells = no_call a; stores = no_store t };
+    asks = record { bind = refl; store = refl; tells = tells_nothing a; stores = told_nothing t };
     turn = question s (PrintJob label) (event_line (journaled.Print label)) (bytes x) table a k n (text s keeps) numbered noted keeps led;
     own = λ none. tt;
     text = λ none. ap (λ (o : Outcome). o.text) (text s keeps).0 ∙ sym is;

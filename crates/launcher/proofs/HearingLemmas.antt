@@ -1,5 +1,5 @@
 -- The turn of what happens, if the outside is first asked nothing.
-use Rattle.std.proofs.Common.{◌≡◌, ℕ, Bool, true, false, List, [], ◌∷◌, Option, Some, None, refl, sym, ap, subst, ◌∙◌}
+use Rattle.std.proofs.Common.{◌≡◌, true, false, List, [], Option, Some, None, refl, sym, ap, subst, ◌∙◌}
 use Rattle.std.specs.Prelude.{Result, Ok, Err}
 use Rattle.history_model.specs.declared.Answer.{Answer}
 use Rattle.history_model.specs.declared.Answer.TheVariants as answers
@@ -8,17 +8,15 @@ use Rattle.history_model.specs.declared.Refusal.TheVariants.{NoMemory}
 use Rattle.history_model.specs.declared.event.Event as journal
 use Rattle.history_model.specs.declared.event.Setting.{Setting}
 use Rattle.history_model.specs.Labels.{Label}
-use Rattle.history_model.specs.Items.{Item}
 use Rattle.history_model.specs.Machine.{State, Event, OfJob}
 use Rattle.history_model.specs.Acceptance.{refusal_in}
 use Rattle.history_model.specs.Step.{outcome, step, step_by}
 use Rattle.history_model.specs.Texts.{text_after}
 use Rattle.job_table.specs.Tables.{Table, Name}
-use Rattle.job_table.specs.Kept.{KeepsState}
 use Rattle.job_table.specs.Outcomes.{UnlessMemory}
-use Rattle.order_edge.specs.Calls.{Entry}
 use Rattle.load_asking.specs.declared.asking.Outside.{Outside}
 use Rattle.load_asking.specs.Stores.{StoreCall}
+use Rattle.load_asking.proofs.AskLemmas.{told_nothing}
 use Rattle.event_journal.specs.Journals.{Kept, Grows}
 use Rattle.event_journal.proofs.JournalsLemmas.{grows_nothing}
 use Rattle.ctl_protocol.specs.EventWriter.{event_line}
@@ -29,13 +27,15 @@ use Rattle.launcher_turn.specs.declared.happening.News.TheVariants as news
 use Rattle.launcher_turn.specs.Events as turns
 use Rattle.launcher_turn.specs.Events.{is_clock, item_heard}
 use Rattle.launcher_turn.specs.Lines.{journaled_by, journaled_of, journaled_answer}
-use Rattle.launcher_turn.specs.Turns.{IsLed, TurnsOf, Turns, IsUntouched}
+use Rattle.launcher_turn.specs.Turns.{TurnsOf, Turns, IsUntouched}
 use Rattle.job_table.specs.Loads.{refused_with}
 use Rattle.launcher_load.specs.LoadTurns.{is_memory}
 use Rattle.table_opening.specs.Events.{event_of}
 use Rattle.launcher.specs.Inputs.{answered}
-use Rattle.launcher.specs.Hosts.{Standing, standing, AsksOutside, IsOwn, HostTurnOf, IsSpared, Hears}
-use Rattle.launcher.proofs.HostsLemmas.{no_call, no_store, hears, wordless, is_want}
+use Rattle.launcher.specs.Hosts.{standing, AsksOutside, IsOwn, Hears}
+use Rattle.launcher.proofs.HostsLemmas.{hears, wordless, is_want}
+use Rattle.child_edge.specs.Calls.{Entry}
+use Rattle.child_edge.proofs.CallsLemmas.{tells_nothing}
 
 abbrev well : Outside
 well = record { bind = true; store = true }
@@ -92,27 +92,27 @@ same_event happenings.Shutdown = refl
 
 module _ (s : State) (a : Option (List Entry)) (t : Option (List StoreCall)) where
   asks_answer : (label : Label) (x : Answer) → AsksOutside s (journaled_answer label x) 0 well a a t t
-  asks_answer label (answers.Spawned run pid) = record { bind = refl; store = refl; tells = no_call a; stores = no_store t }
-  asks_answer label (answers.SpawnRefused run) = record { bind = refl; store = refl; tells = no_call a; stores = no_store t }
-  asks_answer label (answers.Termed run ok) = record { bind = refl; store = refl; tells = no_call a; stores = no_store t }
-  asks_answer label (answers.Killed run ok) = record { bind = refl; store = refl; tells = no_call a; stores = no_store t }
+  asks_answer label (answers.Spawned run pid) = record { bind = refl; store = refl; tells = tells_nothing a; stores = told_nothing t }
+  asks_answer label (answers.SpawnRefused run) = record { bind = refl; store = refl; tells = tells_nothing a; stores = told_nothing t }
+  asks_answer label (answers.Termed run ok) = record { bind = refl; store = refl; tells = tells_nothing a; stores = told_nothing t }
+  asks_answer label (answers.Killed run ok) = record { bind = refl; store = refl; tells = tells_nothing a; stores = told_nothing t }
 
   asks_news : (label : Label) (n : News) → AsksOutside s (journaled_of label n) 0 well a a t t
-  asks_news label news.Start = record { bind = refl; store = refl; tells = no_call a; stores = no_store t }
-  asks_news label news.Stop = record { bind = refl; store = refl; tells = no_call a; stores = no_store t }
-  asks_news label (news.Kickstart kills_first) = record { bind = refl; store = refl; tells = no_call a; stores = no_store t }
-  asks_news label (news.Came conn) = record { bind = refl; store = refl; tells = no_call a; stores = no_store t }
-  asks_news label (news.Left conn) = record { bind = refl; store = refl; tells = no_call a; stores = no_store t }
-  asks_news label (news.Ended run how) = record { bind = refl; store = refl; tells = no_call a; stores = no_store t }
-  asks_news label (news.WaitRefused run) = record { bind = refl; store = refl; tells = no_call a; stores = no_store t }
+  asks_news label news.Start = record { bind = refl; store = refl; tells = tells_nothing a; stores = told_nothing t }
+  asks_news label news.Stop = record { bind = refl; store = refl; tells = tells_nothing a; stores = told_nothing t }
+  asks_news label (news.Kickstart kills_first) = record { bind = refl; store = refl; tells = tells_nothing a; stores = told_nothing t }
+  asks_news label (news.Came conn) = record { bind = refl; store = refl; tells = tells_nothing a; stores = told_nothing t }
+  asks_news label (news.Left conn) = record { bind = refl; store = refl; tells = tells_nothing a; stores = told_nothing t }
+  asks_news label (news.Ended run how) = record { bind = refl; store = refl; tells = tells_nothing a; stores = told_nothing t }
+  asks_news label (news.WaitRefused run) = record { bind = refl; store = refl; tells = tells_nothing a; stores = told_nothing t }
   asks_news label (news.Answered x) = asks_answer label x
 
   asks_none : (what : Happening) → AsksOutside s (journaled_by what) 0 well a a t t
-  asks_none (happenings.Clock at) = record { bind = refl; store = refl; tells = no_call a; stores = no_store t }
-  asks_none (happenings.Saw path obs) = record { bind = refl; store = refl; tells = no_call a; stores = no_store t }
+  asks_none (happenings.Clock at) = record { bind = refl; store = refl; tells = tells_nothing a; stores = told_nothing t }
+  asks_none (happenings.Saw path obs) = record { bind = refl; store = refl; tells = tells_nothing a; stores = told_nothing t }
   asks_none (happenings.ToJob label n) = asks_news label.now n
-  asks_none (happenings.Unload label) = record { bind = refl; store = refl; tells = no_call a; stores = no_store t }
-  asks_none happenings.Shutdown = record { bind = refl; store = refl; tells = no_call a; stores = no_store t }
+  asks_none (happenings.Unload label) = record { bind = refl; store = refl; tells = tells_nothing a; stores = told_nothing t }
+  asks_none happenings.Shutdown = record { bind = refl; store = refl; tells = tells_nothing a; stores = told_nothing t }
 
 own_answer : (label : Label) (x : Answer) (names : List Name) → IsOwn (journaled_answer label x) names 0
 own_answer label (answers.Spawned run pid) names = tt
@@ -172,7 +172,7 @@ happened what answer old new a c t k n before turned none =
     (λ memory.
     let left = none (is_want answer memory) in
     record {
-      untouched = record { same = left.1.same; tells = left.1.tells; stores = no_store t };
+      untouched = record { same = left.1.same; tells = left.1.tells; stores = told_nothing t };
       silent = subst (λ (x : Kept). Grows k x []) (sym left.2) (grows_nothing k);
       stored = λ s keeps holds. holds;
     })

@@ -1,5 +1,5 @@
 -- What a launcher leaves that heard an input, by whether memory ran out.
-use Rattle.std.proofs.Common.{◌≡◌, ℕ, Bool, true, false, List, [], ◌∷◌, ◌++◌, Option, Some, None, refl, sym, ap, subst, ◌∙◌}
+use Rattle.std.proofs.Common.{◌≡◌, ℕ, Bool, true, false, List, [], ◌++◌, Option, Some, None, refl, sym, ap, subst}
 use Rattle.std.specs.Prelude.{Result, Ok, Err, if◌then◌else◌}
 use Rattle.std.proofs.lemmas.List.{append-nil}
 use Rattle.history_model.specs.declared.Refusal.{Refusal}
@@ -12,9 +12,11 @@ use Rattle.history_model.specs.Step.{outcome, outcome_by, step}
 use Rattle.history_model.specs.Texts.{text_after}
 use Rattle.job_table.specs.Tables.{Table}
 use Rattle.job_table.specs.Kept.{KeepsState}
-use Rattle.child_edge.specs.Calls.{Tells}
-use Rattle.order_edge.specs.Calls.{Entry, answers_in}
-use Rattle.load_asking.specs.Stores.{StoreCall, AreTold}
+use Rattle.child_edge.specs.Calls.{Entry}
+use Rattle.child_edge.proofs.CallsLemmas.{tells_nothing}
+use Rattle.order_edge.specs.Calls.{answers_in}
+use Rattle.load_asking.specs.Stores.{StoreCall}
+use Rattle.load_asking.proofs.AskLemmas.{told_nothing}
 use Rattle.ctl_protocol.specs.EventWriter.{event_line}
 use Rattle.event_journal.specs.Journals.{Kept, Grows}
 use Rattle.event_journal.proofs.JournalsLemmas.{grows_append, grows_nothing}
@@ -25,18 +27,10 @@ use Rattle.launcher_load.specs.LoadTurns.{is_memory, settings_after}
 use Rattle.launcher.specs.Inputs.{answered}
 use Rattle.launcher.specs.Hosts.{Standing, standing, HostTurnOf, IsSpared, HearsBy, Hears}
 
--- ---- nothing asked
-
-pub no_call : (a : Option (List Entry)) → Tells a [] a
-no_call a = λ after is. (after, is, sym (append-nil after))
-
-pub no_store : (s : Option (List StoreCall)) → AreTold s [] s
-no_store s = λ after is. (after, is, sym (append-nil after))
-
 -- nothing changed at all
 pub spared : (old : Standing) (before : List Setting → Type 0) → IsSpared old old before before
 spared old before = record {
-  untouched = record { same = λ s keeps. keeps; tells = no_call old.calls; stores = no_store old.stores };
+  untouched = record { same = λ s keeps. keeps; tells = tells_nothing old.calls; stores = told_nothing old.stores };
   silent = grows_nothing old.journal;
   stored = λ s keeps holds. holds;
 }

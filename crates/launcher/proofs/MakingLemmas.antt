@@ -1,6 +1,6 @@
 -- A launcher as it is made.
-use Rattle.std.proofs.Common.{◌≡◌, ℕ, ◌≤◌, Bool, true, false, List, [], length, Option, Some, None, refl, sym, ap, subst, ◌∙◌, arith}
-use Rattle.std.specs.Prelude.{Result, Ok, Err, reverse, not, nat_lt, ◌||◌}
+use Rattle.std.proofs.Common.{◌≡◌, ◌≤◌, Bool, true, false, List, [], Option, None, refl, sym, ap, subst, arith}
+use Rattle.std.specs.Prelude.{reverse, not, nat_lt, ◌||◌}
 use Rattle.std.specs.List.{list_all}
 use Rattle.std.proofs.lemmas.Bool.Decides.{nat_tests}
 use Rattle.history_model.specs.declared.Reading.{Reading}
@@ -11,13 +11,11 @@ use Rattle.history_model.specs.Labels.{is_label}
 use Rattle.history_model.specs.Machine.{State, opened}
 use Rattle.history_model.specs.Machine as machine
 use Rattle.history_model.specs.Acceptance.{refused_if}
-use Rattle.history_model.specs.Refusals.{is_clock_refused}
 use Rattle.calendar_due.specs.Offsets.{shown_by}
 use Rattle.ctl_protocol.specs.declared.header.Header.{Header}
 use Rattle.ctl_protocol.specs.HeaderLines.{header_line}
 use Rattle.job_table.specs.Opening.{opening_refusal}
 use Rattle.job_table.specs.Tables.{Table}
-use Rattle.order_edge.specs.Calls.{Entry}
 use Rattle.load_asking.specs.declared.store.StoreFault.{StoreFault}
 use Rattle.load_asking.specs.declared.store.StoreFault.TheVariants as answers
 use Rattle.load_asking.specs.Stores.{StoreCall, AreTold}
@@ -26,8 +24,9 @@ use Rattle.launcher_turn.specs.Turns.{IsLed}
 use Rattle.table_opening.specs.Openings.{OpensBy, StandsOpened}
 use Rattle.launcher.specs.declared.host.HostFault.{HostFault}
 use Rattle.launcher.specs.declared.host.HostFault.TheVariants as faults
-use Rattle.launcher.specs.Faults.{IsFaultOf, IsBadHeader, fault_of_store}
+use Rattle.launcher.specs.Faults.{IsFaultOf, fault_of_store}
 use Rattle.launcher.specs.Hosts.{standing, with_settings, IsNew}
+use Rattle.child_edge.specs.Calls.{Entry}
 
 -- a reading that is refused nowhere is within its limit
 within : (at : Reading) (overrides : List Setting) → opening_refusal at overrides ≡ None → at.up ≤ MAX_UP

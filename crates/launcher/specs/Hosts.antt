@@ -1,5 +1,5 @@
 -- A launcher and its turns, as contracts see them.
-use Rattle.std.specs.Prelude.{◌≡◌, ◌||◌, ℕ, Bool, true, false, List, [], ◌∷◌, reverse, Option, Some, None, Ok}
+use Rattle.std.specs.Prelude.{◌≡◌, ◌||◌, ℕ, Bool, true, false, List, [], Option, Some, None, Ok}
 use Rattle.history_model.specs.declared.Refusal.TheVariants.{BadRequest}
 use Rattle.history_model.specs.declared.Refusal.{Refusal}
 use Rattle.history_model.specs.declared.event.Event as journal
@@ -18,11 +18,10 @@ use Rattle.job_table.specs.Tables.{Table, Name, definition_of_number}
 use Rattle.job_table.specs.Kept.{KeepsState}
 use Rattle.job_table.specs.Loads.{load_of}
 use Rattle.job_table.specs.Changes.{set_of}
-use Rattle.child_edge.specs.Calls.{Tells}
-use Rattle.order_edge.specs.Calls.{Entry}
+use Rattle.child_edge.specs.Calls.{Entry}
 use Rattle.load_asking.specs.declared.asking.Outside.{Outside}
 use Rattle.load_asking.specs.Stores.{StoreCall, AreTold}
-use Rattle.event_journal.specs.Journals.{Kept, Grows, fresh}
+use Rattle.event_journal.specs.Journals.{Kept, Grows}
 use Rattle.launcher_turn.specs.Turns.{IsLed, TurnsOf}
 use Rattle.launcher_load.specs.LoadTurns.{AsksFor, AsksNothing, AsksStore, IsUntouched, is_memory}
 use Rattle.table_opening.specs.Events.{event_of}

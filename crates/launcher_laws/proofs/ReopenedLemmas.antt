@@ -4,7 +4,6 @@ use Rattle.std.specs.Prelude.{reverse}
 use Rattle.sqlite.specs.State.{State, HasCleanDisk}
 use Rattle.history_model.specs.declared.event.Setting.{Setting}
 use Rattle.ctl_protocol.specs.declared.header.Header.{Header}
-use Rattle.order_edge.specs.Calls.{Entry}
 use Rattle.override_store.specs.OverrideStores.{HoldsSettings, IsOpenedOn, rows_in}
 use Rattle.override_store.specs.Settings.{HoldsEach, setting_in}
 use Rattle.override_store.proofs.AgainLemmas.{held_on, same_settings}
@@ -14,6 +13,7 @@ use Rattle.launcher.specs.Hosts.{IsNew}
 use Rattle.launcher_laws.specs.Runs.{Moment, Turn, AreTurns}
 use Rattle.launcher_laws.specs.Lasting.{Lasts, settings_of}
 use Rattle.launcher_laws.proofs.LastingLemmas.{lasted}
+use Rattle.child_edge.specs.Calls.{Entry}
 
 module _ {T : Type 0} (state_of : T → State) where
   pub reopened : (header : Header) (calls : Option (List Entry)) (stores : Option (List StoreCall)) (journal : Kept) (store : T) (first last : Moment T) (turns : List (Turn T)) (again : State) →

@@ -3,18 +3,16 @@ use Rattle.std.proofs.Common.{◌≡◌, ℕ, true, List, [], ◌∷◌, ◌++�
 use Rattle.std.specs.List.{flat_map, AllByRecursion}
 use Rattle.std.specs.Io.KnownBytes.{Appends, Consumes, IsAtEnd}
 use Rattle.std.proofs.KnownBytes.{Appends-trans}
-use Rattle.std.proofs.lemmas.Grind.{flat_map-append}
 use Rattle.history_model.specs.declared.event.Event as journal
 use Rattle.history_model.specs.declared.event.Setting.{Setting}
 use Rattle.history_model.specs.Machine.{State}
-use Rattle.history_model.specs.Step.{Outcome, outcomes}
+use Rattle.history_model.specs.Step.{outcomes}
 use Rattle.ctl_protocol.specs.declared.header.Header.{Header}
 use Rattle.ctl_protocol.specs.EventWriter.{event_line}
 use Rattle.ctl_protocol.specs.HeaderLines.{header_line}
 use Rattle.ctl_protocol.specs.Outcomes.{outcome_line}
 use Rattle.replay_loop.specs.Outcomes.{input_lines}
 use Rattle.jobd.proofs.OneOutputLemmas.{one_output}
-use Rattle.order_edge.specs.Calls.{Entry}
 use Rattle.load_asking.specs.Stores.{StoreCall}
 use Rattle.event_journal.specs.declared.journal.Phase.TheVariants.{Open}
 use Rattle.event_journal.specs.Journals.{fresh}
@@ -29,6 +27,7 @@ use Rattle.launcher_laws.proofs.EventsLemmas.{event_read}
 use Rattle.launcher_laws.proofs.HeadersLemmas.{header_read}
 use Rattle.launcher_laws.proofs.LinesLemmas.{event_object_text, header_object_text, journal_lines}
 use Rattle.launcher_laws.proofs.RunsLemmas.{grown, went}
+use Rattle.child_edge.specs.Calls.{Entry}
 
 read_lines : (events : List journal.Event) → AllByRecursion IsWritable events → map event_in (map event_object_text events) ≡ map event_of events
 read_lines [] told = refl

@@ -1,10 +1,9 @@
 -- What any turns of a launcher, one after another, come to.
 use Rattle.std.specs.Prelude.{◌≡◌, List, map}
-use Rattle.std.specs.List.{flat_map}
 use Rattle.history_model.specs.declared.event.Event as journal
 use Rattle.history_model.specs.declared.event.Setting.{Setting}
 use Rattle.history_model.specs.Machine.{State}
-use Rattle.history_model.specs.Step.{run, outcomes, Outcome}
+use Rattle.history_model.specs.Step.{run, outcomes}
 use Rattle.job_table.specs.Kept.{KeepsState}
 use Rattle.table_opening.specs.Events.{event_of}
 use Rattle.launcher_laws.specs.Runs.{Moment, Turn, Part, AreParts, events_in, outcomes_in}

@@ -9,8 +9,8 @@ use Rattle.history_model.specs.declared.event.Setting.{Setting}
 use Rattle.history_model.specs.Step.{Outcome}
 use Rattle.job_table.specs.Tables.{Name}
 use Rattle.job_table.specs.Kept.{labelled}
-use Rattle.child_edge.specs.Calls.{Tells}
-use Rattle.order_edge.specs.Calls.{Entry, call_of, calls_in}
+use Rattle.child_edge.specs.Calls.{Tells, Entry}
+use Rattle.order_edge.specs.Calls.{call_of, calls_in}
 use Rattle.event_journal.specs.Journals.{reported}
 use Rattle.load_asking.specs.declared.asking.Outside.{Outside}
 use Rattle.launcher_load.specs.LoadTurns.{is_memory}

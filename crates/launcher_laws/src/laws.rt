@@ -7,7 +7,6 @@ ghost use Rattle.sqlite.specs.Held.{state};
 ghost use Rattle.sqlite.specs.State.{HasCleanDisk};
 ghost use Rattle.history_model.specs.declared.event.Setting.{Setting};
 ghost use Rattle.ctl_protocol.specs.declared.header.Header.{Header};
-ghost use Rattle.order_edge.specs.Calls.{Entry};
 ghost use Rattle.override_store.specs.OverrideStores.{HoldsSettings, IsOpenedOn, rows_in};
 ghost use Rattle.override_store.specs.Settings.{HoldsEach, ListAlike};
 ghost use Rattle.load_asking.specs.Stores.{StoreCall};
@@ -19,6 +18,7 @@ ghost use Rattle.launcher_laws.specs.Runs.{Moment, Turn, AreTurns};
 ghost use Rattle.launcher_laws.specs.Lasting.{Lasts, settings_of};
 ghost use Rattle.launcher_laws.specs.Writable.{IsWritableHeader};
 ghost use Rattle.launcher_laws.specs.Replays.{IsReplayed};
+ghost use Rattle.child_edge.specs.Calls.{Entry};
 
 use load_asking::SettingStore;
 use override_store::OverrideStore;

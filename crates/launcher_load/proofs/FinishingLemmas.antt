@@ -8,11 +8,11 @@ use Rattle.job_table.specs.Ends.{AreKnown, acts_of, names_in}
 use Rattle.job_table.specs.Numbers.{IsNumbered}
 use Rattle.job_table.specs.declared.Step.{Step}
 use Rattle.order_edge.specs.declared.pending.Pending.{Pending}
-use Rattle.order_edge.specs.Calls.{Entry}
 use Rattle.event_journal.specs.Journals.{Kept, Grows}
 use Rattle.launcher_turn.specs.Turns.{Begins, Carried, IsLed, IsShort}
 use Rattle.launcher_turn.proofs.TurnsLemmas.{Settles, turned-at}
 use Rattle.launcher_load.specs.LoadTurns.{Finishes, HasTaken}
+use Rattle.child_edge.specs.Calls.{Entry}
 
 -- the orders of the step are those of the event, and the turn goes by the names of the table that the event left
 pub finished : (before mid new : Table) (s : State) (e : Event) (line : List ℕ) (lent : Step) (first after : List Pending) (a b c : Option (List Entry)) (k m n : Kept) →

@@ -10,7 +10,6 @@ use Rattle.history_model.specs.Labels.{is_label, is_forbidden}
 use Rattle.history_model.specs.Machine.{State, Event, Load}
 use Rattle.history_model.specs.Acceptance.{refusal_in, refusal_stored, refused_if}
 use Rattle.history_model.specs.Step.{outcome, outcome_by, step, step_by, set_if}
-use Rattle.history_model.specs.Texts.{load_text}
 use Rattle.job_defs.specs.Described.{Described}
 use Rattle.job_defs.specs.Definitions.{given, has_sockets}
 use Rattle.job_defs.specs.Keys.{def_of}
@@ -19,11 +18,12 @@ use Rattle.job_table.specs.Kept.{KeepsState}
 use Rattle.job_table.specs.Loads.{IsAdmitted, load_of, given_in, refusal_outside, described_in, number_in, setting_in}
 use Rattle.job_table.specs.Outcomes.{IsSameFor, Means}
 use Rattle.job_table.specs.declared.loading.Ready.{Ready}
-use Rattle.child_edge.specs.Calls.{Tells}
-use Rattle.order_edge.specs.Calls.{Entry}
+use Rattle.child_edge.specs.Calls.{Entry}
+use Rattle.child_edge.proofs.CallsLemmas.{tells_nothing}
 use Rattle.load_asking.specs.declared.asking.Outside.{Outside}
 use Rattle.load_asking.specs.Asking.{Asks}
-use Rattle.load_asking.specs.Stores.{StoreCall, AreTold}
+use Rattle.load_asking.specs.Stores.{StoreCall}
+use Rattle.load_asking.proofs.AskLemmas.{told_nothing}
 use Rattle.event_journal.specs.Journals.{Kept, Grows}
 use Rattle.launcher_turn.specs.Turns.{IsLed, TurnsOf}
 use Rattle.launcher_turn.proofs.StoredSettingsLemmas.{load_settings}
@@ -66,19 +66,13 @@ not_memory d writes_setting bind store = go (has_sockets d && not bind) (writes_
 
 -- ---- turns
 
-none_told : (a : Option (List Entry)) → Tells a [] a
-none_told a = λ after is. (after, is, sym (append-nil after))
-
-pub no_store_told : (s : Option (List StoreCall)) → AreTold s [] s
-no_store_told s = λ after is. (after, is, sym (append-nil after))
-
 -- an event that is refused is the whole turn
 pub nothing_done : (s : State) (e : Event) (line : List ℕ) (new : Table) (r : Refusal) (a : Option (List Entry)) (k n : Kept) → refusal_in s e ≡ Some r → Grows k n line → KeepsState new s → IsLed s →
     TurnsOf s e line (Some r) new a a k n
 nothing_done s e line new r a k n is noted keeps led = record {
   names = [];
   entries = [];
-  tells = none_told a;
+  tells = tells_nothing a;
   turn = record {
     orders = [];
     calls = refl;
@@ -99,7 +93,7 @@ never_called s bytes writes_setting force r new a t k n is noted keeps led = rec
   job = 0;
   mid = a;
   asks = subst (λ o. AsksFor o (def_of bytes) 0 writes_setting s.reading.wall (record { bind = true; store = true }) a a t t) (sym (is true true))
-      (record { bind = refl; store = refl; tells = none_told a; stores = no_store_told t });
+      (record { bind = refl; store = refl; tells = tells_nothing a; stores = told_nothing t });
   turn = nothing_done s (load_of bytes writes_setting force true true) (load_line bytes writes_setting force (record { bind = true; store = true })) new r a k n (is true true) noted keeps led;
   own = λ none. let no : Some r ≡ None = none in cc;
 }

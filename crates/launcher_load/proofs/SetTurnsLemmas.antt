@@ -8,17 +8,17 @@ use Rattle.history_model.specs.Search.{or_else}
 use Rattle.history_model.specs.Labels.{Label, is_label}
 use Rattle.history_model.specs.Machine.{State, past_of}
 use Rattle.history_model.specs.Acceptance.{refusal_in, refusal_at, refusal_stored, refused_if}
-use Rattle.history_model.specs.Step.{step, step_by, set_if}
 use Rattle.job_table.specs.Changes.{set_of}
 use Rattle.job_table.specs.Tables.{Table}
 use Rattle.job_table.specs.Kept.{KeepsState}
-use Rattle.order_edge.specs.Calls.{Entry}
 use Rattle.load_asking.specs.Stores.{StoreCall, AreTold}
+use Rattle.load_asking.proofs.AskLemmas.{told_nothing}
 use Rattle.event_journal.specs.Journals.{Kept, Grows}
 use Rattle.launcher_turn.specs.Turns.{IsLed, IsShort}
 use Rattle.launcher_load.specs.Lines.{set_line}
 use Rattle.launcher_load.specs.LoadTurns.{AsksStore, SetTurnOf}
-use Rattle.launcher_load.proofs.LoadTurnsLemmas.{no_store_told, nothing_done}
+use Rattle.launcher_load.proofs.LoadTurnsLemmas.{nothing_done}
+use Rattle.child_edge.specs.Calls.{Entry}
 
 -- a setting names no label that comes
 pub short_set : (label : Label) (disabled unload store : Bool) → IsShort (set_of label disabled unload store)
@@ -46,7 +46,7 @@ pub never_set : (s : State) (label : Label) (disabled unload : Bool) (r : Refusa
     ((store : Bool) → refusal_in s (set_of label disabled unload store) ≡ Some r) → Grows k n (set_line label disabled unload true) → KeepsState new s → IsLed s →
     SetTurnOf s label disabled unload true (Some r) new a a t t k n
 never_set s label disabled unload r new a t k n is noted keeps led = record {
-  asks = subst (λ o. AsksStore o label (disabled || unload) s.reading.wall true t t) (sym (is true)) (refl, no_store_told t);
+  asks = subst (λ o. AsksStore o label (disabled || unload) s.reading.wall true t t) (sym (is true)) (refl, told_nothing t);
   turn = nothing_done s (set_of label disabled unload true) (set_line label disabled unload true) new r a k n (is true) noted keeps led;
 }
 

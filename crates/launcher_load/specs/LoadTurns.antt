@@ -16,8 +16,7 @@ use Rattle.job_table.specs.Loads.{load_of, refusal_outside, described_in, number
 use Rattle.job_table.specs.declared.loading.Ready.{Ready}
 use Rattle.job_table.specs.Changes.{set_of}
 use Rattle.job_table.specs.Outcomes.{IsSameFor}
-use Rattle.child_edge.specs.Calls.{Tells}
-use Rattle.order_edge.specs.Calls.{Entry}
+use Rattle.child_edge.specs.Calls.{Tells, Entry}
 use Rattle.load_asking.specs.declared.asking.Outside.{Outside}
 use Rattle.load_asking.specs.Asking.{Asks}
 use Rattle.load_asking.specs.Stores.{StoreCall, AreTold, set_call}

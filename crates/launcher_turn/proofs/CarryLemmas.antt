@@ -1,28 +1,19 @@
 -- What holds once one more order was carried out on the outside.
-use Rattle.std.proofs.Common.{◌≡◌, ℕ, zero, suc, ◌+◌, ◌*◌, ◌<◌, ◌≤◌, Bool, true, false, ◌&&◌, List, [], ◌∷◌, ◌++◌, map, take, length, get_or, Option, Some, None, refl, sym, ap, subst, ◌∙◌, append_assoc, arith, length-append}
+use Rattle.std.proofs.Common.{◌≡◌, ℕ, zero, suc, ◌+◌, ◌*◌, ◌<◌, ◌≤◌, Bool, true, List, [], ◌∷◌, ◌++◌, map, take, length, get_or, Option, Some, None, refl, sym, ap, subst, ◌∙◌, append_assoc, arith, length-append}
 use Rattle.std.specs.List.{list_all, cons_option}
 use Rattle.std.proofs.lemmas.List.{append-nil, map-append, take_more}
 use Rattle.std.proofs.lemmas.List.Elements.{filter_map-append}
 use Rattle.history_model.specs.declared.Order.{Order}
-use Rattle.child_edge.specs.Calls.{Tells}
+use Rattle.child_edge.specs.Calls.{Tells, Entry}
+use Rattle.child_edge.proofs.CallsLemmas.{tells_nothing, tells_append}
 use Rattle.order_edge.specs.declared.pending.Pending.{Pending}
-use Rattle.order_edge.specs.Calls.{Entry, call_of, calls_in, answer_in, answers_in, Carries}
+use Rattle.order_edge.specs.Calls.{call_of, calls_in, answer_in, answers_in, Carries}
 use Rattle.launcher_turn.specs.Turns.{Carried}
 use Rattle.history_model.proofs.BooleanLemmas.{and-both}
 use Rattle.history_model.specs.declared.TheConstants.{MAX_JOBS}
 
--- what is told one after another is told together
-pub Tells-append : (a b c : Option (List Entry)) (p q : List Entry) → Tells a p b → Tells b q c → Tells a (p ++ q) c
-Tells-append a b c p q first second = λ after is.
-    let s = second after is in
-    let f = first s.0 s.1 in
-    (f.0, f.1, s.2 ∙ ap (λ xs. xs ++ q) f.2 ∙ append_assoc f.0 p q)
-
-pub Tells-none : (a : Option (List Entry)) → Tells a [] a
-Tells-none a = λ after is. (after, is, sym (append-nil after))
-
 pub none_carried : (old : List Pending) (told : Option (List Entry)) → Carried [] old old told told
-none_carried old told = record { entries = []; tells = Tells-none told; calls = refl; kept = λ fits. sym (append-nil old) }
+none_carried old told = record { entries = []; tells = tells_nothing told; calls = refl; kept = λ fits. sym (append-nil old) }
 
 -- the answer, if there is one, is kept if there is room
 abbrev pub IsKept : Option Pending → List Pending → List Pending → Type 0
@@ -51,7 +42,7 @@ carried-more orders order old mid new pending a b c before one kept =
     filter_map-append answer_in before.entries (entry ∷ []) ∙ ap (λ xs. answers_in before.entries ++ xs) gives in
     record {
       entries = before.entries ++ entry ∷ [];
-      tells = Tells-append a b c before.entries (entry ∷ []) before.tells one.tells;
+      tells = tells_append a b c before.entries (entry ∷ []) before.tells one.tells;
       calls = map-append (λ e. e.0) before.entries (entry ∷ []) ∙ ap (λ xs. xs ++ call_of order ∷ []) before.calls ∙ sym (map-append call_of orders (order ∷ []));
       kept = λ fits. kept-more pending old mid new (answers_in before.entries) before.kept kept (omega (arith, ap length all, fits)) ∙ ap (λ xs. old ++ xs) (sym all);
     }

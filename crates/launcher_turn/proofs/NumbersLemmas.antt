@@ -19,8 +19,9 @@ use Rattle.job_table.specs.Kept.{KeepsJobs, labelled}
 use Rattle.job_table.specs.Numbers.{name_of, names_of}
 use Rattle.child_edge.specs.declared.plain.Scripted.{Scripted}
 use Rattle.child_edge.specs.declared.plain.Scripted.TheVariants.{Started, Done, Running, Over, Seen, At, Refused, NoMemory}
+use Rattle.child_edge.specs.Calls.{Entry}
 use Rattle.order_edge.specs.declared.pending.Pending.{Pending}
-use Rattle.order_edge.specs.Calls.{Entry, call_by, call_of, calls_in, answers_in, spawn_answer}
+use Rattle.order_edge.specs.Calls.{call_by, call_of, calls_in, answers_in, spawn_answer}
 use Rattle.history_model.specs.Turns.{JobOrder, wanting}
 use Rattle.history_model.proofs.LabelOrderLemmas.{same_self}
 use Rattle.launcher_turn.specs.Turns.{AreTheirs}

@@ -23,7 +23,7 @@ use Rattle.job_table.specs.Ends.{AreKnown, IsAnswer, Visits, Numbers, names_in}
 use Rattle.job_table.specs.Numbers.{names_of, IsNumbered}
 use Rattle.job_table.specs.declared.Step.{Step}
 use Rattle.order_edge.specs.declared.pending.Pending.{Pending}
-use Rattle.order_edge.specs.Calls.{Entry, answers_in}
+use Rattle.order_edge.specs.Calls.{answers_in}
 use Rattle.history_model.specs.Turns.{JobOrder, wanting}
 use Rattle.history_model.proofs.TurnsLemmas.{IsTurning, turning-step}
 use Rattle.history_model.proofs.LabelOrderLemmas.{heard_one-labels, same_self, order-run}
@@ -36,6 +36,7 @@ use Rattle.event_journal.specs.Journals.{Kept, Grows}
 use Rattle.launcher_turn.specs.Lines.{journaled_answer}
 use Rattle.launcher_turn.proofs.CarryLemmas.{none-called}
 use Rattle.launcher_turn.proofs.NumbersLemmas.{AreNamed, rows-named, label-is, named-next, orders-known, once-number, loaded, theirs-append, made-theirs}
+use Rattle.child_edge.specs.Calls.{Entry}
 
 pub unless : {A : Type 0} {P : Type 0} (result : Result A Refusal) → P → UnlessMemory result P
 unless (Ok a) holds = holds

@@ -6,9 +6,10 @@ use Rattle.history_model.specs.Machine.{State, Event}
 use Rattle.history_model.specs.Step.{outcome, step, run, orders_in}
 use Rattle.job_table.specs.Tables.{Table, Name}
 use Rattle.job_table.specs.Kept.{KeepsState, labelled}
-use Rattle.child_edge.specs.Calls.{Tells}
+use Rattle.child_edge.specs.Calls.{Tells, Entry}
+use Rattle.child_edge.proofs.CallsLemmas.{tells_append, tells_nothing}
 use Rattle.order_edge.specs.declared.pending.Pending.{Pending}
-use Rattle.order_edge.specs.Calls.{Entry, call_of, calls_in, answer_in, answers_in}
+use Rattle.order_edge.specs.Calls.{call_of, calls_in, answer_in, answers_in}
 use Rattle.std.proofs.lemmas.List.Elements.{filter_map-append}
 use Rattle.std.proofs.lemmas.Grind.{flat_map-append}
 use Rattle.history_model.specs.Turns.{JobOrder, wanting}
@@ -19,7 +20,6 @@ use Rattle.launcher_turn.specs.Turns.{event_in, AreTheirs, IsWaiting, Handled, S
 use Rattle.event_journal.specs.Journals.{Kept, Grows}
 use Rattle.event_journal.proofs.JournalsLemmas.{grows_nothing, grows_append}
 use Rattle.launcher_turn.specs.Lines.{answer_text, answer_texts}
-use Rattle.launcher_turn.proofs.CarryLemmas.{Tells-append, Tells-none}
 use Rattle.history_model.specs.declared.TheConstants.{MAX_JOBS}
 
 -- ---- one more event of the machine
@@ -57,7 +57,7 @@ pub so-far-start : (s : State) (names : List Name) (waits : List JobOrder) (firs
     IsWaiting table s names waits first → weigh_orders waits ≤ 3 * MAX_JOBS → IsSoFar s names first first 0 table told told written written
 so-far-start s names waits first table told written waiting fits = record {
   made = [];
-  tells = Tells-none told;
+  tells = tells_nothing told;
   all = sym (append-nil first);
   orders = [];
   calls = refl;
@@ -126,7 +126,7 @@ so-far-next s names first answers answers' k d table table' told told' told'' wr
       ap (drop (k + 1)) grown ∙ drop-append-le (k + 1) answers (answers_in made) (omega (arith, in_range)) ∙ ap (λ n. drop n answers ++ answers_in made) (add-one k) in
       record {
         made = far.made ++ made;
-        tells = Tells-append told told' told'' far.made made far.tells did.carried.tells;
+        tells = tells_append told told' told'' far.made made far.tells did.carried.tells;
         all = grown ∙ ap (λ xs. xs ++ answers_in made) far.all ∙ append_assoc first (answers_in far.made) (answers_in made) ∙ ap (λ xs. first ++ xs) (sym (filter_map-append answer_in far.made made));
         orders = far.orders ++ did.orders;
         calls = map-append (λ x. x.0) far.made made ∙ (λ i. far.calls i ++ did.carried.calls i) ∙ sym (map-append call_of far.orders did.orders);

@@ -3,7 +3,6 @@ use Rattle.std.proofs.Common.{◌≡◌, ℕ, Bool, true, false, not, ◌&&◌, 
 use Rattle.std.specs.Prelude.{Ok}
 use Rattle.history_model.specs.declared.Refusal.{Refusal}
 use Rattle.history_model.specs.declared.Refusal.TheVariants.{SocketRefused}
-use Rattle.history_model.specs.declared.event.Setting.{Setting}
 use Rattle.history_model.specs.Labels.{Label}
 use Rattle.history_model.specs.Machine.{State, Event, Load, Set}
 use Rattle.history_model.specs.Acceptance.{refusal_in, refusal_stored, refused_if}
@@ -14,8 +13,9 @@ use Rattle.job_defs.specs.Keys.{def_of}
 use Rattle.job_table.specs.Tables.{Name}
 use Rattle.job_table.specs.Loads.{load_of, given_in, refusal_outside}
 use Rattle.order_edge.specs.declared.pending.Pending.{Pending}
-use Rattle.order_edge.specs.Calls.{Entry, answers_in}
+use Rattle.order_edge.specs.Calls.{answers_in}
 use Rattle.launcher_turn.specs.Turns.{event_in, events_in}
+use Rattle.child_edge.specs.Calls.{Entry}
 
 answer-settings : (names : List Name) (p : Pending) (s : State) → (step s (event_in names p)).settings ≡ s.settings
 answer-settings names p s = go (refusal_in s (event_in names p)) where

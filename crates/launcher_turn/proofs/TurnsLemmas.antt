@@ -21,7 +21,7 @@ use Rattle.job_table.specs.Kept.{KeepsState, labelled}
 use Rattle.job_table.specs.Outcomes.{UnlessMemory}
 use Rattle.history_model.specs.declared.Refusal.TheVariants.{NoMemory}
 use Rattle.order_edge.specs.declared.pending.Pending.{Pending}
-use Rattle.order_edge.specs.Calls.{Entry, call_of, answer_in, answers_in}
+use Rattle.order_edge.specs.Calls.{call_of, answer_in, answers_in}
 use Rattle.history_model.specs.Turns.{JobOrder, wanting}
 use Rattle.history_model.specs.Waits.{weigh_orders}
 use Rattle.history_model.proofs.LabelOrderLemmas.{heard-labels, heard_one-labels, order-run}
@@ -36,11 +36,13 @@ use Rattle.event_journal.proofs.JournalsLemmas.{grows_append}
 use Rattle.launcher_turn.specs.Lines.{journaled_by, answer_texts}
 use Rattle.launcher_turn.specs.declared.happening.Happening.{Happening}
 use Rattle.launcher_turn.specs.declared.happening.Happening.TheVariants as happenings
-use Rattle.launcher_turn.proofs.CarryLemmas.{Tells-append, none-called}
+use Rattle.launcher_turn.proofs.CarryLemmas.{none-called}
 use Rattle.launcher_turn.proofs.NumbersLemmas.{made-theirs}
 use Rattle.launcher_turn.proofs.OneEventLemmas.{good, orderly-next}
 use Rattle.launcher_turn.proofs.SettlingLemmas.{same-length}
 use Rattle.history_model.specs.declared.TheConstants.{MAX_JOBS}
+use Rattle.child_edge.specs.Calls.{Entry}
+use Rattle.child_edge.proofs.CallsLemmas.{tells_append}
 
 -- ---- where an event leads
 
@@ -132,7 +134,7 @@ turned-at s e line old mid new first after a b c k m n is led keeps did noted se
     record {
       names = mid.names;
       entries = entries;
-      tells = Tells-append a b c did.carried.entries done.made did.carried.tells done.tells;
+      tells = tells_append a b c did.carried.entries done.made did.carried.tells done.tells;
       turn = record {
         orders = did.orders ++ done.orders;
         calls = map-append (λ x. x.0) did.carried.entries done.made ∙ (λ i. did.carried.calls i ++ done.calls i) ∙ sym (map-append call_of did.orders done.orders);

@@ -16,14 +16,13 @@ use Rattle.job_table.specs.Kept.{KeepsState, labelled}
 use Rattle.job_table.specs.Outcomes.{IsSameFor}
 use Rattle.job_table.specs.Ends.{AreKnown}
 use Rattle.job_table.specs.declared.Step.{Step}
-use Rattle.child_edge.specs.Calls.{Tells}
+use Rattle.child_edge.specs.Calls.{Tells, Entry}
 use Rattle.order_edge.specs.declared.pending.Pending.{Pending}
 use Rattle.event_journal.specs.Journals.{Kept, Grows}
 use Rattle.launcher_turn.specs.Lines.{answer_text, answer_texts}
-use Rattle.order_edge.specs.Calls.{Entry, call_of, calls_in, answers_in}
+use Rattle.order_edge.specs.Calls.{call_of, calls_in, answers_in}
 use Rattle.history_model.specs.Turns.{JobOrder, wanting}
 use Rattle.history_model.specs.Waits.{AreFresh, weight, weigh_orders}
-use Rattle.job_table.specs.Loads.{refused_with}
 
 -- ---- orders that are carried out
 

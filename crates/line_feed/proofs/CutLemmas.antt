@@ -1,13 +1,11 @@
 -- Lines of a stream that comes in pieces: what is joined has the lines of its parts.
-use Rattle.std.proofs.Common.{◌≡◌, ℕ, ◌+◌, ◌-◌, ◌<◌, ◌≤◌, List, [], ◌∷◌, ◌++◌, length, take, drop, get_or, Bool, true, false, ◌&&◌, nat_eq, cond, refl, sym, ap, ◌∙◌, subst, append_assoc, append-nil, arith, length-append}
-use Rattle.std.proofs.Common.{Option, Some, None, suc}
+use Rattle.std.proofs.Common.{◌≡◌, ℕ, ◌+◌, ◌-◌, ◌<◌, ◌≤◌, List, [], ◌∷◌, ◌++◌, length, take, drop, get_or, Bool, true, false, ◌&&◌, nat_eq, cond, refl, sym, ap, ◌∙◌, subst, append_assoc, append-nil, arith, length-append, Option, Some, None, suc}
 use Rattle.std.proofs.Math.Seq.{take-append_seam, take-length, drop-append_seam, take-append-add}
 use Rattle.std.proofs.lemmas.Bool.{lt-leb, le-leb, eqb-true}
-use Rattle.std.specs.List.{position_from, flat_map}
+use Rattle.std.specs.List.{position_from, flat_map, list_all, take_while}
 use Rattle.std.proofs.lemmas.List.{take_more, drop_more, take-append-drop, take-append-le, take-take, length-take-le}
 use Rattle.std.proofs.lemmas.List.Folds.{list_all-append}
 use Rattle.std.proofs.lemmas.List.Sums.{take_while-cons}
-use Rattle.std.specs.List.{list_all, take_while}
 use Rattle.line_feed.specs.Lines.{lines_after, rest_after, lines_of, rest_of, is_short, fits, stream_of}
 use Rattle.line_feed.specs.Scan.{IsScan}
 use Rattle.line_feed.specs.declared.cut.Scan.TheVariants.{Fits, Long}

@@ -6,6 +6,7 @@ use crate::job_sockets::COMING;
 use crate::live::Live;
 use crate::system::System;
 use crate::waiting::{next_pause, round_wait};
+use history_model::SECOND;
 use load_asking::SettingStore;
 use std::alloc::Global;
 use std::io::Write;
@@ -13,7 +14,7 @@ use std::sync::Wait;
 use std::time::Duration;
 
 /// As many milliseconds of `up` a launcher with no job left waits for clients that don't take their reply.
-const PATIENCE: u64 = 1_000;
+const PATIENCE: u64 = SECOND;
 
 /// One round. It waits at most a tenth of a second, reads the clock, asks about each child, looks at the listed paths once in
 /// 1,000 milliseconds of `up`, serves the control clients and takes new ones, and does the same for the clients of jobs'

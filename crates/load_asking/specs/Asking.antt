@@ -1,29 +1,17 @@
 -- What a load asks of the outside: sockets to be bound, and a setting to be stored.
 use Rattle.std.specs.Prelude.{◌≡◌, ℕ, Bool, true, false, not, ◌&&◌, List, [], ◌∷◌, Option, if◌then◌else◌}
-use Rattle.child_edge.specs.Calls.{Tells}
-use Rattle.child_edge.specs.declared.plain.EdgeCall.{EdgeCall}
+use Rattle.child_edge.specs.Calls.{Tells, is_done, Entry}
 use Rattle.child_edge.specs.declared.plain.EdgeCall.TheVariants.{Bind, Release}
 use Rattle.child_edge.specs.declared.plain.Scripted.{Scripted}
-use Rattle.child_edge.specs.declared.plain.Scripted.TheVariants.{Done, Started, Running, Over, Seen, At, Refused, NoMemory}
+use Rattle.child_edge.specs.declared.plain.Scripted.TheVariants.{Done}
 use Rattle.job_defs.specs.Described.{Described}
 use Rattle.job_defs.specs.Definitions.{has_sockets}
 use Rattle.load_asking.specs.declared.asking.Outside.{Outside}
 use Rattle.load_asking.specs.Stores.{StoreCall, AreTold, store_calls}
 
--- the edge did what it was asked
-abbrev pub is_done : Scripted → Bool
-is_done Done = true
-is_done (Started pid) = false
-is_done Running = false
-is_done (Over how) = false
-is_done (Seen obs) = false
-is_done (At reading) = false
-is_done Refused = false
-is_done NoMemory = false
-
 -- The calls of a load, with this answer to the bind: none for a job without sockets. Sockets that
 -- were bound are given up if the store then refused.
-abbrev pub load_entries : Bool → ℕ → Outside → Scripted → List (EdgeCall × Scripted)
+abbrev pub load_entries : Bool → ℕ → Outside → Scripted → List Entry
 load_entries false job outside bound = []
 load_entries true job outside bound =
     (Bind job, bound) ∷ (if outside.bind && not outside.store then (Release job, Done) ∷ [] else [])
@@ -31,7 +19,7 @@ load_entries true job outside bound =
 -- Each was asked once, in this order: the sockets; then, if they are bound and a setting is to be
 -- written, the store. The answers are those that were given; what was not asked counts as true.
 pub record Asks (job : ℕ) (d : Described) (writes_setting : Bool) (changed : ℕ) (outside : Outside)
-    (told told' : Option (List (EdgeCall × Scripted)))
+    (told told' : Option (List Entry))
     (stored stored' : Option (List StoreCall)) : Type 0 where
   pub bound : Scripted
   pub tells : Tells told (load_entries (has_sockets d) job outside bound) told'

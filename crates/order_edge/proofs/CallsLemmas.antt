@@ -6,14 +6,14 @@ use Rattle.history_model.specs.declared.Act.TheVariants as acts
 use Rattle.history_model.specs.declared.Answer.{Answer}
 use Rattle.history_model.specs.declared.Answer.TheVariants.{Termed, Killed}
 use Rattle.history_model.specs.declared.Order.{Order}
-use Rattle.child_edge.specs.Calls.{Tells, start_answer, done_answer}
+use Rattle.child_edge.specs.Calls.{Tells, start_answer, done_answer, Entry, is_done}
 use Rattle.child_edge.specs.declared.plain.EdgeCall.TheVariants.{Start, Term, Kill, Close, Release}
 use Rattle.child_edge.specs.declared.plain.EdgeFault.{EdgeFault}
 use Rattle.child_edge.specs.declared.plain.EdgeFault.TheVariants as Fault
 use Rattle.child_edge.specs.declared.plain.Scripted.{Scripted}
 use Rattle.child_edge.specs.declared.plain.Scripted.TheVariants.{Done}
 use Rattle.order_edge.specs.declared.pending.Pending.{Pending}
-use Rattle.order_edge.specs.Calls.{Entry, call_by, answer_in, spawn_answer, is_done, Carries}
+use Rattle.order_edge.specs.Calls.{call_by, answer_in, spawn_answer, Carries}
 
 made : (order : Order) (act : Act) (a : Scripted) (pending : Option Pending) (old new : Option (List Entry)) → order.act ≡ act →
     Tells old ((call_by order.job act, a) ∷ []) new → pending ≡ answer_in (call_by order.job act, a) → Carries order pending old new

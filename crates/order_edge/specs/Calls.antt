@@ -1,21 +1,17 @@
 -- The calls by which orders are carried out, and the answers that they give.
-use Rattle.std.specs.Prelude.{◌≡◌, ℕ, Bool, true, false, List, [], ◌∷◌, map, Option, Some, None}
+use Rattle.std.specs.Prelude.{◌≡◌, ℕ, List, [], ◌∷◌, map, Option, Some, None}
 use Rattle.std.specs.List.{filter_map}
 use Rattle.history_model.specs.declared.Act.{Act}
 use Rattle.history_model.specs.declared.Act.TheVariants as acts
 use Rattle.history_model.specs.declared.Answer.{Answer}
 use Rattle.history_model.specs.declared.Answer.TheVariants.{Spawned, SpawnRefused, Termed, Killed}
 use Rattle.history_model.specs.declared.Order.{Order}
-use Rattle.child_edge.specs.Calls.{Tells}
+use Rattle.child_edge.specs.Calls.{Tells, Entry, is_done}
 use Rattle.child_edge.specs.declared.plain.EdgeCall.{EdgeCall}
 use Rattle.child_edge.specs.declared.plain.EdgeCall.TheVariants.{Start, Term, Kill, Close, Release}
 use Rattle.child_edge.specs.declared.plain.Scripted.{Scripted}
-use Rattle.child_edge.specs.declared.plain.Scripted.TheVariants.{Started, Done}
+use Rattle.child_edge.specs.declared.plain.Scripted.TheVariants.{Started}
 use Rattle.order_edge.specs.declared.pending.Pending.{Pending}
-
--- a call, with the answer that it gave
-abbrev pub Entry : Type 0
-Entry = EdgeCall × Scripted
 
 -- the call that an order of the job asks for; a job that is gone gives up its sockets
 abbrev pub call_by : ℕ → Act → EdgeCall
@@ -32,10 +28,6 @@ call_of order = call_by order.job order.act
 abbrev pub spawn_answer : ℕ → Scripted → Answer
 spawn_answer run (Started pid) = Spawned run pid
 spawn_answer run _ = SpawnRefused run
-
-abbrev pub is_done : Scripted → Bool
-is_done Done = true
-is_done _ = false
 
 -- the answer that the call gave, of the job with that number; the others have none
 abbrev pub answer_in : Entry → Option Pending

@@ -1,7 +1,6 @@
 -- What a sound database says of the rows of a table.
 use Rattle.std.proofs.Common.{◌≡◌, inl, inr, ℕ, ℤ, pos, List, [], ◌∷◌, Bool, true, false, not, Ordering, Less, Equal, Greater, refl, sym, ap, subst, ◌∙◌, true≢false, Some}
 use Rattle.std.proofs.lemmas.Bool.{and_from}
-use Rattle.std.specs.Prelude.{◌&&◌}
 use Rattle.std.specs.Ordering.{int_eq, is_ne}
 use Rattle.sqlite.specs.declared.types.Value.{Value}
 use Rattle.sqlite.specs.declared.types.Value.TheVariants.{Int, Text, Null, Real, Blob}

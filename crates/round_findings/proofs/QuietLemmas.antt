@@ -1,6 +1,6 @@
 -- The least of all moments is reached if some moment is, and a minute is crossed if the number of whole minutes rises.
-use Rattle.std.proofs.Common.{◌≡◌, ℕ, zero, suc, ◌+◌, ◌-◌, ◌*◌, ◌/◌, ◌==◌, ◌<◌, ◌≤◌, Bool, true, false, ◌||◌, Option, Some, None, List, [], ◌∷◌, refl, sym, ap, ◌∙◌, arith}
-use Rattle.std.specs.Prelude.{max, nat_le, nat_lt}
+use Rattle.std.proofs.Common.{◌≡◌, ℕ, zero, suc, ◌-◌, ◌/◌, ◌==◌, ◌≤◌, Bool, true, false, ◌||◌, Option, Some, None, List, [], ◌∷◌, refl, sym, ap, ◌∙◌, arith}
+use Rattle.std.specs.Prelude.{nat_le, nat_lt}
 use Rattle.std.proofs.lemmas.Bool.{eqb-true}
 use Rattle.std.proofs.lemmas.Bool.Decides.{nat_tests}
 use Rattle.std.specs.Option.{ForSome}
@@ -8,12 +8,9 @@ use Rattle.std.specs.List.{list_any, AllByRecursion}
 use Rattle.history_model.specs.Moments.{next_moment}
 use Rattle.history_model.specs.Machine.{Job}
 use Rattle.history_model.specs.Calendar.{minutes_above, last_before, crossed}
+use Rattle.history_model.proofs.BooleanLemmas.{or-second}
 use Rattle.job_table.specs.Moments.{is_moment, IsNextUp}
 use Rattle.round_findings.specs.Quiet.{is_reached, is_minute_crossed}
-
-or-in : (a b : Bool) → b ≡ true → (a || b) ≡ true
-or-in true b e = refl
-or-in false b e = e
 
 module _ (up : ℕ) where
   abbrev are_reached : List Job → Bool
@@ -29,7 +26,7 @@ module _ (up : ℕ) where
     at : (n : ℕ) (b : Bool) → (n == m) ≡ b → (list_any (λ j. is_moment m (next_moment j.past)) jobs ≡ true → are_reached jobs ≡ true) →
         (b || list_any (λ j. is_moment m (next_moment j.past)) jobs) ≡ true → (nat_le n up || are_reached jobs) ≡ true
     at n true is later e = ap (λ k. nat_le k up || are_reached jobs) (eqb-true n m is) ∙ ap (λ b. b || are_reached jobs) less
-    at n false is later e = or-in (nat_le n up) (are_reached jobs) (later e)
+    at n false is later e = or-second (nat_le n up) (are_reached jobs) (later e)
 
     go : (o : Option ℕ) → (list_any (λ j. is_moment m (next_moment j.past)) jobs ≡ true → are_reached jobs ≡ true) →
         (is_moment m o || list_any (λ j. is_moment m (next_moment j.past)) jobs) ≡ true → (is_reached up o || are_reached jobs) ≡ true

@@ -2,7 +2,7 @@
 
 use crate::inputs::Inputs;
 use child_edge::{ChildEdge, PathEdge, SocketEdge};
-use history_model::Obs;
+use history_model::{Obs, SECOND};
 use job_table::JobTable;
 use launcher::Input;
 use load_asking::SettingStore;
@@ -11,7 +11,7 @@ use std::collections::BTreeMap;
 use std::io::Write;
 
 /// As many milliseconds of `up` lie between two looks.
-const BETWEEN: u64 = 1_000;
+const BETWEEN: u64 = SECOND;
 
 /// As many bytes a path has at most.
 const LONGEST_PATH: usize = 1_024;

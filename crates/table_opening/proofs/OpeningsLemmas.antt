@@ -15,6 +15,7 @@ use Rattle.calendar_due.specs.Offsets.{Offsets}
 use Rattle.calendar_due.specs.Rules.{offsets, minute_at}
 use Rattle.calendar_due.specs.Zone.{IsBadFile, IsOfTable}
 use Rattle.calendar_due.proofs.RuleLemmas.{agrees-not-bad}
+use Rattle.calendar_due.specs.declared.zone.TheConstants.{LONGEST_FILE}
 use Rattle.job_table.specs.Tables.{Table}
 use Rattle.job_table.specs.Kept.{KeepsState}
 use Rattle.job_table.specs.Opening.{opening_refusal}
@@ -53,7 +54,7 @@ bad_reading at overrides r is other = go (list_all (λ setting. is_label setting
 
 -- ---- a zone that is one is not none
 
-file_or_none : (bytes : List ℕ) (ahead : Offsets) → length bytes ≤ 65_536 → IsOfTable bytes ahead → IsBadFile bytes → ⊥
+file_or_none : (bytes : List ℕ) (ahead : Offsets) → length bytes ≤ LONGEST_FILE → IsOfTable bytes ahead → IsBadFile bytes → ⊥
 file_or_none bytes ahead short is (inl long) = omega (arith, short, long)
 file_or_none bytes ahead short is (inr (inl unreadable)) = cc (is.read, unreadable.is_fault)
 file_or_none bytes ahead short is (inr (inr bad)) = agrees-not-bad is.table _ is.read is.agrees bad

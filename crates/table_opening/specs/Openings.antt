@@ -1,9 +1,8 @@
 -- The zone that a header tells, and the machine that it opens.
-use Rattle.std.specs.Prelude.{◌≡◌, ◌≤◌, ℕ, Bool, true, false, length, ℤ, List, Option, Some, None, Result, Ok, Err}
+use Rattle.std.specs.Prelude.{◌≡◌, ◌≤◌, ℕ, true, false, length, ℤ, List, Option, Some, None, Result, Ok, Err}
 use Rattle.std.specs.List.{list_all}
 use Rattle.jiff_core.specs.Calendar.{IsWithin}
 use Rattle.jiff_tz.specs.PosixReader.{read_whole}
-use Rattle.history_model.specs.declared.Refusal.{Refusal}
 use Rattle.history_model.specs.Labels.{is_label}
 use Rattle.history_model.specs.Machine.{State, opened}
 use Rattle.history_model.specs.Refusals.{is_clock_refused}
@@ -11,6 +10,7 @@ use Rattle.calendar_due.specs.declared.zone.Zone.{Zone}
 use Rattle.calendar_due.specs.Offsets.{Offsets, always, shown_by}
 use Rattle.calendar_due.specs.Rules.{offsets}
 use Rattle.calendar_due.specs.Zone.{IsOfRule, IsOfTable, IsBadFile}
+use Rattle.calendar_due.specs.declared.zone.TheConstants.{LONGEST_FILE}
 use Rattle.job_table.specs.Tables.{Table}
 use Rattle.job_table.specs.Kept.{KeepsState}
 use Rattle.job_table.specs.Opening.{opening_refusal}
@@ -24,7 +24,7 @@ use Rattle.table_opening.specs.declared.opening.OpeningFault.TheVariants.{NoMemo
 abbrev pub Describes : ZoneText → Offsets → Type 0
 Describes (Posix text) ahead = IsOfRule text ahead
 Describes (Offset seconds) ahead = IsWithin 86_399 seconds × (ahead ≡ always seconds)
-Describes (File bytes) ahead = (length bytes ≤ 65_536) × IsOfTable bytes ahead
+Describes (File bytes) ahead = (length bytes ≤ LONGEST_FILE) × IsOfTable bytes ahead
 
 -- the header's zone is none
 abbrev pub IsNoZone : ZoneText → Type 0
@@ -45,7 +45,7 @@ IsFixedZone seconds (Some zone) = IsWithin 86_399 seconds × (offsets zone ≡ a
 -- the zone of a zone file's bytes, if they are one
 abbrev pub IsFileZone : List ℕ → Option Zone → Type 0
 IsFileZone bytes None = IsBadFile bytes
-IsFileZone bytes (Some zone) = (length bytes ≤ 65_536) × IsOfTable bytes (offsets zone)
+IsFileZone bytes (Some zone) = (length bytes ≤ LONGEST_FILE) × IsOfTable bytes (offsets zone)
 
 -- the zone that the header tells, if it tells one
 abbrev pub IsZoneOf : ZoneText → Option Zone → Type 0

@@ -1,4 +1,4 @@
-use Rattle.std.proofs.Common.{◌≡◌, map}
+use Rattle.std.proofs.Common.{◌≡◌}
 use Rattle.serde_json.specs.View.{members_view}
 use Rattle.json_kinds.specs.Kinds.{texts_in}
 use Rattle.job_defs.specs.Ignored.{with_names, others}

@@ -1,4 +1,4 @@
-use Rattle.std.proofs.Common.{◌≡◌, map, drop}
+use Rattle.std.proofs.Common.{◌≡◌, drop}
 use Rattle.serde_json.specs.View.{items_view}
 use Rattle.json_kinds.specs.Kinds.{texts_in}
 use Rattle.job_defs.specs.Ignored.{with_names, others_in_each}

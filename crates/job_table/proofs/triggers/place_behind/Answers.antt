@@ -2,9 +2,9 @@
 use Rattle.std.proofs.Common.{not, rules}
 use Rattle.std.proofs.lemmas.List.Sorted.{IsPartitionPoint-from_clause}
 use Rattle.job_table.specs.Triggers.{rank_of, is_behind}
-use Rattle.job_table.proofs.ByteOrderLemmas.{not-true, not-false}
 use Rattle.job_table.proofs.RankLemmas.{halves-not-behind, left-half, right-half}
 use Rattle.job_table.proofs.triggers.place_behind.Goals as goal
+use Rattle.history_model.proofs.BooleanLemmas.{not-true, not-false}
 
 pub returns-clause-before : goal.returns-clause-before
 returns-clause-before c = λ j y at less.

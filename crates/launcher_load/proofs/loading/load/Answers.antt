@@ -6,12 +6,12 @@ use Rattle.history_model.specs.Machine.{State}
 use Rattle.history_model.specs.Acceptance.{refusal_in}
 use Rattle.job_table.specs.Kept.{KeepsState}
 use Rattle.job_table.specs.Loads.{IsAdmitted, load_of, described_in, refused_with}
-use Rattle.load_asking.specs.Asking.{is_done}
 use Rattle.launcher_load.specs.declared.loading.Loaded.{Loaded}
 use Rattle.launcher_load.specs.LoadTurns.{LoadTurnOf, is_memory, settings_after}
 use Rattle.launcher_load.proofs.LoadTurnsLemmas.{load_ended, load_sets, never_called, not_memory, told_unless}
 use Rattle.job_defs.proofs.LabelLemmas.{label_read}
 use Rattle.launcher_load.proofs.loading.load.Goals as goal
+use Rattle.child_edge.specs.Calls.{is_done}
 
 pub ask_and_make-ended-requires-clause-label : goal.ask_and_make-ended-requires-clause-label
 ask_and_make-ended-requires-clause-label g c = label_read c.as_bytes.result.now (described_in c.in-Ok.ready) c.in-Ok.ensures.admitted.read

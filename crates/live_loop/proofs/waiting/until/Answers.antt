@@ -1,5 +1,5 @@
 -- The answers to the goals of `waiting::until`.
-use Rattle.std.proofs.Common.{ℕ, ◌+◌, ◌≤◌, arith}
+use Rattle.std.proofs.Common.{◌+◌, ◌≤◌, arith}
 use Rattle.std.specs.Prelude.{max}
 use Rattle.live_loop.proofs.waiting.until.Goals as goal
 

@@ -1,5 +1,5 @@
 -- The places that are marked are those of the jobs that the reading touches.
-use Rattle.std.proofs.Common.{◌≡◌, ◌≤◌, ◌<◌, ◌++◌, Bool, true, false, ◌||◌, map, drop, length, Option, Some, None, [], refl, ap, sym, subst, ◌∙◌, nat_lt, arith}
+use Rattle.std.proofs.Common.{◌≡◌, ◌≤◌, ◌<◌, ◌++◌, true, false, ◌||◌, map, drop, length, Option, Some, None, [], refl, ap, sym, subst, ◌∙◌, nat_lt, arith}
 use Rattle.std.specs.Prelude.{Ok, slice_get}
 use Rattle.std.specs.List.{list_all, filter_map}
 use Rattle.std.specs.Vec.{with_items}
@@ -14,7 +14,7 @@ use Rattle.history_model.specs.Refusals.{is_clock_refused}
 use Rattle.history_model.specs.Acceptance.{refused_if}
 use Rattle.history_model.specs.Machine.{State, Job, Tick}
 use Rattle.history_model.specs.Step.{heard, stays}
-use Rattle.job_table.specs.Tables.{IsOnce, is_known}
+use Rattle.job_table.specs.Tables.{IsOnce, is_known, labels_in}
 use Rattle.job_table.specs.Kept.{KeepsJobs, KeepsState, numbered_all}
 use Rattle.job_table.specs.Counts.{counts, count_in, IsCounted}
 use Rattle.job_table.specs.Triggers.{AreListed, AreOrdered}
@@ -40,24 +40,16 @@ use Rattle.job_table.proofs.NumbersLemmas.{names-begun}
 use Rattle.job_table.proofs.IndexGrowthLemmas.{named-of}
 use Rattle.job_table.proofs.TouchingLemmas.{spared-count, marks-touch}
 use Rattle.history_model.specs.WholeLaws.{AreInOrder}
-use Rattle.job_table.specs.Tables.{labels_in}
+use Rattle.history_model.proofs.BooleanLemmas.{or-false-first, or-false-second}
 use Rattle.job_table.proofs.jobs.Jobs.advance.Goals as goal
-
-or-first : (a b : Bool) → (a || b) ≡ false → a ≡ false
-or-first true b e = cc
-or-first false b e = refl
-
-or-second : (a b : Bool) → (a || b) ≡ false → b ≡ false
-or-second true b e = cc
-or-second false b e = e
 
 -- an accepted reading does not fall, and keeps its bounds
 later : (before at : Moment) → is_clock_refused before at ≡ false → (before.up ≤ at.up) × (at.up ≤ MAX_UP) × (at.wall ≤ MAX_WALL)
 later before at fine =
-    let third = or-second (nat_lt at.up before.up || nat_lt MAX_UP at.up) (nat_lt MAX_WALL at.wall) fine in
-    let two = or-first (nat_lt at.up before.up || nat_lt MAX_UP at.up) (nat_lt MAX_WALL at.wall) fine in
-    let first = or-first (nat_lt at.up before.up) (nat_lt MAX_UP at.up) two in
-    let second = or-second (nat_lt at.up before.up) (nat_lt MAX_UP at.up) two in
+    let third = or-false-second (nat_lt at.up before.up || nat_lt MAX_UP at.up) (nat_lt MAX_WALL at.wall) fine in
+    let two = or-false-first (nat_lt at.up before.up || nat_lt MAX_UP at.up) (nat_lt MAX_WALL at.wall) fine in
+    let first = or-false-first (nat_lt at.up before.up) (nat_lt MAX_UP at.up) two in
+    let second = or-false-second (nat_lt at.up before.up) (nat_lt MAX_UP at.up) two in
     (grind (arith, nat_tests, first), grind (arith, nat_tests, second), grind (arith, nat_tests, third))
 
 pub mark_due-requires-clause-places : goal.mark_due-requires-clause-places

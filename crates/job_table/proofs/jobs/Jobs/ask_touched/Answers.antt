@@ -3,13 +3,12 @@ use Rattle.std.proofs.Common.{◌≡◌, ◌<◌, ◌++◌, true, false, not, ma
 use Rattle.std.specs.Prelude.{slice_get}
 use Rattle.std.specs.List.{list_all, filter_map}
 use Rattle.history_model.specs.Step.{heard, stays}
-use Rattle.job_table.specs.Tables.{IsOnce, is_known}
+use Rattle.job_table.specs.Tables.{IsOnce, is_known, labels_in}
 use Rattle.job_table.specs.Kept.{KeepsJobs, numbered_all}
 use Rattle.job_table.specs.Counts.{counts, count_in, IsCounted}
 use Rattle.job_table.specs.Triggers.{AreListed}
-use Rattle.job_table.specs.Index.{ArePlaced}
+use Rattle.job_table.specs.Index.{ArePlaced, IsIndexOf, AreTimed, AreAlone, HaveRoom, place_in}
 use Rattle.job_table.specs.Entries.{name, rows, AllStay, is_named}
-use Rattle.job_table.specs.Index.{IsIndexOf, AreTimed, AreAlone, HaveRoom, place_in}
 use Rattle.job_table.specs.Minutes.{some_calendar}
 use Rattle.job_table.specs.News.{is_touched}
 use Rattle.job_table.specs.Sound.{AreFree}
@@ -26,7 +25,6 @@ use Rattle.job_table.proofs.AdvanceLemmas.{heard-labelled, visits-counted, name-
 use Rattle.job_table.proofs.IndexGrowthLemmas.{named-of, length-names}
 use Rattle.job_table.proofs.TouchedLemmas.{spared-all, rest-all, spared-count, not-true, marked-at}
 use Rattle.history_model.specs.WholeLaws.{AreInOrder}
-use Rattle.job_table.specs.Tables.{labels_in}
 use Rattle.job_table.proofs.jobs.Jobs.ask_touched.Goals as goal
 
 pub mark_touched-requires-clause-listed : goal.mark_touched-requires-clause-listed
