@@ -109,7 +109,7 @@ module _ {T : Type 0} (holds : T → List Setting → Type 0) (s : State) (turn 
           names = names;
           orders = t.turn.turn.orders;
           by_label = t.turn.turn.by_label;
-          outside = t.mid;
+          mid = t.mid;
           entries = t.turn.entries;
           tells = t.turn.tells;
           calls = t.turn.turn.calls;

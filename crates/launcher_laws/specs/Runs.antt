@@ -79,9 +79,9 @@ pub record AreOutcomesOf {T : Type 0} (turn : Turn T) (events : List journal.Eve
   pub names : List Name
   pub orders : List Order
   pub by_label : labelled names orders ≡ flat_map (λ (out : Outcome). out.orders) outs
-  pub outside : Option (List Entry)
+  pub mid : Option (List Entry)
   pub entries : List Entry
-  pub tells : Tells outside entries turn.after.stands.calls
+  pub tells : Tells mid entries turn.after.stands.calls
   pub calls : calls_in entries ≡ map call_of orders
 
 -- what a turn adds to a run of the machine: its events, and their outcomes
