@@ -40,4 +40,5 @@ pub record IsUnreadable (bytes : List ℕ) : Type 0 where
 -- a zone file that is refused: it is too long, no zone file, or its footer does not agree with its
 -- last row
 abbrev pub IsBadFile : List ℕ → Type 0
-IsBadFile bytes = (LONGEST_FILE < length bytes) ⊎ (IsUnreadable bytes ⊎ HasBadRule (read_tzif bytes))
+IsBadFile bytes =
+    (LONGEST_FILE < length bytes) ⊎ (IsUnreadable bytes ⊎ HasBadRule (read_tzif bytes))

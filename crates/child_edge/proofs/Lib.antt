@@ -1,2 +1,2 @@
-mod CallsLemmas
+pub mod CallsLemmas
 mod VariableLemmas

@@ -1,3 +1,4 @@
+-- What stays true in the loop of `push_others`.
 use Rattle.std.proofs.Common.{◌≡◌, ◌++◌, codes, drop, string_bytes}
 use Rattle.std.specs.List.{flat_map}
 use Rattle.job_texts.proofs.push_others.Given as goal

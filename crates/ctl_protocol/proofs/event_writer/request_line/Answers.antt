@@ -1,3 +1,4 @@
+-- What the check of `event_writer::request_line` does not find by itself.
 use Rattle.std.proofs.Common.{ap, ◌∙◌}
 use Rattle.serde_json.specs.Written.{has_float}
 use Rattle.event_reader.specs.declared.members.Form.TheVariants as forms

@@ -1,3 +1,4 @@
+-- What stays true in the loop of `header_reader::all_are_among`.
 use Rattle.std.proofs.Common.{◌≡◌}
 use Rattle.serde_json.specs.View.{members_view}
 use Rattle.json_kinds.specs.Kinds.{texts_in}

@@ -1,3 +1,4 @@
+-- What the check of `header_reader::bytes_in` does not find by itself.
 use Rattle.ctl_protocol.proofs.HexadecimalLemmas.{byte_on}
 use Rattle.ctl_protocol.proofs.header_reader.bytes_in.Goals as goal
 

@@ -1,3 +1,4 @@
+-- What stays true in the loop of `header_reader::bytes_in`.
 use Rattle.std.proofs.Common.{◌≡◌, length}
 use Rattle.ctl_protocol.specs.Headers.{bytes_of_hex, with_front}
 use Rattle.ctl_protocol.proofs.header_reader.bytes_in.Given as goal

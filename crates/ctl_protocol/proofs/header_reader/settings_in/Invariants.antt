@@ -1,3 +1,4 @@
+-- What stays true in the loop of `header_reader::settings_in`.
 use Rattle.std.proofs.Common.{◌≡◌}
 use Rattle.serde_json.specs.View.{members_view}
 use Rattle.ctl_protocol.specs.Headers.{settings_of, with_front}

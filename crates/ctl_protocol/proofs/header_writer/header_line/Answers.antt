@@ -1,3 +1,4 @@
+-- What the check of `header_writer::header_line` does not find by itself.
 use Rattle.std.proofs.Common.{ap, ◌∙◌}
 use Rattle.serde_json.specs.View.{view}
 use Rattle.serde_json.specs.Written.{has_float}

@@ -1,3 +1,4 @@
+-- What stays true in the loop of `header_writer::hex_text`.
 use Rattle.std.proofs.Common.{◌≡◌, take}
 use Rattle.std.specs.String.{string_bytes}
 use Rattle.ctl_protocol.specs.HeaderLines.{hex_of}

@@ -1,3 +1,4 @@
+-- What stays true in the loop of `header_writer::settings_value`.
 use Rattle.std.proofs.Common.{◌≡◌, drop}
 use Rattle.serde_json.specs.Data.{no_members}
 use Rattle.serde_json.specs.View.{members_view}

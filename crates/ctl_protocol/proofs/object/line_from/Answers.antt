@@ -1,3 +1,4 @@
+-- What the check of `object::line_from` does not find by itself.
 use Rattle.std.proofs.Common.{◌≡◌, Some, subst}
 use Rattle.serde_json.specs.View.{view}
 use Rattle.json_kinds.specs.Json.{json_in}

@@ -1,3 +1,4 @@
+-- What stays true in the loop of `object::put_flags`.
 use Rattle.std.proofs.Common.{◌≡◌, drop}
 use Rattle.serde_json.specs.View.{members_view}
 use Rattle.ctl_protocol.specs.Objects.{with_members, flags_of}

@@ -1,3 +1,4 @@
+-- What the check of `outcome::outcome_from` does not find by itself.
 use Rattle.std.proofs.Common.{◌∙◌}
 use Rattle.std.proofs.lemmas.Result.{IfOk-weaker}
 use Rattle.ctl_protocol.specs.Outcomes.{orders_of}

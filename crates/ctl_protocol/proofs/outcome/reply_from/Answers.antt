@@ -1,3 +1,4 @@
+-- What the check of `outcome::reply_from` does not find by itself.
 use Rattle.std.proofs.Common.{ap, ◌∙◌}
 use Rattle.serde_json.specs.Written.{has_float}
 use Rattle.ctl_protocol.proofs.ObjectsLemmas.{reply_no_float}

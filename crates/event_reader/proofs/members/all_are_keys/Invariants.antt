@@ -1,3 +1,4 @@
+-- What stays true in the loop of `members::all_are_keys`.
 use Rattle.std.proofs.Common.{◌≡◌, drop}
 use Rattle.json.specs.Value.{members_view}
 use Rattle.event_reader.specs.Members.{is_key}

@@ -1,3 +1,4 @@
+-- What the check of `members::has_only_keys` does not find by itself.
 use Rattle.std.proofs.Common.{◌∙◌, sym, ap}
 use Rattle.json.specs.Value.{value_view}
 use Rattle.event_reader.specs.Members.{is_key}

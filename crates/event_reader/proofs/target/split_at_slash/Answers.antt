@@ -1,3 +1,4 @@
+-- What the check of `target::split_at_slash` does not find by itself.
 use Rattle.std.proofs.Common.{◌≡◌, ℕ, List, Option, Some, None, length, ◌<◌, arith}
 use Rattle.std.specs.Borrow.{Bor}
 use Rattle.std.specs.Prelude.{MatchOption}

@@ -1,3 +1,4 @@
+-- What the check of `tree::readable` does not find by itself.
 use Rattle.std.proofs.Common.{◌<◌, length, sym, subst, arith, rules}
 use Rattle.json.specs.Tree.{json_tokens, items_tokens, members_tokens}
 use Rattle.json.specs.Value.{value_view, items_view, members_view}

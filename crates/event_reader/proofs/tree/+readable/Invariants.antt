@@ -1,3 +1,4 @@
+-- What stays true in the loops of `tree::readable`.
 use Rattle.std.proofs.Common.{◌≡◌, drop, length}
 use Rattle.json.specs.Tree.{json_tokens, items_tokens, members_tokens}
 use Rattle.json.specs.Value.{value_view, items_view, members_view}

@@ -1,3 +1,4 @@
+-- What the check of `tree::tree_in` does not find by itself.
 use Rattle.std.proofs.Common.{◌∙◌, sym, ap}
 use Rattle.json.specs.Lex.{tokens}
 use Rattle.json.specs.Json.{value}

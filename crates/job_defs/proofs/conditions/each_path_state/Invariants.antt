@@ -1,3 +1,4 @@
+-- What stays true in the loop of `conditions::each_path_state`.
 use Rattle.std.proofs.Common.{◌≡◌, ◌+◌, length, vec_len}
 use Rattle.serde_json.specs.View.{members_view}
 use Rattle.json_kinds.specs.Kinds.{each_member}

@@ -1,3 +1,4 @@
+-- What stays true in the loop of `demand::each_path`.
 use Rattle.std.proofs.Common.{◌≡◌, drop, vec_len}
 use Rattle.serde_json.specs.View.{items_view}
 use Rattle.json_kinds.specs.Kinds.{each_item, path_at}

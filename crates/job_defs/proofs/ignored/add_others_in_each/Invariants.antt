@@ -1,3 +1,4 @@
+-- What stays true in the loop of `ignored::add_others_in_each`.
 use Rattle.std.proofs.Common.{◌≡◌, drop}
 use Rattle.serde_json.specs.View.{items_view}
 use Rattle.json_kinds.specs.Kinds.{texts_in}

@@ -1,3 +1,4 @@
+-- What stays true in the loop of `ignored::add_others_in_names`.
 use Rattle.std.proofs.Common.{◌≡◌}
 use Rattle.serde_json.specs.View.{members_view}
 use Rattle.job_defs.specs.Ignored.{with_names, others_in_sockets}

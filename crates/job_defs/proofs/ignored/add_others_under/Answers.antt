@@ -1,3 +1,4 @@
+-- What the check of `ignored::add_others_under` does not find by itself.
 use Rattle.std.proofs.Common.{◌≡◌, ◌∙◌, ◌++◌, codes}
 use Rattle.job_defs.specs.Ignored.{others_under}
 use Rattle.job_defs.proofs.ignored.add_others_under.Goals as goal

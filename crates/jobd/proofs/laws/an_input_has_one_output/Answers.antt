@@ -1,3 +1,4 @@
+-- What the check of `laws::an_input_has_one_output` does not find by itself.
 use Rattle.jobd.proofs.OneOutputLemmas.{one_output, output_or_none}
 use Rattle.jobd.proofs.laws.an_input_has_one_output.Goals as goal
 

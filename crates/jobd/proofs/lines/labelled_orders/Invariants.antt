@@ -1,3 +1,4 @@
+-- What stays true in the loop of `lines::labelled_orders`.
 use Rattle.std.proofs.Common.{◌≡◌, take}
 use Rattle.ctl_protocol.specs.Outcomes.{orders_of}
 use Rattle.job_table.specs.Ends.{names_in}

@@ -1,3 +1,4 @@
+-- What the check of `loads::set` does not find by itself.
 use Rattle.std.proofs.Common.{◌∙◌}
 use Rattle.jobd.proofs.SettingLineLemmas.{changed_line}
 use Rattle.jobd.proofs.loads.set.Goals as goal

@@ -1,3 +1,4 @@
+-- What the check of `opening::opened` does not find by itself.
 use Rattle.jobd.proofs.LauncherLemmas.{opened_from}
 use Rattle.jobd.proofs.opening.opened.Goals as goal
 

@@ -1,3 +1,4 @@
+-- What the check of `json::json_value` does not find by itself.
 use Rattle.std.proofs.Common.{sym, ◌∙◌, true≢false}
 use Rattle.json_kinds.proofs.JsonLemmas.{json_read, json_refused}
 use Rattle.json_kinds.proofs.json.json_value.Goals as goal

@@ -1,3 +1,4 @@
+-- What stays true in the loop of `kinds::is_among`.
 use Rattle.std.proofs.Common.{◌≡◌, drop, map}
 use Rattle.std.specs.List.{list_any}
 use Rattle.std.specs.Str.{bytes_eq}

@@ -1,3 +1,4 @@
+-- What the check of `arguments::add_arg` does not find by itself.
 use Rattle.launchctl_words.proofs.RulesLemmas.{grown}
 use Rattle.launchctl_words.proofs.arguments.add_arg.Goals as goal
 

@@ -1,3 +1,4 @@
+-- What the check of `arguments::add_subcommand` does not find by itself.
 use Rattle.launchctl_words.proofs.RulesLemmas.{joined}
 use Rattle.launchctl_words.proofs.arguments.add_subcommand.Goals as goal
 

@@ -1,3 +1,4 @@
+-- What stays true in the loop of `arguments::copies_of`.
 use Rattle.std.proofs.Common.{◌≡◌, map, take}
 use Rattle.launchctl_words.proofs.arguments.copies_of.Given as goal
 

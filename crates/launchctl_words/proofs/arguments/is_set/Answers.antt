@@ -1,3 +1,4 @@
+-- What the check of `arguments::is_set` does not find by itself.
 use Rattle.std.proofs.Common.{◌∙◌, ap, sym, option_map, codes, false}
 use Rattle.std.specs.Option.{option_map_or}
 use Rattle.clap.specs.Words.{found_of}

@@ -1,3 +1,4 @@
+-- What the check of `arguments::values_of` does not find by itself.
 use Rattle.std.proofs.Common.{◌∙◌, ap, sym, Some, option_map, map}
 use Rattle.clap.specs.Words.{found_of}
 use Rattle.clap.proofs.WalkLemmas.{raw_values-rows}

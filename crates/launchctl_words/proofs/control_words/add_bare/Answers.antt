@@ -1,3 +1,4 @@
+-- What the check of `control_words::add_bare` does not find by itself.
 use Rattle.launchctl_words.proofs.control_words.add_bare.Goals as goal
 
 pub returns : goal.returns

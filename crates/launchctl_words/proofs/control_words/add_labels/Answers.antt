@@ -1,3 +1,4 @@
+-- What the check of `control_words::add_labels` does not find by itself.
 use Rattle.launchctl_words.proofs.control_words.add_labels.Goals as goal
 
 pub returns : goal.returns

@@ -1,3 +1,4 @@
+-- What the check of `control_words::add_settings` does not find by itself.
 use Rattle.launchctl_words.proofs.control_words.add_settings.Goals as goal
 
 pub returns : goal.returns

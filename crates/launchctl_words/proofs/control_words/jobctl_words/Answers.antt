@@ -1,3 +1,4 @@
+-- What the check of `control_words::jobctl_words` does not find by itself.
 use Rattle.launchctl_words.proofs.RulesLemmas.{asks_for_one}
 use Rattle.launchctl_words.proofs.control_words.jobctl_words.Goals as goal
 

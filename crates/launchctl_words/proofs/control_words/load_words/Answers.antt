@@ -1,3 +1,4 @@
+-- What the check of `control_words::load_words` does not find by itself.
 use Rattle.launchctl_words.proofs.control_words.load_words.Goals as goal
 
 pub returns : goal.returns

@@ -1,3 +1,4 @@
+-- What the check of `control_words::target_words` does not find by itself.
 use Rattle.launchctl_words.proofs.control_words.target_words.Goals as goal
 
 pub returns : goal.returns

@@ -1,3 +1,4 @@
+-- What the check of `control_words::unload_words` does not find by itself.
 use Rattle.launchctl_words.proofs.control_words.unload_words.Goals as goal
 
 pub returns : goal.returns

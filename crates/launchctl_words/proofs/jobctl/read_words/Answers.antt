@@ -1,3 +1,4 @@
+-- What the check of `jobctl::read_words` does not find by itself.
 use Rattle.std.proofs.Common.{◌∙◌, sym}
 use Rattle.launchctl_words.proofs.MeaningLemmas.{meant_found, meant_faulty, says_fault}
 use Rattle.launchctl_words.proofs.jobctl.read_words.Goals as goal

@@ -1,3 +1,4 @@
+-- What the check of `jobd::add_choices` does not find by itself.
 use Rattle.launchctl_words.proofs.jobd.add_choices.Goals as goal
 
 pub returns : goal.returns

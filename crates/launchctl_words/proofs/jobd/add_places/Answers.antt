@@ -1,3 +1,4 @@
+-- What the check of `jobd::add_places` does not find by itself.
 use Rattle.launchctl_words.proofs.jobd.add_places.Goals as goal
 
 pub returns : goal.returns

@@ -1,3 +1,4 @@
+-- What the check of `jobd::jobd_words` does not find by itself.
 use Rattle.std.proofs.Common.{rules, ◌≡◌, ◌∙◌, ap, codes, false}
 use Rattle.clap.specs.Words.{app_of, new_app}
 use Rattle.clap.specs.declared.Command.{out-Command}

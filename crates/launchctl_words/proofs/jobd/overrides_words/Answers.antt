@@ -1,3 +1,4 @@
+-- What the check of `jobd::overrides_words` does not find by itself.
 use Rattle.launchctl_words.proofs.jobd.overrides_words.Goals as goal
 
 pub returns : goal.returns

@@ -1,3 +1,4 @@
+-- What the check of `jobd::read_daemon_words` does not find by itself.
 use Rattle.std.proofs.Common.{◌∙◌, sym}
 use Rattle.launchctl_words.proofs.MeaningLemmas.{daemon_meant_found, daemon_meant_faulty, says_fault}
 use Rattle.launchctl_words.proofs.jobd.read_daemon_words.Goals as goal

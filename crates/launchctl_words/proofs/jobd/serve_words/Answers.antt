@@ -1,3 +1,4 @@
+-- What the check of `jobd::serve_words` does not find by itself.
 use Rattle.launchctl_words.proofs.jobd.serve_words.Goals as goal
 
 pub returns : goal.returns

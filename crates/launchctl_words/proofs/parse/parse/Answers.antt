@@ -1,3 +1,4 @@
+-- What the check of `parse::parse` does not find by itself.
 use Rattle.std.proofs.Common.{inl, inr}
 use Rattle.history_model.proofs.BooleanLemmas.{and-left}
 use Rattle.launchctl_words.proofs.MeaningLemmas.{none_more, some_more}

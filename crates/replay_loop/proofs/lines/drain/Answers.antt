@@ -1,3 +1,4 @@
+-- What the check of `lines::drain` does not find by itself.
 use Rattle.std.proofs.Common.{[], ◌∷◌, ◌++◌, true, false, refl, sym, ap, ◌∙◌, subst, append_assoc, append-nil}
 use Rattle.replay_loop.specs.Handling.{HandlesNext, Leads}
 use Rattle.replay_loop.proofs.HandlingLemmas.{nothing_leads, leads_more, ends_later}

@@ -1,3 +1,4 @@
+-- What stays true in the loop of `lines::drain`.
 use Rattle.std.proofs.Common.{◌≡◌, ℕ, List, ◌++◌, length}
 use Rattle.replay_loop.specs.Handling.{Leads, drained}
 use Rattle.replay_loop.proofs.lines.drain.Given as goal

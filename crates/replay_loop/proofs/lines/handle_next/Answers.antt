@@ -1,3 +1,4 @@
+-- What the check of `lines::handle_next` does not find by itself.
 use Rattle.std.proofs.Common.{◌≡◌, [], ◌∷◌, ◌++◌, ap, subst}
 use Rattle.line_feed.specs.Lines.{Feed}
 use Rattle.replay_loop.specs.Handling.{Ends, Stops}

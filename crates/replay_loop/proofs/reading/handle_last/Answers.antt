@@ -1,3 +1,4 @@
+-- What the check of `reading::handle_last` does not find by itself.
 use Rattle.std.proofs.Common.{◌≡◌, [], ◌∷◌, subst, sym}
 use Rattle.replay_loop.specs.Handling.{Stops}
 use Rattle.replay_loop.specs.Outcomes.{last_line}

@@ -1,3 +1,4 @@
+-- What the check of `reading::run_within` does not find by itself.
 use Rattle.std.proofs.Common.{◌<◌, ◌≤◌, None, length, take, subst, arith}
 use Rattle.replay_loop.specs.Handling.{Handles, LastStops}
 use Rattle.replay_loop.specs.Outcomes.{last_line}

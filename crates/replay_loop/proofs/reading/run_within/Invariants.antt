@@ -1,3 +1,4 @@
+-- What stays true in the loop of `reading::run_within`.
 use Rattle.std.proofs.Common.{Option}
 use Rattle.replay_loop.specs.Machine.{Future}
 use Rattle.replay_loop.specs.Handling.{Stands}

@@ -1,3 +1,4 @@
+-- What the check of `reading::take_piece` does not find by itself.
 use Rattle.std.proofs.Common.{refl}
 use Rattle.replay_loop.specs.Handling.{come}
 use Rattle.replay_loop.proofs.HandlingLemmas.{stands_quiet, out_of_memory, piece_stops, long_stops, long_header, stands_none}

@@ -1,3 +1,4 @@
+-- What stays true in the loop of `writing::write_text`.
 use Rattle.std.proofs.Common.{◌≡◌, ℕ, List, ◌++◌, length}
 use Rattle.std.specs.Io.KnownBytes.{Appends}
 use Rattle.replay_loop.proofs.writing.write_text.Given as goal

@@ -1,3 +1,4 @@
+-- What the check of `host::cut` does not find by itself.
 use Rattle.socket_defs.proofs.HostLemmas.{parts_of}
 use Rattle.socket_defs.proofs.host.cut.Goals as goal
 

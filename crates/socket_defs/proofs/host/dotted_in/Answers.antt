@@ -1,3 +1,4 @@
+-- What the check of `host::dotted_in` does not find by itself.
 use Rattle.std.proofs.Common.{◌∷◌, sym, ap, ◌∙◌}
 use Rattle.socket_defs.specs.Sockets.{dotted_in, octets_in}
 use Rattle.socket_defs.proofs.HostLemmas.{five_parts}

@@ -1,3 +1,4 @@
+-- What the check of `host::number_in` does not find by itself.
 use Rattle.std.proofs.Common.{◌∙◌, ◌<◌, ◌≤◌, length, rules}
 use Rattle.socket_defs.proofs.HostLemmas.{number_is}
 use Rattle.socket_defs.proofs.host.number_in.Goals as goal

@@ -1,3 +1,4 @@
+-- What stays true in the loop of `sockets::each_name`.
 use Rattle.std.proofs.Common.{◌≡◌}
 use Rattle.serde_json.specs.View.{members_view}
 use Rattle.json_kinds.specs.Kinds.{each_member}

@@ -1,3 +1,4 @@
+-- What stays true in the loop of `sockets::has_too_many`.
 use Rattle.std.proofs.Common.{◌≡◌, ◌+◌, ◌≤◌}
 use Rattle.serde_json.specs.View.{members_view}
 use Rattle.socket_defs.specs.Sockets.{socket_count}

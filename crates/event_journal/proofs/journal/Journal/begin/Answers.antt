@@ -1,3 +1,4 @@
+-- What the check of `journal::Journal::begin` does not find by itself.
 use Rattle.ctl_protocol.specs.HeaderLines.{header_line}
 use Rattle.event_journal.proofs.journal.Journal.begin.Goals as goal
 

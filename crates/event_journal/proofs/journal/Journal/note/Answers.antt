@@ -1,3 +1,4 @@
+-- What the check of `journal::Journal::note` does not find by itself.
 use Rattle.ctl_protocol.specs.EventWriter.{event_line}
 use Rattle.event_journal.proofs.journal.Journal.note.Goals as goal
 

@@ -1,3 +1,4 @@
+-- What the check of `line::Line::flag` does not find by itself.
 use Rattle.std.proofs.Common.{◌∙◌, sym, ap, option_and_then}
 use Rattle.json.specs.Find as json
 use Rattle.json.specs.Value.{value_view}

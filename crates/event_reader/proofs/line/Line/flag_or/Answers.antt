@@ -1,3 +1,4 @@
+-- What the check of `line::Line::flag_or` does not find by itself.
 use Rattle.std.proofs.Common.{◌∙◌, sym, ap}
 use Rattle.json.specs.Value.{value_view}
 use Rattle.event_reader.specs.Trees.{flag_from}

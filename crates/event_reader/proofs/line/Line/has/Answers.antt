@@ -1,3 +1,4 @@
+-- What the check of `line::Line::has` does not find by itself.
 use Rattle.std.proofs.Common.{◌∙◌, sym, ap, is_some}
 use Rattle.json.specs.Value.{value_view}
 use Rattle.event_reader.proofs.TreesLemmas.{has_at_key}

@@ -1,3 +1,4 @@
+-- What the check of `line::Line::number` does not find by itself.
 use Rattle.std.proofs.Common.{◌∙◌, sym, ap, option_and_then}
 use Rattle.event_reader.specs.Trees.{integer_of}
 use Rattle.json.specs.Value.{value_view}

@@ -1,3 +1,4 @@
+-- What the check of `store::ScriptedStore::set` does not find by itself.
 use Rattle.test_turns.proofs.store.ScriptedStoreSettingStore.set.Goals as goal
 
 -- it tells nothing
