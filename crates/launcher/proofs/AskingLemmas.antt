@@ -17,16 +17,17 @@ use Rattle.job_table.specs.Changes.{set_of}
 use Rattle.job_table.specs.Numbers.{IsNumbered}
 use Rattle.job_table.specs.Outcomes.{UnlessMemory, IsReplyText, Means}
 use Rattle.load_asking.specs.declared.asking.Outside.{Outside}
+use Rattle.load_asking.specs.Asking.{told_of}
 use Rattle.load_asking.specs.Stores.{StoreCall}
 use Rattle.load_asking.proofs.AskLemmas.{told_nothing}
 use Rattle.event_journal.specs.Journals.{Kept, Grows}
 use Rattle.event_journal.proofs.JournalsLemmas.{grows_nothing}
 use Rattle.ctl_protocol.specs.EventWriter.{event_line}
-use Rattle.launcher_turn.specs.Turns.{IsLed, TurnsOf}
+use Rattle.launcher_turn.specs.Turns.{IsLed, TurnsOf, trace}
 use Rattle.launcher_load.specs.Lines.{journaled_set}
-use Rattle.launcher_load.specs.LoadTurns.{LoadTurnOf, SetTurnOf, IsUntouched, is_memory, settings_after}
+use Rattle.launcher_load.specs.LoadTurns.{LoadTurnOf, SetTurnOf, IsUntouched, Standing, is_memory, load_request, set_request, settings_after, standing}
 use Rattle.launcher_load.proofs.LoadTurnsLemmas.{nothing_done}
-use Rattle.launcher.specs.Hosts.{Standing, standing, HostTurnOf, IsSpared, Hears}
+use Rattle.launcher.specs.Hosts.{HostTurnOf, IsSpared, Hears}
 use Rattle.launcher.proofs.HostsLemmas.{hears, wordless, settled, unsettled}
 use Rattle.child_edge.specs.Calls.{Entry}
 use Rattle.child_edge.proofs.CallsLemmas.{tells_nothing}
@@ -34,8 +35,8 @@ use Rattle.child_edge.proofs.CallsLemmas.{tells_nothing}
 -- ---- loads and settings
 
 pub loaded : (bytes : List ℕ) (writes_setting force : Bool) (outside : Outside) (refusal : Option Refusal) (words : List ℕ) (old new : Standing) (before after : List Setting → Type 0) →
-    (is_memory refusal ≡ true → IsUntouched old.table new.table old.calls new.calls old.stores new.stores) → (is_memory refusal ≡ true → new.journal ≡ old.journal) →
-    (is_memory refusal ≡ false → (s : State) → IsLed s → KeepsState old.table s → LoadTurnOf s bytes writes_setting force outside refusal new.table old.calls new.calls old.stores new.stores old.journal new.journal) →
+    (is_memory refusal ≡ true → IsUntouched old.table new.table (told_of old.calls old.stores) (told_of new.calls new.stores)) → (is_memory refusal ≡ true → new.journal ≡ old.journal) →
+    (is_memory refusal ≡ false → (s : State) → IsLed s → KeepsState old.table s → LoadTurnOf s (load_request bytes writes_setting force) outside refusal old new) →
     ((s : State) → KeepsState old.table s → before s.settings → after (settings_after refusal s (load_of bytes writes_setting force outside.bind outside.store))) →
     (refusal ≡ None → (s : State) → KeepsState old.table s → (outcome s (load_of bytes writes_setting force outside.bind outside.store)).text ≡ words) →
     Hears (Some (journaled.Load bytes writes_setting force true true)) refusal words old new before after
@@ -61,7 +62,7 @@ loaded bytes writes_setting force outside refusal words old new before after unt
 
 -- a turn of a setting, under each of its names
 set_turn : (s : State) (label : Label) (disabled unload kept : Bool) (refusal : Option Refusal) (old new : Standing) (before after : List Setting → Type 0) →
-    SetTurnOf s label disabled unload kept refusal new.table old.calls new.calls old.stores new.stores old.journal new.journal →
+    SetTurnOf s (set_request label disabled unload) kept refusal old new →
     (before s.settings → after (step s (set_of label disabled unload kept)).settings) → HostTurnOf s (journaled_set label disabled unload true) refusal [] old new before after
 set_turn s label true true kept refusal old new before after turn stored = record {
   outside = record { bind = true; store = kept };
@@ -105,8 +106,8 @@ set_turn s label false false kept refusal old new before after turn stored = rec
 }
 
 pub changed : (label : Label) (disabled unload kept : Bool) (refusal : Option Refusal) (old new : Standing) (before after : List Setting → Type 0) →
-    (is_memory refusal ≡ true → IsUntouched old.table new.table old.calls new.calls old.stores new.stores) → (is_memory refusal ≡ true → new.journal ≡ old.journal) →
-    (is_memory refusal ≡ false → (s : State) → IsLed s → KeepsState old.table s → SetTurnOf s label disabled unload kept refusal new.table old.calls new.calls old.stores new.stores old.journal new.journal) →
+    (is_memory refusal ≡ true → IsUntouched old.table new.table (told_of old.calls old.stores) (told_of new.calls new.stores)) → (is_memory refusal ≡ true → new.journal ≡ old.journal) →
+    (is_memory refusal ≡ false → (s : State) → IsLed s → KeepsState old.table s → SetTurnOf s (set_request label disabled unload) kept refusal old new) →
     ((s : State) → KeepsState old.table s → before s.settings → after (settings_after refusal s (set_of label disabled unload kept))) →
     Hears (Some (journaled_set label disabled unload true)) refusal [] old new before after
 changed label disabled unload kept refusal old new before after untouched silent turned stored =
@@ -123,7 +124,7 @@ changed label disabled unload kept refusal old new before after untouched silent
 
 -- a question that is answered is the whole turn
 question : (s : State) (e : Event) (line text : List ℕ) (table : Table) (a : Option (List Entry)) (k n : Kept) → (outcome s e ≡ record { refusal = None; orders = []; text = text }) × (step s e ≡ s) →
-    IsNumbered table → Grows k n line → KeepsState table s → IsLed s → TurnsOf s e line None table a a k n
+    IsNumbered table → Grows k n line → KeepsState table s → IsLed s → TurnsOf s e line None table (trace a k) (trace a n)
 question s e line text table a k n (is, same) numbered noted keeps led = record {
   names = table.names;
   entries = [];

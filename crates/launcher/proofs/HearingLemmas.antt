@@ -17,6 +17,7 @@ use Rattle.job_table.specs.Outcomes.{UnlessMemory}
 use Rattle.load_asking.specs.declared.asking.Outside.{Outside}
 use Rattle.load_asking.specs.Stores.{StoreCall}
 use Rattle.load_asking.proofs.AskLemmas.{told_nothing}
+use Rattle.load_asking.specs.Asking.{told_of}
 use Rattle.event_journal.specs.Journals.{Kept, Grows}
 use Rattle.event_journal.proofs.JournalsLemmas.{grows_nothing}
 use Rattle.ctl_protocol.specs.EventWriter.{event_line}
@@ -27,12 +28,12 @@ use Rattle.launcher_turn.specs.declared.happening.News.TheVariants as news
 use Rattle.launcher_turn.specs.Events as turns
 use Rattle.launcher_turn.specs.Events.{is_clock, item_heard}
 use Rattle.launcher_turn.specs.Lines.{journaled_by, journaled_of, journaled_answer}
-use Rattle.launcher_turn.specs.Turns.{TurnsOf, Turns, IsUntouched}
+use Rattle.launcher_turn.specs.Turns.{TurnsOf, Turns, IsUntouched, trace}
 use Rattle.job_table.specs.Loads.{refused_with}
-use Rattle.launcher_load.specs.LoadTurns.{is_memory}
+use Rattle.launcher_load.specs.LoadTurns.{is_memory, standing}
 use Rattle.table_opening.specs.Events.{event_of}
 use Rattle.launcher.specs.Inputs.{answered}
-use Rattle.launcher.specs.Hosts.{standing, AsksOutside, IsOwn, Hears}
+use Rattle.launcher.specs.Hosts.{AsksOutside, IsOwn, Hears}
 use Rattle.launcher.proofs.HostsLemmas.{hears, wordless, is_want}
 use Rattle.child_edge.specs.Calls.{Entry}
 use Rattle.child_edge.proofs.CallsLemmas.{tells_nothing}
@@ -91,13 +92,13 @@ same_event happenings.Shutdown = refl
 -- ---- nothing is asked for it
 
 module _ (s : State) (a : Option (List Entry)) (t : Option (List StoreCall)) where
-  asks_answer : (label : Label) (x : Answer) → AsksOutside s (journaled_answer label x) 0 well a a t t
+  asks_answer : (label : Label) (x : Answer) → AsksOutside s (journaled_answer label x) 0 well (told_of a t) (told_of a t)
   asks_answer label (answers.Spawned run pid) = record { bind = refl; store = refl; tells = tells_nothing a; stores = told_nothing t }
   asks_answer label (answers.SpawnRefused run) = record { bind = refl; store = refl; tells = tells_nothing a; stores = told_nothing t }
   asks_answer label (answers.Termed run ok) = record { bind = refl; store = refl; tells = tells_nothing a; stores = told_nothing t }
   asks_answer label (answers.Killed run ok) = record { bind = refl; store = refl; tells = tells_nothing a; stores = told_nothing t }
 
-  asks_news : (label : Label) (n : News) → AsksOutside s (journaled_of label n) 0 well a a t t
+  asks_news : (label : Label) (n : News) → AsksOutside s (journaled_of label n) 0 well (told_of a t) (told_of a t)
   asks_news label news.Start = record { bind = refl; store = refl; tells = tells_nothing a; stores = told_nothing t }
   asks_news label news.Stop = record { bind = refl; store = refl; tells = tells_nothing a; stores = told_nothing t }
   asks_news label (news.Kickstart kills_first) = record { bind = refl; store = refl; tells = tells_nothing a; stores = told_nothing t }
@@ -107,7 +108,7 @@ module _ (s : State) (a : Option (List Entry)) (t : Option (List StoreCall)) whe
   asks_news label (news.WaitRefused run) = record { bind = refl; store = refl; tells = tells_nothing a; stores = told_nothing t }
   asks_news label (news.Answered x) = asks_answer label x
 
-  asks_none : (what : Happening) → AsksOutside s (journaled_by what) 0 well a a t t
+  asks_none : (what : Happening) → AsksOutside s (journaled_by what) 0 well (told_of a t) (told_of a t)
   asks_none (happenings.Clock at) = record { bind = refl; store = refl; tells = tells_nothing a; stores = told_nothing t }
   asks_none (happenings.Saw path obs) = record { bind = refl; store = refl; tells = tells_nothing a; stores = told_nothing t }
   asks_none (happenings.ToJob label n) = asks_news label.now n
@@ -164,7 +165,7 @@ unless P (Err NoMemory) holds other = cc
 unless P (Err _) holds other = holds
 
 pub happened : (what : Happening) (answer : Result (Unit {0}) Refusal) (old new : Table) (a c : Option (List Entry)) (t : Option (List StoreCall)) (k n : Kept) (before : List Setting → Type 0) →
-    UnlessMemory answer (Turns (turns.event_of what) (event_line (journaled_by what)) (refused_with answer) old new a c k n) →
+    UnlessMemory answer (Turns (turns.event_of what) (event_line (journaled_by what)) (refused_with answer) old new (trace a k) (trace c n)) →
     (answer ≡ Err NoMemory → (is_clock what ≡ true) × IsUntouched old new a c × (n ≡ k)) →
     Hears (Some (journaled_by what)) (refused_with answer) [] (standing old a t k) (standing new c t n) before before
 happened what answer old new a c t k n before turned none =
@@ -177,10 +178,10 @@ happened what answer old new a c t k n before turned none =
       stored = λ s keeps holds. holds;
     })
     (λ other s led keeps.
-    let turn = (unless (Turns (turns.event_of what) (event_line (journaled_by what)) (refused_with answer) old new a c k n) answer turned other s led keeps).0 in
+    let turn = (unless (Turns (turns.event_of what) (event_line (journaled_by what)) (refused_with answer) old new (trace a k) (trace c n)) answer turned other s led keeps).0 in
     let event : event_of (answered well (journaled_by what)) ≡ turns.event_of what = ap event_of (same_line what) ∙ same_event what in
-    let told = subst (λ (e : Event). TurnsOf s e (event_line (answered well (journaled_by what))) (refused_with answer) new a c k n) (sym event)
-    (subst (λ (l : journal.Event). TurnsOf s (turns.event_of what) (event_line l) (refused_with answer) new a c k n) (sym (same_line what)) turn) in
+    let told = subst (λ (e : Event). TurnsOf s e (event_line (answered well (journaled_by what))) (refused_with answer) new (trace a k) (trace c n)) (sym event)
+    (subst (λ (l : journal.Event). TurnsOf s (turns.event_of what) (event_line l) (refused_with answer) new (trace a k) (trace c n)) (sym (same_line what)) turn) in
     record {
       outside = well;
       job = 0;

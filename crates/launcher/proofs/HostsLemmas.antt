@@ -23,9 +23,9 @@ use Rattle.event_journal.proofs.JournalsLemmas.{grows_append, grows_nothing}
 use Rattle.launcher_turn.specs.Turns.{IsLed}
 use Rattle.job_table.specs.Loads.{refused_with}
 use Rattle.launcher_turn.specs.Lines.{answer_texts}
-use Rattle.launcher_load.specs.LoadTurns.{is_memory, settings_after}
+use Rattle.launcher_load.specs.LoadTurns.{is_memory, settings_after, Standing, standing}
 use Rattle.launcher.specs.Inputs.{answered}
-use Rattle.launcher.specs.Hosts.{Standing, standing, HostTurnOf, IsSpared, HearsBy, Hears}
+use Rattle.launcher.specs.Hosts.{HostTurnOf, IsSpared, HearsBy, Hears}
 
 -- nothing changed at all
 pub spared : (old : Standing) (before : List Setting → Type 0) → IsSpared old old before before

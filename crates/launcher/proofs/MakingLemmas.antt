@@ -25,8 +25,9 @@ use Rattle.table_opening.specs.Openings.{OpensBy, StandsOpened}
 use Rattle.launcher.specs.declared.host.HostFault.{HostFault}
 use Rattle.launcher.specs.declared.host.HostFault.TheVariants as faults
 use Rattle.launcher.specs.Faults.{IsFaultOf, fault_of_store}
-use Rattle.launcher.specs.Hosts.{standing, with_settings, IsNew}
+use Rattle.launcher.specs.Hosts.{with_settings, IsNew}
 use Rattle.child_edge.specs.Calls.{Entry}
+use Rattle.launcher_load.specs.LoadTurns.{standing}
 
 -- a reading that is refused nowhere is within its limit
 within : (at : Reading) (overrides : List Setting) → opening_refusal at overrides ≡ None → at.up ≤ MAX_UP

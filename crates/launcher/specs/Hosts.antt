@@ -5,7 +5,6 @@ use Rattle.history_model.specs.declared.Refusal.{Refusal}
 use Rattle.history_model.specs.declared.event.Event as journal
 use Rattle.history_model.specs.declared.event.Event.TheVariants as journaled
 use Rattle.history_model.specs.declared.event.Setting.{Setting}
-use Rattle.history_model.specs.Labels.{Label}
 use Rattle.history_model.specs.Machine.{State}
 use Rattle.history_model.specs.Acceptance.{refusal_in}
 use Rattle.history_model.specs.Step.{outcome, step}
@@ -14,34 +13,20 @@ use Rattle.job_defs.specs.Keys.{def_of}
 use Rattle.ctl_protocol.specs.declared.header.Header.{Header}
 use Rattle.ctl_protocol.specs.EventWriter.{event_line}
 use Rattle.ctl_protocol.specs.HeaderLines.{header_line}
-use Rattle.job_table.specs.Tables.{Table, Name, definition_of_number}
+use Rattle.job_table.specs.Tables.{Name, definition_of_number}
 use Rattle.job_table.specs.Kept.{KeepsState}
 use Rattle.job_table.specs.Loads.{load_of}
-use Rattle.job_table.specs.Changes.{set_of}
 use Rattle.child_edge.specs.Calls.{Entry}
 use Rattle.load_asking.specs.declared.asking.Outside.{Outside}
-use Rattle.load_asking.specs.Stores.{StoreCall, AreTold}
+use Rattle.load_asking.specs.Asking.{Told, told_of}
+use Rattle.load_asking.specs.Stores.{StoreCall, AreTold, set_call}
 use Rattle.event_journal.specs.Journals.{Kept, Grows}
-use Rattle.launcher_turn.specs.Turns.{IsLed, TurnsOf}
-use Rattle.launcher_load.specs.LoadTurns.{AsksFor, AsksNothing, AsksStore, IsUntouched, is_memory}
+use Rattle.launcher_turn.specs.Turns.{IsLed, TurnsOf, trace}
+use Rattle.launcher_load.specs.LoadTurns.{AsksFor, AsksNothing, AsksStore, IsUntouched, SetRequest, Standing, event_of_set, is_memory, set_request, standing}
 use Rattle.table_opening.specs.Events.{event_of}
 use Rattle.table_opening.specs.Openings.{OpensBy}
 use Rattle.launcher.specs.Inputs.{answered}
 use Rattle.launcher.specs.declared.host.Host.{Host}
-
--- What contracts see of a launcher: its table, the calls that its outside tells, what its store
--- tells that it was asked, and the journal.
-pub record Standing : Type 0 where
-  pub table : Table
-  pub calls : Option (List Entry)
-  pub stores : Option (List StoreCall)
-  pub journal : Kept
-
--- as it stands with these
-abbrev pub standing :
-    Table → Option (List Entry) → Option (List StoreCall) → Kept → Standing
-standing table calls stores journal =
-    record { table = table; calls = calls; stores = stores; journal = journal }
 
 -- the launcher as it stands, by what its outside and its store tell
 abbrev pub stands : {T E W : Type 0} →
@@ -52,28 +37,25 @@ stands calls stores host =
 -- ---- what is asked of the outside
 
 -- the store is asked about a setting, and no socket is
-abbrev pub AsksSetting : State → Label → (disabled unload : Bool) → Outside → Option (List Entry) →
-    Option (List Entry) → Option (List StoreCall) → Option (List StoreCall) → Type 0
-AsksSetting s label disabled unload outside calls mid stores stores' =
-    (mid ≡ calls) × (outside.bind ≡ true)
-    × AsksStore (refusal_in s (set_of label disabled unload true))
-    label (disabled || unload) s.reading.wall outside.store stores stores'
+abbrev pub AsksSetting : State → SetRequest → Outside → Told → Told → Type 0
+AsksSetting s request outside before after =
+    (after.calls ≡ before.calls) × (outside.bind ≡ true)
+    × AsksStore (refusal_in s (event_of_set request true))
+    (set_call request.label (request.disabled || request.unload) s.reading.wall outside.store)
+    before.stores after.stores
 
--- Of a load its sockets and then the store, of a setting the store; of anything else nothing. `mid`
--- are the calls once this was asked.
-abbrev pub AsksOutside : State → journal.Event → ℕ → Outside → Option (List Entry) →
-    Option (List Entry) → Option (List StoreCall) → Option (List StoreCall) → Type 0
-AsksOutside
-    s (journaled.Load def writes_setting force bind store) job outside calls mid stores stores' =
+-- of a load its sockets and then the store, of a setting the store; of anything else nothing
+abbrev pub AsksOutside : State → journal.Event → ℕ → Outside → Told → Told → Type 0
+AsksOutside s (journaled.Load def writes_setting force bind store) job outside before after =
     AsksFor (refusal_in s (load_of def writes_setting force true true))
-    (def_of def) job writes_setting s.reading.wall outside calls mid stores stores'
-AsksOutside s (journaled.Unload label true store) job outside calls mid stores stores' =
-    AsksSetting s label true true outside calls mid stores stores'
-AsksOutside s (journaled.Enable label store) job outside calls mid stores stores' =
-    AsksSetting s label false false outside calls mid stores stores'
-AsksOutside s (journaled.Disable label store) job outside calls mid stores stores' =
-    AsksSetting s label true false outside calls mid stores stores'
-AsksOutside s _ job outside calls mid stores stores' = AsksNothing outside calls mid stores stores'
+    (def_of def) job writes_setting s.reading.wall outside before after
+AsksOutside s (journaled.Unload label true store) job outside before after =
+    AsksSetting s (set_request label true true) outside before after
+AsksOutside s (journaled.Enable label store) job outside before after =
+    AsksSetting s (set_request label false false) outside before after
+AsksOutside s (journaled.Disable label store) job outside before after =
+    AsksSetting s (set_request label true false) outside before after
+AsksOutside s _ job outside before after = AsksNothing outside before after
 
 -- a load asked for the job with the number that it then has
 abbrev pub IsOwn : journal.Event → List Name → ℕ → Type 0
@@ -83,18 +65,20 @@ IsOwn _ names job = Unit {0}
 
 -- ---- turns
 
--- A turn of this event, for the machine s: first the outside was asked; the event with its answers,
--- and then the answers to the orders, are a turn of the machine, with these calls and these lines.
--- The reply, a refusal or words, is the event's. If the store held the settings of the machine, it
--- holds them afterwards.
+-- A turn of this event, for the machine s: first the outside was asked, and then tells the calls
+-- `mid`; the event with its answers, and then the answers to the orders, are a turn of the machine,
+-- with these calls and these lines. The reply, a refusal or words, is the event's. If the store
+-- held the settings of the machine, it holds them afterwards.
 pub record HostTurnOf (s : State) (event : journal.Event) (refusal : Option Refusal)
     (words : List ℕ) (old new : Standing) (before after : List Setting → Type 0) : Type 0 where
   pub outside : Outside
   pub job : ℕ
   pub mid : Option (List Entry)
-  pub asks : AsksOutside s event job outside old.calls mid old.stores new.stores
+  pub asks : AsksOutside s event job outside
+      (told_of old.calls old.stores) (told_of mid new.stores)
   pub turn : TurnsOf s (event_of (answered outside event))
-      (event_line (answered outside event)) refusal new.table mid new.calls old.journal new.journal
+      (event_line (answered outside event)) refusal new.table
+      (trace mid old.journal) (trace new.calls new.journal)
   pub own : refusal ≡ None → IsOwn event turn.names job
   pub text : refusal ≡ None → (outcome s (event_of (answered outside event))).text ≡ words
   pub stored : before s.settings → after (step s (event_of (answered outside event))).settings
@@ -102,7 +86,8 @@ pub record HostTurnOf (s : State) (event : journal.Event) (refusal : Option Refu
 -- Nothing happened: the table stands for what it stood for, nothing was asked of the outside, no
 -- line was written, and the store holds the settings of the machine as before.
 pub record IsSpared (old new : Standing) (before after : List Setting → Type 0) : Type 0 where
-  pub untouched : IsUntouched old.table new.table old.calls new.calls old.stores new.stores
+  pub untouched : IsUntouched old.table new.table
+      (told_of old.calls old.stores) (told_of new.calls new.stores)
   pub silent : Grows old.journal new.journal []
   pub stored : (s : State) → KeepsState old.table s → before s.settings → after s.settings
 

@@ -13,9 +13,9 @@ use Rattle.child_edge.specs.Calls.{Tells, Entry}
 use Rattle.order_edge.specs.Calls.{call_of, calls_in}
 use Rattle.event_journal.specs.Journals.{reported}
 use Rattle.load_asking.specs.declared.asking.Outside.{Outside}
-use Rattle.launcher_load.specs.LoadTurns.{is_memory}
+use Rattle.launcher_load.specs.LoadTurns.{is_memory, Standing}
 use Rattle.launcher.specs.Inputs.{answered}
-use Rattle.launcher.specs.Hosts.{Standing, Hears}
+use Rattle.launcher.specs.Hosts.{Hears}
 
 -- how a launcher stands, and its store of settings
 pub record Moment (T : Type 0) : Type 0 where

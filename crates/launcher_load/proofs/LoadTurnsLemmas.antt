@@ -21,14 +21,14 @@ use Rattle.job_table.specs.declared.loading.Ready.{Ready}
 use Rattle.child_edge.specs.Calls.{Entry}
 use Rattle.child_edge.proofs.CallsLemmas.{tells_nothing}
 use Rattle.load_asking.specs.declared.asking.Outside.{Outside}
-use Rattle.load_asking.specs.Asking.{Asks}
+use Rattle.load_asking.specs.Asking.{Asks, told_of}
 use Rattle.load_asking.specs.Stores.{StoreCall}
 use Rattle.load_asking.proofs.AskLemmas.{told_nothing}
 use Rattle.event_journal.specs.Journals.{Kept, Grows}
-use Rattle.launcher_turn.specs.Turns.{IsLed, TurnsOf}
+use Rattle.launcher_turn.specs.Turns.{IsLed, TurnsOf, trace}
 use Rattle.launcher_turn.proofs.StoredSettingsLemmas.{load_settings}
 use Rattle.launcher_load.specs.Lines.{load_line}
-use Rattle.launcher_load.specs.LoadTurns.{AsksFor, EndsLoad, LoadTurnOf, Makes, is_memory, settings_after}
+use Rattle.launcher_load.specs.LoadTurns.{AsksFor, EndsLoad, LoadTurnOf, Makes, is_memory, load_request, settings_after, standing}
 
 pub clash : {P : Type 0} (o : Option Refusal) (r : Refusal) → o ≡ None → o ≡ Some r → P
 clash {P} o r none some = let no : None ≡ Some r = sym none ∙ some in cc
@@ -68,7 +68,7 @@ not_memory d writes_setting bind store = go (has_sockets d && not bind) (writes_
 
 -- an event that is refused is the whole turn
 pub nothing_done : (s : State) (e : Event) (line : List ℕ) (new : Table) (r : Refusal) (a : Option (List Entry)) (k n : Kept) → refusal_in s e ≡ Some r → Grows k n line → KeepsState new s → IsLed s →
-    TurnsOf s e line (Some r) new a a k n
+    TurnsOf s e line (Some r) new (trace a k) (trace a n)
 nothing_done s e line new r a k n is noted keeps led = record {
   names = [];
   entries = [];
@@ -86,13 +86,13 @@ nothing_done s e line new r a k n is noted keeps led = record {
 }
 
 -- a load that was refused before the outside was asked
-pub never_called : (s : State) (bytes : List ℕ) (writes_setting force : Bool) (r : Refusal) (new : Table) (a : Option (List Entry)) (t : Option (List StoreCall)) (k n : Kept) →
+pub never_called : (s : State) (bytes : List ℕ) (writes_setting force : Bool) (r : Refusal) (old new : Table) (a : Option (List Entry)) (t : Option (List StoreCall)) (k n : Kept) →
     ((bind store : Bool) → refusal_in s (load_of bytes writes_setting force bind store) ≡ Some r) → Grows k n (load_line bytes writes_setting force (record { bind = true; store = true })) → KeepsState new s → IsLed s →
-    LoadTurnOf s bytes writes_setting force (record { bind = true; store = true }) (Some r) new a a t t k n
-never_called s bytes writes_setting force r new a t k n is noted keeps led = record {
+    LoadTurnOf s (load_request bytes writes_setting force) (record { bind = true; store = true }) (Some r) (standing old a t k) (standing new a t n)
+never_called s bytes writes_setting force r old new a t k n is noted keeps led = record {
   job = 0;
   mid = a;
-  asks = subst (λ o. AsksFor o (def_of bytes) 0 writes_setting s.reading.wall (record { bind = true; store = true }) a a t t) (sym (is true true))
+  asks = subst (λ o. AsksFor o (def_of bytes) 0 writes_setting s.reading.wall (record { bind = true; store = true }) (told_of a t) (told_of a t)) (sym (is true true))
       (record { bind = refl; store = refl; tells = tells_nothing a; stores = told_nothing t });
   turn = nothing_done s (load_of bytes writes_setting force true true) (load_line bytes writes_setting force (record { bind = true; store = true })) new r a k n (is true true) noted keeps led;
   own = λ none. let no : Some r ≡ None = none in cc;
@@ -103,20 +103,20 @@ module _ (s : State) (bytes : List ℕ) (writes_setting force : Bool) (outside :
   as_read : Load (Ok (given (described_in ready))) (is_some (setting_in ready)) force outside.bind outside.store ≡ load_of bytes writes_setting force outside.bind outside.store
   as_read = λ i. Load (given_in (sym admitted.read i)) (setting i) force outside.bind outside.store
 
-  asks_for : (middle : Option (List Entry)) → Asks (number_in ready) (described_in ready) writes_setting mid.reading.wall outside a middle t u →
-      AsksFor (refusal_in s (load_of bytes writes_setting force true true)) (def_of bytes) (number_in ready) writes_setting s.reading.wall outside a middle t u
+  asks_for : (middle : Option (List Entry)) → Asks (number_in ready) (described_in ready) writes_setting mid.reading.wall outside (told_of a t) (told_of middle u) →
+      AsksFor (refusal_in s (load_of bytes writes_setting force true true)) (def_of bytes) (number_in ready) writes_setting s.reading.wall outside (told_of a t) (told_of middle u)
   asks_for middle asks =
-      subst (λ o. AsksFor o (def_of bytes) (number_in ready) writes_setting s.reading.wall outside a middle t u) (sym (admitted.remains s true true keeps ∙ well_answered (described_in ready) writes_setting))
-      (subst (λ d. AsksFor None d (number_in ready) writes_setting s.reading.wall outside a middle t u) (sym admitted.read)
-      (subst (λ n. Asks (number_in ready) (described_in ready) writes_setting n outside a middle t u) (ap (λ r. r.wall) (same s keeps).reading) asks))
+      subst (λ o. AsksFor o (def_of bytes) (number_in ready) writes_setting s.reading.wall outside (told_of a t) (told_of middle u)) (sym (admitted.remains s true true keeps ∙ well_answered (described_in ready) writes_setting))
+      (subst (λ d. AsksFor None d (number_in ready) writes_setting s.reading.wall outside (told_of a t) (told_of middle u)) (sym admitted.read)
+      (subst (λ n. Asks (number_in ready) (described_in ready) writes_setting n outside (told_of a t) (told_of middle u)) (ap (λ r. r.wall) (same s keeps).reading) asks))
 
   -- a load that the outside was asked about
-  pub load_ended : (refusal : Option Refusal) → EndsLoad ready writes_setting mid.reading.wall outside refusal (load_line bytes writes_setting force outside) mid new a c t u k n →
-      LoadTurnOf s bytes writes_setting force outside refusal new a c t u k n
+  pub load_ended : (refusal : Option Refusal) → EndsLoad ready writes_setting mid.reading.wall outside refusal (load_line bytes writes_setting force outside) (standing mid a t k) (standing new c u n) →
+      LoadTurnOf s (load_request bytes writes_setting force) outside refusal (standing old a t k) (standing new c u n)
   load_ended None ends =
       let none : refusal_in s (load_of bytes writes_setting force outside.bind outside.store) ≡ None = admitted.remains s outside.bind outside.store keeps ∙ sym ends.answer in
       let first = ends.made refl s force outside.bind outside.store led (same s keeps) (ap (refusal_in s) as_read ∙ none) in
-      let made = subst (λ (x : Event). Makes s x (load_line bytes writes_setting force outside) (number_in ready) (described_in ready) new ends.mid c k n) as_read first in
+      let made = subst (λ (x : Event). Makes s x (load_line bytes writes_setting force outside) ready new (trace ends.mid k) (trace c n)) as_read first in
       record {
         job = number_in ready;
         mid = ends.mid;
@@ -131,7 +131,7 @@ module _ (s : State) (bytes : List ℕ) (writes_setting force : Bool) (outside :
         job = number_in ready;
         mid = ends.mid;
         asks = asks_for ends.mid ends.asks;
-        turn = subst (λ x. TurnsOf s (load_of bytes writes_setting force outside.bind outside.store) (load_line bytes writes_setting force outside) (Some r) new ends.mid x k n) (sym remains.1)
+        turn = subst (λ x. TurnsOf s (load_of bytes writes_setting force outside.bind outside.store) (load_line bytes writes_setting force outside) (Some r) new (trace ends.mid k) (trace x n)) (sym remains.1)
             (nothing_done s (load_of bytes writes_setting force outside.bind outside.store) (load_line bytes writes_setting force outside) new r ends.mid k n refused remains.2 (subst (λ x. KeepsState x s) (sym remains.0) (same s keeps)) led);
         own = λ none. let no : Some r ≡ None = none in cc;
       }

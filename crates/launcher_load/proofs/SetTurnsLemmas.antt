@@ -11,12 +11,12 @@ use Rattle.history_model.specs.Acceptance.{refusal_in, refusal_at, refusal_store
 use Rattle.job_table.specs.Changes.{set_of}
 use Rattle.job_table.specs.Tables.{Table}
 use Rattle.job_table.specs.Kept.{KeepsState}
-use Rattle.load_asking.specs.Stores.{StoreCall, AreTold}
+use Rattle.load_asking.specs.Stores.{StoreCall, AreTold, set_call}
 use Rattle.load_asking.proofs.AskLemmas.{told_nothing}
 use Rattle.event_journal.specs.Journals.{Kept, Grows}
 use Rattle.launcher_turn.specs.Turns.{IsLed, IsShort}
 use Rattle.launcher_load.specs.Lines.{set_line}
-use Rattle.launcher_load.specs.LoadTurns.{AsksStore, SetTurnOf}
+use Rattle.launcher_load.specs.LoadTurns.{AsksStore, SetTurnOf, set_request, standing}
 use Rattle.launcher_load.proofs.LoadTurnsLemmas.{nothing_done}
 use Rattle.child_edge.specs.Calls.{Entry}
 
@@ -42,19 +42,19 @@ bad_label s label disabled true store is = ap (λ b. refused_if (not b) BadReque
 bad_label s label disabled false store is = ap (λ b. refused_if (not b) BadRequest (refusal_stored true store)) is
 
 -- a setting that was refused before the store was asked
-pub never_set : (s : State) (label : Label) (disabled unload : Bool) (r : Refusal) (new : Table) (a : Option (List Entry)) (t : Option (List StoreCall)) (k n : Kept) →
+pub never_set : (s : State) (label : Label) (disabled unload : Bool) (r : Refusal) (old new : Table) (a : Option (List Entry)) (t : Option (List StoreCall)) (k n : Kept) →
     ((store : Bool) → refusal_in s (set_of label disabled unload store) ≡ Some r) → Grows k n (set_line label disabled unload true) → KeepsState new s → IsLed s →
-    SetTurnOf s label disabled unload true (Some r) new a a t t k n
-never_set s label disabled unload r new a t k n is noted keeps led = record {
-  asks = subst (λ o. AsksStore o label (disabled || unload) s.reading.wall true t t) (sym (is true)) (refl, told_nothing t);
+    SetTurnOf s (set_request label disabled unload) true (Some r) (standing old a t k) (standing new a t n)
+never_set s label disabled unload r old new a t k n is noted keeps led = record {
+  asks = subst (λ o. AsksStore o (set_call label (disabled || unload) s.reading.wall true) t t) (sym (is true)) (refl, told_nothing t);
   turn = nothing_done s (set_of label disabled unload true) (set_line label disabled unload true) new r a k n (is true) noted keeps led;
 }
 
 -- the store was asked once, in the reading's second
 pub set_calls : (s : State) (label : Label) (disabled unload said kept : Bool) (wall : ℕ) (t u : Option (List StoreCall)) → refusal_in s (set_of label disabled unload true) ≡ None → said ≡ (disabled || unload) →
     wall ≡ s.reading.wall → AreTold t (record { label = label; disabled = said; changed = wall; stored = kept } ∷ []) u →
-    AsksStore (refusal_in s (set_of label disabled unload true)) label (disabled || unload) s.reading.wall kept t u
+    AsksStore (refusal_in s (set_of label disabled unload true)) (set_call label (disabled || unload) s.reading.wall kept) t u
 set_calls s label disabled unload said kept wall t u none same_said same_wall told =
-    subst (λ o. AsksStore o label (disabled || unload) s.reading.wall kept t u) (sym none)
+    subst (λ o. AsksStore o (set_call label (disabled || unload) s.reading.wall kept) t u) (sym none)
     (subst (λ b. AreTold t (record { label = label; disabled = b; changed = s.reading.wall; stored = kept } ∷ []) u) same_said
     (subst (λ n. AreTold t (record { label = label; disabled = said; changed = n; stored = kept } ∷ []) u) same_wall told))

@@ -18,10 +18,10 @@ use Rattle.job_table.specs.Changes.{set_of}
 use Rattle.job_table.specs.Outcomes.{IsSameFor}
 use Rattle.child_edge.specs.Calls.{Tells, Entry}
 use Rattle.load_asking.specs.declared.asking.Outside.{Outside}
-use Rattle.load_asking.specs.Asking.{Asks}
+use Rattle.load_asking.specs.Asking.{Asks, Told, told_of}
 use Rattle.load_asking.specs.Stores.{StoreCall, AreTold, set_call}
 use Rattle.event_journal.specs.Journals.{Kept, Grows}
-use Rattle.launcher_turn.specs.Turns.{IsLed, TurnsOf}
+use Rattle.launcher_turn.specs.Turns.{IsLed, TurnsOf, Trace, trace}
 use Rattle.launcher_load.specs.Lines.{load_line, set_line}
 
 -- want of memory is the answer
@@ -36,75 +36,114 @@ settings_after reply s e = if is_memory reply then s.settings else (step s e).se
 -- ---- what was asked
 
 -- neither the edge nor the store was asked, and the table stands for the states that it stood for
-pub record IsUntouched (old new : Table) (told told' : Option (List Entry))
-    (stored stored' : Option (List StoreCall)) : Type 0 where
+pub record IsUntouched (old new : Table) (before after : Told) : Type 0 where
   pub same : IsSameFor old new
-  pub tells : Tells told [] told'
-  pub stores : AreTold stored [] stored'
+  pub tells : Tells before.calls [] after.calls
+  pub stores : AreTold before.stores [] after.stores
 
 -- nothing was asked, and counts as answered well
-pub record AsksNothing (outside : Outside) (told told' : Option (List Entry))
-    (stored stored' : Option (List StoreCall)) : Type 0 where
+pub record AsksNothing (outside : Outside) (before after : Told) : Type 0 where
   pub bind : outside.bind ≡ true
   pub store : outside.store ≡ true
-  pub tells : Tells told [] told'
-  pub stores : AreTold stored [] stored'
+  pub tells : Tells before.calls [] after.calls
+  pub stores : AreTold before.stores [] after.stores
 
 -- a load asks nothing, if the machine refuses it whatever the outside answers; if not, it asks as
 -- its definition says
 abbrev pub AsksFor : Option Refusal → Result Described Fault → ℕ → Bool → ℕ → Outside →
-    Option (List Entry) → Option (List Entry) → Option (List StoreCall) → Option (List StoreCall) →
-    Type 0
-AsksFor (Some refusal) read job w wall outside told told' stored stored' =
-    AsksNothing outside told told' stored stored'
-AsksFor None (Err fault) job w wall outside told told' stored stored' =
-    AsksNothing outside told told' stored stored'
-AsksFor None (Ok d) job w wall outside told told' stored stored' =
-    Asks job d w wall outside told told' stored stored'
+    Told → Told → Type 0
+AsksFor (Some refusal) read job writes_setting wall outside before after =
+    AsksNothing outside before after
+AsksFor None (Err fault) job writes_setting wall outside before after =
+    AsksNothing outside before after
+AsksFor None (Ok d) job writes_setting wall outside before after =
+    Asks job d writes_setting wall outside before after
 
--- so a setting asks the store, once
-abbrev pub AsksStore : Option Refusal → Label → Bool → ℕ → Bool → Option (List StoreCall) →
+-- so a setting makes this one call of the store
+abbrev pub AsksStore : Option Refusal → StoreCall → Option (List StoreCall) →
     Option (List StoreCall) → Type 0
-AsksStore (Some refusal) label disabled wall kept stored stored' =
-    (kept ≡ true) × AreTold stored [] stored'
-AsksStore None label disabled wall kept stored stored' =
-    AreTold stored (set_call label disabled wall kept ∷ []) stored'
+AsksStore (Some refusal) call stored stored' = (call.stored ≡ true) × AreTold stored [] stored'
+AsksStore None call stored stored' = AreTold stored (call ∷ []) stored'
 
 -- ---- whole turns
+
+-- What contracts see of a launcher: its table, the calls that its outside tells, what its store
+-- tells that it was asked, and the journal.
+pub record Standing : Type 0 where
+  pub table : Table
+  pub calls : Option (List Entry)
+  pub stores : Option (List StoreCall)
+  pub journal : Kept
+
+-- as it stands with these
+abbrev pub standing :
+    Table → Option (List Entry) → Option (List StoreCall) → Kept → Standing
+standing table calls stores journal =
+    record { table = table; calls = calls; stores = stores; journal = journal }
+
+-- what a client asked for with `load`: the text of a definition, with -w and -F or without
+pub record LoadRequest : Type 0 where
+  pub bytes : List ℕ
+  pub writes_setting : Bool
+  pub force : Bool
+
+abbrev pub load_request : List ℕ → Bool → Bool → LoadRequest
+load_request bytes writes_setting force =
+    record { bytes = bytes; writes_setting = writes_setting; force = force }
+
+-- the machine's event of it, with these answers of the outside
+abbrev pub event_of_load : LoadRequest → Outside → Event
+event_of_load request outside =
+    load_of request.bytes request.writes_setting request.force outside.bind outside.store
+
+-- what a client asked for with `enable`, `disable` or `unload -w`
+pub record SetRequest : Type 0 where
+  pub label : Label
+  pub disabled : Bool
+  pub unload : Bool
+
+abbrev pub set_request : Label → Bool → Bool → SetRequest
+set_request label disabled unload =
+    record { label = label; disabled = disabled; unload = unload }
+
+-- the machine's event of it, with this answer of the store
+abbrev pub event_of_set : SetRequest → Bool → Event
+event_of_set request kept = set_of request.label request.disabled request.unload kept
 
 -- The turn of a load: first it asked the outside, in the reading's second, for the job with the
 -- number that it then has; the load with these answers, and the answers to what it orders, are a
 -- turn of the machine, whose first line tells these answers.
-pub record LoadTurnOf (s : State) (bytes : List ℕ) (writes_setting force : Bool) (outside : Outside)
-    (reply : Option Refusal) (new : Table)
-    (told told' : Option (List Entry)) (stored stored' : Option (List StoreCall))
-    (written written' : Kept) : Type 0 where
+pub record LoadTurnOf (s : State) (request : LoadRequest) (outside : Outside)
+    (reply : Option Refusal) (before after : Standing) : Type 0 where
   pub job : ℕ
   pub mid : Option (List Entry)
-  pub asks : AsksFor (refusal_in s (load_of bytes writes_setting force true true))
-      (def_of bytes) job writes_setting s.reading.wall outside told mid stored stored'
-  pub turn : TurnsOf s (load_of bytes writes_setting force outside.bind outside.store)
-      (load_line bytes writes_setting force outside) reply new mid told' written written'
-  pub own : reply ≡ None → (d : Described) → def_of bytes ≡ Ok d →
+  pub asks : AsksFor
+      (refusal_in s (event_of_load request (record { bind = true; store = true })))
+      (def_of request.bytes) job request.writes_setting s.reading.wall outside
+      (told_of before.calls before.stores) (told_of mid after.stores)
+  pub turn : TurnsOf s (event_of_load request outside)
+      (load_line request.bytes request.writes_setting request.force outside) reply after.table
+      (trace mid before.journal) (trace after.calls after.journal)
+  pub own : reply ≡ None → (d : Described) → def_of request.bytes ≡ Ok d →
       definition_of_number turn.names job ≡ Some d
 
 -- The turn of a setting: first the store was asked; the setting with its answer, and the answers to
 -- what it orders, are a turn of the machine, whose first line tells this answer.
-pub record SetTurnOf (s : State) (label : Label) (disabled unload kept : Bool)
-    (reply : Option Refusal) (new : Table)
-    (told told' : Option (List Entry)) (stored stored' : Option (List StoreCall))
-    (written written' : Kept) : Type 0 where
-  pub asks : AsksStore (refusal_in s (set_of label disabled unload true)) label
-      (disabled || unload) s.reading.wall kept stored stored'
-  pub turn : TurnsOf s (set_of label disabled unload kept)
-      (set_line label disabled unload kept) reply new told told' written written'
+pub record SetTurnOf (s : State) (request : SetRequest) (kept : Bool)
+    (reply : Option Refusal) (before after : Standing) : Type 0 where
+  pub asks : AsksStore (refusal_in s (event_of_set request true))
+      (set_call request.label (request.disabled || request.unload) s.reading.wall kept)
+      before.stores after.stores
+  pub turn : TurnsOf s (event_of_set request kept)
+      (set_line request.label request.disabled request.unload kept) reply after.table
+      (trace before.calls before.journal) (trace after.calls after.journal)
 
 -- ---- on the way
 
 -- the rest of a turn whose first event was accepted, by the names of the table that it left
 pub record Finishes (s : State) (e : Event) (line : List ℕ) (names : List Name) (new : Table)
-    (told told' : Option (List Entry)) (written written' : Kept) : Type 0 where
-  pub turn : TurnsOf s e line None new told told' written written'
+    (before after : Trace) : Type 0 where
+  pub turn : TurnsOf s e line None new before after
   pub names_are : turn.names ≡ names
 
 -- the table stands for the machine after an event that was accepted, whose orders it still has to
@@ -114,29 +153,30 @@ pub record HasTaken (s : State) (e : Event) (table : Table) : Type 0 where
   pub accepted : (outcome s e).refusal ≡ None
   pub orders : (outcome s e).orders ≡ acts_in table
 
+-- the machine's event of a load that was made ready, with these answers of the outside
+abbrev pub ready_load : Ready → Bool → Bool → Bool → Event
+ready_load ready force bind store =
+    Load (Ok (given (described_in ready))) (is_some (setting_in ready)) force bind store
+
 -- a load that was accepted is the first event of a turn, which knows the new job under its number
-pub record Makes (s : State) (e : Event) (line : List ℕ) (job : ℕ) (d : Described) (new : Table)
-    (told told' : Option (List Entry)) (written written' : Kept) : Type 0 where
-  pub turn : TurnsOf s e line None new told told' written written'
-  pub own : definition_of_number turn.names job ≡ Some d
+pub record Makes (s : State) (e : Event) (line : List ℕ) (ready : Ready) (new : Table)
+    (before after : Trace) : Type 0 where
+  pub turn : TurnsOf s e line None new before after
+  pub own : definition_of_number turn.names (number_in ready) ≡ Some (described_in ready)
 
 -- the outside was asked about a load that was made ready, and its line was written; if the
 -- outside refused, nothing more happened, and else the load was made
 pub record EndsLoad (ready : Ready) (writes_setting : Bool) (wall : ℕ) (outside : Outside)
-    (refusal : Option Refusal) (line : List ℕ) (old new : Table)
-    (told told' : Option (List Entry)) (stored stored' : Option (List StoreCall))
-    (written written' : Kept) : Type 0 where
+    (refusal : Option Refusal) (line : List ℕ) (before after : Standing) : Type 0 where
   pub mid : Option (List Entry)
-  pub asks : Asks (number_in ready) (described_in ready) writes_setting wall outside told mid
-      stored stored'
+  pub asks : Asks (number_in ready) (described_in ready) writes_setting wall outside
+      (told_of before.calls before.stores) (told_of mid after.stores)
   pub answer : refusal
       ≡ refusal_outside (described_in ready) writes_setting outside.bind outside.store
   pub refused : (r : Refusal) → refusal ≡ Some r →
-      (new ≡ old) × (told' ≡ mid) × Grows written written' line
-  pub made : refusal ≡ None → (s : State) (force bind store : Bool) → IsLed s → KeepsState old s
-      → refusal_in s
-      (Load (Ok (given (described_in ready))) (is_some (setting_in ready)) force bind store)
-      ≡ None
-      → Makes s
-      (Load (Ok (given (described_in ready))) (is_some (setting_in ready)) force bind store)
-      line (number_in ready) (described_in ready) new mid told' written written'
+      (after.table ≡ before.table) × (after.calls ≡ mid)
+      × Grows before.journal after.journal line
+  pub made : refusal ≡ None → (s : State) (force bind store : Bool) → IsLed s →
+      KeepsState before.table s → refusal_in s (ready_load ready force bind store) ≡ None
+      → Makes s (ready_load ready force bind store) line ready after.table
+      (trace mid before.journal) (trace after.calls after.journal)

@@ -5,7 +5,7 @@ ghost use Rattle.history_model.specs.Machine.{State, Event};
 ghost use Rattle.job_table.specs.Tables.{Table};
 ghost use Rattle.job_table.specs.Kept.{KeepsState};
 ghost use Rattle.event_journal.specs.Journals.{Kept, Grows};
-ghost use Rattle.launcher_turn.specs.Turns.{IsLed, IsShort};
+ghost use Rattle.launcher_turn.specs.Turns.{IsLed, IsShort, trace};
 ghost use Rattle.launcher_load.specs.LoadTurns.{Finishes, HasTaken};
 
 use child_edge::{ChildEdge, SocketEdge};
@@ -29,7 +29,7 @@ pub(crate) fn finish<E: ChildEdge + SocketEdge, W: Write>(
         Grows written journal.old line → IsShort e → IsLed s → KeepsState before s →
         HasTaken s e table.old
         → Finishes s e line table.old.names table.new
-        (E.told edge.old) (E.told edge.new) written journal.new }
+        (trace (E.told edge.old) written) (trace (E.told edge.new) journal.new) }
 {
     carry_all(edge, &table.last_step(), &mut room.answers);
     settle(table, edge, journal, alloc, room);

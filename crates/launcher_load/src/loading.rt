@@ -1,21 +1,21 @@
 //! The load of a job: it is made ready, the outside is asked, its line is written, and where the outside answered well the
 //! job is loaded.
 
-ghost use Rattle.std.specs.Prelude.{◌≡◌, ◌&&◌, ℕ, Bool, List, [], IfOk, None, true, false, is_some};
+ghost use Rattle.std.specs.Prelude.{◌≡◌, ◌&&◌, ℕ, Bool, List, [], IfOk, None, true, false};
 ghost use Rattle.std.specs.String.{string_bytes};
 ghost use Rattle.history_model.specs.declared.event.Setting.{Setting as Held};
 ghost use Rattle.history_model.specs.Acceptance.{refusal_in};
 ghost use Rattle.history_model.specs.Labels.{is_label};
-ghost use Rattle.history_model.specs.Machine.{State, Load};
+ghost use Rattle.history_model.specs.Machine.{State};
 ghost use Rattle.history_model.specs.Step.{outcome, set_if};
-ghost use Rattle.job_defs.specs.Definitions.{given};
 ghost use Rattle.job_table.specs.Kept.{KeepsState};
-ghost use Rattle.job_table.specs.Loads.{load_of, refusal_outside, IsReady, described_in, number_in, setting_in, refused_with};
+ghost use Rattle.job_table.specs.Loads.{refusal_outside, IsReady, described_in, refused_with};
 ghost use Rattle.event_journal.specs.Journals.{Kept, Grows};
+ghost use Rattle.load_asking.specs.Asking.{told_of};
 ghost use Rattle.load_asking.specs.Stores.{HoldsAfter};
-ghost use Rattle.launcher_turn.specs.Turns.{IsLed};
+ghost use Rattle.launcher_turn.specs.Turns.{IsLed, trace};
 ghost use Rattle.launcher_load.specs.Lines.{load_line};
-ghost use Rattle.launcher_load.specs.LoadTurns.{LoadTurnOf, IsUntouched, Makes, EndsLoad, is_memory, settings_after};
+ghost use Rattle.launcher_load.specs.LoadTurns.{LoadTurnOf, IsUntouched, Makes, EndsLoad, event_of_load, is_memory, load_request, ready_load, settings_after, standing};
 
 use crate::finishing::finish;
 use crate::noting::{note_load, note_load_refused};
@@ -76,13 +76,9 @@ fn make<E: ChildEdge + SocketEdge, W: Write>(
     requires empty { room.old.answers ≡ [] }
     ensures { (s : State) (force bind store : Bool) (line : List ℕ) (written : Kept) →
         Grows written journal.old line → IsLed s → KeepsState table.old s
-        → refusal_in s
-        (Load (Ok (given (described_in ready))) (is_some (setting_in ready)) force bind store)
-        ≡ None
-        → Makes s
-        (Load (Ok (given (described_in ready))) (is_some (setting_in ready)) force bind store)
-        line (number_in ready) (described_in ready) table.new
-        (E.told edge.old) (E.told edge.new) written journal.new }
+        → refusal_in s (ready_load ready force bind store) ≡ None
+        → Makes s (ready_load ready force bind store) line ready table.new
+        (trace (E.told edge.old) written) (trace (E.told edge.new) journal.new) }
 {
     table.commit_load(ready);
     finish(table, edge, journal, alloc, room);
@@ -106,9 +102,9 @@ fn ask_and_make<E: ChildEdge + SocketEdge, T: SettingStore, W: Write>(
     requires empty { room.old.answers ≡ [] }
     ensures ends { EndsLoad ready writes_setting table.old.reading.wall result.outside
         result.refusal
-        (load_line def.now writes_setting force result.outside) table.old table.new
-        (E.told edge.old) (E.told edge.new)
-        (T.told store.old) (T.told store.new) journal.old journal.new }
+        (load_line def.now writes_setting force result.outside)
+        (standing table.old (E.told edge.old) (T.told store.old) journal.old)
+        (standing table.new (E.told edge.new) (T.told store.new) journal.new) }
     ensures stored { HoldsAfter T.holds
         (set_if (writes_setting && (result.outside.bind && result.outside.store))
         (described_in ready).label false)
@@ -182,21 +178,21 @@ pub fn load<E: ChildEdge + SocketEdge, T: SettingStore, W: Write>(
     force: bool,
 ) -> Loaded
     ensures memory { is_memory (refused_with result.reply) ≡ true →
-        IsUntouched table.old table.new (E.told edge.old) (E.told edge.new)
-        (T.told store.old) (T.told store.new) }
+        IsUntouched table.old table.new (told_of (E.told edge.old) (T.told store.old))
+        (told_of (E.told edge.new) (T.told store.new)) }
     ensures silent { is_memory (refused_with result.reply) ≡ true → journal.new ≡ journal.old }
     ensures turn { is_memory (refused_with result.reply) ≡ false → (s : State) → IsLed s →
         KeepsState table.old s
-        → LoadTurnOf s def.now writes_setting force result.outside (refused_with result.reply)
-        table.new
-        (E.told edge.old) (E.told edge.new)
-        (T.told store.old) (T.told store.new) journal.old journal.new }
+        → LoadTurnOf s (load_request def.now writes_setting force) result.outside
+        (refused_with result.reply)
+        (standing table.old (E.told edge.old) (T.told store.old) journal.old)
+        (standing table.new (E.told edge.new) (T.told store.new) journal.new) }
     ensures stored { (s : State) → KeepsState table.old s → T.holds store.old s.settings
         → T.holds store.new (settings_after (refused_with result.reply) s
-        (load_of def.now writes_setting force result.outside.bind result.outside.store)) }
+        (event_of_load (load_request def.now writes_setting force) result.outside)) }
     ensures text { IfOk result.reply (λ text. (s : State) → KeepsState table.old s
         → (outcome s
-        (load_of def.now writes_setting force result.outside.bind result.outside.store)).text
+        (event_of_load (load_request def.now writes_setting force) result.outside)).text
         ≡ string_bytes text) }
 {
     room.answers.clear();

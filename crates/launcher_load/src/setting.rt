@@ -7,9 +7,10 @@ ghost use Rattle.history_model.specs.Machine.{State};
 ghost use Rattle.job_table.specs.Changes.{set_of, IsReadySet};
 ghost use Rattle.job_table.specs.Kept.{KeepsState};
 ghost use Rattle.event_journal.specs.Journals.{Kept, Grows};
-ghost use Rattle.launcher_turn.specs.Turns.{IsLed, TurnsOf};
+ghost use Rattle.load_asking.specs.Asking.{told_of};
+ghost use Rattle.launcher_turn.specs.Turns.{IsLed, TurnsOf, trace};
 ghost use Rattle.job_table.specs.Loads.{refused_with};
-ghost use Rattle.launcher_load.specs.LoadTurns.{SetTurnOf, IsUntouched, is_memory, settings_after};
+ghost use Rattle.launcher_load.specs.LoadTurns.{SetTurnOf, IsUntouched, is_memory, set_request, settings_after, standing};
 
 use crate::finishing::finish;
 use crate::noting::{note_set, note_set_refused};
@@ -50,7 +51,7 @@ fn make<E: ChildEdge + SocketEdge, W: Write>(
         Grows written journal.old line → IsLed s → KeepsState table.old s
         → refusal_in s (set_of ready.setting.label ready.setting.disabled ready.unload store) ≡ None
         → TurnsOf s (set_of ready.setting.label ready.setting.disabled ready.unload store) line None
-        table.new (E.told edge.old) (E.told edge.new) written journal.new }
+        table.new (trace (E.told edge.old) written) (trace (E.told edge.new) journal.new) }
 {
     table.commit_set(ready);
     finish(table, edge, journal, alloc, room);
@@ -76,14 +77,15 @@ pub fn set<E: ChildEdge + SocketEdge, T: SettingStore, W: Write>(
     unload: bool,
 ) -> Changed
     ensures memory { is_memory (refused_with result.reply) ≡ true →
-        IsUntouched table.old table.new (E.told edge.old) (E.told edge.new)
-        (T.told store.old) (T.told store.new) }
+        IsUntouched table.old table.new (told_of (E.told edge.old) (T.told store.old))
+        (told_of (E.told edge.new) (T.told store.new)) }
     ensures silent { is_memory (refused_with result.reply) ≡ true → journal.new ≡ journal.old }
     ensures turn { is_memory (refused_with result.reply) ≡ false → (s : State) → IsLed s →
         KeepsState table.old s
-        → SetTurnOf s label.now disabled unload result.stored (refused_with result.reply) table.new
-        (E.told edge.old) (E.told edge.new)
-        (T.told store.old) (T.told store.new) journal.old journal.new }
+        → SetTurnOf s (set_request label.now disabled unload) result.stored
+        (refused_with result.reply)
+        (standing table.old (E.told edge.old) (T.told store.old) journal.old)
+        (standing table.new (E.told edge.new) (T.told store.new) journal.new) }
     ensures stored { (s : State) → KeepsState table.old s → T.holds store.old s.settings
         → T.holds store.new (settings_after (refused_with result.reply) s
         (set_of label.now disabled unload result.stored)) }

@@ -28,7 +28,7 @@ use Rattle.history_model.specs.Turns.{JobOrder, wanting}
 use Rattle.history_model.proofs.TurnsLemmas.{IsTurning, turning-step}
 use Rattle.history_model.proofs.LabelOrderLemmas.{heard_one-labels, same_self, order-run}
 use Rattle.launcher_turn.proofs.LabelLemmas.{all-stays}
-use Rattle.launcher_turn.specs.Turns.{Carried, orders_lent, IsUntouched, event_in, AreTheirs, IsOrderly, IsWaiting, HappensTo, Happens, Handled}
+use Rattle.launcher_turn.specs.Turns.{Carried, orders_lent, IsUntouched, event_in, AreTheirs, IsOrderly, IsWaiting, HappensTo, Happens, Handled, trace}
 use Rattle.job_table.specs.Loads.{refused_with}
 use Rattle.job_core.specs.Memory.{NeedsNoMemory}
 use Rattle.ctl_protocol.specs.EventWriter.{event_line}
@@ -174,7 +174,7 @@ orderly-next s label x is = record {
 pub handled : (reply : Option Refusal) (old new : Table) (before after : List Pending) (told told' : Option (List Entry)) (written written' : Kept) (pending : Pending) (found said : Label) →
     found ≡ label_of old.names pending.job → IsNumbered old → (length found ≤ 255 → said ≡ found) → Happens (OfJob said (Answered pending.answer)) reply old new before after told told' → Grows written written' (event_line (journaled_answer said pending.answer)) →
     (s : State) (names : List Name) (job_order : JobOrder) (waits : List JobOrder) (rest : List Pending) → IsWaiting old s names (job_order ∷ waits) (pending ∷ rest) →
-    Handled s names job_order waits pending rest new before after told told' written written'
+    Handled s names job_order waits pending rest before after new (trace told written) (trace told' written')
 handled reply old new before after told told' written written' pending found said looked numbered copied happened noted s names job_order waits rest is =
     let (d, known, label) = is.theirs.0 in
     let job = loaded s.reading names old.names job_order.0 _ old.rows s.jobs is.keeps.jobs is.numbers.named numbered.named is.orderly.short is.fresh.0.1 in

@@ -16,7 +16,7 @@ use Rattle.history_model.specs.Turns.{JobOrder, wanting}
 use Rattle.history_model.specs.Waits.{weigh_orders}
 use Rattle.history_model.proofs.TurnsLemmas.{weigh-append}
 use Rattle.history_model.proofs.TurnBoundLemmas.{length-heavy}
-use Rattle.launcher_turn.specs.Turns.{event_in, AreTheirs, IsWaiting, Handled, Settled}
+use Rattle.launcher_turn.specs.Turns.{event_in, AreTheirs, IsWaiting, Handled, Settled, trace}
 use Rattle.event_journal.specs.Journals.{Kept, Grows}
 use Rattle.event_journal.proofs.JournalsLemmas.{grows_nothing, grows_append}
 use Rattle.launcher_turn.specs.Lines.{answer_text, answer_texts}
@@ -70,7 +70,7 @@ so-far-start s names waits first table told written waiting fits = record {
 }
 
 pub so-far-end : (s : State) (names : List Name) (first answers : List Pending) (k : ℕ) (table : Table) (told told' : Option (List Entry)) (written written' : Kept) →
-    IsSoFar s names first answers k table told told' written written' → length answers ≤ k → Settled s names first answers table told told' written written'
+    IsSoFar s names first answers k table told told' written written' → length answers ≤ k → Settled s names first answers table (trace told written) (trace told' written')
 so-far-end s names first answers k table told told' written written' far all =
     let whole : take k answers ≡ answers = take_all k answers all in
     record {
@@ -89,7 +89,7 @@ so-far-end s names first answers k table told told' written written' far all =
 pub so-far-next : (s : State) (names : List Name) (first answers answers' : List Pending) (k : ℕ) (d : Pending) (table table' : Table) (told told' told'' : Option (List Entry)) (written written' written'' : Kept) → k < length answers →
     IsSoFar s names first answers k table told told' written written' →
     ((t : State) (ns : List Name) (job_order : JobOrder) (waits : List JobOrder) (rest : List Pending) → IsWaiting table t ns (job_order ∷ waits) (get_or answers k d ∷ rest) →
-    Handled t ns job_order waits (get_or answers k d) rest table' answers answers' told' told'' written' written'') →
+    Handled t ns job_order waits (get_or answers k d) rest answers answers' table' (trace told' written') (trace told'' written'')) →
     IsSoFar s names first answers' (k + 1) table' told told'' written written''
 so-far-next s names first answers answers' k d table table' told told' told'' written written' written'' in_range far handles = go far.waits far.fits (subst (IsWaiting table t names far.waits) here far.waiting) where
   t : State
@@ -143,7 +143,7 @@ so-far-next s names first answers answers' k d table table' told told' told'' wr
 abbrev pub Handles : Table → Table → List Pending → List Pending → Option (List Entry) → Option (List Entry) → Kept → Kept → Pending → Type 0
 Handles table table' answers answers' told' told'' written' written'' p =
     (t : State) (ns : List Name) (job_order : JobOrder) (waits : List JobOrder) (rest : List Pending) → IsWaiting table t ns (job_order ∷ waits) (p ∷ rest) →
-    Handled t ns job_order waits p rest table' answers answers' told' told'' written' written''
+    Handled t ns job_order waits p rest answers answers' table' (trace told' written') (trace told'' written'')
 
 pub so-far-turn : (s : State) (names : List Name) (first answers answers' : List Pending) (k : ℕ) (p : Pending) (table table' : Table) (told told' told'' : Option (List Entry)) (written written' written'' : Kept) → k < length answers →
     p ≡ get_or answers k p → IsSoFar s names first answers k table told told' written written' → Handles table table' answers answers' told' told'' written' written'' p →

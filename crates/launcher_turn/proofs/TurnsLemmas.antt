@@ -27,7 +27,7 @@ use Rattle.history_model.specs.Waits.{weigh_orders}
 use Rattle.history_model.proofs.LabelOrderLemmas.{heard-labels, heard_one-labels, order-run}
 use Rattle.launcher_turn.proofs.LabelLemmas.{all-stays, all-with}
 use Rattle.history_model.proofs.TurnBoundLemmas.{turning-start, within-step, length-heavy}
-use Rattle.launcher_turn.specs.Turns.{event_in, events_in, AreTheirs, IsWaiting, Begins, Happens, Settled, IsShort, IsLed, TurnsOf, Turns}
+use Rattle.launcher_turn.specs.Turns.{event_in, events_in, AreTheirs, IsWaiting, Begins, Happens, Settled, IsShort, IsLed, TurnsOf, Turns, trace}
 use Rattle.job_table.specs.Loads.{refused_with}
 use Rattle.launcher_turn.specs.Events.{event_of}
 use Rattle.ctl_protocol.specs.EventWriter.{event_line}
@@ -119,11 +119,11 @@ begun s e old new after told told' is led keeps did =
 
 abbrev pub Settles : Table → List Pending → List Pending → Table → Option (List Entry) → Option (List Entry) → Kept → Kept → Type 0
 Settles mid first after new b c written written' =
-    (s : State) (names : List Name) (waits : List JobOrder) → IsWaiting mid s names waits first → weigh_orders waits ≤ 3 * MAX_JOBS → Settled s names first after new b c written written'
+    (s : State) (names : List Name) (waits : List JobOrder) → IsWaiting mid s names waits first → weigh_orders waits ≤ 3 * MAX_JOBS → Settled s names first after new (trace b written) (trace c written')
 
 -- and so the whole turn
 unfoldable pub turned-at : (s : State) (e : Event) (line : List ℕ) (old mid new : Table) (first after : List Pending) (a b c : Option (List Entry)) (k m n : Kept) → IsShort e → IsLed s → KeepsState old s →
-    Begins s e None mid [] first a b → Grows k m line → Settles mid first after new b c m n → TurnsOf s e line None new a c k n
+    Begins s e None mid [] first a b → Grows k m line → Settles mid first after new b c m n → TurnsOf s e line None new (trace a k) (trace c n)
 turned-at s e line old mid new first after a b c k m n is led keeps did noted settles =
     let start = begun s e old mid first a b is led keeps did in
     let done = settles (step s e) mid.names (wanting (outcome s e).orders) start.0 start.1 in
@@ -149,7 +149,7 @@ turned-at s e line old mid new first after a b c k m n is led keeps did noted se
 
 -- a refused event is the whole turn
 pub refused-turn : (e : Event) (line : List ℕ) (refusal : Refusal) (old new : Table) (first : List Pending) (a b : Option (List Entry)) (k n : Kept) → IsShort e → Grows k n line →
-    Happens e (Some refusal) old new [] first a b → Turns e line (Some refusal) old new a b k n
+    Happens e (Some refusal) old new [] first a b → Turns e line (Some refusal) old new (trace a k) (trace b n)
 refused-turn e line refusal old new first a b k n is noted happened = λ s led keeps.
     let did = (happened s keeps).begins in
     let none : (outcome s e).orders ≡ [] = refused-orders s e refusal did.replies in (
@@ -183,7 +183,7 @@ short-event happenings.Shutdown = tt
 
 -- the answer of the turn is that of its event
 pub turned-from : (what : Happening) (result : Result (Unit {0}) Refusal) (old mid new : Table) (before first after : List Pending) (a b c : Option (List Entry)) (k m n : Kept) → result ≡ Ok tt → before ≡ [] →
-    UnlessMemory result (Happens (event_of what) (refused_with result) old mid before first a b) → Grows k m (event_line (journaled_by what)) → Settles mid first after new b c m n → Turns (event_of what) (event_line (journaled_by what)) None old new a c k n
+    UnlessMemory result (Happens (event_of what) (refused_with result) old mid before first a b) → Grows k m (event_line (journaled_by what)) → Settles mid first after new b c m n → Turns (event_of what) (event_line (journaled_by what)) None old new (trace a k) (trace c n)
 unfolding turned-at
 turned-from what (Err refusal) old mid new before first after a b c k m n ok empty happened noted settles = cc
 turned-from what (Ok done) old mid new before first after a b c k m n ok empty happened noted settles = λ s led keeps.
@@ -199,7 +199,7 @@ unless-memory _ follows holds = follows holds
 
 pub refused-from : (what : Happening) (result : Result (Unit {0}) Refusal) (refusal : Refusal) (old new : Table) (before first : List Pending) (a b : Option (List Entry)) (k n : Kept) →
     result ≡ Err refusal → before ≡ [] → Grows k n (event_line (journaled_by what)) → UnlessMemory result (Happens (event_of what) (refused_with result) old new before first a b) →
-    UnlessMemory {A = Unit {0}} (Err refusal) (Turns (event_of what) (event_line (journaled_by what)) (Some refusal) old new a b k n)
+    UnlessMemory {A = Unit {0}} (Err refusal) (Turns (event_of what) (event_line (journaled_by what)) (Some refusal) old new (trace a k) (trace b n))
 refused-from what result refusal old new before first a b k n is empty noted happened =
     unless-memory refusal
     (λ did. refused-turn (event_of what) (event_line (journaled_by what)) refusal old new first a b k n (short-event what) noted (subst (λ ps. Happens (event_of what) (Some refusal) old new ps first a b) empty did))

@@ -24,6 +24,14 @@ use Rattle.order_edge.specs.Calls.{call_of, calls_in, answers_in}
 use Rattle.history_model.specs.Turns.{JobOrder, wanting}
 use Rattle.history_model.specs.Waits.{AreFresh, weight, weigh_orders}
 
+-- what a turn leaves behind outside the table: the calls that the edge tells, and the journal
+pub record Trace : Type 0 where
+  pub calls : Option (List Entry)
+  pub journal : Kept
+
+abbrev pub trace : Option (List Entry) → Kept → Trace
+trace calls journal = record { calls = calls; journal = journal }
+
 -- ---- orders that are carried out
 
 -- the orders were carried out one after another, each by its one call, and if there is room for
@@ -127,31 +135,30 @@ Happens e reply old new before after told told' =
 
 -- one answer was made an event, and what it ordered waits behind the others
 pub record Handled (s : State) (names : List Name) (job_order : JobOrder) (waits : List JobOrder)
-    (pending : Pending) (rest : List Pending) (new : Table)
-    (before after : List Pending) (told told' : Option (List Entry))
-    (written written' : Kept) : Type 0 where
+    (pending : Pending) (rest answers answers' : List Pending) (new : Table)
+    (before after : Trace) : Type 0 where
   pub orders : List Order
-  pub carried : Carried orders before after told told'
+  pub carried : Carried orders answers answers' before.calls after.calls
   pub ordered : labelled names orders ≡ (outcome s (event_in names pending)).orders
   pub waiting : (made : List Entry) → calls_in made ≡ map call_of orders →
       IsWaiting new (step s (event_in names pending)) names
       (waits ++ wanting (outcome s (event_in names pending)).orders) (rest ++ answers_in made)
-  pub noted : Grows written written' (answer_text names pending)
+  pub noted : Grows before.journal after.journal (answer_text names pending)
   pub lighter : weigh_orders (wanting (outcome s (event_in names pending)).orders)
       < weight job_order.1
 
 -- each answer was made an event, and none remains; `made` are the calls of these events
-pub record Settled (s : State) (names : List Name) (before after : List Pending) (new : Table)
-    (told told' : Option (List Entry)) (written written' : Kept) : Type 0 where
+pub record Settled (s : State) (names : List Name) (waited settled : List Pending) (new : Table)
+    (before after : Trace) : Type 0 where
   pub made : List Entry
-  pub tells : Tells told made told'
-  pub all : after ≡ before ++ answers_in made
+  pub tells : Tells before.calls made after.calls
+  pub all : settled ≡ waited ++ answers_in made
   pub orders : List Order
   pub calls : calls_in made ≡ map call_of orders
-  pub by_label : labelled names orders ≡ orders_in (map (event_in names) after) s
-  pub kept : KeepsState new (run (map (event_in names) after) s)
+  pub by_label : labelled names orders ≡ orders_in (map (event_in names) settled) s
+  pub kept : KeepsState new (run (map (event_in names) settled) s)
   pub numbers : AreNumbered names new
-  pub noted : Grows written written' (answer_texts names after)
+  pub noted : Grows before.journal after.journal (answer_texts names settled)
 
 -- ---- a turn
 
@@ -170,22 +177,22 @@ IsShort _ = Unit {0}
 -- is the machine's to the input. The journal grew by the lines of these events. The numbers in the
 -- calls are those of the jobs that are loaded.
 pub record TurnsOf (s : State) (input : Event) (line : List ℕ) (reply : Option Refusal)
-    (new : Table) (told told' : Option (List Entry)) (written written' : Kept) : Type 0 where
+    (new : Table) (before after : Trace) : Type 0 where
   pub names : List Name
   pub entries : List Entry
-  pub tells : Tells told entries told'
+  pub tells : Tells before.calls entries after.calls
   pub turn : IsTurn s input names entries new
   pub led : IsLed (run (input ∷ events_in names entries) s)
   pub replies : (outcome s input).refusal ≡ reply
   pub numbers : reply ≡ None → AreNumbered names new
-  pub noted : Grows written written' (line ++ answer_texts names (answers_in entries))
+  pub noted : Grows before.journal after.journal (line ++ answer_texts names (answers_in entries))
 
 -- and they are those under which the jobs were loaded before it
-abbrev pub Turns : Event → List ℕ → Option Refusal → Table → Table → Option (List Entry) →
-    Option (List Entry) → Kept → Kept → Type 0
-Turns input line reply old new told told' written written' =
+abbrev pub Turns :
+    Event → List ℕ → Option Refusal → Table → Table → Trace → Trace → Type 0
+Turns input line reply old new before after =
     (s : State) → IsLed s → KeepsState old s →
-    (turn : TurnsOf s input line reply new told told' written written')
+    (turn : TurnsOf s input line reply new before after)
     × (reply ≡ None → AreNumbered turn.names old)
 
 -- nothing happened: the table stands for what it stood for, and no call was made

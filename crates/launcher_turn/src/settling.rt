@@ -7,7 +7,7 @@ ghost use Rattle.history_model.specs.Turns.{JobOrder};
 ghost use Rattle.history_model.specs.Waits.{weigh_orders};
 ghost use Rattle.job_table.specs.Tables.{Name};
 ghost use Rattle.order_edge.specs.declared.pending.Pending.{Pending as Answered};
-ghost use Rattle.launcher_turn.specs.Turns.{IsWaiting, Handled, Settled};
+ghost use Rattle.launcher_turn.specs.Turns.{IsWaiting, Handled, Settled, trace};
 
 use crate::happening::{Happening, News};
 use crate::hearing::hear;
@@ -32,8 +32,8 @@ fn handle<E: ChildEdge + SocketEdge, W: Write>(
     ensures { (s : State) (names : List Name) (job_order : JobOrder) (waits : List JobOrder)
         (rest : List Answered) →
         IsWaiting table.old s names (job_order ∷ waits) (pending ∷ rest)
-        → Handled s names job_order waits pending rest table.new room.old.answers room.new.answers
-        (E.told edge.old) (E.told edge.new) journal.old journal.new }
+        → Handled s names job_order waits pending rest room.old.answers room.new.answers table.new
+        (trace (E.told edge.old) journal.old) (trace (E.told edge.new) journal.new) }
 {
     room.label.copy(table.last_step().label(pending.job));
     let told = Happening::ToJob(room.label.as_str(), News::Answered(pending.answer));
@@ -53,7 +53,7 @@ pub fn settle<E: ChildEdge + SocketEdge, W: Write>(
     ensures { (s : State) (names : List Name) (waits : List JobOrder) →
         IsWaiting table.old s names waits room.old.answers → weigh_orders waits ≤ 3 * MAX_JOBS
         → Settled s names room.old.answers room.new.answers table.new
-        (E.told edge.old) (E.told edge.new) journal.old journal.new }
+        (trace (E.told edge.old) journal.old) (trace (E.told edge.new) journal.new) }
 {
     let mut next = 0;
     while next < room.answers.len() {

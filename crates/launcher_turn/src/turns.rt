@@ -6,7 +6,7 @@ ghost use Rattle.job_table.specs.Outcomes.{UnlessMemory};
 ghost use Rattle.ctl_protocol.specs.EventWriter.{event_line};
 ghost use Rattle.launcher_turn.specs.Events.{event_of, is_clock};
 ghost use Rattle.launcher_turn.specs.Lines.{journaled_by};
-ghost use Rattle.launcher_turn.specs.Turns.{Turns, IsUntouched};
+ghost use Rattle.launcher_turn.specs.Turns.{Turns, IsUntouched, trace};
 ghost use Rattle.job_table.specs.Loads.{refused_with};
 
 use crate::happening::Happening;
@@ -37,7 +37,7 @@ pub fn turn<E: ChildEdge + SocketEdge, W: Write>(
     ensures turn { UnlessMemory result
         (Turns (event_of what.entry) (event_line (journaled_by what.entry))
         (refused_with result) table.old table.new
-        (E.told edge.old) (E.told edge.new) journal.old journal.new) }
+        (trace (E.told edge.old) journal.old) (trace (E.told edge.new) journal.new)) }
     ensures memory { result ≡ Err NoMemory →
         (is_clock what.entry ≡ true) × IsUntouched table.old table.new
         (E.told edge.old) (E.told edge.new) × (journal.new ≡ journal.old) }

@@ -10,7 +10,7 @@ use Rattle.child_edge.specs.declared.plain.Scripted.TheVariants.{Done}
 use Rattle.child_edge.proofs.CallsLemmas.{tells_nothing, tells_append}
 use Rattle.job_defs.specs.Described.{Described}
 use Rattle.job_defs.specs.Definitions.{has_sockets}
-use Rattle.load_asking.specs.Asking.{Asks, load_entries}
+use Rattle.load_asking.specs.Asking.{Asks, load_entries, told_of}
 use Rattle.load_asking.specs.Stores.{StoreCall, AreTold, store_calls}
 use Rattle.history_model.proofs.BooleanLemmas.{and-true, and-false}
 
@@ -25,7 +25,7 @@ module _ (job : ℕ) (d : Described) (writes_setting : Bool) (changed : ℕ) (a 
 
   -- a job without sockets
   pub without : (store : Bool) → has_sockets d ≡ false → (writes_setting ≡ false → store ≡ true) → AreTold s (store_calls writes_setting d.label changed store) t →
-      Asks job d writes_setting changed (record { bind = true; store = store }) a a s t
+      Asks job d writes_setting changed (record { bind = true; store = store }) (told_of a s) (told_of a t)
   without store none uncalled told = record {
     bound = Done;
     tells = subst (λ v. Tells a (load_entries v job (record { bind = true; store = store }) Done) a) (sym none) (tells_nothing a);
@@ -36,7 +36,7 @@ module _ (job : ℕ) (d : Described) (writes_setting : Bool) (changed : ℕ) (a 
 
   -- a bind that went well, and a store that did not refuse
   pub stored : (store : Bool) → has_sockets d ≡ true → store ≡ true → (writes_setting ≡ false → store ≡ true) → AreTold s (store_calls writes_setting d.label changed store) t →
-      Tells a ((Bind job, Done) ∷ []) b → Asks job d writes_setting changed (record { bind = true; store = store }) a b s t
+      Tells a ((Bind job, Done) ∷ []) b → Asks job d writes_setting changed (record { bind = true; store = store }) (told_of a s) (told_of b t)
   stored store some is uncalled told tells = record {
     bound = Done;
     tells = subst (λ v. Tells a (load_entries v job (record { bind = true; store = store }) Done) b) (sym some)
@@ -48,7 +48,7 @@ module _ (job : ℕ) (d : Described) (writes_setting : Bool) (changed : ℕ) (a 
 
   -- a bind that went well, and a store that refused
   pub released : (store : Bool) → has_sockets d ≡ true → store ≡ false → (writes_setting ≡ false → store ≡ true) → AreTold s (store_calls writes_setting d.label changed store) t →
-      Tells a ((Bind job, Done) ∷ []) b → Tells b ((Release job, Done) ∷ []) c → Asks job d writes_setting changed (record { bind = true; store = store }) a c s t
+      Tells a ((Bind job, Done) ∷ []) b → Tells b ((Release job, Done) ∷ []) c → Asks job d writes_setting changed (record { bind = true; store = store }) (told_of a s) (told_of c t)
   released store some is uncalled told first second = record {
     bound = Done;
     tells = subst (λ v. Tells a (load_entries v job (record { bind = true; store = store }) Done) c) (sym some)
@@ -64,7 +64,7 @@ fault-not-done faults.NoMemory = refl
 fault-not-done faults.Refused = refl
 
 pub unbound : (job : ℕ) (d : Described) (writes_setting : Bool) (changed : ℕ) (fault : EdgeFault) (a b : Option (List Entry)) (s : Option (List StoreCall)) → has_sockets d ≡ true →
-    Tells a ((Bind job, fault_answer fault) ∷ []) b → Asks job d writes_setting changed (record { bind = false; store = true }) a b s s
+    Tells a ((Bind job, fault_answer fault) ∷ []) b → Asks job d writes_setting changed (record { bind = false; store = true }) (told_of a s) (told_of b s)
 unbound job d writes_setting changed fault a b s some tells = record {
   bound = fault_answer fault;
   tells = subst (λ v. Tells a (load_entries v job (record { bind = false; store = true }) (fault_answer fault)) b) (sym some) tells;

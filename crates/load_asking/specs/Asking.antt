@@ -16,14 +16,21 @@ load_entries false job outside bound = []
 load_entries true job outside bound =
     (Bind job, bound) ∷ (if outside.bind && not outside.store then (Release job, Done) ∷ [] else [])
 
+-- what the edge and the store were told: the calls of each, as far as they tell
+pub record Told : Type 0 where
+  pub calls : Option (List Entry)
+  pub stores : Option (List StoreCall)
+
+abbrev pub told_of : Option (List Entry) → Option (List StoreCall) → Told
+told_of calls stores = record { calls = calls; stores = stores }
+
 -- Each was asked once, in this order: the sockets; then, if they are bound and a setting is to be
 -- written, the store. The answers are those that were given; what was not asked counts as true.
 pub record Asks (job : ℕ) (d : Described) (writes_setting : Bool) (changed : ℕ) (outside : Outside)
-    (told told' : Option (List Entry))
-    (stored stored' : Option (List StoreCall)) : Type 0 where
+    (before after : Told) : Type 0 where
   pub bound : Scripted
-  pub tells : Tells told (load_entries (has_sockets d) job outside bound) told'
-  pub stores : AreTold stored
-      (store_calls (writes_setting && outside.bind) d.label changed outside.store) stored'
+  pub tells : Tells before.calls (load_entries (has_sockets d) job outside bound) after.calls
+  pub stores : AreTold before.stores
+      (store_calls (writes_setting && outside.bind) d.label changed outside.store) after.stores
   pub bind : outside.bind ≡ (if has_sockets d then is_done bound else true)
   pub store : (writes_setting && outside.bind) ≡ false → outside.store ≡ true

@@ -4,7 +4,7 @@ ghost use Rattle.std.specs.Prelude.{◌≡◌, ◌≤◌, ◌&&◌, true, false}
 ghost use Rattle.history_model.specs.declared.TheConstants.{MAX_WALL};
 ghost use Rattle.history_model.specs.Labels.{is_label};
 ghost use Rattle.history_model.specs.Step.{set_if};
-ghost use Rattle.load_asking.specs.Asking.{Asks};
+ghost use Rattle.load_asking.specs.Asking.{Asks, told_of};
 ghost use Rattle.load_asking.specs.Stores.{AreTold, HoldsAfter, store_calls};
 
 use crate::SettingStore;
@@ -56,7 +56,8 @@ pub fn ask_outside<E: SocketEdge, T: SettingStore>(
     requires label { is_label def.now.label ≡ true }
     requires second { changed ≤ MAX_WALL }
     ensures outside { Asks job def.now writes_setting changed result
-        (E.told edge.old) (E.told edge.new) (T.told store.old) (T.told store.new) }
+        (told_of (E.told edge.old) (T.told store.old))
+        (told_of (E.told edge.new) (T.told store.new)) }
     ensures stored { HoldsAfter T.holds
         (set_if (writes_setting && (result.bind && result.store)) def.now.label false)
         store.old store.new }

@@ -7,7 +7,7 @@ use Rattle.history_model.specs.Acceptance.{refusal_in}
 use Rattle.job_table.specs.Kept.{KeepsState}
 use Rattle.job_table.specs.Loads.{IsAdmitted, load_of, described_in, refused_with}
 use Rattle.launcher_load.specs.declared.loading.Loaded.{Loaded}
-use Rattle.launcher_load.specs.LoadTurns.{LoadTurnOf, is_memory, settings_after}
+use Rattle.launcher_load.specs.LoadTurns.{LoadTurnOf, is_memory, load_request, settings_after, standing}
 use Rattle.launcher_load.proofs.LoadTurnsLemmas.{load_ended, load_sets, never_called, not_memory, told_unless}
 use Rattle.job_defs.proofs.LabelLemmas.{label_read}
 use Rattle.launcher_load.proofs.loading.load.Goals as goal
@@ -29,8 +29,11 @@ returns-in-Ok-loaded-clause-turn g c = λ other s led keeps.
     let written' = c.ask_and_make-ended.new.journal in
     let done = load_ended s c.args.def.now c.args.writes_setting c.args.force outside c.args.table.now c.prepare_load.new.self new c.in-Ok.ready told told' stored stored' written written'
     admitted c.in-Ok.ensures.writes_setting c.in-Ok.ensures.same led keeps c.ask_and_make-ended.result.refusal c.ask_and_make-ended.ensures.ends in
-    subst (λ a. LoadTurnOf s c.args.def.now c.args.writes_setting c.args.force a (refused_with c.reply_to.result.reply) new told told' stored stored' written written') (sym c.reply_to.ensures.outside)
-    (subst (λ r. LoadTurnOf s c.args.def.now c.args.writes_setting c.args.force outside r new told told' stored stored' written written') (sym c.reply_to.ensures.reply) done)
+    let request = load_request c.args.def.now c.args.writes_setting c.args.force in
+    let before = standing c.args.table.now told stored written in
+    let after = standing new told' stored' written' in
+    subst (λ a. LoadTurnOf s request a (refused_with c.reply_to.result.reply) before after) (sym c.reply_to.ensures.outside)
+    (subst (λ r. LoadTurnOf s request outside r before after) (sym c.reply_to.ensures.reply) done)
 
 pub returns-in-Ok-loaded-clause-stored : goal.returns-in-Ok-loaded-clause-stored
 returns-in-Ok-loaded-clause-stored g c = λ s keeps holds.
@@ -53,8 +56,10 @@ returns-in-Err-clause-turn g c = λ other s led keeps.
     let memory : is_memory (Some c.in-Err.refusal) ≡ false = subst (λ (l : Loaded). is_memory (refused_with l.reply) ≡ false) is other in
     let refused = told_unless c.in-Err.refusal
     ((s : State) (bind store : Bool) → KeepsState c.args.table.now s → refusal_in s (load_of c.as_bytes.result.now c.args.writes_setting c.args.force bind store) ≡ Some c.in-Err.refusal) c.in-Err.ensures.refused memory in
-    subst (λ (l : Loaded). LoadTurnOf s c.args.def.now c.args.writes_setting c.args.force l.outside (refused_with l.reply) new told told stored stored c.args.journal.now c.note_load_refused.new.journal) (sym is)
-    (never_called s c.args.def.now c.args.writes_setting c.args.force c.in-Err.refusal new told stored c.args.journal.now c.note_load_refused.new.journal
+    let before = standing c.args.table.now told stored c.args.journal.now in
+    let after = standing new told stored c.note_load_refused.new.journal in
+    subst (λ (l : Loaded). LoadTurnOf s (load_request c.args.def.now c.args.writes_setting c.args.force) l.outside (refused_with l.reply) before after) (sym is)
+    (never_called s c.args.def.now c.args.writes_setting c.args.force c.in-Err.refusal c.args.table.now new told stored c.args.journal.now c.note_load_refused.new.journal
     (λ bind store. subst (λ b. refusal_in s (load_of b c.args.writes_setting c.args.force bind store) ≡ Some c.in-Err.refusal) c.as_bytes.ensures.value (refused s bind store keeps))
     (c.note_load_refused.ensures.noted memory) (c.in-Err.ensures.same s keeps) led)
 

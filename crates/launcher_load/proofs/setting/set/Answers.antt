@@ -5,7 +5,7 @@ use Rattle.history_model.specs.Machine.{State}
 use Rattle.history_model.specs.Acceptance.{refusal_in, refusal_stored}
 use Rattle.job_table.specs.Kept.{KeepsState}
 use Rattle.job_table.specs.Changes.{set_of}
-use Rattle.launcher_turn.specs.Turns.{TurnsOf}
+use Rattle.launcher_turn.specs.Turns.{TurnsOf, trace}
 use Rattle.launcher_load.specs.Lines.{set_line}
 use Rattle.launcher_load.proofs.LoadTurnsLemmas.{nothing_done, told_unless}
 use Rattle.launcher_load.proofs.SetTurnsLemmas.{bad_label, event_set, never_set, set_calls}
@@ -13,7 +13,7 @@ use Rattle.launcher_load.proofs.setting.set.Goals as goal
 
 pub returns-then-not-is_label-clause-turn : goal.returns-then-not-is_label-clause-turn
 returns-then-not-is_label-clause-turn g c = λ other s led keeps.
-    never_set s c.args.label.now c.args.disabled c.args.unload BadRequest c.args.table.now (g.E.Edge.told c.args.edge.now) (g.T.SettingStore.told c.args.store.now) c.args.journal.now c.note_set.new.journal
+    never_set s c.args.label.now c.args.disabled c.args.unload BadRequest c.args.table.now c.args.table.now (g.E.Edge.told c.args.edge.now) (g.T.SettingStore.told c.args.store.now) c.args.journal.now c.note_set.new.journal
     (λ store. bad_label s c.args.label.now c.args.disabled c.args.unload store (sym c.is_label.ensures ∙ c.if-not-is_label.true)) c.note_set.ensures keeps led
 
 pub returns-then-stored-clause-turn : goal.returns-then-stored-clause-turn
@@ -24,7 +24,7 @@ returns-then-stored-clause-turn g c = λ other s led keeps.
     record {
       asks = set_calls s label c.args.disabled c.args.unload c.in-Ok.ready.setting.disabled kept c.reading-changed.result.wall (g.T.SettingStore.told c.args.store.now) (g.T.SettingStore.told c.set-stored.new.self)
           (c.in-Ok.ensures.admitted s true keeps) c.in-Ok.ensures.disabled (ap (λ r. r.wall) (c.reading-changed.ensures.last ∙ keeps.reading)) c.set-stored.ensures.told;
-      turn = subst (λ e. TurnsOf s e (set_line label c.args.disabled c.args.unload kept) None c.make.new.table (g.E.Edge.told c.args.edge.now) (g.E.Edge.told c.make.new.edge) c.args.journal.now c.make.new.journal) event
+      turn = subst (λ e. TurnsOf s e (set_line label c.args.disabled c.args.unload kept) None c.make.new.table (trace (g.E.Edge.told c.args.edge.now) c.args.journal.now) (trace (g.E.Edge.told c.make.new.edge) c.make.new.journal)) event
           (c.make.ensures s kept (set_line label c.args.disabled c.args.unload kept) c.args.journal.now c.note_set-in-Ok.ensures led (c.in-Ok.ensures.same s keeps) (ap (refusal_in s) event ∙ c.in-Ok.ensures.admitted s kept keeps ∙ ap (refusal_stored true) c.if-stored.true));
     }
 
@@ -43,5 +43,5 @@ pub returns-in-Err-clause-turn : goal.returns-in-Err-clause-turn
 returns-in-Err-clause-turn g c = λ other s led keeps.
     let refused = told_unless c.in-Err.refusal
     ((s : State) (store : Bool) → KeepsState c.args.table.now s → refusal_in s (set_of c.args.label.now c.args.disabled c.args.unload store) ≡ Some c.in-Err.refusal) c.in-Err.ensures.refused other in
-    never_set s c.args.label.now c.args.disabled c.args.unload c.in-Err.refusal c.prepare_set.new.self (g.E.Edge.told c.args.edge.now) (g.T.SettingStore.told c.args.store.now) c.args.journal.now c.note_set_refused.new.journal
+    never_set s c.args.label.now c.args.disabled c.args.unload c.in-Err.refusal c.args.table.now c.prepare_set.new.self (g.E.Edge.told c.args.edge.now) (g.T.SettingStore.told c.args.store.now) c.args.journal.now c.note_set_refused.new.journal
     (λ store. refused s store keeps) (c.note_set_refused.ensures.noted other) (c.in-Err.ensures.same s keeps) led

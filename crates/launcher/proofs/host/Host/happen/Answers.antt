@@ -2,10 +2,10 @@
 use Rattle.std.proofs.Common.{[], Some}
 use Rattle.launcher_turn.specs.Lines.{journaled_by}
 use Rattle.job_table.specs.Loads.{refused_with}
-use Rattle.launcher.specs.Hosts.{standing}
 use Rattle.launcher.proofs.HostsLemmas.{as_replied}
 use Rattle.launcher.proofs.HearingLemmas.{happened}
 use Rattle.launcher.proofs.host.Host.happen.Goals as goal
+use Rattle.launcher_load.specs.LoadTurns.{standing}
 
 pub returns-clause-hears : goal.returns-clause-hears
 returns-clause-hears g c =

@@ -5,10 +5,10 @@ use Rattle.history_model.specs.declared.event.Event.TheVariants as events
 use Rattle.history_model.specs.Step.{outcome}
 use Rattle.job_table.specs.Kept.{KeepsState}
 use Rattle.job_table.specs.Loads.{load_of, refused_with}
-use Rattle.launcher.specs.Hosts.{standing}
 use Rattle.launcher.proofs.HostsLemmas.{as_replied}
 use Rattle.launcher.proofs.AskingLemmas.{loaded, load_words}
 use Rattle.launcher.proofs.host.Host.load.Goals as goal
+use Rattle.launcher_load.specs.LoadTurns.{standing}
 
 pub returns : goal.returns
 returns g c =

@@ -3,10 +3,10 @@ use Rattle.std.proofs.Common.{Some, refl}
 use Rattle.std.specs.String.{string_bytes}
 use Rattle.history_model.specs.declared.event.Event.TheVariants as events
 use Rattle.job_table.specs.Loads.{refused_with}
-use Rattle.launcher.specs.Hosts.{standing}
 use Rattle.launcher.proofs.HostsLemmas.{as_replied}
 use Rattle.launcher.proofs.AskingLemmas.{printed}
 use Rattle.launcher.proofs.host.Host.print.Goals as goal
+use Rattle.launcher_load.specs.LoadTurns.{standing}
 
 pub returns : goal.returns
 returns g c =

@@ -2,7 +2,7 @@
 use Rattle.std.proofs.Common.{[], Some, true}
 use Rattle.job_table.specs.Loads.{refused_with}
 use Rattle.launcher_load.specs.Lines.{journaled_set}
-use Rattle.launcher.specs.Hosts.{standing}
+use Rattle.launcher_load.specs.LoadTurns.{standing}
 use Rattle.launcher.proofs.HostsLemmas.{as_replied}
 use Rattle.launcher.proofs.AskingLemmas.{changed}
 use Rattle.launcher.proofs.host.Host.set.Goals as goal
