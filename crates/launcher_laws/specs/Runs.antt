@@ -97,8 +97,10 @@ IsPartOf turn part =
 abbrev pub AreParts : {T : Type 0} → List (Turn T) → List Part → Type 0
 AreParts turns parts = AllZip IsPartOf turns parts
 
+-- the events of all turns
 abbrev pub events_in : List Part → List journal.Event
 events_in parts = flat_map (λ (part : Part). part.0) parts
 
+-- the outcomes of all turns
 abbrev pub outcomes_in : List Part → List Outcome
 outcomes_in parts = flat_map (λ (part : Part). part.1) parts

@@ -87,6 +87,7 @@ pub record LoadRequest : Type 0 where
   pub writes_setting : Bool
   pub force : Bool
 
+-- the request with these
 abbrev pub load_request : List ℕ → Bool → Bool → LoadRequest
 load_request bytes writes_setting force =
     record { bytes = bytes; writes_setting = writes_setting; force = force }
@@ -102,6 +103,7 @@ pub record SetRequest : Type 0 where
   pub disabled : Bool
   pub unload : Bool
 
+-- the request with these
 abbrev pub set_request : Label → Bool → Bool → SetRequest
 set_request label disabled unload =
     record { label = label; disabled = disabled; unload = unload }

@@ -29,6 +29,7 @@ pub record Trace : Type 0 where
   pub calls : Option (List Entry)
   pub journal : Kept
 
+-- the trace with these
 abbrev pub trace : Option (List Entry) → Kept → Trace
 trace calls journal = record { calls = calls; journal = journal }
 
@@ -49,6 +50,7 @@ abbrev pub orders_lent : Result Step Refusal → List Order
 orders_lent (Ok lent) = lent.orders.now
 orders_lent (Err refusal) = []
 
+-- their jobs are known; a refused event gave none
 abbrev pub AreKnownIn : Result Step Refusal → Type 0
 AreKnownIn (Ok lent) = AreKnown lent
 AreKnownIn (Err refusal) = Unit {0}
@@ -59,6 +61,7 @@ AreKnownIn (Err refusal) = Unit {0}
 abbrev pub event_in : List Name → Pending → Event
 event_in names pending = OfJob (label_of names pending.job) (Answered pending.answer)
 
+-- the events that the answers of these calls are
 abbrev pub events_in : List Name → List Entry → List Event
 events_in names entries = map (event_in names) (answers_in entries)
 
@@ -128,6 +131,7 @@ pub record HappensTo (s : State) (e : Event) (reply : Option Refusal) (old new :
       AreNumbered names new × (labelled names begins.orders ≡ (outcome s e).orders)
       × (list_all (is_known names) begins.orders ≡ true)
 
+-- so it is for each machine that the table stood for
 abbrev pub Happens : Event → Option Refusal → Table → Table → List Pending → List Pending →
     Option (List Entry) → Option (List Entry) → Type 0
 Happens e reply old new before after told told' =

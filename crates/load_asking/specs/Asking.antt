@@ -21,6 +21,7 @@ pub record Told : Type 0 where
   pub calls : Option (List Entry)
   pub stores : Option (List StoreCall)
 
+-- as they tell it
 abbrev pub told_of : Option (List Entry) → Option (List StoreCall) → Told
 told_of calls stores = record { calls = calls; stores = stores }
 

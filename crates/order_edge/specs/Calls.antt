@@ -21,6 +21,7 @@ call_by job (acts.Kill run) = Kill job run
 call_by job (acts.Close conn) = Close job conn
 call_by job acts.Gone = Release job
 
+-- the call that an order asks for
 abbrev pub call_of : Order → EdgeCall
 call_of order = call_by order.job order.act
 
@@ -36,9 +37,11 @@ answer_in (Term job run, a) = Some (record { job = job; answer = Termed run (is_
 answer_in (Kill job run, a) = Some (record { job = job; answer = Killed run (is_done a) })
 answer_in _ = None
 
+-- the answers of these calls, in their order
 abbrev pub answers_in : List Entry → List Pending
 answers_in entries = filter_map answer_in entries
 
+-- the calls, without their answers
 abbrev pub calls_in : List Entry → List EdgeCall
 calls_in entries = map (λ entry. entry.0) entries
 
