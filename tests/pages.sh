@@ -121,7 +121,7 @@ SOURCE = {
     "socket": read("crates/socket_defs/src/socket.rt"),
     "host": read("crates/socket_defs/src/host.rt"),
     "sockets": read("crates/socket_defs/src/sockets.rt"),
-    "rows": read("crates/json_kinds/src/rows.rt"),
+    "keys": read("crates/json_kinds/src/keys.rt"),
     "label": read("crates/history_model/specs/Labels.antt"),
 }
 # What several files count by is named in one.
@@ -180,7 +180,7 @@ for key, where, pattern, others in NUMBERS:
     for number in sorted(found - wanted - others):
         faults.append(f"{PAGE}: {key}: {number} is in the page alone")
     counts["numbers"] += len(wanted)
-row = re.search(r"PATH_LIMIT: usize = ([\d_]+)", SOURCE["rows"])
+row = re.search(r"PATH_LIMIT: usize = ([\d_]+)", SOURCE["keys"])
 if f"A path is a string of 1 to {shown(row.group(1))} bytes." not in page:
     faults.append(f"{PAGE}: the length of a path is not in the page")
 
