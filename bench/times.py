@@ -3,9 +3,9 @@
 
     bench/times.py
 
-It calls the same function of rt that `rt ci` calls, over the same files, with RT_JOBS lanes (as many as there are
-processors where it is unset). Each process that rt starts is counted by its user and system time, its own children
-included, and put down to the crate that it names:
+It calls the same function of rt that `rt ci --anew` calls, so nothing of an earlier run is used, with RT_JOBS lanes (as many
+as there are processors if it is unset). Each process that rt starts is counted by its user and system time, its own
+children included, and put down to the crate that it names:
 
     proof    the check of the crate from nothing; of a program also its two compilers
     tests    the check of the crate with its tests, and their compiler
@@ -101,7 +101,7 @@ def main():
     rt = load_rt()
     begun = time.monotonic()
     subprocess.Popen = Timed
-    status = rt.ci()
+    status = rt.ci(True)
     sys.stdout.flush()
     print_table(Timed.spent, begun)
     return status

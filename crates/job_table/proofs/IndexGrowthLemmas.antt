@@ -3,7 +3,7 @@ use Rattle.std.proofs.Common.{◌≡◌, ◌⊎◌, inl, inr, ℕ, zero, suc, �
 use Rattle.std.specs.Prelude.{slice_get, slice_index_or, get_or, unwrap_or}
 use Rattle.std.specs.List.{filter}
 use Rattle.std.proofs.lemmas.Bool.Decides.{nat_tests}
-use Rattle.timer_heap.specs.Timers.{moment_in, room, KeepsMoments}
+use Rattle.timer_heap.specs.Timers.{Timers, moment_in, room, KeepsMoments}
 use Rattle.history_model.specs.Coming.{next_by}
 use Rattle.job_table.specs.Tables.{Row, Name, definition_of_number}
 use Rattle.job_table.specs.Entries.{row, rows, name, stays, AllStay}
@@ -122,6 +122,19 @@ tidy-named index up es is = record {
       go true is there = cc
       go false is there = is
 
+-- the jobs that stay keep their moments
+pub tidy-timed : (timers : Timers) (up : ℕ) (es : List Entry) → AreTimed timers up es → AreTimed timers up (filter stays es)
+tidy-timed timers up [] is = is
+tidy-timed timers up (x ∷ xs) is = go x.has_gone (tidy-timed timers up xs (λ k e at. is (suc k) e at))
+  where
+    before : AreTimed timers up (filter stays xs) → (k : ℕ) (e : Entry) → slice_get (x ∷ filter stays xs) k ≡ Some e → moment_in timers e.number ≡ moment_for e up
+    before later zero e at = is zero e at
+    before later (suc k) e at = later k e at
+
+    go : (b : Bool) → AreTimed timers up (filter stays xs) → AreTimed timers up (cond (not b) (x ∷ filter stays xs) (filter stays xs))
+    go true later = later
+    go false later = before later
+
 -- ---- the index goes by rows, if all stay
 
 module _ {A B : Type 0} (f : A → B) where
@@ -226,13 +239,13 @@ index-placed index new es k timed placed marks is = record {
   marks = let long = placed-length new es k in omega (arith, long, marks);
 }
 
--- the index made anew, of which the marks and the rooms stayed
-pub remade : (old new : Index) (up : ℕ) (es : List Entry) → IsNamed old (map name es) → AreTimed new.timers up es → ArePlaced new.places.items es → AreAlone new.timers (map name es) →
-    room new.timers ≡ room old.timers → new.ready ≡ old.ready → IsIndexOf new up es
-remade old new up es is timed placed alone rooms ready = record {
-  timed = timed;
-  alone = alone;
-  space = λ number named. (let space = is.space number named in omega (arith, space, rooms));
+-- the index of which the places alone were made anew
+pub replaced : (old new : Index) (up : ℕ) (es : List Entry) → IsNamed old (map name es) → AreTimed old.timers up es → ArePlaced new.places.items es →
+    new.timers ≡ old.timers → new.ready ≡ old.ready → IsIndexOf new up es
+replaced old new up es is timed placed timers ready = record {
+  timed = λ k e at. ap (λ t. moment_in t e.number) timers ∙ timed k e at;
+  alone = λ number moment there. is.alone number moment (sym (ap (λ t. moment_in t number) timers) ∙ there);
+  space = λ number named. (let space = is.space number named in let same = ap room timers in omega (arith, space, same));
   placed = placed;
   empty = λ place. ap (λ r. moment_in r place) ready ∙ is.empty place;
   marks = let marks = is.marks in let long = length-names es in let same = ap room ready in omega (arith, marks, long, same);

@@ -24,7 +24,7 @@ ghost use Rattle.std.specs.Option.{ForSome};
 
 use crate::entry::{Entry, News};
 use crate::find::place_of;
-use crate::index::remake;
+use crate::index::place_all;
 use crate::mark::mark_touched;
 use crate::scan::{has_calendars, release, tidy};
 use crate::trigger::Listed;
@@ -91,12 +91,7 @@ impl Jobs {
         release(&self.entries, &mut self.numbers);
         forget(&mut self.triggers, &self.index.places, &self.entries);
         tidy(&mut self.entries);
-        remake(
-            &mut self.index.timers,
-            &mut self.index.places,
-            &self.entries,
-            self.reading,
-        );
+        place_all(&mut self.index.places, &self.entries);
         self.has_calendars = has_calendars(&self.entries);
         self.all_stay = true;
     }

@@ -92,7 +92,7 @@ pub fn visit_ready(
 }
 
 /// Gives the job's number its next moment; none, if the job is gone or has none.
-pub fn retime(timers: &mut TimerHeap, entry: &Entry, now: Reading)
+fn retime(timers: &mut TimerHeap, entry: &Entry, now: Reading)
     requires in_range { now.up ≤ MAX_UP }
     requires room { entry.now.number < room timers.old }
     ensures { Updates timers.old timers.new entry.now.number (moment_for entry.now now.up) }

@@ -7,8 +7,9 @@ use std::alloc::Global;
 use std::env;
 use std::process::Command;
 
-/// Runs a program again, by a shell that limits its memory to 512 MB.
-const SHELL: &str = "ulimit -v 524288 && exec \"$0\" short";
+/// Runs a program again, by a shell that limits its memory to 512 MB. Linux does not count the stack in this limit, so the stack
+/// can still grow when all memory is held.
+const SHELL: &str = "ulimit -d 524288 && exec \"$0\" short";
 
 /// Tries a call, and says how it stood that. An error if it answered or left something else than it should, or if the
 /// memory was not limited.
