@@ -1,5 +1,6 @@
 # make run    builds the replay of a journal without a proof and runs the first example: a look, in about a minute
-# make test   the gate: every proof from nothing, the wrong bodies, the tests, the programs
+# make test   the gate: every proof, the wrong bodies, the tests, the programs; what an earlier run on this machine passed over the
+#             same files is not proved or tried again
 # make times  the gate with nothing kept from earlier runs, and then what each crate cost it, in processor seconds
 # make build  proves, and leaves the programs as build/jobd and build/jobctl
 # make bench  times build/jobd, the calendar and the live launcher, and counts the instructions of a line; BASELINE=PROGRAM takes turns

@@ -5,9 +5,9 @@
 
 The documents are README.md, CHANGELOG.md, docs/, the README.md of each crate and contrib/, and bench/RESULTS.md.
 A name is a word of small letters with an underscore, as `no_order_remains`; it has to stand in a source, a definition, a
-proof, an edit, a script or a path, or below in OUTSIDE. Of `File.name`, as `Due.is_throttled`, a file of that name has to hold
-the name. Each wrong body has to be named in a document, or the edit that it is a part of. They stand in
-crates/CRATE/must-fail/ and in wrong_bodies/CRATE/.
+proof, an edit, a script or a path, or below in OUTSIDE. Of `File.name`, as `Due.is_throttled`, a file of that name has to be there
+and to hold the name. Each wrong body has to be named in a document, or the edit that it is a part of. They stand in
+crates/CRATE/must-fail/ and in wrong_bodies/CRATE/. Where a comment names specs/NAME or proofs/NAME, its crate has to have that file.
 One line a fault; the status is 1 if there is one.
 """
 import os
@@ -19,6 +19,9 @@ WORD = re.compile(r"[A-Za-z0-9_]+")
 
 # Names of the standard library, of ported crates and of the kernel.
 OUTSIDE = {"include_str", "get_flag", "tcp_wmem"}
+
+# Words before a dot that name no file: keys of a definition, as in `KeepAlive.NetworkState`, and words that stand for any name.
+NO_FILES = {"KeepAlive", "Sockets", "StartCalendarInterval", "NAME", "File"}
 
 
 def files_below(*folders):
@@ -49,7 +52,7 @@ def wrong_bodies():
     """Each wrong body, with its edit's name and path."""
     for path in files_below("crates", "wrong_bodies"):
         if path.endswith(".edit"):
-            parts = re.findall(r"(?m)^part: (\S+)", text_of(path))
+            parts = re.findall(r"(?m)^# part: (\S+)", text_of(path))
             edit = os.path.basename(path)[: -len(".edit")]
             for name in parts or [edit]:
                 yield name, edit, os.path.relpath(path, TOP)
@@ -73,9 +76,21 @@ def main():
             for word in sorted(words - known):
                 if "_" in word.strip("_") and word.islower() and word not in OUTSIDE:
                     faults.append(f"{short}:{number}: {word} stands nowhere in the repository")
-            for file, name in re.findall(r"`(?:[a-z_]+::)?([A-Z][A-Za-z]+)\.([a-z_]\w*)`", line):
-                if file in holders and not any(name in words for words in holders[file]):
+            for file, name in re.findall(r"`(?:[a-z_]+::)?([A-Z][A-Za-z]+)\.([A-Za-z_]\w*)`", line):
+                if file in NO_FILES or name == "md":
+                    continue
+                if file not in holders:
+                    faults.append(f"{short}:{number}: no file is named {file}")
+                elif not any(name in words for words in holders[file]):
                     faults.append(f"{short}:{number}: {file} does not hold {name}")
+    for path in files_below("crates"):
+        if path.endswith((".antt", ".rt")):
+            crate = path[len(TOP) :].split("/")[2]
+            for number, line in enumerate(text_of(path).splitlines(), 1):
+                comment = re.search(r"(--|//) (.*)", line)
+                for name in re.findall(r"\b(?:specs|proofs)/[A-Z]\w*", comment.group(2) if comment else ""):
+                    if not os.path.exists(f"{TOP}/crates/{crate}/{name}.antt"):
+                        faults.append(f"{os.path.relpath(path, TOP)}:{number}: there is no {name}.antt")
     for name, edit, path in wrong_bodies():
         if name not in named and edit not in named:
             faults.append(f"{path}: no document names {name}")

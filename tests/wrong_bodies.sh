@@ -25,8 +25,8 @@ part_edits() {
   for edit in "$top/wrong_bodies/$1"/*.edit "$top/crates/$1/must-fail"/*.edit; do
     [ -f "$edit" ] || continue
     name=$(basename "$edit" .edit)
-    if grep -q '^part: ' "$edit"; then
-      awk -v to="$2/$name." '/^part: /{ if (out) close(out); out = to substr($0, 7) ".edit"; next } out { print > out }' "$edit"
+    if grep -q '^# part: ' "$edit"; then
+      awk -v to="$2/$name." '/^# part: /{ if (out) close(out); out = to substr($0, 9) ".edit"; next } out { print > out }' "$edit"
     elif [ -n "$gate" ] || [ "$(dirname "$edit")" = "$top/wrong_bodies/$1" ]; then
       cp "$edit" "$2/"
     fi

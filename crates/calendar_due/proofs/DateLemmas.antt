@@ -1,5 +1,5 @@
 -- The date of a day number: that it leads back to the day, and that it is on the calendar.
-use Rattle.std.proofs.Common.{◌≡◌, ◌<◌, ◌≤◌, inl, inr, ℕ, zero, suc, ◌+◌, ◌-◌, ◌*◌, ◌/◌, ◌%◌, ℤ, pos, negsuc, neg_ℤ, ◌+ℤ◌, ◌-ℤ◌, ◌*ℤ◌, ◌≤ℤ◌, ◌<ℤ◌, unsigned_abs, refl, ap, ◌∙◌, arith}
+use Rattle.std.proofs.Common.{◌≡◌, ◌<◌, ◌≤◌, inl, inr, ℕ, zero, suc, ◌+◌, ◌-◌, ◌*◌, ◌/◌, ◌%◌, ℤ, pos, neg_ℤ, ◌+ℤ◌, ◌-ℤ◌, ◌*ℤ◌, ◌≤ℤ◌, ◌<ℤ◌, unsigned_abs, refl, ap, ◌∙◌, arith}
 use Rattle.std.proofs.lemmas.Bool.Decides.{leb_tells}
 use Rattle.std.specs.Int.{int_div_euclid, int_rem_euclid}
 use Rattle.jiff.proofs.SpanFacts.{signed_arith}
@@ -8,6 +8,7 @@ use Rattle.jiff_core.proofs.CalendarLemmas.{days_from_civil-day_count, days_of_m
 use Rattle.jiff_tz.specs.Year.{years_within, year_of_day}
 use Rattle.calendar_due.specs.Minute.{months_within, place_in_year, shown_minute, IsCivil}
 use Rattle.calendar_due.specs.Changes.{start_of}
+use Rattle.calendar_due.proofs.MinuteLemmas.{nonneg_abs}
 
 -- the years that fit have no more days than that
 years_fit : (n count : ℕ) → days_of_years (years_within n count) ≤ count
@@ -26,10 +27,6 @@ months_fit y (suc n) days = elim (leb_tells (days_of_months y (suc n)) days) [
   | inl fits ↦ rw fits.0 fits.1
   | inr over ↦ rw over.0 (months_fit y n days)
 ]
-
-nonneg_abs : (z : ℤ) → pos 0 ≤ℤ z → pos (unsigned_abs z) ≡ z
-nonneg_abs (pos n) h = refl
-nonneg_abs (negsuc n) h = absurd (omega (arith, signed_arith))
 
 years_back : (years : ℕ) → unsigned_abs (pos years -ℤ pos 10000 +ℤ pos 10000) ≡ years
 years_back years = let same = nonneg_abs (pos years -ℤ pos 10000 +ℤ pos 10000) (omega (arith, signed_arith)) in omega (arith, signed_arith)

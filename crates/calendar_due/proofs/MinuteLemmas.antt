@@ -29,7 +29,7 @@ second_shown dt = omega (arith, signed_arith)
 abbrev pub made : ℤ → ℕ → ℕ → ℕ → ℕ → ℕ → CivilMinute
 made y m d h min w = record { year = y; month = m; day = d; hour = h; minute = min; weekday = w }
 
-nonneg_abs : (z : ℤ) → pos 0 ≤ℤ z → pos (unsigned_abs z) ≡ z
+pub nonneg_abs : (z : ℤ) → pos 0 ≤ℤ z → pos (unsigned_abs z) ≡ z
 nonneg_abs (pos n) h = refl
 nonneg_abs (negsuc n) h = absurd (omega (arith, signed_arith))
 

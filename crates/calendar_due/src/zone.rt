@@ -1,8 +1,7 @@
 //! A zone that is handed in, the civil minute that its clock shows, and the minutes that a step of the clock crosses.
 ghost use Rattle.std.specs.Prelude.{◌≡◌, ◌≤◌, ◌↔◌, ◌+ℤ◌, ◌⊎◌, ◌<◌, ◌++◌, ◌∷◌, [], Err, map, length, IsOk, IsErr, IsSome, IfOk, IfErr, OnOk};
 ghost use Rattle.jiff_core.specs.Calendar.{IsWithin};
-ghost use Rattle.jiff_core.specs.DateTime.{civil_nanos, civil_seconds};
-ghost use Rattle.jiff_core.specs.Timestamp.{nanos_of_seconds};
+ghost use Rattle.jiff_core.specs.DateTime.{civil_seconds};
 ghost use Rattle.jiff_tz.specs.PosixReader.{read_whole};
 ghost use Rattle.jiff_tz.specs.Tzif.{HasBadRule};
 ghost use Rattle.jiff_tz.specs.TzifReader.{read_tzif};

@@ -9,7 +9,8 @@ use Rattle.job_defs.specs.Definitions.{path_wish}
 use Rattle.history_model.specs.Clock.{definition_of}
 use Rattle.history_model.specs.Demands.{is_same_path, last_seen}
 use Rattle.history_model.specs.Levels.{presence_holds}
-use Rattle.history_model.specs.ByFacts.{any_seen, seen_after}
+use Rattle.history_model.specs.ByFacts.{seen_after}
+use Rattle.history_model.specs.DueByFacts.{any_seen}
 use Rattle.history_model.proofs.SeenLemmas.{any-seen}
 use Rattle.history_model.proofs.WrittenLemmas.{newer}
 use Rattle.history_model.proofs.ConnectionLemmas.{seen-more}

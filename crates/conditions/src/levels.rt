@@ -1,12 +1,12 @@
 //! `KeepAlive` of launchd.plist(5): true, or its conditions `SuccessfulExit`, `Crashed` and `PathState`.
 
-ghost use Rattle.std.specs.Prelude.{◌≡◌, ◌==◌, ℕ, List, [], ◌∷◌, map, ◌++◌, Some, None, Bool, IfOk, OnOk};
+ghost use Rattle.std.specs.Prelude.{◌≡◌, ◌==◌, [], ◌∷◌, map, ◌++◌, Some, None, IfOk};
 ghost use Rattle.std.specs.List.{list_any};
 ghost use Rattle.history_model.specs.Items.{History, Loaded, Saw, RunEnded};
-ghost use Rattle.history_model.specs.Runs.{is_stopping_order};
-ghost use Rattle.history_model.specs.Levels.{is_crash_end, is_success, agrees, presence_holds};
-ghost use Rattle.history_model.specs.ByFacts.{any_seen, seen_after};
-ghost use Rattle.history_model.specs.Levels.{end_holds_of};
+ghost use Rattle.history_model.specs.Kinds.{is_stopping_order};
+ghost use Rattle.history_model.specs.Levels.{is_crash_end, agrees, presence_holds, end_holds_of};
+ghost use Rattle.history_model.specs.ByFacts.{seen_after};
+ghost use Rattle.history_model.specs.DueByFacts.{any_seen};
 ghost use Rattle.conditions.specs.States.{wanted_of, sight_of, after_sight};
 ghost use Rattle.job_defs.specs.Definitions.{definition, path_wish};
 

@@ -4,14 +4,13 @@ use Rattle.std.specs.Prelude.{⊤}
 use Rattle.std.specs.List.{list_all, AllByRecursion}
 use Rattle.std.specs.Ordering.{nat_cmp}
 use Rattle.std.specs.Cmp.Lexicographic.{slice_cmp, nat_list_cmp_total}
-use Rattle.std.specs.declared.cmp.Ordering.{Ordering}
-use Rattle.std.specs.declared.cmp.Ordering.TheVariants.{Less, Equal, Greater}
+use Rattle.std.specs.declared.cmp.Ordering.TheVariants.{Greater}
 use Rattle.serde_json.specs.Data.{Data, Members, no_members, member, boolean, put}
 use Rattle.serde_json.specs.Written.{compact_text}
 use Rattle.history_model.specs.declared.Reading.{Reading}
 use Rattle.history_model.specs.declared.TheConstants.{MAX_UP, MAX_WALL}
 use Rattle.history_model.specs.declared.event.Setting.{Setting}
-use Rattle.history_model.specs.Labels.{Label, is_label, is_less, is_before}
+use Rattle.history_model.specs.Labels.{Label, is_label, is_before}
 use Rattle.history_model.specs.WholeLaws.{AreInOrder}
 use Rattle.ctl_protocol.specs.declared.header.Header.{Header}
 use Rattle.ctl_protocol.specs.declared.header.ZoneText.{ZoneText}
@@ -23,11 +22,10 @@ use Rattle.ctl_protocol.specs.HeaderLines.{hex_digit, hex_of, setting_members, h
 use Rattle.ctl_protocol.proofs.ObjectsLemmas.{header_depth}
 use Rattle.ctl_protocol.proofs.EventWriterLemmas.{IsRead, kept, read_at}
 use Rattle.history_model.proofs.BooleanLemmas.{and-left, and-right}
+use Rattle.history_model.proofs.LabelOrderLemmas.{is_less-Less}
+use Rattle.std.proofs.lemmas.Bool.{ltb-true}
 
 -- ---- hexadecimal
-
-below : (n m : ℕ) → nat_lt n m ≡ true → n < m
-below n m h = grind (arith, h)
 
 within : (n m : ℕ) → n ≤ m → nat_le n m ≡ true
 within n m l = grind (arith, l)
@@ -37,7 +35,7 @@ not_within n m l = grind (arith, l)
 
 digit_at : (t : Bool) (n : ℕ) → nat_lt n 10 ≡ t → n < 16 → digit_of (if t then 48 + n else 87 + n) ≡ Some n
 digit_at true n e l =
-    let small = below n 10 e in
+    let small = ltb-true n 10 e in
     let back : 48 + n - 48 ≡ n = omega arith in
     rw (within 48 (48 + n) (omega arith), within (48 + n) 57 (omega (arith, small))) (ap Some back)
 digit_at false n e l =
@@ -57,29 +55,24 @@ hex_back : (bytes : List ℕ) → list_all (λ byte. nat_lt byte 256) bytes ≡ 
 unfolding bytes_of_hex
 hex_back [] h = refl
 hex_back (b ∷ bytes) h =
-    let small = below b 256 (and-left (nat_lt b 256) (list_all (λ byte. nat_lt byte 256) bytes) h) in
+    let small = ltb-true b 256 (and-left (nat_lt b 256) (list_all (λ byte. nat_lt byte 256) bytes) h) in
     rw (byte_back b small, hex_back bytes (and-right (nat_lt b 256) (list_all (λ byte. nat_lt byte 256) bytes) h)) refl
 
 -- ---- overrides
 
-abbrev labels_in : List Setting → List Label
+abbrev pub labels_in : List Setting → List Label
 labels_in settings = map (λ s. s.label) settings
 
 abbrev AllBefore : List Setting → Label → Type 0
 AllBefore [] label = ⊤
 AllBefore (s ∷ settings) label = (is_before s.label label ≡ true) × AllBefore settings label
 
-abbrev listed : List Setting → Members
+abbrev pub listed : List Setting → Members
 listed [] = no_members
 listed (s ∷ settings) = member s.label (boolean s.disabled) (listed settings)
 
-less_is : (o : Ordering) → is_less o ≡ true → o ≡ Less
-less_is Less h = refl
-less_is Equal h = cc
-less_is Greater h = cc
-
 behind : (a b : Label) → is_before a b ≡ true → slice_cmp nat_cmp b a ≡ Greater
-behind a b h = rw (nat_list_cmp_total.antisymm b a, less_is (slice_cmp nat_cmp a b) h) refl
+behind a b h = rw (nat_list_cmp_total.antisymm b a, is_less-Less (slice_cmp nat_cmp a b) h) refl
 
 put_last : (front : List Setting) (s : Setting) → AllBefore front s.label → put s.label (boolean s.disabled) (listed front) ≡ listed (front ++ s ∷ [])
 put_last [] s h = refl
@@ -93,7 +86,7 @@ all_before : (front : List Setting) (s : Setting) (more : List Setting) → AreI
 all_before [] s more h = tt
 all_before (f ∷ front) s more h = (at_place (λ other. is_before f.label other ≡ true) front s more h.0, all_before front s more h.1)
 
-with_back : (front settings : List Setting) → AreInOrder (labels_in (front ++ settings)) → with_members (listed front) (setting_members settings) ≡ listed (front ++ settings)
+pub with_back : (front settings : List Setting) → AreInOrder (labels_in (front ++ settings)) → with_members (listed front) (setting_members settings) ≡ listed (front ++ settings)
 with_back front [] h = sym (ap listed (append-nil front))
 with_back front (s ∷ more) h =
     let joined = append_assoc front (s ∷ []) more in
@@ -110,7 +103,7 @@ settings_back settings labels order = ap settings_of (with_back [] settings orde
 
 -- ---- headers
 
-abbrev header_of : Reading → ZoneText → List Setting → Header
+abbrev pub header_of : Reading → ZoneText → List Setting → Header
 header_of at zone overrides = record { reading = at; zone = zone; overrides = overrides }
 
 line_at : (at : Reading) (zone : ZoneText) (overrides : List Setting) → nat_le at.up MAX_UP ≡ true → nat_le at.wall MAX_WALL ≡ true → is_zone zone ≡ true

@@ -9,7 +9,7 @@ use Rattle.history_model.specs.declared.Refusal.{Refusal}
 use Rattle.history_model.specs.declared.Reply.{Reply}
 use Rattle.history_model.specs.Labels.{Label}
 use Rattle.history_model.specs.Step.{Outcome}
-use Rattle.history_model.specs.Texts.{refusal_text, refusal_code}
+use Rattle.history_model.specs.RefusalTexts.{refusal_text, refusal_code}
 use Rattle.ctl_protocol.specs.Objects.{Plain, text, count, plain_object, line_of}
 
 -- ---- orders

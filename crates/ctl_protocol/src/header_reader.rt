@@ -1,6 +1,6 @@
 //! Reads a header.
 
-ghost use Rattle.std.specs.Prelude.{◌≡◌, List, ℕ};
+ghost use Rattle.std.specs.Prelude.{◌≡◌};
 ghost use Rattle.json_kinds.specs.Json.{json_in};
 ghost use Rattle.serde_json.specs.View.{view, members_view};
 ghost use Rattle.ctl_protocol.specs.Headers as headers;

@@ -2,14 +2,12 @@
 
 ghost use Rattle.std.specs.Prelude.{◌≡◌, ◌<◌, ◌∷◌, ◌++◌, [], IfOk, OnOk, Some, encode_utf8};
 ghost use Rattle.std.specs.String.{string_bytes};
-ghost use Rattle.serde_json.specs.View.{view};
+ghost use Rattle.serde_json.specs.View.{view, members_view};
 ghost use Rattle.serde_json.specs.Written.{compact_text};
 ghost use Rattle.ctl_protocol.specs.Headers.{header_at};
 ghost use Rattle.ctl_protocol.specs.HeaderLines as lines;
-ghost use Rattle.ctl_protocol.specs.HeaderLines.{IsHeader, header_object, hex_of, plain_members, setting_members};
+ghost use Rattle.ctl_protocol.specs.HeaderLines.{IsHeader, header_object, hex_of, setting_members};
 ghost use Rattle.ctl_protocol.specs.Objects.{plain_object, with_members};
-ghost use Rattle.serde_json.specs.Data.{no_members};
-ghost use Rattle.serde_json.specs.View.{members_view};
 
 use crate::header::{Header, ZoneText};
 use crate::object::{Cell, line_from, put_all};

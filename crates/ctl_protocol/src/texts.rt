@@ -2,7 +2,7 @@
 
 ghost use Rattle.std.specs.Prelude.{◌≡◌, ◌++◌, IfOk};
 ghost use Rattle.std.specs.String.{string_bytes};
-ghost use Rattle.history_model.specs.Texts as texts;
+ghost use Rattle.history_model.specs.RefusalTexts as texts;
 ghost use Rattle.history_model.specs.declared.Refusal.TheVariants.{BadDefinition};
 
 use history_model::{KeyName, Reason, Refusal};

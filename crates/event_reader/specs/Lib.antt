@@ -1,4 +1,3 @@
-pub use Rattle.json_kinds.specs.Json
 pub mod Members
 pub mod EventLines
 pub mod Targets

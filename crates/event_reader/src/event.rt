@@ -1,8 +1,6 @@
 //! Reads the lines that tell an event: those of a journal, and requests.
 
 ghost use Rattle.std.specs.Prelude.{◌≡◌};
-ghost use Rattle.history_model.specs.declared.event.Event.TheVariants as events;
-ghost use Rattle.event_reader.specs.declared.members.Form.TheVariants as forms;
 ghost use Rattle.event_reader.specs.Members.{Reads};
 ghost use Rattle.event_reader.specs.Line.{seen};
 ghost use Rattle.event_reader.specs.EventLines.{event_at, event_shape, request_at, request_shape_of, asked_shape, journal_shape, load_shape, unload_shape, job_shape, target_shape, setting_shape, kickstart_shape, bare_shape, clock_shape, saw_shape, sight_keys, has_saw_keys as saw_keys, connection_shape, pid_key, spawned_shape, run_shape, answer_shape, byte_key, end_key, ended_shape};

@@ -9,7 +9,7 @@ use Rattle.history_model.specs.declared.Refusal.TheVariants.{Removing, NotRunnin
 use Rattle.history_model.specs.Items.{Asked, Answered, Came, Left, WaitRefused}
 use Rattle.history_model.specs.Clock.{no_definition}
 use Rattle.history_model.specs.Facts.{facts_of}
-use Rattle.history_model.specs.ByFacts.{due_by}
+use Rattle.history_model.specs.DueByFacts.{due_by}
 use Rattle.history_model.proofs.ThrottleExamples.{play, none, gives, refused, load, read, spawned, ended}
 use Rattle.history_model.proofs.StopExamples.{unthrottled}
 

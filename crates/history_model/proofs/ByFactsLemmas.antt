@@ -8,13 +8,15 @@ use Rattle.history_model.specs.declared.Answer.TheVariants.{Spawned, SpawnRefuse
 use Rattle.history_model.specs.Items.{Definition, Item, Loaded, Read, Saw, Asked, Came, Left, Ordered, Answered, RunEnded, WaitRefused, History}
 use Rattle.history_model.specs.Search.{first}
 use Rattle.history_model.specs.Clock.{now, definition_of}
-use Rattle.history_model.specs.Runs.{is_spawn_order, is_spawn_refusal, is_term_answer, is_kill_answer, runs, child, awaited}
+use Rattle.history_model.specs.Runs.{runs, child, awaited}
+use Rattle.history_model.specs.Kinds.{is_spawn_order, is_spawn_refusal, is_term_answer, is_kill_answer}
 use Rattle.history_model.specs.Demands.{waiting, last_seen, carries}
 use Rattle.history_model.specs.Levels.{last_end, crash_of, end_holds, presence_holds, queue_holds, level_holds}
 use Rattle.history_model.specs.Due.{due_beside, due, may_kill, may_term, may_spawn, is_throttled}
 use Rattle.history_model.specs.Refusals.{IsLawful, IsBehindLoad, refusal_of}
 use Rattle.history_model.specs.Facts.{facts_of}
-use Rattle.history_model.specs.ByFacts.{conn_of, is_throttled_by, end_holds_by, level_by, may_spawn_by, may_kill_by, may_term_by, due_beside_by, due_by, refusal_by, facts_after}
+use Rattle.history_model.specs.ByFacts.{conn_of, facts_after}
+use Rattle.history_model.specs.DueByFacts.{is_throttled_by, end_holds_by, level_by, may_spawn_by, may_kill_by, may_term_by, due_beside_by, due_by, refusal_by}
 use Rattle.history_model.proofs.LawfulLemmas.{Answers-from, IsChild-from, due-rest}
 use Rattle.history_model.proofs.RunsLemmas.{sound, child-present, spawned-awaited, refused-awaited}
 use Rattle.history_model.proofs.FactsLemmas.{facts-Read, facts-WaitRefused, facts-Start, facts-Stop, facts-Unload, facts-Shutdown, facts-Kickstart, facts-Spawn, facts-Spawned, facts-SpawnRefused, facts-RunEnded, facts-Term, facts-Kill, facts-Termed, facts-Killed}

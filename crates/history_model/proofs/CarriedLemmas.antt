@@ -7,7 +7,8 @@ use Rattle.history_model.specs.declared.Act.TheVariants.{Spawn, Term, Kill, Clos
 use Rattle.history_model.specs.declared.Answer.TheVariants.{Spawned, SpawnRefused, Termed, Killed}
 use Rattle.history_model.specs.Items.{Item, Loaded, Read, Saw, Asked, Came, Left, Ordered, Answered, RunEnded, WaitRefused, History}
 use Rattle.history_model.specs.Search.{first, latest, since}
-use Rattle.history_model.specs.Runs.{is_order, order_in, has_spawned, is_spawned_answer, runs, awaited}
+use Rattle.history_model.specs.Runs.{has_spawned, runs, awaited}
+use Rattle.history_model.specs.Kinds.{is_order, order_in, is_spawned_answer}
 use Rattle.history_model.specs.Demands.{came_in, carries, waiting}
 use Rattle.history_model.specs.Refusals.{IsLawful, is_number_used}
 use Rattle.history_model.specs.Facts.{Facts}

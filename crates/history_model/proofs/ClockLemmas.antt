@@ -10,7 +10,7 @@ use Rattle.history_model.specs.Search.{first}
 use Rattle.history_model.specs.Clock.{now, moments}
 use Rattle.history_model.specs.Due.{is_within}
 use Rattle.history_model.specs.Refusals.{IsLawful, is_clock_refused}
-use Rattle.history_model.specs.ByFacts.{is_newest_within}
+use Rattle.history_model.specs.DueByFacts.{is_newest_within}
 use Rattle.history_model.proofs.BooleanLemmas.{not-true, or-false}
 use Rattle.history_model.proofs.LawfulLemmas.{unless-None}
 

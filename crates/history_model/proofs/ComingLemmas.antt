@@ -9,7 +9,8 @@ use Rattle.history_model.specs.declared.Answer.TheVariants.{Spawned, SpawnRefuse
 use Rattle.history_model.specs.Items.{Item, Loaded, Read, Saw, Asked, Came, Left, Ordered, Answered, RunEnded, WaitRefused, History}
 use Rattle.history_model.specs.Search.{first, last, latest, since}
 use Rattle.history_model.specs.Clock.{now, definition_of, load_of, moments, periods}
-use Rattle.history_model.specs.Runs.{is_order, order_in, is_spawn, is_spawn_order, is_spawn_refusal, is_term, is_kill, is_term_order, is_term_answer, is_kill_answer, is_answer_to, runs, child, awaited, is_stopped, is_struck}
+use Rattle.history_model.specs.Runs.{runs, child, awaited, is_stopped, is_struck}
+use Rattle.history_model.specs.Kinds.{is_order, order_in, is_spawn, is_spawn_order, is_spawn_refusal, is_term, is_kill, is_term_order, is_term_answer, is_kill_answer}
 use Rattle.history_model.specs.Due.{is_within, is_over, may_spawn, may_retry, may_kill, may_term, due}
 use Rattle.history_model.specs.Refusals.{IsLawful}
 use Rattle.history_model.specs.Facts.{facts_of}
@@ -22,6 +23,7 @@ use Rattle.history_model.proofs.LawfulLemmas.{Answers-from, due-Spawn, due-Kill-
 use Rattle.history_model.proofs.RunsLemmas.{kept_awaited, unless_settled-more, answered-settles, child-present, sound, refused-awaited}
 use Rattle.history_model.proofs.ClockLemmas.{now-grows}
 use Rattle.history_model.specs.declared.TheConstants.{SECOND}
+use Rattle.history_model.proofs.FactsLemmas.{answer_term, answer_kill}
 
 -- ---- the least of the moments that are still to come
 
@@ -224,14 +226,6 @@ kill-over t run e =
     (is_struck t || (is_stopped t && nat_lt 0 (definition_of t).exit_timeout && is_over (SECOND * (definition_of t).exit_timeout) (now t).up (last (moments (is_term_order run) t))))
     (may_retry is_kill_answer run t) (due-Kill-may t run e) in
     not-true (list_any (is_within SECOND (now t).up) (moments (is_kill_answer false run) t)) (and-right (not (list_any (is_kill_answer true run) t)) (not (list_any (is_within SECOND (now t).up) (moments (is_kill_answer false run) t))) retry)
-
-answer_term : (run : ℕ) (ok : Bool) (act : Act) → is_answer_to (Termed run ok) act ≡ true → act ≡ Term run
-answer_term run ok (Term n) e = ap Term (eqb-true n run e)
-answer_term run ok _ e = cc
-
-answer_kill : (run : ℕ) (ok : Bool) (act : Act) → is_answer_to (Killed run ok) act ≡ true → act ≡ Kill run
-answer_kill run ok (Kill n) e = ap Kill (eqb-true n run e)
-answer_kill run ok _ e = cc
 
 term_kind : (run : ℕ) → Kind (is_term_answer false run) (is_term run)
 term_kind run = record {

@@ -10,7 +10,8 @@ use Rattle.history_model.specs.declared.TheConstants.{MAX_CONNECTIONS}
 use Rattle.history_model.specs.Items.{Definition, Item, Loaded, Read, Saw, Asked, Came, Left, Ordered, Answered, RunEnded, WaitRefused, History}
 use Rattle.history_model.specs.Search.{first, latest, in_order}
 use Rattle.history_model.specs.Clock.{definition_of}
-use Rattle.history_model.specs.Runs.{has_spawned, is_removed, is_spawn_order}
+use Rattle.history_model.specs.Runs.{has_spawned, is_removed}
+use Rattle.history_model.specs.Kinds.{is_spawn_order}
 use Rattle.history_model.specs.Demands.{is_same_path, differs, last_seen, fired_since, is_pending, came_in, is_left, carries, is_carrying, waiting}
 use Rattle.history_model.specs.Refusals.{unless, is_number_used, refusal_of, IsLawful}
 use Rattle.history_model.specs.Facts.{facts_of}

@@ -11,21 +11,19 @@ use Rattle.history_model.specs.declared.Answer.TheVariants.{Spawned, SpawnRefuse
 use Rattle.history_model.specs.Items.{Item, Loaded, Read, Saw, Asked, Came, Left, Ordered, Answered, RunEnded, WaitRefused, History}
 use Rattle.history_model.specs.Search.{or_else, first, last, latest, since, in_order}
 use Rattle.history_model.specs.Clock.{now, crosses_interval, moments}
-use Rattle.history_model.specs.Runs.{is_order, is_spawn_order, order_in, is_some_spawn, runs, child, living, awaited, has_spawned, is_spawned_answer, is_stop, is_strike, is_term_order, is_term_answer, is_kill_answer, is_stopping_order, is_stopping_act, is_answer_to, has_ended, is_busy}
+use Rattle.history_model.specs.Runs.{runs, child, living, awaited, has_spawned, is_answer_to, has_ended, is_busy}
+use Rattle.history_model.specs.Kinds.{is_order, is_spawn_order, order_in, is_some_spawn, is_spawned_answer, is_stop, is_strike, is_term_order, is_term_answer, is_kill_answer, is_stopping_order, is_stopping_act}
 use Rattle.history_model.specs.Demands.{fires, fired_since, is_spawned_order, is_pending, carries, is_left, is_carrying, came_in}
 use Rattle.history_model.specs.Levels.{crash_of, last_end, is_crash_end}
 use Rattle.history_model.specs.Due.{due}
 use Rattle.history_model.specs.Refusals.{IsLawful}
 use Rattle.history_model.specs.ByFacts.{settle}
-use Rattle.history_model.specs.Facts.{Facts, facts_of}
+use Rattle.history_model.specs.Facts.{facts_of}
 use Rattle.history_model.proofs.BooleanLemmas.{and-false, and-true, or-false, or-second}
 use Rattle.history_model.proofs.SearchLemmas.{filter-less, list_any-implied, moments-none}
 use Rattle.history_model.proofs.LawfulLemmas.{names_run, spawned-named, term-named, termed-named, killed-named, stopping-named, due-Spawn, due-Term, due-Kill, child-not_ended, last_end-ended, awaited-latest, Answers, IsChild, unnamed, eqb-self, eqb-false}
 use Rattle.history_model.proofs.RunsLemmas.{unless_settled-more, answered-settles, sound, child-present, spawned-living, ended-living, awaited-present}
-
--- a child or an awaited spawn stands, by the facts
-abbrev pub busy : Facts → Bool
-busy f = is_some f.living_child || is_some_spawn f.awaited_act
+use Rattle.history_model.specs.DueByFacts.{is_busy_by}
 
 pub facts-Read : (t : History) (at : Reading) (calendar : Bool) →
     let f = facts_of t in
@@ -38,7 +36,7 @@ facts-WaitRefused t run = refl
 
 pub facts-Start : (t : History) →
     let f = facts_of t in
-    let fires = not (busy f) || f.stops in
+    let fires = not (is_busy_by f) || f.stops in
     facts_of (Asked Start ∷ t) ≡ record f { has_demand = fires || f.has_demand; has_new_demand = fires || f.has_new_demand }
 facts-Start t = refl
 
@@ -46,19 +44,19 @@ and-or : (a b c : Bool) → (a && (b || c)) ≡ (a && b || a && c)
 and-or true b c = refl
 and-or false b c = refl
 
-pub facts-Stop : (t : History) → let f = facts_of t in facts_of (Asked Stop ∷ t) ≡ record f { stops = busy f }
+pub facts-Stop : (t : History) → let f = facts_of t in facts_of (Asked Stop ∷ t) ≡ record f { stops = is_busy_by f }
 facts-Stop t = rw (and-true (is_busy t)) refl
 
-pub facts-Unload : (t : History) → let f = facts_of t in facts_of (Asked Unload ∷ t) ≡ record f { stops = busy f; removes = true }
+pub facts-Unload : (t : History) → let f = facts_of t in facts_of (Asked Unload ∷ t) ≡ record f { stops = is_busy_by f; removes = true }
 facts-Unload t = rw (and-true (is_busy t)) refl
 
-pub facts-Shutdown : (t : History) → let f = facts_of t in facts_of (Asked Shutdown ∷ t) ≡ record f { stops = busy f; removes = true }
+pub facts-Shutdown : (t : History) → let f = facts_of t in facts_of (Asked Shutdown ∷ t) ≡ record f { stops = is_busy_by f; removes = true }
 facts-Shutdown t = rw (and-true (is_busy t)) refl
 
 pub facts-Kickstart : (t : History) (kills_first : Bool) →
     let f = facts_of t in
-    let fires = kills_first || (not (busy f) || f.stops) in
-    facts_of (Asked (Kickstart kills_first) ∷ t) ≡ record f { has_demand = fires || f.has_demand; has_new_demand = fires || f.has_new_demand; strikes = busy f && kills_first || f.strikes }
+    let fires = kills_first || (not (is_busy_by f) || f.stops) in
+    facts_of (Asked (Kickstart kills_first) ∷ t) ≡ record f { has_demand = fires || f.has_demand; has_new_demand = fires || f.has_new_demand; strikes = is_busy_by f && kills_first || f.strikes }
 facts-Kickstart t kills_first = λ i. record (facts_of t) {
   has_demand = fires (Asked (Kickstart kills_first)) t || is_pending t;
   has_new_demand = fires (Asked (Kickstart kills_first)) t || fired_since is_spawn_order t;
@@ -324,11 +322,11 @@ facts-Kill t lawful run e =
       strikes = (is_some (child t) || is_some_spawn (sym fact.free i)) && asked_to_end t;
     }
 
-answer_term : (run : ℕ) (ok : Bool) (act : Act) → is_answer_to (Termed run ok) act ≡ true → act ≡ Term run
+pub answer_term : (run : ℕ) (ok : Bool) (act : Act) → is_answer_to (Termed run ok) act ≡ true → act ≡ Term run
 answer_term run ok (Term n) e = ap Term (eqb-true n run e)
 answer_term run ok _ e = cc
 
-answer_kill : (run : ℕ) (ok : Bool) (act : Act) → is_answer_to (Killed run ok) act ≡ true → act ≡ Kill run
+pub answer_kill : (run : ℕ) (ok : Bool) (act : Act) → is_answer_to (Killed run ok) act ≡ true → act ≡ Kill run
 answer_kill run ok (Kill n) e = ap Kill (eqb-true n run e)
 answer_kill run ok _ e = cc
 

@@ -17,8 +17,7 @@ use Rattle.history_model.specs.Labels.{Label, is_same, is_before}
 use Rattle.history_model.specs.Machine.{Job, is_of, past_in}
 use Rattle.history_model.specs.Step.{acts_of, listed, orders_of, stays}
 use Rattle.history_model.specs.WholeLaws.{AreInOrder, labels_of}
-use Rattle.history_model.specs.Rounds.{wants_answer}
-use Rattle.history_model.specs.Turns.{JobOrder, wanting}
+use Rattle.history_model.specs.Turns.{JobOrder, wanting, wants_answer}
 use Rattle.history_model.specs.Waits.{AreFresh}
 use Rattle.history_model.proofs.LawfulLemmas.{due-rest}
 use Rattle.history_model.proofs.OneLabelLemmas.{apart}

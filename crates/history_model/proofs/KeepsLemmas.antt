@@ -11,7 +11,8 @@ use Rattle.history_model.specs.declared.Refusal.TheVariants.{ClockRefused}
 use Rattle.history_model.specs.Due.{due}
 use Rattle.history_model.specs.Refusals.{is_clock_refused, refusal_of, IsLawful, IsBehindLoad, MayFollow}
 use Rattle.history_model.specs.Facts.{Facts}
-use Rattle.history_model.specs.ByFacts.{refusal_by, due_by, facts_after, facts_after_order, Follows}
+use Rattle.history_model.specs.ByFacts.{facts_after, facts_after_order, Follows}
+use Rattle.history_model.specs.DueByFacts.{refusal_by, due_by}
 use Rattle.history_model.proofs.LawfulLemmas.{unless-None}
 use Rattle.history_model.proofs.ClockLemmas.{Read-later}
 use Rattle.history_model.proofs.ByFactsLemmas.{refusal-by, due-by, facts-after}

@@ -30,7 +30,7 @@ is_less-Less Less e = refl
 is_less-Less Equal e = cc
 is_less-Less Greater e = cc
 
-before-trans : (a b c : Label) → is_before a b ≡ true → is_before b c ≡ true → is_before a c ≡ true
+pub before-trans : (a b c : Label) → is_before a b ≡ true → is_before b c ≡ true → is_before a c ≡ true
 before-trans a b c ab bc = rw (nat_list_cmp_total.trans a b c (is_less-Less (slice_cmp nat_cmp a b) ab) (is_less-Less (slice_cmp nat_cmp b c) bc)) refl
 
 reversed : (a b : Label) (o : Ordering) → slice_cmp nat_cmp a b ≡ o → is_less o ≡ false → is_eq o ≡ false → is_before b a ≡ true
@@ -39,7 +39,7 @@ reversed a b Equal e later differ = cc
 reversed a b Greater e later differ = rw (nat_list_cmp_total.antisymm b a, e) refl
 
 -- of two labels that differ one is before the other
-after : (a b : Label) → is_before a b ≡ false → is_same a b ≡ false → is_before b a ≡ true
+pub after : (a b : Label) → is_before a b ≡ false → is_same a b ≡ false → is_before b a ≡ true
 after a b not_before differ = reversed a b (slice_cmp nat_cmp a b) refl not_before (sym (texts_ties a b) ∙ differ)
 
 pub same_self : (a : Label) → is_same a a ≡ true
@@ -62,7 +62,7 @@ heard_one-labels m x (job ∷ jobs) = go (is_of m job) (heard_one-labels m x job
   go true rest = refl
   go false rest = ap (λ (l : List Label). job.label ∷ l) rest
 
-all-stays : (P : Label → Type 0) (jobs : List Job) → AllByRecursion P (labels_of jobs) → AllByRecursion P (labels_of (filter_map stays jobs))
+pub all-stays : (P : Label → Type 0) (jobs : List Job) → AllByRecursion P (labels_of jobs) → AllByRecursion P (labels_of (filter_map stays jobs))
 all-stays P [] all = tt
 all-stays P (job ∷ jobs) all = go (is_gone job.past) (all-stays P jobs all.1) where
   go : (g : Bool) → AllByRecursion P (labels_of (filter_map stays jobs)) →
@@ -78,7 +78,7 @@ stays-order (job ∷ jobs) order = go (is_gone job.past) (stays-order jobs order
   go true rest = rest
   go false rest = (all-stays (λ other. is_before job.label other ≡ true) jobs order.0, rest)
 
-all-with : (P : Label → Type 0) (new : Job) → P new.label → (jobs : List Job) → AllByRecursion P (labels_of jobs) → AllByRecursion P (labels_of (with_job new jobs))
+pub all-with : (P : Label → Type 0) (new : Job) → P new.label → (jobs : List Job) → AllByRecursion P (labels_of jobs) → AllByRecursion P (labels_of (with_job new jobs))
 all-with P new holds [] all = (holds, tt)
 all-with P new holds (job ∷ jobs) all = go (all-with P new holds jobs all.1) (is_before new.label job.label) where
   go : AllByRecursion P (labels_of (with_job new jobs)) → (v : Bool) → AllByRecursion P (labels_of (cond v (new ∷ job ∷ jobs) (job ∷ with_job new jobs)))

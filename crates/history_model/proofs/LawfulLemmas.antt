@@ -11,7 +11,8 @@ use Rattle.history_model.specs.declared.Refusal.{Refusal}
 use Rattle.history_model.specs.declared.Refusal.TheVariants.{Stale}
 use Rattle.history_model.specs.Items.{Item, Loaded, Read, Saw, Asked, Came, Left, Ordered, Answered, RunEnded, WaitRefused, History}
 use Rattle.history_model.specs.Search.{first, latest, since}
-use Rattle.history_model.specs.Runs.{is_removed, is_order, order_in, is_spawned_answer, is_end_of, is_stopping_order, is_term_order, is_answer_to, is_term_answer, is_kill_answer, spawned_in, runs, child, awaited, unless_settled, settles, has_ended, has_spawned}
+use Rattle.history_model.specs.Runs.{is_removed, is_answer_to, runs, child, awaited, unless_settled, settles, has_ended, has_spawned}
+use Rattle.history_model.specs.Kinds.{is_order, order_in, is_spawned_answer, is_end_of, is_stopping_order, is_term_order, is_term_answer, is_kill_answer, spawned_in}
 use Rattle.history_model.specs.Demands.{waiting}
 use Rattle.history_model.specs.Levels.{last_end}
 use Rattle.history_model.specs.Due.{due, due_beside, may_spawn, may_kill, may_term, is_throttled, is_wanted, has_ever_spawned}

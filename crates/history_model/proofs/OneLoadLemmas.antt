@@ -6,7 +6,8 @@ use Rattle.history_model.specs.declared.Act.TheVariants.{Spawn, Kill}
 use Rattle.history_model.specs.Items.{History, Ordered}
 use Rattle.history_model.specs.Search.{last}
 use Rattle.history_model.specs.Clock.{now, definition_of, moments}
-use Rattle.history_model.specs.Runs.{living, is_spawn_order, is_spawn_refusal, is_term_order, is_kill_answer, is_stopped, is_struck}
+use Rattle.history_model.specs.Runs.{living, is_stopped, is_struck}
+use Rattle.history_model.specs.Kinds.{is_spawn_order, is_spawn_refusal, is_term_order, is_kill_answer}
 use Rattle.history_model.specs.Due.{is_within, is_over, may_retry}
 use Rattle.history_model.specs.Refusals.{IsLawful}
 use Rattle.history_model.specs.WholeLaws.{AreOver, IsOverdue}

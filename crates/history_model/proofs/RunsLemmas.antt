@@ -9,7 +9,8 @@ use Rattle.history_model.specs.declared.Answer.{Answer}
 use Rattle.history_model.specs.declared.Answer.TheVariants.{Spawned, SpawnRefused, Termed, Killed}
 use Rattle.history_model.specs.Items.{Item, Loaded, Read, Saw, Asked, Came, Left, Ordered, Answered, RunEnded, WaitRefused, History}
 use Rattle.history_model.specs.Search.{first, latest, since}
-use Rattle.history_model.specs.Runs.{is_order, order_in, is_end_of, is_spawned_answer, is_answer_to, spawned_in, runs, living, child, awaited, unless_settled, settles, has_ended, has_spawned}
+use Rattle.history_model.specs.Runs.{is_answer_to, runs, living, child, awaited, unless_settled, settles, has_ended, has_spawned}
+use Rattle.history_model.specs.Kinds.{is_order, order_in, is_end_of, is_spawned_answer, spawned_in}
 use Rattle.history_model.specs.Refusals.{IsLawful}
 use Rattle.history_model.specs.ByFacts.{settle}
 use Rattle.history_model.proofs.SearchLemmas.{filter-or, list_any-implied}

@@ -19,11 +19,10 @@ use Rattle.history_model.specs.Machine.{State, Job, Event, OfJob, is_of, past_in
 use Rattle.history_model.specs.Acceptance.{refusal_in, refusal_at, is_heard}
 use Rattle.history_model.specs.Step.{with_item, heard_one, acts_of, orders_of, stays, step, step_by, outcome, outcome_by}
 use Rattle.history_model.specs.WholeLaws.{AreInOrder, labels_of, concerns}
-use Rattle.history_model.specs.Rounds.{wants_answer, is_answer}
 use Rattle.history_model.proofs.StepLemmas.{Rests, IsGood, good-step, refused-None}
 use Rattle.history_model.proofs.OneLabelLemmas.{filter-stays, taken-other, rest-stays, rest-orders, all-filter, apart}
 use Rattle.history_model.proofs.LabelOrderLemmas.{order-run, order-taken}
-use Rattle.history_model.specs.Turns.{JobOrder, wanting}
+use Rattle.history_model.specs.Turns.{JobOrder, wanting, wants_answer, is_answer}
 use Rattle.history_model.specs.Waits.{IsFresh, AreFresh, weight, weigh_orders}
 use Rattle.history_model.proofs.BooleanLemmas.{and-both}
 use Rattle.history_model.proofs.WaitsLemmas.{weigh, lighter}

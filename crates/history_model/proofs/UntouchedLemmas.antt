@@ -9,7 +9,8 @@ use Rattle.history_model.specs.Items.{Read, History}
 use Rattle.history_model.specs.Search.{first, last}
 use Rattle.history_model.specs.Clock.{now, load_of, definition_of, moments, crosses_interval}
 use Rattle.history_model.specs.Step.{acts_of, listed}
-use Rattle.history_model.specs.Runs.{is_gone, is_spawn_order, is_spawn_refusal, is_term_order, is_term_answer, is_kill_answer, is_stopped, is_struck, runs, child, awaited}
+use Rattle.history_model.specs.Runs.{is_gone, is_stopped, is_struck, runs, child, awaited}
+use Rattle.history_model.specs.Kinds.{is_spawn_order, is_spawn_refusal, is_term_order, is_term_answer, is_kill_answer}
 use Rattle.history_model.specs.Demands.{waiting}
 use Rattle.history_model.specs.Due.{is_within, is_over, may_spawn, may_kill, may_term, may_retry, due, due_beside}
 use Rattle.history_model.specs.Moments.{later_by, timeouts, child_moments, waits, is_reached, is_minute_crossed, touches}

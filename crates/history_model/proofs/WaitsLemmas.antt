@@ -13,7 +13,8 @@ use Rattle.history_model.specs.Demands.{waiting}
 use Rattle.history_model.specs.Due.{due, is_over}
 use Rattle.history_model.specs.Refusals.{refusal_of, IsLawful}
 use Rattle.history_model.specs.Facts.{Facts, facts_of}
-use Rattle.history_model.specs.ByFacts.{due_by, due_beside_by, may_spawn_by, may_kill_by, may_term_by, is_newest_within, facts_after}
+use Rattle.history_model.specs.ByFacts.{facts_after}
+use Rattle.history_model.specs.DueByFacts.{due_by, due_beside_by, may_spawn_by, may_kill_by, may_term_by, is_newest_within}
 use Rattle.history_model.specs.Step.{acts_of, listed}
 use Rattle.history_model.specs.Waits.{weight}
 use Rattle.history_model.specs.declared.Refusal.TheVariants.{Stale}

@@ -1,7 +1,7 @@
 -- No definition but a tie: the facts of a past with one more item, computed from the facts before
--- it. proofs/Steps shows that on every lawful past they are those of specs/Facts, which searches
--- the past. Of public clauses only `step` of `conditions::Conditions::saw` cites it (`seen_after`),
--- beside `past`, which speaks of the past.
+-- it. On every lawful past they are those of specs/Facts, which searches the past
+-- (proofs/ByFactsLemmas). Of public clauses only `step` of `conditions::Conditions::saw` cites it
+-- (`seen_after`), beside `past`, which speaks of the past.
 use Rattle.std.specs.Prelude.{◌≡◌, OnOk, Result, ℕ, ◌==◌, Bool, true, false, not, ◌&&◌, ◌||◌, cond, List, [], ◌∷◌, ◌++◌, Option, Some, None, if◌then◌else◌}
 use Rattle.std.specs.List.{filter}
 use Rattle.history_model.specs.declared.Reading.{Reading}
@@ -19,21 +19,7 @@ use Rattle.history_model.specs.Demands.{is_same_path, differs, carries}
 use Rattle.history_model.specs.Levels.{is_crash_end}
 use Rattle.history_model.specs.Facts.{Facts}
 use Rattle.history_model.specs.Keeps.{reply}
-pub use Rattle.history_model.specs.DueByFacts.{
-  is_busy_by,
-  is_newest_within,
-  is_throttled_by,
-  any_seen,
-  end_holds_by,
-  level_by,
-  is_wanted_by,
-  may_spawn_by,
-  may_kill_by,
-  may_term_by,
-  due_beside_by,
-  due_by,
-  refusal_by,
-}
+use Rattle.history_model.specs.DueByFacts.{is_busy_by, any_seen, refusal_by}
 
 -- what is still awaited after an item that is no order
 abbrev pub settle : Item → Option Act → Option Act

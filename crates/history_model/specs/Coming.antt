@@ -1,5 +1,5 @@
--- The next moment of a job, read off the newest moment of each kind. proofs/Coming shows that on
--- each lawful past this is next_moment of Moments, which searches every moment of the past.
+-- The next moment of a job, read off the newest moment of each kind. On each lawful past this is
+-- next_moment of Moments, which searches every moment of the past (proofs/ComingLemmas).
 use Rattle.std.specs.Prelude.{ℕ, ◌+◌, ◌*◌, Bool, false, nat_lt, nat_le, min, Option, Some, None, is_some, if◌then◌else◌}
 use Rattle.history_model.specs.Search.{first}
 use Rattle.history_model.specs.Moments.{next_period}

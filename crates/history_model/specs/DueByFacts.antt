@@ -1,6 +1,6 @@
 -- No definition but a tie: what `due` and `refusal_of` (specs/Due, specs/Refusals) search out of a
--- past, computed from its facts alone. proofs/ByFacts shows that on every lawful past the two
--- agree. Of public clauses only `step` of `pace::Throttle::free_at` and of `pace::Ending::{term_at,
+-- past, computed from its facts alone. On every lawful past the two agree (proofs/ByFactsLemmas).
+-- Of public clauses only `step` of `pace::Throttle::free_at` and of `pace::Ending::{term_at,
 -- kill_at}` (`is_newest_within`) and `step` of `conditions::Conditions::holds` (`any_seen`) cite
 -- it, each beside `past`, which speaks of the past.
 use Rattle.std.specs.Prelude.{ℕ, ◌+◌, ◌*◌, ◌^◌, Bool, false, not, ◌&&◌, ◌||◌, nat_lt, List, [], ◌∷◌, length, Option, Some, None, is_some, if◌then◌else◌, ◌==◌}
@@ -16,7 +16,7 @@ use Rattle.history_model.specs.declared.Refusal.{Refusal}
 use Rattle.history_model.specs.declared.Refusal.TheVariants.{Removing, NotRunning, TooManyConnections, Stale, ClockRefused}
 use Rattle.history_model.specs.Items.{Definition, Item, Loaded, Read, Saw, Asked, Came, Left, Ordered, Answered, RunEnded, WaitRefused}
 use Rattle.history_model.specs.Search.{first}
-use Rattle.history_model.specs.Runs.{is_some_spawn}
+use Rattle.history_model.specs.Kinds.{is_some_spawn}
 use Rattle.history_model.specs.Levels.{end_holds_of, presence_holds, queue_holds}
 use Rattle.history_model.specs.Due.{is_within, is_over}
 use Rattle.history_model.specs.Refusals.{unless, is_clock_refused, is_awaited_answer, is_child, is_number_used}

@@ -3,7 +3,7 @@
 #![tactic(auto)]
 
 ghost use Rattle.std.specs.Prelude.{◌≡◌};
-ghost use Rattle.history_model.specs.Texts.{refusal_code};
+ghost use Rattle.history_model.specs.RefusalTexts.{refusal_code};
 
 mod event;
 pub mod laws;

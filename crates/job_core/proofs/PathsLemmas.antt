@@ -5,7 +5,8 @@ use Rattle.std.proofs.lemmas.List.{take_more}
 use Rattle.history_model.specs.declared.Obs.{Obs}
 use Rattle.history_model.specs.Demands.{is_same_path, differs}
 use Rattle.history_model.specs.Levels.{queue_holds}
-use Rattle.history_model.specs.ByFacts.{any_seen, seen_after}
+use Rattle.history_model.specs.ByFacts.{seen_after}
+use Rattle.history_model.specs.DueByFacts.{any_seen}
 use Rattle.history_model.proofs.WrittenLemmas.{newer}
 use Rattle.job_core.specs.declared.paths.Watched.{Watched}
 use Rattle.job_core.specs.declared.paths.QueueDirectory.{QueueDirectory}

@@ -1,14 +1,10 @@
 //! The facts that one job keeps of its past, and what they decide.
 
-ghost use Rattle.std.specs.Prelude.{None, is_some, slice_get, ◌&&◌, ◌||◌, not, nat_lt, ◌*◌, ◌≡◌, ℕ, false, ◌+◌, ◌%◌, ◌^◌, ◌≤◌, [], ◌∷◌, filter, IfOk, OnOk, OnErr, ◌<◌};
-ghost use Rattle.std.specs.Option.{ForSome};
+ghost use Rattle.std.specs.Prelude.{None, is_some, slice_get, ◌&&◌, ◌||◌, not, ◌*◌, ◌≡◌, false, ◌+◌, ◌%◌, ◌^◌, ◌≤◌, [], ◌∷◌, IfOk, OnErr, ◌<◌};
 ghost use Rattle.history_model.specs.declared.TheConstants.{MAX_CONNECTIONS};
-ghost use Rattle.history_model.specs.Items.{History, Loaded, Read, Saw, Asked, Came, Left, Ordered, Answered, RunEnded, WaitRefused};
-ghost use Rattle.history_model.specs.declared.Answer.TheVariants.{Spawned as SpawnOk, SpawnRefused as SpawnNo, Termed as TermAnswer, Killed as KillAnswer};
-ghost use Rattle.history_model.specs.Demands.{carries};
-ghost use Rattle.history_model.specs.Refusals.{is_number_used};
-ghost use Rattle.history_model.specs.ByFacts.{is_busy_by, is_throttled_by, level_by, is_wanted_by, conn_of, may_spawn_by, may_kill_by, may_term_by, due_by, facts_after, facts_after_order, Follows};
-ghost use Rattle.history_model.specs.Coming.{sooner, is_from, next_by};
+ghost use Rattle.history_model.specs.Items.{Loaded, Read, Saw, Asked, Came, Left, Answered, WaitRefused};
+ghost use Rattle.history_model.specs.ByFacts.{Follows};
+ghost use Rattle.history_model.specs.DueByFacts.{is_busy_by};
 
 mod events;
 mod orders;
@@ -56,7 +52,7 @@ impl Job {
     ghost use Rattle.job_core.specs.Events.{item_of};
     ghost use Rattle.job_defs.specs.Definitions.{definition};
     ghost use Rattle.history_model.specs.Shown.{shown_by, state_by};
-    ghost use Rattle.job_core.specs.Fields.{facts, is_spawn_awaited};
+    ghost use Rattle.job_core.specs.Fields.{facts};
     ghost use Rattle.history_model.specs.Facts.{facts_of};
 
     /// A job that was loaded at this reading.

@@ -2,7 +2,7 @@
 //! for every past whose facts it keeps, its answers are those of the definitions, which search the past.
 #![tactic(auto)]
 
-ghost use Rattle.std.specs.Prelude.{◌≡◌, ℕ, ◌+◌, ◌%◌, ◌^◌, ◌≤◌, [], ◌∷◌, IfOk, OnOk, OnErr, None, slice_get};
+ghost use Rattle.std.specs.Prelude.{◌≡◌, ◌+◌, ◌%◌, ◌^◌, ◌≤◌, [], ◌∷◌, IfOk, OnOk, OnErr, None, slice_get};
 ghost use Rattle.history_model.specs.declared.TheConstants.{MAX_CONNECTIONS};
 ghost use Rattle.history_model.specs.Items.{History, Loaded};
 ghost use Rattle.history_model.specs.Clock as clock;

@@ -1,10 +1,11 @@
 //! The paths that a job lists in `WatchPaths` and `QueueDirectories`, each with what was last seen there.
 
-ghost use Rattle.std.specs.Prelude.{◌≡◌, ℕ, List, [], ◌∷◌, map, ◌++◌, ◌&&◌, Option, Some, None, IfOk};
+ghost use Rattle.std.specs.Prelude.{◌≡◌, [], ◌∷◌, map, ◌++◌, ◌&&◌, None, IfOk};
 ghost use Rattle.std.specs.List.{list_any};
 ghost use Rattle.history_model.specs.Demands.{is_same_path, differs};
 ghost use Rattle.history_model.specs.Levels.{queue_holds};
-ghost use Rattle.history_model.specs.ByFacts.{any_seen, seen_after};
+ghost use Rattle.history_model.specs.ByFacts.{seen_after};
+ghost use Rattle.history_model.specs.DueByFacts.{any_seen};
 ghost use Rattle.job_core.specs.Listed.{watched_path, watched_sight, after_sight, queue_path, queue_sight, queue_after};
 
 use conditions::{Queue, Watch};

@@ -9,7 +9,7 @@ use Rattle.history_model.specs.declared.Entry.{Entry}
 use Rattle.history_model.specs.declared.Reason.TheVariants.{TooLong}
 use Rattle.history_model.specs.declared.KeyName.TheVariants.{StartCalendarInterval}
 use Rattle.history_model.specs.Machine.{Fault}
-use Rattle.history_model.specs.Texts.{key_text}
+use Rattle.history_model.specs.RefusalTexts.{key_text}
 use Rattle.json_kinds.specs.Faults.{bad, ◌>>=◌}
 use Rattle.json_kinds.specs.Names.{Key, day, hour, minute, month, weekday}
 use Rattle.json_kinds.specs.Kinds.{object_at, integer_at, each_item, members_or_one, where_there, optional}

@@ -6,7 +6,7 @@ use Rattle.serde_json.specs.Find.{get}
 use Rattle.history_model.specs.declared.Reason.TheVariants.{Missing, TooLong, BadLabel}
 use Rattle.history_model.specs.declared.KeyName.TheVariants.{Label, ProgramArguments}
 use Rattle.history_model.specs.Machine.{Fault}
-use Rattle.history_model.specs.Texts.{key_text}
+use Rattle.history_model.specs.RefusalTexts.{key_text}
 use Rattle.history_model.specs.Labels.{is_label}
 use Rattle.json_kinds.specs.Faults.{bad, ◌>>=◌}
 use Rattle.json_kinds.specs.Kinds.{text_at, array_at, plain_at, filled_at, each_item, required}

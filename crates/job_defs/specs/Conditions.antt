@@ -7,7 +7,7 @@ use Rattle.serde_json.specs.Find.{get, as_bool}
 use Rattle.history_model.specs.declared.Reason.TheVariants.{TooLong}
 use Rattle.history_model.specs.declared.KeyName.TheVariants.{KeepAlive}
 use Rattle.history_model.specs.Machine.{Fault}
-use Rattle.history_model.specs.Texts.{key_text}
+use Rattle.history_model.specs.RefusalTexts.{key_text}
 use Rattle.job_defs.specs.declared.parts.PathState.{PathState}
 use Rattle.job_defs.specs.declared.parts.TheConstants.{LIST_LIMIT}
 use Rattle.json_kinds.specs.Faults.{bad, ◌>>=◌}

@@ -9,7 +9,7 @@ use Rattle.serde_json.specs.Data.{Data, Items, no_items, item, Members, no_membe
 use Rattle.serde_json.specs.Find.{get, as_object}
 use Rattle.history_model.specs.declared.KeyName.{KeyName}
 use Rattle.history_model.specs.declared.KeyName.TheVariants.{Label, Program, ProgramArguments, RunAtLoad, LaunchOnlyOnce, DisabledKey, OnDemand, KeepAlive, WatchPaths, QueueDirectories, StartInterval, StartCalendarInterval, ThrottleInterval, ExitTimeOut, EnvironmentVariables, WorkingDirectory, StandardInPath, StandardOutPath, StandardErrorPath, Sockets, InetdCompatibility, UserName, GroupName, RootDirectory}
-use Rattle.history_model.specs.Texts.{key_text}
+use Rattle.history_model.specs.RefusalTexts.{key_text}
 use Rattle.json_kinds.specs.Names.{Key, crashed, path_state, successful_exit, day, hour, minute, month, weekday, secure_key, socket_type, passive, family, protocol, path_name, node_name, service_name, wait}
 use Rattle.json_kinds.specs.Kinds.{is_among, members_or_one}
 

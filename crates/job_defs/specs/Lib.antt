@@ -1,8 +1,3 @@
-pub use Rattle.json_kinds.specs.Faults
-pub use Rattle.json_kinds.specs.Json
-pub use Rattle.json_kinds.specs.Names
-pub use Rattle.json_kinds.specs.Kinds
-pub use Rattle.socket_defs.specs.Sockets
 pub mod Described
 pub mod Definitions
 pub mod Commands

@@ -7,7 +7,7 @@ use Rattle.serde_json.specs.Find.{get, as_str}
 use Rattle.history_model.specs.declared.Reason.TheVariants.{OutOfRange, TooLong}
 use Rattle.history_model.specs.declared.KeyName.TheVariants.{EnvironmentVariables}
 use Rattle.history_model.specs.Machine.{Fault}
-use Rattle.history_model.specs.Texts.{key_text}
+use Rattle.history_model.specs.RefusalTexts.{key_text}
 use Rattle.job_defs.specs.declared.parts.Variable.{Variable}
 use Rattle.json_kinds.specs.Faults.{bad, ◌>>=◌}
 use Rattle.json_kinds.specs.Names.{Key}

@@ -36,8 +36,9 @@ use Rattle.job_table.proofs.ListLemmas.{map-append}
 use Rattle.job_table.proofs.PlacesLemmas.{rows-all}
 use Rattle.job_table.proofs.LabelledLemmas.{IsNamed, is-named, labelled-numbered}
 use Rattle.job_table.proofs.HearingLemmas.{label-with}
-use Rattle.job_table.proofs.CountsLemmas.{AreFor as HaveCounts, for-all, goes-up, same-number}
+use Rattle.job_table.proofs.CountsLemmas.{AreFor as HaveCounts, for-all, goes-up}
 use Rattle.history_model.proofs.BooleanLemmas.{or-false}
+use Rattle.history_model.proofs.LawfulLemmas.{eqb-self}
 
 -- ---- entries by place and by number
 
@@ -253,7 +254,7 @@ module _ (ready : Timers) where
       (went_up all (row new) ≡ false) × (is_near all (row new) ≡ true)
   stays-put all e new named before still =
       let at : count_in all new.def.label ≡ e.core.decided = ap (λ n. count_in all n.described.label) named ∙ before in
-      let same : (new.core.decided == count_in all new.def.label) ≡ true = (λ i. still i == at i) ∙ same-number e.core.decided in
+      let same : (new.core.decided == count_in all new.def.label) ≡ true = (λ i. still i == at i) ∙ eqb-self e.core.decided in
       (ap not same, λ i. not (not (same i)) || (new.core.decided == next_count (count_in all new.def.label)))
 
   visits : (all : List (Label × ℕ)) (place : ℕ) (es later : List Entry) → HaveCounts all es → AreVisitedOnce ready place es later →

@@ -3,13 +3,9 @@ use Rattle.std.proofs.Common.{◌≡◌, ◌≢◌, ◌⊎◌, inl, inr, ℕ, ze
 use Rattle.std.specs.Prelude.{slice_get, unwrap_or}
 use Rattle.std.specs.List.{filter, position, AllByRecursion}
 use Rattle.std.specs.List.Sorted.{IsPartitionPoint, IsPartitionedBy}
-use Rattle.std.specs.Ordering.{nat_cmp, is_eq}
-use Rattle.std.specs.Cmp.Lexicographic.{slice_cmp, nat_list_cmp_total, texts_ties}
-use Rattle.std.specs.declared.cmp.Ordering.{Ordering}
-use Rattle.std.specs.declared.cmp.Ordering.TheVariants.{Less, Equal, Greater}
 use Rattle.std.proofs.lemmas.Bool.Decides.{nat_tests}
 use Rattle.std.proofs.lemmas.Option.{slice_get_within, slice_get-get_or, get_or_from_slice_get, slice_get_cases}
-use Rattle.history_model.specs.Labels.{Label, is_same, is_less, is_before}
+use Rattle.history_model.specs.Labels.{Label, is_before}
 use Rattle.history_model.specs.WholeLaws.{AreInOrder}
 use Rattle.history_model.proofs.StepLemmas.{all-implied}
 use Rattle.job_table.specs.Tables.{labels_in}
@@ -17,18 +13,10 @@ use Rattle.job_table.specs.Entries.{name, stays, has_label, is_above, is_here}
 use Rattle.job_table.specs.Loads.{IsAbsent}
 use Rattle.job_table.specs.declared.entry.Entry.{Entry}
 use Rattle.job_table.proofs.FirstLemmas.{IsFirstWhere, NonePasses, first-where, none-where, where-none, where-first, none-at, passes-at, within-where}
-use Rattle.job_table.proofs.NearestLemmas.{before-trans, not-before-self}
+use Rattle.job_table.proofs.NearestLemmas.{not-before-self}
 use Rattle.job_table.proofs.SettingLemmas.{is-label}
 use Rattle.history_model.proofs.BooleanLemmas.{unless-true, not-true, not-false}
-
-reversed : (a b : Label) (o : Ordering) → slice_cmp nat_cmp a b ≡ o → is_less o ≡ false → is_eq o ≡ false → is_before b a ≡ true
-reversed a b Less e later differ = cc
-reversed a b Equal e later differ = cc
-reversed a b Greater e later differ = rw (nat_list_cmp_total.antisymm b a, e) refl
-
--- of two labels that differ one is before the other
-pub after : (a b : Label) → is_before a b ≡ false → is_same a b ≡ false → is_before b a ≡ true
-after a b not_before differ = reversed a b (slice_cmp nat_cmp a b) refl not_before (sym (texts_ties a b) ∙ differ)
+use Rattle.history_model.proofs.LabelOrderLemmas.{before-trans, after}
 
 -- ---- two jobs
 

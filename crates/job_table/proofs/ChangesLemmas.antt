@@ -1,5 +1,5 @@
 -- A setting removes the job with its label, or touches no job.
-use Rattle.std.proofs.Common.{◌≡◌, ◌≤◌, Bool, true, false, [], map, Some, None, refl, sym, ap, ◌∙◌, subst}
+use Rattle.std.proofs.Common.{◌≡◌, ◌≤◌, Bool, true, false, [], map, Some, None, refl, sym, ap, ◌∙◌, subst, ◌||◌}
 use Rattle.std.specs.Prelude.{Result, Ok, Err, is_ok}
 use Rattle.std.specs.List.{flat_map}
 use Rattle.history_model.specs.declared.Refusal.{Refusal}
@@ -10,7 +10,7 @@ use Rattle.history_model.specs.Acceptance.{refusal_in}
 use Rattle.history_model.specs.Step.{Outcome, with_orders, step, step_by, outcome, outcome_by, orders_of}
 use Rattle.job_table.specs.Tables.{Table}
 use Rattle.job_table.specs.Kept.{KeepsState, labelled, acts_in}
-use Rattle.job_table.specs.Changes.{withdrawn}
+use Rattle.job_table.specs.Changes.{withdrawn, set_of}
 use Rattle.job_table.specs.Entries.{rows, name}
 use Rattle.job_table.specs.Outcomes.{plain_outcome}
 use Rattle.job_table.specs.Alike.{IsAlike}
@@ -55,3 +55,10 @@ never-refused new label true s (Ok done) is allowed answer bad = cc
 never-refused new label true s (Err refusal) is allowed answer bad =
     let e = UnloadJob label false true in
     let clash : Some refusal ≡ None = ap (λ (o : Outcome). o.refusal) (sym answer ∙ ap (λ o. outcome_by o s e) (allowed refl)) in absurd (cc clash)
+
+-- an unload disables: a setting's event says nothing else of it
+pub set_same : (label : Label) (disabled unload store : Bool) → set_of label (disabled || unload) unload store ≡ set_of label disabled unload store
+set_same label true true store = refl
+set_same label true false store = refl
+set_same label false true store = refl
+set_same label false false store = refl

@@ -23,8 +23,9 @@ use Rattle.job_table.specs.declared.entry.Entry.{Entry}
 use Rattle.job_table.proofs.SettingLemmas.{is-label}
 use Rattle.job_table.proofs.FirstLemmas.{IsFirstWhere, first-where, none-where, none-at, passes-at, within-where}
 use Rattle.std.proofs.lemmas.Option.{slice_get_within, slice_get-get_or}
-use Rattle.job_table.proofs.NearestLemmas.{same-self, not-before-self, before-trans}
+use Rattle.job_table.proofs.NearestLemmas.{not-before-self}
 use Rattle.job_table.proofs.ByteOrderLemmas.{in-order}
+use Rattle.history_model.proofs.LabelOrderLemmas.{before-trans, same_self}
 
 module _ (at : Reading) where
   -- no other job has the label, with a child or without
@@ -126,7 +127,7 @@ one-with-child at (x ∷ xs) jobs zero e keeps there stay has =
         one None is = let clash : false ≡ true = sym (ap is_some is) ∙ has job.past kept in absurd (cc clash)
         one (Some c) is =
             let label : job.label ≡ e.def.label = sym keeps.0.label ∙ ap (λ y. y.def.label) own in
-            ap (λ b. b || list_any (is_same e.def.label) (with_child jobs)) (ap (is_same e.def.label) label ∙ same-self e.def.label)
+            ap (λ b. b || list_any (is_same e.def.label) (with_child jobs)) (ap (is_same e.def.label) label ∙ same_self e.def.label)
 one-with-child at (x ∷ xs) jobs (suc k) e keeps there stay has = go x.has_gone jobs keeps (λ js kept. one-with-child at xs js k e kept there stay has)
   where
     go : (b : Bool) (jobs : List Job) → KeepsJobs at (cond b (rows xs) (row x ∷ rows xs)) jobs →

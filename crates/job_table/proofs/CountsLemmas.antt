@@ -11,13 +11,12 @@ use Rattle.job_table.specs.declared.entry.Entry.{Entry}
 use Rattle.job_table.proofs.ListLemmas.{set-map}
 use Rattle.job_table.proofs.PlacesLemmas.{rows-all}
 use Rattle.job_table.proofs.SettingLemmas.{is-label}
-use Rattle.job_table.proofs.EnteringLemmas.{same-false, stay-placed}
-use Rattle.job_table.proofs.NearestLemmas.{same-self}
+use Rattle.job_table.proofs.EnteringLemmas.{stay-placed}
+use Rattle.history_model.proofs.LawfulLemmas.{eqb-self}
+use Rattle.history_model.proofs.LabelOrderLemmas.{same_self}
+use Rattle.history_model.proofs.FreshOrdersLemmas.{differ-sym}
 
 -- ---- the counts before and after
-
-pub same-number : (n : ℕ) → (n == n) ≡ true
-same-number n = grind arith
 
 pub not-next : (n : ℕ) → (next_count n == n) ≡ false
 not-next n = grind arith
@@ -29,19 +28,19 @@ AreFor all (e ∷ es) = (count_in all e.def.label ≡ e.core.decided) × AreFor 
 for-more : (e : Entry) (all : List (Label × ℕ)) (es : List Entry) → IsOther (name e) (map name es) → AreFor all es → AreFor ((e.def.label, e.core.decided) ∷ all) es
 for-more e all [] other is = tt
 for-more e all (x ∷ xs) other is =
-    (ap (λ b. if b then e.core.decided else count_in all x.def.label) (same-false e.def.label x.def.label other.1) ∙ is.0, for-more e all xs other.2 is.1)
+    (ap (λ b. if b then e.core.decided else count_in all x.def.label) (differ-sym e.def.label x.def.label other.1) ∙ is.0, for-more e all xs other.2 is.1)
 
 pub for-all : (es : List Entry) → IsOnce (map name es) → AreFor (counts (map row es)) es
 for-all [] once = tt
 for-all (e ∷ es) once =
-    (ap (λ b. if b then e.core.decided else count_in (counts (map row es)) e.def.label) (same-self e.def.label), for-more e (counts (map row es)) es once.0 (for-all es once.1))
+    (ap (λ b. if b then e.core.decided else count_in (counts (map row es)) e.def.label) (same_self e.def.label), for-more e (counts (map row es)) es once.0 (for-all es once.1))
 
 pub goes-up : (all : List (Label × ℕ)) (e new : Entry) → name new ≡ name e → count_in all e.def.label ≡ e.core.decided → new.core.decided ≡ next_count e.core.decided →
     (went_up all (row new) ≡ true) × (is_near all (row new) ≡ true)
 goes-up all e new named before up =
     let at : count_in all new.def.label ≡ e.core.decided = ap (λ n. count_in all n.described.label) named ∙ before in
     let apart : (new.core.decided == count_in all new.def.label) ≡ false = (λ i. up i == at i) ∙ not-next e.core.decided in
-    let next : (new.core.decided == next_count (count_in all new.def.label)) ≡ true = (λ i. up i == next_count (at i)) ∙ same-number (next_count e.core.decided) in
+    let next : (new.core.decided == next_count (count_in all new.def.label)) ≡ true = (λ i. up i == next_count (at i)) ∙ eqb-self (next_count e.core.decided) in
     (ap not apart, λ i. not (not (apart i)) || next i)
 
 -- ---- no job is asked
@@ -50,7 +49,7 @@ idle-all : (all : List (Label × ℕ)) (es : List Entry) → AreFor all es → (
 idle-all all [] is = (refl, refl)
 idle-all all (e ∷ es) is =
     let rest = idle-all all es is.1 in
-    let same : (e.core.decided == count_in all e.def.label) ≡ true = ap (λ n. e.core.decided == n) is.0 ∙ same-number e.core.decided in
+    let same : (e.core.decided == count_in all e.def.label) ≡ true = ap (λ n. e.core.decided == n) is.0 ∙ eqb-self e.core.decided in
     let stays : went_up all (row e) ≡ false = ap not same in
     let near : is_near all (row e) ≡ true = ap (λ b. not b || (e.core.decided == next_count (count_in all e.def.label))) stays in (
       (λ i. near i && rest.0 i),

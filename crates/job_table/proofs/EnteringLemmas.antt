@@ -4,7 +4,7 @@ use Rattle.std.specs.Prelude.{unwrap_or, ◌≢◌}
 use Rattle.std.specs.List.{position}
 use Rattle.slab.specs.Slab.{Slab, get, Updates}
 use Rattle.history_model.specs.declared.Reading.{Reading}
-use Rattle.history_model.specs.Labels.{Label, is_same, is_before}
+use Rattle.history_model.specs.Labels.{is_same, is_before}
 use Rattle.history_model.specs.Machine.{Job}
 use Rattle.history_model.specs.Step.{with_job}
 use Rattle.job_table.specs.Tables.{Name, IsOther, IsOnce}
@@ -16,19 +16,13 @@ use Rattle.job_table.specs.Minutes.{is_some_entry, some_calendar}
 use Rattle.job_table.specs.declared.entry.Entry.{Entry}
 use Rattle.job_table.proofs.FirstLemmas.{IsFirstWhere, NonePasses, first-where, none-where}
 use Rattle.job_table.proofs.PlacesLemmas.{rows-all}
-use Rattle.job_table.proofs.SettingLemmas.{is-label}
 use Rattle.history_model.proofs.BooleanLemmas.{or-assoc, or-swap}
+use Rattle.std.proofs.lemmas.List.{length-map}
+use Rattle.history_model.proofs.FreshOrdersLemmas.{differ-sym}
 
 -- ---- labels and numbers
 
-pub same-false : (a b : Label) → is_same a b ≡ false → is_same b a ≡ false
-same-false a b differ = go (is_same b a) refl
-  where
-    go : (v : Bool) → is_same b a ≡ v → v ≡ false
-    go true is = let same : b ≡ a = is-label b a is in sym is ∙ sym (ap (is_same b) same) ∙ ap (λ l. is_same l b) same ∙ differ
-    go false is = refl
-
-number-false : (m n : ℕ) → (m == n) ≡ false → (n == m) ≡ false
+pub number-false : (m n : ℕ) → (m == n) ≡ false → (n == m) ≡ false
 number-false m n e = grind (arith, e)
 
 other-placed : (n : Name) (new : Entry) (es : List Entry) (k : ℕ) → IsOther n (map name es) → (n.number == new.number) ≡ false →
@@ -41,7 +35,7 @@ pub once-placed : (new : Entry) (es : List Entry) (k : ℕ) → IsOnce (map name
 once-placed new es zero once other = (other, once)
 once-placed new [] (suc k) once other = (tt, tt)
 once-placed new (e ∷ es) (suc k) once other =
-    (other-placed (name e) new es k once.0 (number-false new.number e.number other.0) (same-false new.def.label e.def.label other.1), once-placed new es k once.1 other.2)
+    (other-placed (name e) new es k once.0 (number-false new.number e.number other.0) (differ-sym new.def.label e.def.label other.1), once-placed new es k once.1 other.2)
 
 -- a number that is not given out is no job's
 pub is-other : (numbers : Slab (Unit {0})) (new : Entry) (es : List Entry) → AreHeld numbers es → get numbers new.number ≡ None → IsAbsent new.def.label (map name es) →
@@ -129,12 +123,8 @@ stay-from (e ∷ es) same = go e.has_gone refl same (stay-from es)
     go true is same later = let few = few-rows es in absurd (omega (arith, few, same))
     go false is same later = (is, later (omega (arith, same)))
 
-length-names : (es : List Entry) → length (map name es) ≡ length es
-length-names [] = refl
-length-names (e ∷ es) = ap suc (length-names es)
-
 pub stay-names : (es : List Entry) → length (rows es) ≡ length (map name es) → AllStay es
-stay-names es same = stay-from es (same ∙ length-names es)
+stay-names es same = stay-from es (same ∙ length-map es name)
 
 pub names-stay : (es : List Entry) → AllStay es → length (rows es) ≡ length (map name es)
 names-stay [] stay = refl

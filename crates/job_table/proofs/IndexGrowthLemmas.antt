@@ -5,19 +5,18 @@ use Rattle.std.specs.List.{filter}
 use Rattle.std.proofs.lemmas.Bool.Decides.{nat_tests}
 use Rattle.timer_heap.specs.Timers.{Timers, moment_in, room, KeepsMoments}
 use Rattle.history_model.specs.Coming.{next_by}
-use Rattle.job_table.specs.Tables.{Row, Name, definition_of_number}
+use Rattle.job_table.specs.Tables.{definition_of_number}
 use Rattle.job_table.specs.Entries.{row, rows, name, stays, AllStay}
-use Rattle.job_table.specs.Index.{moment_for, AreTimed, AreAlone, ArePlaced, IsNamed, IsIndexOf}
+use Rattle.job_table.specs.Index.{moment_for, AreTimed, ArePlaced, IsNamed, IsIndexOf}
 use Rattle.job_table.specs.declared.entry.Entry.{Entry}
 use Rattle.job_table.specs.declared.jobs.Index.{Index}
 use Rattle.job_table.proofs.PlacesLemmas.{rows-all}
-use Rattle.job_table.proofs.AdvanceLemmas.{holder}
+use Rattle.job_table.proofs.AdvanceLemmas.{holder, stay-get}
 use Rattle.job_table.specs.Sound.{IsSound, IsWhole}
 use Rattle.job_table.specs.declared.jobs.Jobs.{Jobs}
-
-pub length-names : (es : List Entry) → length (map name es) ≡ length es
-length-names [] = refl
-length-names (e ∷ es) = ap suc (length-names es)
+use Rattle.std.proofs.lemmas.List.{length-map}
+use Rattle.job_table.specs.Numbers.{name_of}
+use Rattle.history_model.proofs.LawfulLemmas.{eqb-self}
 
 -- an index beside its entries has what goes by their names
 pub named-of : (index : Index) (up : ℕ) (es : List Entry) → IsIndexOf index up es → IsNamed index (map name es)
@@ -26,7 +25,7 @@ named-of index up es is = record {
   space = is.space;
   fits = λ number named. (let found = holder es number named in subst (λ n. n < length index.places.items) found.3 (is.placed found.0 found.1 found.2).0);
   empty = is.empty;
-  marks = let marks = is.marks in let long = length-names es in omega (arith, marks, long);
+  marks = let marks = is.marks in let long = length-map es name in omega (arith, marks, long);
 }
 
 pub indexed-of : (index : Index) (up : ℕ) (es : List Entry) → IsNamed index (map name es) → AreTimed index.timers up es → ArePlaced index.places.items es → IsIndexOf index up es
@@ -36,7 +35,7 @@ indexed-of index up es is timed placed = record {
   space = is.space;
   placed = placed;
   empty = is.empty;
-  marks = let marks = is.marks in let long = length-names es in omega (arith, marks, long);
+  marks = let marks = is.marks in let long = length-map es name in omega (arith, marks, long);
 }
 
 -- ---- growth
@@ -61,10 +60,7 @@ named-stays (x ∷ xs) zero e at stay =
     let here : x.has_gone ≡ false = ap (λ y. y.has_gone) same ∙ stay in
     subst (λ b. is_some (definition_of_number (map name (cond (not b) (x ∷ filter stays xs) (filter stays xs))) e.number) ≡ true) (sym here)
     (subst (λ y. is_some (definition_of_number (map name (x ∷ filter stays xs)) y.number) ≡ true) same
-    (ap (λ b. is_some (cond b (Some x.def) (definition_of_number (map name (filter stays xs)) x.number))) (same-number x.number)))
-  where
-    same-number : (n : ℕ) → (n == n) ≡ true
-    same-number n = grind arith
+    (ap (λ b. is_some (cond b (Some x.def) (definition_of_number (map name (filter stays xs)) x.number))) (eqb-self x.number)))
 named-stays (x ∷ xs) (suc k) e at stay = go x.has_gone (named-stays xs k e at stay)
   where
     later : (b : Bool) → is_some (definition_of_number (map name (filter stays xs)) e.number) ≡ true → is_some (cond b (Some x.def) (definition_of_number (map name (filter stays xs)) e.number)) ≡ true
@@ -113,7 +109,7 @@ tidy-named index up es is = record {
   space = λ number named. is.space number (named-before es number named);
   fits = λ number named. (named-of index up es is).fits number (named-before es number named);
   empty = is.empty;
-  marks = let marks = is.marks in let less = fewer es in let long = length-names (filter stays es) in omega (arith, marks, less, long);
+  marks = let marks = is.marks in let less = fewer es in let long = length-map (filter stays es) name in omega (arith, marks, less, long);
 }
   where
     kept : (e : Entry) (moment : ℕ) → moment_for e up ≡ Some moment → e.has_gone ≡ false
@@ -146,30 +142,21 @@ module _ {A B : Type 0} (f : A → B) where
       (x, refl, sym (ap (λ bs. get_or bs 0 (f x)) same) ∙ ap (λ o. f (unwrap_or o e)) at)
   map-get (x ∷ xs) (y ∷ ys) (suc k) e same at = map-get xs ys k e (ap (drop 1) same) at
 
-stays-at : (es : List Entry) (k : ℕ) (e : Entry) → AllStay es → slice_get es k ≡ Some e → e.has_gone ≡ false
-stays-at [] zero e stay at = cc
-stays-at [] (suc k) e stay at = cc
-stays-at (x ∷ xs) zero e stay at = let same : x ≡ e = cc in ap (λ y. y.has_gone) (sym same) ∙ stay.0
-stays-at (x ∷ xs) (suc k) e stay at = stays-at xs k e stay.1 at
-
-abbrev name_in : Row → Name
-name_in r = record { number = r.number; described = r.described }
-
-names-rows : (es : List Entry) → map name es ≡ map name_in (map row es)
+names-rows : (es : List Entry) → map name es ≡ map name_of (map row es)
 names-rows [] = refl
 names-rows (e ∷ es) = ap (λ rest. name e ∷ rest) (names-rows es)
 
 pub by-rows : (index : Index) (up : ℕ) (es later : List Entry) → AllStay es → AllStay later → rows later ≡ rows es → IsIndexOf index up es → IsIndexOf index up later
 by-rows index up es later stay after same is =
     let all : map row later ≡ map row es = sym (rows-all later after) ∙ same ∙ rows-all es stay in
-    let names : map name later ≡ map name es = names-rows later ∙ ap (map name_in) all ∙ sym (names-rows es) in
+    let names : map name later ≡ map name es = names-rows later ∙ ap (map name_of) all ∙ sym (names-rows es) in
     let before = named-of index up es is in
     indexed-of index up later (subst (IsNamed index) (sym names) before)
     (λ k e at. (let found = map-get row es later k e all at in
     ap (λ r. moment_in index.timers r.number) (sym found.2) ∙ is.timed k found.0 found.1
-    ∙ ap (λ b. cond b None (next_by found.0.core.facts up)) (stays-at es k found.0 stay found.1)
+    ∙ ap (λ b. cond b None (next_by found.0.core.facts up)) (stay-get es k found.0 stay found.1)
     ∙ ap (λ r. next_by r.facts up) found.2
-    ∙ sym (ap (λ b. cond b None (next_by e.core.facts up)) (stays-at later k e after at))))
+    ∙ sym (ap (λ b. cond b None (next_by e.core.facts up)) (stay-get later k e after at))))
     (λ k e at. (let found = map-get row es later k e all at in
     let own = is.placed k found.0 found.1 in
     subst (λ r. (r.number < length index.places.items) × (slice_index_or index.places.items r.number 0 ≡ k)) found.2 own))
@@ -225,7 +212,7 @@ one-more-name {P} new es k own others number named = go (is-new-or-named new es 
     go (inr before) = others number before
 
 placed-length : (new : Entry) (es : List Entry) (k : ℕ) → length (map name (take k es ++ new ∷ drop k es)) ≡ suc (length es)
-placed-length new es zero = ap suc (length-names es)
+placed-length new es zero = ap suc (length-map es name)
 placed-length new [] (suc k) = refl
 placed-length new (e ∷ es) (suc k) = ap suc (placed-length new es k)
 
@@ -248,7 +235,7 @@ replaced old new up es is timed placed timers ready = record {
   space = λ number named. (let space = is.space number named in let same = ap room timers in omega (arith, space, same));
   placed = placed;
   empty = λ place. ap (λ r. moment_in r place) ready ∙ is.empty place;
-  marks = let marks = is.marks in let long = length-names es in let same = ap room ready in omega (arith, marks, long, same);
+  marks = let marks = is.marks in let long = length-map es name in let same = ap room ready in omega (arith, marks, long, same);
 }
 
 -- a refused event leaves the index right

@@ -1,5 +1,5 @@
 -- Each order is of a job whose number stands for its definition.
-use Rattle.std.proofs.Common.{◌≡◌, ℕ, zero, suc, ◌==◌, ◌<◌, Bool, true, false, ◌&&◌, cond, List, [], ◌∷◌, ◌++◌, map, drop, length, get_or, Some, is_some, refl, sym, ap, ◌∙◌, arith}
+use Rattle.std.proofs.Common.{◌≡◌, ℕ, zero, suc, ◌==◌, ◌<◌, Bool, true, false, ◌&&◌, cond, List, [], ◌∷◌, ◌++◌, map, drop, length, get_or, Some, is_some, refl, sym, ap, ◌∙◌}
 use Rattle.std.specs.List.{list_all}
 use Rattle.std.proofs.lemmas.List.Folds.{list_all-append}
 use Rattle.history_model.specs.declared.Order.{Order}
@@ -8,6 +8,7 @@ use Rattle.job_table.specs.Tables.{Name, definition_of_number, is_known}
 use Rattle.job_table.specs.Entries.{name, is_named}
 use Rattle.job_table.specs.declared.entry.Entry.{Entry}
 use Rattle.job_table.proofs.ListLemmas.{at-drop}
+use Rattle.history_model.proofs.LawfulLemmas.{eqb-self}
 
 pub known-more : (names : List Name) (earlier later : List Order) (order : Order) → later ≡ earlier ++ order ∷ [] → is_known names order ≡ true →
     list_all (is_known names) earlier ≡ true → list_all (is_known names) later ≡ true
@@ -27,9 +28,6 @@ named-at names xs ys i e within same is all =
     let first : drop i xs ≡ e ∷ drop (suc i) ys = sym same ∙ at-drop ys i e within is in
     (and-both (is_named names e) (list_all (is_named names) (drop (suc i) ys)) (sym (ap (list_all (is_named names)) first) ∙ all-drop (is_named names) xs i all)).0
 
-same-number : (n : ℕ) → (n == n) ≡ true
-same-number n = grind arith
-
 more-named : (n : Name) (names : List Name) (es : List Entry) → list_all (is_named names) es ≡ true → list_all (is_named (n ∷ names)) es ≡ true
 more-named n names [] all = refl
 more-named n names (e ∷ es) all =
@@ -43,4 +41,4 @@ more-named n names (e ∷ es) all =
 pub all-named : (es : List Entry) → list_all (is_named (map name es)) es ≡ true
 all-named [] = refl
 all-named (e ∷ es) =
-    λ i. ap (λ b. is_some (cond b (Some e.def) (definition_of_number (map name es) e.number))) (same-number e.number) i && more-named (name e) (map name es) es (all-named es) i
+    λ i. ap (λ b. is_some (cond b (Some e.def) (definition_of_number (map name es) e.number))) (eqb-self e.number) i && more-named (name e) (map name es) es (all-named es) i

@@ -1,5 +1,5 @@
 -- The least moment in the index is that of the machine's jobs, and calendars by rows are those of the jobs.
-use Rattle.std.proofs.Common.{◌≡◌, inl, inr, ℕ, zero, suc, ◌≤◌, ◌==◌, Bool, true, false, not, ◌&&◌, ◌||◌, cond, List, [], ◌∷◌, map, Option, Some, None, refl, sym, ap, ◌∙◌, subst, arith}
+use Rattle.std.proofs.Common.{◌≡◌, inl, inr, ℕ, zero, suc, ◌≤◌, Bool, true, false, not, ◌&&◌, ◌||◌, cond, List, [], ◌∷◌, map, Option, Some, None, refl, sym, ap, ◌∙◌, subst, arith}
 use Rattle.std.specs.Prelude.{slice_get}
 use Rattle.std.specs.List.{list_any, AllByRecursion}
 use Rattle.std.specs.Option.{ForSome}
@@ -18,6 +18,7 @@ use Rattle.job_table.specs.Minutes.{is_some_entry, has_calendars}
 use Rattle.job_table.specs.Moments.{is_moment, IsNextUp, have_calendars}
 use Rattle.job_table.specs.declared.entry.Entry.{Entry}
 use Rattle.job_table.proofs.AdvanceLemmas.{holder}
+use Rattle.history_model.proofs.LawfulLemmas.{eqb-self}
 
 -- ---- the moments of jobs
 
@@ -41,9 +42,6 @@ each-moment P at timers (e ∷ es) jobs timed each keeps =
         timed 0 e refl ∙ ap (λ b. cond b None (next_by e.core.facts at.up)) is ∙ sym (known at (row e) job keeps.0) in
         (subst P own (each e.number), later others keeps.1)
 
-same-number : (n : ℕ) → (n == n) ≡ true
-same-number n = grind arith
-
 -- the moment of a job that is not gone is that of some job
 some-moment : (at : Reading) (m : ℕ) (es : List Entry) (k : ℕ) (e : Entry) (jobs : List Job) → slice_get es k ≡ Some e → moment_for e at.up ≡ Some m → KeepsJobs at (rows es) jobs →
     list_any (λ job. is_moment m (next_moment job.past)) jobs ≡ true
@@ -63,7 +61,7 @@ some-moment at m (x ∷ es) zero e jobs there is keeps = go x.has_gone refl jobs
     go false going (job ∷ others) keeps =
         let found : next_moment job.past ≡ Some m = known at (row x) job keeps.0 ∙ sym (ap (λ b. cond b None (next_by x.core.facts at.up)) going) ∙ own in
         ap (λ o. is_moment m o || list_any (λ other. is_moment m (next_moment other.past)) others) found
-        ∙ ap (λ b. b || list_any (λ other. is_moment m (next_moment other.past)) others) (same-number m)
+        ∙ ap (λ b. b || list_any (λ other. is_moment m (next_moment other.past)) others) (eqb-self m)
 some-moment at m (x ∷ es) (suc k) e jobs there is keeps = go x.has_gone jobs keeps (λ others. some-moment at m es k e others there is)
   where
     go : (b : Bool) (all : List Job) → KeepsJobs at (cond b (rows es) (row x ∷ rows es)) all →

@@ -1,5 +1,5 @@
 -- When a load is refused, read off the table.
-use Rattle.std.proofs.Common.{◌≡◌, ℕ, suc, Bool, true, false, not, ◌&&◌, nat_lt, List, [], ◌∷◌, map, length, Option, Some, None, is_some, refl, sym, ap, ◌∙◌, subst, ◌<◌, ◌≤◌, arith}
+use Rattle.std.proofs.Common.{◌≡◌, ℕ, suc, Bool, true, false, not, ◌&&◌, nat_lt, List, [], ◌∷◌, map, length, Option, Some, None, is_some, refl, sym, ap, ◌∙◌, subst, ◌≤◌, arith}
 use Rattle.std.specs.List.{position, list_all}
 use Rattle.std.specs.Vec.{vec_capacity, vec_len}
 use Rattle.slab.specs.Slab.{Slab, get}
@@ -114,9 +114,6 @@ behind-there s running label d writes_setting force bind store fits held is coun
 
 pub not-below : (n m : ℕ) → m ≤ n → nat_lt n m ≡ false
 not-below n m above = grind (arith, above)
-
-pub is-below : (n m : ℕ) → n < m → nat_lt n m ≡ true
-is-below n m below = grind (arith, below)
 
 pub no-past : (o : Option History) → refusal_there o ≡ None → o ≡ None
 no-past None is = refl

@@ -1,11 +1,11 @@
 -- Byte order, the paths of rows and of jobs, and the entry with a label.
 use Rattle.std.proofs.Common.{◌≡◌, ℕ, zero, suc, true, false, not, List, [], ◌∷◌, ◌++◌, get_or, refl, sym, ap, ◌∙◌}
-use Rattle.std.specs.Ordering.{nat_cmp, is_eq, ordering_reverse}
-use Rattle.std.specs.Cmp.Lexicographic.{slice_cmp, nat_list_cmp_total, texts_ties}
+use Rattle.std.specs.Ordering.{nat_cmp, ordering_reverse}
+use Rattle.std.specs.Cmp.Lexicographic.{slice_cmp, nat_list_cmp_total}
 use Rattle.std.specs.declared.cmp.Ordering.{Ordering}
 use Rattle.std.specs.declared.cmp.Ordering.TheVariants.{Less, Equal, Greater}
 use Rattle.history_model.specs.declared.Reading.{Reading}
-use Rattle.history_model.specs.Labels.{Label, is_same, is_less, is_before}
+use Rattle.history_model.specs.Labels.{Label, is_less, is_before}
 use Rattle.history_model.specs.Machine.{Job}
 use Rattle.history_model.proofs.BooleanLemmas.{and-right}
 use Rattle.job_table.specs.Tables.{Row}
@@ -18,14 +18,6 @@ use Rattle.job_table.proofs.SettingLemmas.{is-label}
 
 -- ---- byte order
 
-is_less-Less : (o : Ordering) → is_less o ≡ true → o ≡ Less
-is_less-Less Less e = refl
-is_less-Less Equal e = cc
-is_less-Less Greater e = cc
-
-pub before-trans : (a b c : Label) → is_before a b ≡ true → is_before b c ≡ true → is_before a c ≡ true
-before-trans a b c ab bc = rw (nat_list_cmp_total.trans a b c (is_less-Less (slice_cmp nat_cmp a b) ab) (is_less-Less (slice_cmp nat_cmp b c) bc)) refl
-
 self-equal : (a : Label) → slice_cmp nat_cmp a a ≡ Equal
 self-equal a = go (slice_cmp nat_cmp a a) refl (nat_list_cmp_total.antisymm a a)
   where
@@ -33,9 +25,6 @@ self-equal a = go (slice_cmp nat_cmp a a) refl (nat_list_cmp_total.antisymm a a)
     go Less is same = let clash : Less ≡ Greater = sym is ∙ same ∙ ap ordering_reverse is in absurd (cc clash)
     go Equal is same = is
     go Greater is same = let clash : Greater ≡ Less = sym is ∙ same ∙ ap ordering_reverse is in absurd (cc clash)
-
-pub same-self : (a : Label) → is_same a a ≡ true
-same-self a = texts_ties a a ∙ ap is_eq (self-equal a)
 
 pub not-before-self : (a : Label) → is_before a a ≡ false
 not-before-self a = ap is_less (self-equal a)

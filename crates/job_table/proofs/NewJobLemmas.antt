@@ -34,7 +34,7 @@ use Rattle.job_table.proofs.IndexGrowthLemmas.{index-placed}
 use Rattle.job_table.proofs.ReleaseLemmas.{free-placed}
 use Rattle.job_table.proofs.TriggerCountLemmas.{exact-placed}
 use Rattle.job_table.proofs.ByteOrderLemmas.{order-placed}
-use Rattle.job_table.proofs.TouchedLemmas.{rest-each}
+use Rattle.job_table.proofs.TouchedLemmas.{rest-each, differs}
 
 pub place-low : {X : Type 0} (p : X → Bool) (xs : List X) (o : Option ℕ) → o ≡ position p xs → unwrap_or o (length xs) ≤ length xs
 place-low p xs None is = omega arith
@@ -164,9 +164,6 @@ replaced-sound t places long sound = record {
   listed = sound.listed;
   order = sound.order;
 }
-
-differs : (place k : ℕ) → (place == k) ≡ false → place ≢ k
-differs place k other same = let clash : ⊥ = grind (arith, nat_tests, other, same) in clash
 
 -- each other job has its moment
 pub timed-entered : (old t : Jobs) (new : Entry) (k heard : ℕ) → t.entries.items ≡ take k old.entries.items ++ new ∷ drop k old.entries.items → heard ≡ k → k ≤ length old.entries.items → IsIndexed old →

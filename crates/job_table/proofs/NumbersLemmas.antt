@@ -1,5 +1,5 @@
 -- The numbers of the loaded jobs, before an event and after it.
-use Rattle.std.proofs.Common.{◌≡◌, ℕ, zero, suc, ◌==◌, Bool, true, false, cond, List, [], ◌∷◌, ◌++◌, map, take, drop, Some, refl, sym, ap, ◌∙◌, arith}
+use Rattle.std.proofs.Common.{◌≡◌, ℕ, zero, suc, Bool, true, false, cond, List, [], ◌∷◌, ◌++◌, map, take, drop, Some, refl, sym, ap, ◌∙◌}
 use Rattle.std.specs.List.{AllByRecursion}
 use Rattle.job_table.specs.Tables.{Name, IsOther, IsOnce, Row, definition_of_number}
 use Rattle.job_table.specs.Entries.{row, name, rows, AllStay}
@@ -8,6 +8,7 @@ use Rattle.job_table.specs.Sound.{seen, IsSound}
 use Rattle.job_table.specs.declared.entry.Entry.{Entry}
 use Rattle.job_table.specs.declared.jobs.Jobs.{Jobs}
 use Rattle.job_table.proofs.PlacesLemmas.{rows-all}
+use Rattle.history_model.proofs.LawfulLemmas.{eqb-self}
 
 names-map : (es : List Entry) → map name es ≡ names_of (map row es)
 names-map [] = refl
@@ -16,9 +17,6 @@ names-map (e ∷ es) = ap (λ ns. name e ∷ ns) (names-map es)
 -- if no job is gone, the names are those of the rows
 pub names-begun : (es old : List Entry) → AllStay es → rows es ≡ rows old → map name es ≡ names_of (rows old)
 names-begun es old stay same = names-map es ∙ ap names_of (sym (rows-all es stay) ∙ same)
-
-same-number : (n : ℕ) → (n == n) ≡ true
-same-number n = grind arith
 
 abbrev IsNamedIn : List Name → Entry → Type 0
 IsNamedIn names e = definition_of_number names e.number ≡ Some e.def
@@ -30,7 +28,7 @@ more n names (e ∷ es) other all = (ap (λ b. cond b (Some n.described) (defini
 named-in : (es : List Entry) → IsOnce (map name es) → AllByRecursion (IsNamedIn (map name es)) es
 named-in [] once = tt
 named-in (e ∷ es) once =
-    (ap (λ b. cond b (Some e.def) (definition_of_number (map name es) e.number)) (same-number e.number), more (name e) (map name es) es once.0 (named-in es once.1))
+    (ap (λ b. cond b (Some e.def) (definition_of_number (map name es) e.number)) (eqb-self e.number), more (name e) (map name es) es once.0 (named-in es once.1))
 
 named-rows : (names : List Name) (es : List Entry) → AllByRecursion (IsNamedIn names) es → AllByRecursion (λ (r : Row). definition_of_number names r.number ≡ Some r.described) (rows es)
 named-rows names [] all = tt

@@ -17,7 +17,7 @@ use Rattle.job_table.specs.Tables.{Row, Table}
 use Rattle.job_table.specs.Kept.{KeepsJobs, KeepsSettings, KeepsState, IsAtRest, acts_in}
 use Rattle.job_table.specs.Outcomes.{plain_outcome, IsSameFor}
 
-resting : (at : Reading) (rows : List Row) (jobs : List Job) → KeepsJobs at rows jobs → AllByRecursion IsAtRest jobs → AllByRecursion (Rests at) jobs
+pub resting : (at : Reading) (rows : List Row) (jobs : List Job) → KeepsJobs at rows jobs → AllByRecursion IsAtRest jobs → AllByRecursion (Rests at) jobs
 resting at [] [] keeps rests = tt
 resting at [] (job ∷ jobs) keeps rests = absurd keeps
 resting at (row ∷ rows) [] keeps rests = absurd keeps

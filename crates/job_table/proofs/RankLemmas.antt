@@ -8,10 +8,10 @@ use Rattle.std.proofs.lemmas.Option.{slice_get_within, slice_get-get_or, get_or_
 use Rattle.history_model.specs.Labels.{is_same, is_before}
 use Rattle.job_table.specs.Triggers.{rank, is_of, is_below, is_behind, AreOrdered}
 use Rattle.job_table.specs.declared.trigger.Listed.{Listed}
-use Rattle.job_table.proofs.ByteOrderLemmas.{after}
-use Rattle.job_table.proofs.NearestLemmas.{before-trans, not-before-self}
+use Rattle.job_table.proofs.NearestLemmas.{not-before-self}
 use Rattle.job_table.proofs.SettingLemmas.{is-label}
 use Rattle.history_model.proofs.BooleanLemmas.{unless-true, not-true}
+use Rattle.history_model.proofs.LabelOrderLemmas.{before-trans, after}
 
 -- ---- two texts
 

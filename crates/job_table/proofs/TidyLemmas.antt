@@ -1,5 +1,5 @@
 -- What stays when the jobs that are gone are dropped.
-use Rattle.std.proofs.Common.{◌≡◌, ℕ, ◌==◌, Bool, true, false, not, ◌&&◌, ◌||◌, arith, cond, List, [], ◌∷◌, map, refl, ap, ◌∙◌}
+use Rattle.std.proofs.Common.{◌≡◌, ℕ, ◌==◌, Bool, true, false, not, ◌&&◌, ◌||◌, cond, List, [], ◌∷◌, map, refl, ap, ◌∙◌}
 use Rattle.std.specs.List.{filter, list_any, AllByRecursion}
 use Rattle.slab.specs.Slab.{Slab, get}
 use Rattle.job_table.specs.Tables.{Name, IsOther, IsOnce}
@@ -7,6 +7,7 @@ use Rattle.job_table.specs.Entries.{row, name, rows, AllStay, stays, has_gone_un
 use Rattle.job_table.specs.Sound.{AreHeld}
 use Rattle.job_table.specs.declared.entry.Entry.{Entry}
 use Rattle.history_model.proofs.BooleanLemmas.{and-false}
+use Rattle.job_table.proofs.EnteringLemmas.{number-false}
 
 pub tidy-rows : (es : List Entry) → rows (filter stays es) ≡ rows es
 tidy-rows [] = refl
@@ -43,16 +44,13 @@ tidy-once (e ∷ es) once = go e.has_gone (tidy-once es once.1)
 
 -- ---- numbers
 
-not-same : (m n : ℕ) → (m == n) ≡ false → (n == m) ≡ false
-not-same m n e = grind (arith, e)
-
 under-other : (m n : ℕ) (going : Bool) → (m == n) ≡ false → (going && (m == n)) ≡ false
 under-other m n going e = ap (λ b. going && b) e ∙ and-false going
 
 pub other-free : (n : Name) (es : List Entry) → IsOther n (map name es) → list_any (has_gone_under n.number) es ≡ false
 other-free n [] other = refl
 other-free n (e ∷ es) other =
-    ap (λ b. b || list_any (has_gone_under n.number) es) (under-other e.number n.number e.has_gone (not-same n.number e.number other.0)) ∙ other-free n es other.2
+    ap (λ b. b || list_any (has_gone_under n.number) es) (under-other e.number n.number e.has_gone (number-false n.number e.number other.0)) ∙ other-free n es other.2
 
 -- if the job stays, no job that is gone has its number
 abbrev IsFree : List Entry → Entry → Type 0

@@ -41,9 +41,9 @@ use Rattle.job_table.proofs.AdvanceLemmas.{name-get}
 use Rattle.job_table.proofs.OutcomesLemmas.{IsOrderedFrom}
 use Rattle.job_table.proofs.EventsLemmas.{IsHead, alike-state, own-jobs, with_orders-so}
 use Rattle.job_table.proofs.SettingLemmas.{is-label}
-use Rattle.job_table.proofs.NearestLemmas.{same-self}
-use Rattle.job_table.proofs.EnteringLemmas.{same-false}
 use Rattle.history_model.proofs.BooleanLemmas.{or-false}
+use Rattle.history_model.proofs.LabelOrderLemmas.{same_self}
+use Rattle.history_model.proofs.FreshOrdersLemmas.{differ-sym}
 
 -- ---- a job that the news do not touch
 
@@ -169,7 +169,7 @@ placed-names places es later names placed k e there =
     let own = placed k found.0 found.1 in
     (subst (λ n. n < length places) found.2 own.0, ap (place_in places) (sym found.2) ∙ own.1)
 
-differs : (place k : ℕ) → (place == k) ≡ false → place ≢ k
+pub differs : (place k : ℕ) → (place == k) ≡ false → place ≢ k
 differs place k other same = let clash : ⊥ = grind (arith, nat_tests, other, same) in clash
 
 pub timed-but : (label : Label) (begun heard : Jobs) (place : ℕ) → IsHandedAt label place begun.entries.items heard.entries.items → IsIndexed begun → heard.index ≡ begun.index → heard.reading ≡ begun.reading →
@@ -255,7 +255,7 @@ others-spared old heard new label place es handed spares same other differ = spa
         let own : has_label label e ≡ true = handed.own e (ap (slice_get heard.entries.items) here ∙ there) in
         let mine : label ≡ e.def.label = is-label label e.def.label own in
         let theirs : other ≡ e.def.label = is-label other e.def.label has in
-        let clash : true ≡ false = sym (same-self label) ∙ ap (λ l. is_same l label) (mine ∙ sym theirs) ∙ differ in
+        let clash : true ≡ false = sym (same_self label) ∙ ap (λ l. is_same l label) (mine ∙ sym theirs) ∙ differ in
         absurd (cc clash)
 
 -- ---- a label's definition is that of its past
@@ -280,7 +280,7 @@ definition-at at label past (x ∷ xs) (job ∷ jobs) zero e keeps once found th
 definition-at at label past (x ∷ xs) (job ∷ jobs) (suc k) e keeps once found there has =
     let mine : label ≡ e.def.label = is-label label e.def.label has in
     let differ : is_same x.def.label label ≡ false = ap (is_same x.def.label) mine ∙ other-label (name x) xs k e once.0 there in
-    let of : is_of label job ≡ false = ap (is_same label) (sym keeps.0.label) ∙ same-false x.def.label label differ in
+    let of : is_of label job ≡ false = ap (is_same label) (sym keeps.0.label) ∙ differ-sym x.def.label label differ in
     let rest : past_in (first (filter (is_of label) jobs)) ≡ Some past = ap (λ b. past_in (first (cond b (job ∷ filter (is_of label) jobs) (filter (is_of label) jobs)))) (sym of) ∙ found in
     definition-at at label past xs jobs k e keeps.1 once.1 rest there has
 

@@ -20,8 +20,9 @@ use Rattle.job_table.specs.declared.trigger.Listed.{Listed}
 use Rattle.job_table.proofs.TriggerCountLemmas.{sum-agree, sum-filter, count-and, own-count, by-counts}
 use Rattle.job_table.proofs.ListLemmas.{any-map}
 use Rattle.job_table.proofs.RankLemmas.{in-order}
-use Rattle.job_table.proofs.NearestLemmas.{same-self, not-before-self}
+use Rattle.job_table.proofs.NearestLemmas.{not-before-self}
 use Rattle.history_model.proofs.BooleanLemmas.{or-false, and-false, and-true, and-both, not-false, or-false-right, or-swap, unless-true}
+use Rattle.history_model.proofs.LabelOrderLemmas.{same_self}
 
 -- ---- lists of which something passes
 
@@ -303,7 +304,7 @@ module _ (places : List ℕ) (es : List Entry) (placed : ArePlaced places es) wh
       next-at (Minute (Some minute)) is = let clash : true ≡ false = sym behind ∙ ap (λ t. is_before (1 ∷ text) (rank t)) is in absurd (cc clash)
       next-at (Path path) is = record {
         among = exact-paths (is_same path) ∙ any-passes (λ x. stays_under places es x && on-path (is_same path) x.trigger) listed k one at
-            (ap (λ t. stays_under places es one && on-path (is_same path) t) is ∙ (λ i. stay i && same-self path i));
+            (ap (λ t. stays_under places es one && on-path (is_same path) t) is ∙ (λ i. stay i && same_self path i));
         after = sym (ap (λ t. is_before (1 ∷ text) (rank t)) is) ∙ behind;
         nearest = exact-paths (λ other. is_before text other && is_before other path)
             ∙ any-none (λ x. stays_under places es x && on-path (λ other. is_before text other && is_before other path) x.trigger) listed

@@ -6,9 +6,11 @@ use Rattle.job_table.specs.Tables.{Row, Name, Table, IsOnce, definition_of_numbe
 use Rattle.job_table.specs.Loads.{described_in, number_in}
 use Rattle.job_table.specs.declared.loading.Ready.{Ready}
 
+-- the row's number, and the definition that it stands for
 abbrev pub name_of : Row → Name
 name_of row = record { number = row.number; described = row.described }
 
+-- these for each row
 abbrev pub names_of : List Row → List Name
 names_of rows = map name_of rows
 

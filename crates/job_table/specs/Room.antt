@@ -15,6 +15,7 @@ one_more (Some place) held = held
 abbrev pub held_with : Label → List Setting → ℕ
 held_with label settings = one_more (position (sets label) settings) (length settings)
 
+-- how many are held once the new one, if there is one, is made
 abbrev pub held_after : Option Setting → List Setting → ℕ
 held_after None settings = length settings
 held_after (Some setting) settings = held_with setting.label settings

@@ -19,6 +19,7 @@ minute_before one None = false
 minute_before None (Some n) = true
 minute_before (Some m) (Some n) = nat_lt m n
 
+-- the minutes stand first: none, then each by its number
 abbrev pub rank_of_minute : Option ℕ → List ℕ
 rank_of_minute None = 0 ∷ []
 rank_of_minute (Some minute) = 0 ∷ minute ∷ []
@@ -28,20 +29,25 @@ abbrev pub rank : Trigger → List ℕ
 rank (Minute minute) = rank_of_minute minute
 rank (Path path) = 1 ∷ path
 
+-- the rank of what is sought
 abbrev pub rank_of : Sought → List ℕ
 rank_of (sought.Minute minute) = rank_of_minute minute
 rank_of (sought.Path path) = 1 ∷ path.now
 
+-- the path, if the trigger is one
 abbrev pub path_in : Trigger → Option (List ℕ)
 path_in (Minute minute) = None
 path_in (Path path) = Some path
 
+-- the trigger has this rank
 abbrev pub is_of : List ℕ → Listed → Bool
 is_of sought one = is_same sought (rank one.trigger)
 
+-- the trigger stands before this rank
 abbrev pub is_below : List ℕ → Listed → Bool
 is_below sought one = is_before (rank one.trigger) sought
 
+-- the trigger stands behind this rank
 abbrev pub is_behind : List ℕ → Listed → Bool
 is_behind sought one = is_before sought (rank one.trigger)
 
@@ -77,6 +83,7 @@ abbrev pub is_staying : Option Entry → Bool
 is_staying None = false
 is_staying (Some e) = stays e
 
+-- a job stands at this place, if there is one, and is not gone
 abbrev pub stays_at : List Entry → Option ℕ → Bool
 stays_at es None = false
 stays_at es (Some place) = is_staying (slice_get es place)

@@ -1,27 +1,25 @@
 //! One place of the table: a job with its definition and its number.
 
-ghost use Rattle.std.specs.Prelude.{◌≡◌, false, ◌<◌, Some, cond, ◌+◌, ◌%◌, ◌^◌, ◌≤◌, ◌∷◌, ◌++◌, [], map};
+ghost use Rattle.std.specs.Prelude.{◌≡◌, false, ◌<◌, Some, cond, ◌+◌, ◌%◌, ◌^◌, ◌≤◌, ◌∷◌, ◌++◌, [], map, List, is_some, true};
 ghost use Rattle.job_table.specs.declared.entry.TheConstants.{ORDERS};
 ghost use Rattle.std.specs.Vec.{vec_capacity, vec_len};
 ghost use Rattle.history_model.specs.declared.TheConstants.{MAX_UP};
 ghost use Rattle.history_model.specs.Items.{History};
 ghost use Rattle.history_model.specs.Runs.{is_gone};
-ghost use Rattle.std.specs.List.{list_any};
+ghost use Rattle.std.specs.List.{list_any, list_all};
 ghost use Rattle.history_model.specs.Demands.{waiting, is_same_path};
 ghost use Rattle.history_model.specs.Due.{due};
 ghost use Rattle.history_model.specs.Keeps.{Keeps, ordered};
 ghost use Rattle.history_model.specs.Step.{acts_of, lists};
 ghost use Rattle.history_model.specs.Clock as clock;
-ghost use Rattle.job_defs.specs.Definitions.{definition, path_wish};
+ghost use Rattle.job_defs.specs.Definitions.{definition};
 ghost use Rattle.job_core.specs.Events.{item_of};
 ghost use Rattle.job_table.specs.Kept.{numbered};
 ghost use Rattle.job_table.specs.News.{item_for};
 ghost use Rattle.job_table.specs.Hearing.{IsHeard};
 ghost use Rattle.job_table.specs.Visiting.{IsVisit};
-ghost use Rattle.job_table.specs.Entries.{row, name};
+ghost use Rattle.job_table.specs.Entries.{name};
 ghost use Rattle.job_table.specs.Tables.{Name, definition_of_number, is_known};
-ghost use Rattle.std.specs.Prelude.{List, is_some, true};
-ghost use Rattle.std.specs.List.{list_all};
 
 use calendar_due::Calendar;
 use history_model::{Act, Ask, CivilMinute, JobNo, MAX_CONNECTIONS, Obs, Order, Reading, Text};

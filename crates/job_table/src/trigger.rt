@@ -1,6 +1,6 @@
 //! What touches a job from outside: a minute of the hour, or a path.
 
-ghost use Rattle.std.specs.Prelude.{◌≡◌, ◌++◌, OnOk, IfOk, map, not};
+ghost use Rattle.std.specs.Prelude.{◌≡◌, ◌++◌, OnOk, IfOk, map};
 ghost use Rattle.std.specs.Option.{option_map};
 ghost use Rattle.history_model.specs.Labels.{is_before};
 ghost use Rattle.job_table.specs.Triggers.{rank, rank_of, path_in, triggers_of, minute_before};

@@ -1,5 +1,5 @@
 -- What the line of a setting tells, and where the table then stands.
-use Rattle.std.proofs.Common.{◌≡◌, ℕ, Bool, true, false, ◌||◌, List, [], None, refl, sym, ap, ◌∙◌, subst}
+use Rattle.std.proofs.Common.{◌≡◌, ℕ, Bool, true, ◌||◌, List, [], None, sym, ap, ◌∙◌, subst}
 use Rattle.std.specs.Prelude.{Result, IfOk}
 use Rattle.std.proofs.lemmas.Result.{IfOk-weaker}
 use Rattle.history_model.specs.declared.Act.{Act}
@@ -13,12 +13,7 @@ use Rattle.job_table.specs.Changes.{set_of, IsChanged, Changes}
 use Rattle.job_table.specs.declared.changing.NewSetting.{NewSetting}
 use Rattle.ctl_protocol.specs.Outcomes.{outcome_line}
 use Rattle.jobd.specs.Answers.{IsReplied}
-
-set_same : (label : Label) (disabled unload store : Bool) → set_of label (disabled || unload) unload store ≡ set_of label disabled unload store
-set_same label true true store = refl
-set_same label true false store = refl
-set_same label false true store = refl
-set_same label false false store = refl
+use Rattle.job_table.proofs.ChangesLemmas.{set_same}
 
 ready_set : (ready : NewSetting) (label : Label) (disabled unload store : Bool) → ready.setting.label ≡ label → ready.setting.disabled ≡ (disabled || unload) → ready.unload ≡ unload
     → set_of ready.setting.label ready.setting.disabled ready.unload store ≡ set_of label disabled unload store

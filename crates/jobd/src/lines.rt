@@ -1,7 +1,7 @@
 //! The line of the table's reply.
 
 ghost use Rattle.std.specs.Prelude.{◌≡◌, IfOk, Some, None, [], string_bytes};
-ghost use Rattle.history_model.specs.Texts.{refusal_text};
+ghost use Rattle.history_model.specs.RefusalTexts.{refusal_text};
 ghost use Rattle.ctl_protocol.specs.Outcomes as outcomes;
 ghost use Rattle.ctl_protocol.specs.Outcomes.{orders_of};
 ghost use Rattle.job_table.specs.Ends.{acts_of, replied};

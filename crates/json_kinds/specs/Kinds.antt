@@ -9,7 +9,7 @@ use Rattle.serde_json.specs.Find.{get, as_str, as_bool, as_number, as_array, as_
 use Rattle.history_model.specs.declared.Reason.TheVariants.{Missing, WrongKind, OutOfRange, TooLong, Unsupported}
 use Rattle.history_model.specs.declared.KeyName.{KeyName}
 use Rattle.history_model.specs.Machine.{Fault}
-use Rattle.history_model.specs.Texts.{key_text}
+use Rattle.history_model.specs.RefusalTexts.{key_text}
 use Rattle.json_kinds.specs.Faults.{bad, or_fault, ◌>>=◌}
 use Rattle.json_kinds.specs.Names.{Key}
 use Rattle.json_kinds.specs.declared.keys.TheConstants.{PATH_LIMIT}

@@ -1,7 +1,7 @@
 //! The names of keys and of reasons. Each stands here once.
 
 ghost use Rattle.std.specs.Prelude.{◌≡◌};
-ghost use Rattle.history_model.specs.Texts.{key_text, reason_text};
+ghost use Rattle.history_model.specs.RefusalTexts.{key_text, reason_text};
 
 use history_model::{KeyName, Reason};
 

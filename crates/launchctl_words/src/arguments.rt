@@ -1,6 +1,6 @@
 //! The forms of arguments of which both programs' words are made, and how their values are read.
-ghost use Rattle.std.specs.Prelude.{◌≡◌, IfOk, IfErr, Some, None, true, false, string_bytes, option_map, map};
-ghost use Rattle.clap.specs.Words.{app_of, rule_of, first_of, all_of, with_rule, with_subcommand, new_app, App, Rule};
+ghost use Rattle.std.specs.Prelude.{◌≡◌, IfOk, Some, None, true, false, map};
+ghost use Rattle.clap.specs.Words.{rule_of, first_of, all_of, with_rule, with_subcommand, new_app, App, Rule};
 ghost use Rattle.launchctl_words.specs.Rules.{HasWords, Makes, flag_rule, option_rule, word_rule, words_rule};
 ghost use Rattle.launchctl_words.specs.Meaning.{is_set, rows_in};
 

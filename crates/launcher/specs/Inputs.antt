@@ -3,7 +3,7 @@ use Rattle.std.specs.Prelude.{ℕ, Bool, true, false, if◌then◌else◌, List,
 use Rattle.history_model.specs.declared.event.Event as journal
 use Rattle.history_model.specs.declared.event.Event.TheVariants as journaled
 use Rattle.history_model.specs.Labels.{is_label}
-use Rattle.ctl_protocol.specs.EventLines.{request_at}
+use Rattle.event_reader.specs.EventLines.{request_at}
 use Rattle.load_asking.specs.declared.asking.Outside.{Outside}
 use Rattle.launcher.specs.declared.input.Input.{Input}
 use Rattle.launcher.specs.declared.input.Input.TheVariants as inputs

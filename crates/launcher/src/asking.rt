@@ -2,7 +2,7 @@
 
 ghost use Rattle.std.specs.Prelude.{Some, true, option_and_then};
 ghost use Rattle.history_model.specs.declared.event.Event.TheVariants as events;
-ghost use Rattle.ctl_protocol.specs.EventLines.{request_at};
+ghost use Rattle.event_reader.specs.EventLines.{request_at};
 ghost use Rattle.job_table.specs.Numbers.{IsNumbered};
 ghost use Rattle.launcher_load.specs.Lines.{journaled_set};
 ghost use Rattle.launcher.specs.Hosts.{HostHears};

@@ -19,22 +19,16 @@ use Rattle.launcher_load.specs.Lines.{set_line}
 use Rattle.launcher_load.specs.LoadTurns.{AsksStore, SetTurnOf, set_request, standing}
 use Rattle.launcher_load.proofs.LoadTurnsLemmas.{nothing_done}
 use Rattle.child_edge.specs.Calls.{Entry}
+use Rattle.job_table.proofs.ChangesLemmas.{set_same}
 
 -- a setting names no label that comes
 pub short_set : (label : Label) (disabled unload store : Bool) → IsShort (set_of label disabled unload store)
 short_set label disabled true store = tt
 short_set label disabled false store = tt
 
--- an unload disables, whatever else was said
-pub same_set : (label : Label) (disabled unload store : Bool) → set_of label (disabled || unload) unload store ≡ set_of label disabled unload store
-same_set label true true store = refl
-same_set label false true store = refl
-same_set label true false store = refl
-same_set label false false store = refl
-
--- so the event of the setting that was made ready is the one that was asked for
+-- the event of the setting that was made ready is the one that was asked for
 pub event_set : (ready_label label : Label) (said disabled gone unload store : Bool) → ready_label ≡ label → said ≡ (disabled || unload) → gone ≡ unload → set_of ready_label said gone store ≡ set_of label disabled unload store
-event_set ready_label label said disabled gone unload store same_label same_said same_gone = (λ i. set_of (same_label i) (same_said i) (same_gone i) store) ∙ same_set label disabled unload store
+event_set ready_label label said disabled gone unload store same_label same_said same_gone = (λ i. set_of (same_label i) (same_said i) (same_gone i) store) ∙ set_same label disabled unload store
 
 -- what is no label gets no setting
 pub bad_label : (s : State) (label : Label) (disabled unload store : Bool) → is_label label ≡ false → refusal_in s (set_of label disabled unload store) ≡ Some BadRequest

@@ -17,9 +17,11 @@ journaled_set label disabled unload store =
     if unload then journaled.Unload label true store
     else (if disabled then journaled.Disable label store else journaled.Enable label store)
 
+-- the journal's line of such a load
 abbrev pub load_line : List ℕ → (writes_setting force : Bool) → Outside → List ℕ
 load_line bytes writes_setting force outside =
     event_line (journaled_load bytes writes_setting force outside)
 
+-- and of such a setting
 abbrev pub set_line : Label → (disabled unload store : Bool) → List ℕ
 set_line label disabled unload store = event_line (journaled_set label disabled unload store)

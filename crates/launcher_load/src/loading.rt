@@ -1,9 +1,8 @@
-//! The load of a job: it is made ready, the outside is asked, its line is written, and where the outside answered well the
+//! The load of a job: it is made ready, the outside is asked, its line is written, and if the outside answered well the
 //! job is loaded.
 
 ghost use Rattle.std.specs.Prelude.{◌≡◌, ◌&&◌, ℕ, Bool, List, [], IfOk, None, true, false};
 ghost use Rattle.std.specs.String.{string_bytes};
-ghost use Rattle.history_model.specs.declared.event.Setting.{Setting as Held};
 ghost use Rattle.history_model.specs.Acceptance.{refusal_in};
 ghost use Rattle.history_model.specs.Labels.{is_label};
 ghost use Rattle.history_model.specs.Machine.{State};

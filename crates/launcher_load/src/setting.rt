@@ -1,4 +1,4 @@
-//! A setting of a label: it is made ready, the store is asked, its line is written, and where the store answered well the
+//! A setting of a label: it is made ready, the store is asked, its line is written, and if the store answered well the
 //! setting is made.
 
 ghost use Rattle.std.specs.Prelude.{◌≡◌, ◌||◌, ℕ, Bool, List, [], None, true, false};

@@ -1,5 +1,4 @@
 pub mod CarryLemmas
-pub mod LabelLemmas
 pub mod NotingLemmas
 pub mod NumbersLemmas
 pub mod OneEventLemmas

@@ -1,5 +1,5 @@
 -- The numbers of a turn: while it lasts each stands for one job.
-use Rattle.std.proofs.Common.{◌≡◌, ℕ, ◌==◌, ◌≤◌, Bool, true, false, ◌&&◌, cond, List, [], ◌∷◌, ◌++◌, map, length, Option, Some, None, is_some, refl, sym, ap, subst, ◌∙◌, arith}
+use Rattle.std.proofs.Common.{◌≡◌, ℕ, ◌==◌, ◌≤◌, Bool, true, false, ◌&&◌, cond, List, [], ◌∷◌, ◌++◌, map, length, Option, Some, None, is_some, refl, sym, ap, subst, ◌∙◌}
 use Rattle.std.specs.List.{filter, list_all, AllByRecursion}
 use Rattle.std.specs.Cmp.Lexicographic.{same_text}
 use Rattle.std.proofs.lemmas.Bool.{eqb-true, false≢true}
@@ -26,9 +26,7 @@ use Rattle.history_model.specs.Turns.{JobOrder, wanting}
 use Rattle.history_model.proofs.LabelOrderLemmas.{same_self}
 use Rattle.launcher_turn.specs.Turns.{AreTheirs}
 use Rattle.history_model.proofs.BooleanLemmas.{and-both}
-
-self-number : (n : ℕ) → (n == n) ≡ true
-self-number n = grind arith
+use Rattle.history_model.proofs.LawfulLemmas.{eqb-self}
 
 -- the numbers of the rows stand for their definitions
 abbrev pub AreNamed : List Name → List Row → Type 0
@@ -43,7 +41,7 @@ more-named n names (row ∷ rows) other all =
 pub rows-named : (rows : List Row) → IsOnce (names_of rows) → AreNamed (names_of rows) rows
 rows-named [] once = tt
 rows-named (row ∷ rows) once = (
-  ap (λ b. cond b (Some row.described) (definition_of_number (names_of rows) row.number)) (self-number row.number),
+  ap (λ b. cond b (Some row.described) (definition_of_number (names_of rows) row.number)) (eqb-self row.number),
   more-named (name_of row) (names_of rows) rows once.0 (rows-named rows once.1),
 )
 
@@ -147,14 +145,14 @@ theirs-append names (x ∷ xs) ys [] qs a b = absurd a
 theirs-append names (x ∷ xs) ys (p ∷ ps) qs a b = (a.0, a.1, theirs-append names xs ys ps qs a.2 b)
 
 spawn-fits : (run : ℕ) (conn : Option ℕ) (a : Scripted) → is_answer_to (spawn_answer run a) (acts.Spawn run conn) ≡ true
-spawn-fits run conn (Started pid) = self-number run
-spawn-fits run conn Done = self-number run
-spawn-fits run conn Running = self-number run
-spawn-fits run conn (Over ended) = self-number run
-spawn-fits run conn (Seen obs) = self-number run
-spawn-fits run conn (At reading) = self-number run
-spawn-fits run conn Refused = self-number run
-spawn-fits run conn NoMemory = self-number run
+spawn-fits run conn (Started pid) = eqb-self run
+spawn-fits run conn Done = eqb-self run
+spawn-fits run conn Running = eqb-self run
+spawn-fits run conn (Over ended) = eqb-self run
+spawn-fits run conn (Seen obs) = eqb-self run
+spawn-fits run conn (At reading) = eqb-self run
+spawn-fits run conn Refused = eqb-self run
+spawn-fits run conn NoMemory = eqb-self run
 
 -- the answers of the calls are those to the orders by which they were made
 pub made-theirs : (names : List Name) (orders : List Order) (made : List Entry) → list_all (is_known names) orders ≡ true → calls_in made ≡ map call_of orders →
@@ -171,7 +169,7 @@ made-theirs names (order ∷ orders) (entry ∷ made) all same =
       go : (act : Act) → entry.0 ≡ call_by order.job act → AreTheirs names (wanting (labelled names orders)) (answers_in made) → (d : Described) → definition_of_number names order.job ≡ Some d →
           AreTheirs names (wanting ((label_of names order.job, act) ∷ labelled names orders)) (answers_in (entry ∷ made))
       go (acts.Spawn run conn) head rest d is = rw head ((d, is, sym (label-is names order.job d is)), spawn-fits run conn entry.1, rest)
-      go (acts.Term run) head rest d is = rw head ((d, is, sym (label-is names order.job d is)), self-number run, rest)
-      go (acts.Kill run) head rest d is = rw head ((d, is, sym (label-is names order.job d is)), self-number run, rest)
+      go (acts.Term run) head rest d is = rw head ((d, is, sym (label-is names order.job d is)), eqb-self run, rest)
+      go (acts.Kill run) head rest d is = rw head ((d, is, sym (label-is names order.job d is)), eqb-self run, rest)
       go (acts.Close conn) head rest d is = rw head rest
       go acts.Gone head rest d is = rw head rest

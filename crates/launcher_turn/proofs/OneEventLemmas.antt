@@ -3,20 +3,18 @@ use Rattle.std.proofs.Common.{◌≡◌, ◌≤◌, true, false, ◌&&◌, List,
 use Rattle.std.specs.Prelude.{Result, Ok, Err, IsOk, IfOk}
 use Rattle.std.proofs.lemmas.Bool.{false≢true}
 use Rattle.std.specs.List.{list_all, AllByRecursion}
-use Rattle.history_model.specs.declared.Reading.{Reading}
 use Rattle.history_model.specs.declared.Refusal.{Refusal}
 use Rattle.history_model.specs.declared.TheConstants.{MAX_UP}
 use Rattle.history_model.specs.Items.{Item, Answered}
 use Rattle.history_model.specs.Runs.{is_answer_to}
-use Rattle.history_model.specs.Rounds.{is_answer}
 use Rattle.history_model.specs.Labels.{Label, is_same}
-use Rattle.history_model.specs.Machine.{State, Job, Event, OfJob}
+use Rattle.history_model.specs.Machine.{State, Event, OfJob}
 use Rattle.history_model.specs.Acceptance.{refusal_in}
 use Rattle.history_model.specs.Step.{outcome, step, step_by, heard_one}
 use Rattle.history_model.specs.WholeLaws.{labels_of}
-use Rattle.history_model.proofs.StepLemmas.{Rests, IsGood}
-use Rattle.job_table.specs.Tables.{Row, Table, Name, IsOnce, is_known, label_of, definition_of_number}
-use Rattle.job_table.specs.Kept.{KeepsJobs, KeepsState, IsAtRest, labelled}
+use Rattle.history_model.proofs.StepLemmas.{IsGood}
+use Rattle.job_table.specs.Tables.{Table, Name, IsOnce, is_known, label_of, definition_of_number}
+use Rattle.job_table.specs.Kept.{KeepsState, labelled}
 use Rattle.job_table.specs.Outcomes.{IsNext, IsNextUnless, UnlessMemory}
 use Rattle.history_model.specs.declared.Refusal.TheVariants.{NoMemory}
 use Rattle.job_table.specs.Ends.{AreKnown, IsAnswer, Visits, Numbers, names_in}
@@ -24,10 +22,9 @@ use Rattle.job_table.specs.Numbers.{names_of, IsNumbered}
 use Rattle.job_table.specs.declared.Step.{Step}
 use Rattle.order_edge.specs.declared.pending.Pending.{Pending}
 use Rattle.order_edge.specs.Calls.{answers_in}
-use Rattle.history_model.specs.Turns.{JobOrder, wanting}
+use Rattle.history_model.specs.Turns.{JobOrder, wanting, is_answer}
 use Rattle.history_model.proofs.TurnsLemmas.{IsTurning, turning-step}
-use Rattle.history_model.proofs.LabelOrderLemmas.{heard_one-labels, same_self, order-run}
-use Rattle.launcher_turn.proofs.LabelLemmas.{all-stays}
+use Rattle.history_model.proofs.LabelOrderLemmas.{heard_one-labels, same_self, order-run, all-stays}
 use Rattle.launcher_turn.specs.Turns.{Carried, orders_lent, IsUntouched, event_in, AreTheirs, IsOrderly, IsWaiting, HappensTo, Happens, Handled, trace}
 use Rattle.job_table.specs.Loads.{refused_with}
 use Rattle.job_core.specs.Memory.{NeedsNoMemory}
@@ -37,6 +34,7 @@ use Rattle.launcher_turn.specs.Lines.{journaled_answer}
 use Rattle.launcher_turn.proofs.CarryLemmas.{none-called}
 use Rattle.launcher_turn.proofs.NumbersLemmas.{AreNamed, rows-named, label-is, named-next, orders-known, once-number, loaded, theirs-append, made-theirs}
 use Rattle.child_edge.specs.Calls.{Entry}
+use Rattle.job_table.proofs.OutcomesLemmas.{resting}
 
 pub unless : {A : Type 0} {P : Type 0} (result : Result A Refusal) → P → UnlessMemory result P
 unless (Ok a) holds = holds
@@ -135,19 +133,6 @@ not-read e old new (Err refusal) result before after told told' same next carrie
     record { same = subst (λ r. IsNextUnless {A = Step} (Err r) e old new) memory next; tells = none-called [] before after told told' refl carried }
 
 -- ---- what the machine is in the midst of a turn
-
-resting : (at : Reading) (rows : List Row) (jobs : List Job) → KeepsJobs at rows jobs → AllByRecursion IsAtRest jobs → AllByRecursion (Rests at) jobs
-resting at [] [] keeps rests = tt
-resting at [] (job ∷ jobs) keeps rests = absurd keeps
-resting at (row ∷ rows) [] keeps rests = absurd keeps
-resting at (row ∷ rows) (job ∷ jobs) keeps rests = (
-  record {
-    stands = record { lawful = keeps.0.keeps.lawful; loaded = keeps.0.keeps.loaded; present = sym keeps.0.present };
-    idle = rests.0.0;
-    staying = rests.0.1;
-  },
-  resting at rows jobs keeps.1 rests.1,
-)
 
 pub good : (table : Table) (s : State) → KeepsState table s → IsOrderly s → IsGood s
 good table s keeps orderly = record { range = orderly.range; rests = resting s.reading table.rows s.jobs keeps.jobs keeps.rests }

@@ -27,6 +27,7 @@ event_of (happenings.ToJob label what) = OfJob label.now (item_heard what)
 event_of (happenings.Unload label) = UnloadJob label.now false true
 event_of happenings.Shutdown = ShutDown
 
+-- what happened is a reading of the clocks
 abbrev pub is_clock : Happening → Bool
 is_clock (happenings.Clock at) = true
 is_clock (happenings.Saw path obs) = false

@@ -176,7 +176,7 @@ abbrev pub IsShort : Event → Type 0
 IsShort (Load (Ok given) writes_setting force bind store) = length given.label ≤ 255
 IsShort _ = Unit {0}
 
--- For each machine that the table stood for: the edge was called as a turn of it says, and where it
+-- For each machine that the table stood for: the edge was called as a turn of it says, and if it
 -- tells, it tells just these calls; the table then stands for the machine after it, and the answer
 -- is the machine's to the input. The journal grew by the lines of these events. The numbers in the
 -- calls are those of the jobs that are loaded.

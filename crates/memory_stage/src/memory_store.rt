@@ -1,7 +1,6 @@
 //! A store of settings in memory, which refuses if it was told to.
 
-ghost use Rattle.std.specs.Prelude.{◌≡◌, List, None, MatchResult};
-ghost use Rattle.history_model.specs.declared.event.Setting.{Setting as Held};
+ghost use Rattle.std.specs.Prelude.{◌≡◌, None, MatchResult};
 ghost use Rattle.memory_stage.specs.Answers.{MayGive};
 
 use history_model::{Setting, Text};

@@ -1,7 +1,7 @@
 //! One order, carried out by one call.
 
 ghost use Rattle.order_edge.specs.Calls.{Carries, spawn_answer as spawned};
-ghost use Rattle.child_edge.specs.Calls.{start_answer, done_answer};
+ghost use Rattle.child_edge.specs.Calls.{start_answer};
 ghost use Rattle.std.specs.Prelude.{◌≡◌};
 
 use crate::Pending;

@@ -1,5 +1,5 @@
 -- What the statement that empties the first table leaves.
-use Rattle.std.proofs.Common.{◌≡◌, inl, ℕ, ℤ, List, [], ◌∷◌, map, flat_map, None, Ok, refl, sym, ap, subst, ◌∙◌, true}
+use Rattle.std.proofs.Common.{◌≡◌, inl, ℕ, ℤ, List, [], ◌∷◌, map, None, Ok, refl, sym, ap, subst, ◌∙◌, true}
 use Rattle.std.specs.List.Sorted.{IsPermutation}
 use Rattle.std.proofs.lemmas.List.Sorted.{IsPermutation-sym, IsPermutation-map}
 use Rattle.sqlite.specs.declared.types.Value.TheVariants.{Null}
@@ -28,16 +28,13 @@ use Rattle.override_store.proofs.TextLemmas.{cleared, clear_command}
 use Rattle.override_store.proofs.RowLemmas.{goes, own_rowid}
 use Rattle.override_store.proofs.PutLemmas.{went, same_value, apart}
 use Rattle.override_store.proofs.PermutationLemmas.{has_permuted}
+use Rattle.override_store.proofs.AnswerLemmas.{all_matched}
 
 abbrev named : Row → Row
 named row = rowid row ∷ []
 
 abbrev out : Row → Output
 out row = ([], named row)
-
-all_matched : (rows : List Row) → flat_map (λ r. ([] ∷ r ∷ []) ∷ []) rows ≡ map (λ r. [] ∷ r ∷ []) rows
-all_matched [] = refl
-all_matched (r ∷ rows) = ap (λ xs. ([] ∷ r ∷ []) ∷ xs) (all_matched rows)
 
 outputs : (rows : List Row) → map (output cleared) (map (λ r. [] ∷ r ∷ []) rows) ≡ map out rows
 outputs [] = refl

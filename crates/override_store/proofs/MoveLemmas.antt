@@ -1,5 +1,5 @@
 -- What the statement that moves the rows of the first table leaves.
-use Rattle.std.proofs.Common.{◌≡◌, inl, inr, ℕ, ℤ, pos, List, [], ◌∷◌, map, flat_map, None, Ok, refl, sym, ap, subst, ◌∙◌}
+use Rattle.std.proofs.Common.{◌≡◌, inl, inr, ℕ, ℤ, pos, List, [], ◌∷◌, map, None, Ok, refl, sym, ap, subst, ◌∙◌}
 use Rattle.std.specs.Prelude.{◌↔◌}
 use Rattle.std.specs.List.{AllByRecursion}
 use Rattle.std.specs.List.Sorted.{IsPermutation}
@@ -27,6 +27,7 @@ use Rattle.override_store.proofs.PutLemmas.{went, same_value}
 use Rattle.override_store.proofs.FoldLemmas.{IsSource, Agree, keeps_shape, folds}
 use Rattle.override_store.proofs.PermutationLemmas.{has_permuted}
 use Rattle.override_store.proofs.TypedLemmas.{firsts_typed, firsts_alone}
+use Rattle.override_store.proofs.AnswerLemmas.{all_matched}
 
 -- what a row of the first table is moved as
 abbrev pub sent : Row → Row
@@ -34,10 +35,6 @@ sent row = Null ∷ column row 1 ∷ column row 2 ∷ Int (pos 0) ∷ []
 
 abbrev out : Row → Output
 out row = ([], sent row)
-
-all_matched : (rows : List Row) → flat_map (λ r. ([] ∷ r ∷ []) ∷ []) rows ≡ map (λ r. [] ∷ r ∷ []) rows
-all_matched [] = refl
-all_matched (r ∷ rows) = ap (λ xs. ([] ∷ r ∷ []) ∷ xs) (all_matched rows)
 
 outputs : (rows : List Row) → map (output moved) (map (λ r. [] ∷ r ∷ []) rows) ≡ map out rows
 outputs [] = refl

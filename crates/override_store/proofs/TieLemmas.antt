@@ -74,7 +74,7 @@ found_in (s ∷ settings) l d e = elim (cases_Bool (is_same l s.label)) [
   | inr other ↦ let it = found_in settings l d (sym (tail_setting s settings l other) ∙ e) in (it.0, inr it.1, it.2, it.3)
 ]
 
--- and where the label has but one value, it is that one
+-- and if the label has but one value, it is that one
 in_found : (settings : List Setting) (l : Label) (d : Bool) → ((s : Setting) → Has settings s → s.label ≡ l → s.disabled ≡ d) → (s : Setting) → Has settings s → s.label ≡ l → setting_in settings l ≡ Some d
 in_found [] l d one s h is = absurd h
 in_found (t ∷ settings) l d one s h is = elim (cases_Bool (is_same l t.label)) [

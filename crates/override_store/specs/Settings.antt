@@ -59,10 +59,11 @@ ListsChanges = Lists (λ (c : Change). c.0) IsChange
 abbrev pub change_of : String Global × ℕ → Change
 change_of e = (string_bytes e.0, e.1)
 
--- the labels of a list that `all` gives, and of one that `changes` gives
+-- the labels of a list that `all` gives
 abbrev pub labels_set : List Setting → List Label
 labels_set settings = map (λ (s : Setting). s.label) settings
 
+-- the labels of a list that `changes` gives
 abbrev pub labels_changed : List Change → List Label
 labels_changed changes = map (λ (c : Change). c.0) changes
 

@@ -5,7 +5,8 @@ use Rattle.std.specs.List.{filter, list_any}
 use Rattle.history_model.specs.Items.{History}
 use Rattle.history_model.specs.Search.{first, last}
 use Rattle.history_model.specs.Clock.{load_of, definition_of, moments}
-use Rattle.history_model.specs.Runs.{is_spawn_order, is_spawn_refusal, is_term_order, is_term_answer, is_kill_answer, runs, is_struck}
+use Rattle.history_model.specs.Runs.{runs, is_struck}
+use Rattle.history_model.specs.Kinds.{is_spawn_order, is_spawn_refusal, is_term_order, is_term_answer, is_kill_answer}
 use Rattle.history_model.specs.Due.{is_over, may_retry_at}
 use Rattle.history_model.specs.Moments.{run_moments, least}
 use Rattle.pace.specs.Paces.{Every, Spacing, Ends}

@@ -1,13 +1,11 @@
 //! How a run is ended: TERM first, and KILL once `ExitTimeOut` of launchd.plist(5) is over; or KILL at once, if
 //! `kickstart -k` of launchctl(1) asked for it.
 
-ghost use Rattle.std.specs.Prelude.{◌≡◌, ◌≤◌, ℕ, ◌*◌, ◌||◌, ◌&&◌, not, nat_lt, Bool, true, false, Some, None, if◌then◌else◌};
+ghost use Rattle.std.specs.Prelude.{◌≡◌, ◌≤◌, ℕ, ◌*◌, ◌||◌, ◌&&◌, not, true, false, Some, None, if◌then◌else◌};
 ghost use Rattle.history_model.specs.Items.{History};
 ghost use Rattle.history_model.specs.Clock as clock;
 ghost use Rattle.history_model.specs.Search.{or_else};
 ghost use Rattle.history_model.specs.Refusals.{IsLawful};
-ghost use Rattle.history_model.specs.Due.{is_over};
-ghost use Rattle.history_model.specs.ByFacts.{is_newest_within};
 ghost use Rattle.history_model.specs.Coming.{sooner, coming_after, is_from};
 ghost use Rattle.pace.specs.Next.{IsNext};
 

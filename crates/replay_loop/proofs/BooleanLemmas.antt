@@ -1,9 +1,9 @@
 -- How the parts of a conjunction settle it, and follow from it.
 use Rattle.std.proofs.Common.{◌≡◌, Bool, true, false, ◌&&◌, refl}
 
-pub and-unread : (a b : Bool) → (a && b) ≡ true → a ≡ true
-and-unread true b e = refl
-and-unread false b e = absurd (cc)
+pub and-left : (a b : Bool) → (a && b) ≡ true → a ≡ true
+and-left true b e = refl
+and-left false b e = cc
 
 -- two pairs hold, and so do three of their sides
 pub and-joined : (a b c d : Bool) → (a && b) ≡ true → (c && d) ≡ true → ((a && c) && d) ≡ true

@@ -12,7 +12,7 @@ use Rattle.replay_loop.specs.Outcomes.{Answers, OpensNone, last_line, input_line
 use Rattle.replay_loop.specs.Reading.{Finished, Wrote, Failed, RanOut, CutOff, HasNoMachine}
 use Rattle.replay_loop.specs.declared.fault.ReplayFault.{ReplayFault}
 use Rattle.replay_loop.specs.declared.fault.ReplayFault.TheVariants.{NoMemory, Header, Read, Write, TooLong, ReadCount}
-use Rattle.replay_loop.proofs.BooleanLemmas.{and-unread, and-joined, and-joined-false}
+use Rattle.replay_loop.proofs.BooleanLemmas.{and-left, and-joined, and-joined-false}
 use Rattle.replay_loop.proofs.HandlingLemmas.{nothing, then_more, stops_later}
 
 pub record Going (output : Output) (count : ℕ) (unread rest held holds : Option (List ℕ)) (feed : Feed) (stage : Option Future) : Type 0 where
@@ -102,7 +102,7 @@ counts_at true x piece f is fine e =
     let all : fits line_limit (x ++ piece) ≡ true = fits_joined x piece fine e in
     record { others = last_line (rest_of (x ++ piece)); alone = λ no. absurd (true≢false (sym e ∙ no)); split = rw (all, is, e) (ap (λ ls. ls ++ last_line (rest_of (x ++ piece))) (lines_joined x piece) ∙ append_assoc (lines_of x) (lines_of (rest_of x ++ piece)) (last_line (rest_of (x ++ piece)))) }
 counts_at false x piece f is fine e =
-    let short : list_all (is_short line_limit) (lines_of x) ≡ true = and-unread (list_all (is_short line_limit) (lines_of x)) (is_short line_limit (rest_of x)) fine in
+    let short : list_all (is_short line_limit) (lines_of x) ≡ true = and-left (list_all (is_short line_limit) (lines_of x)) (is_short line_limit (rest_of x)) fine in
     let none : fits line_limit (x ++ piece) ≡ false = unfit x piece fine e in
     let here : take_while (is_short line_limit) (lines_of (x ++ piece)) ≡ lines_of x ++ take_while (is_short line_limit) (lines_of (rest_of x ++ piece)) = ap (take_while (is_short line_limit)) (lines_joined x piece) ∙ while_append line_limit (lines_of x) (lines_of (rest_of x ++ piece)) short in
     record { others = []; alone = λ _. refl; split = rw (none, is, e) (here ∙ ap (λ ls. lines_of x ++ ls) (sym (append-nil (take_while (is_short line_limit) (lines_of (rest_of x ++ piece)))))) }
@@ -147,7 +147,7 @@ come_first t x piece f is fine none e =
     go t e here
   where
     go : (t : Bool) → fits line_limit (rest_of x ++ piece) ≡ t → take_while (is_short line_limit) (lines_of (x ++ piece)) ≡ take_while (is_short line_limit) (lines_of (rest_of x ++ piece)) → take_while (is_short line_limit) (lines_of (x ++ piece)) ≡ come f piece
-    go true e here = rw (is, e) (here ∙ all_short (lines_of (rest_of x ++ piece)) (and-unread (list_all (is_short line_limit) (lines_of (rest_of x ++ piece))) (is_short line_limit (rest_of (rest_of x ++ piece))) e))
+    go true e here = rw (is, e) (here ∙ all_short (lines_of (rest_of x ++ piece)) (and-left (list_all (is_short line_limit) (lines_of (rest_of x ++ piece))) (is_short line_limit (rest_of (rest_of x ++ piece))) e))
     go false e here = rw (is, e) here
 
 no_machine : (output : Output) (reads count : ℕ) (unread rest after held holds has : Option (List ℕ)) (f : Feed) (stage : Option Future) (piece : List ℕ) → Going output count unread rest held holds f stage → Consumes rest after piece
@@ -170,7 +170,7 @@ pub fails : (output : Output) → output [] None → (e : ReplayFault) (reads co
 fails output empty Header reads count unread rest after held holds has f stage piece going came stop = no_machine output reads count unread rest after held holds has f stage piece going came stop
 fails output empty TooLong reads count unread rest after held holds has f stage piece going came (refused, new, some, second) =
     let x = going.consumed in
-    let short : list_all (is_short line_limit) (lines_of x) ≡ true = and-unread (list_all (is_short line_limit) (lines_of x)) (is_short line_limit (rest_of x)) going.fits_is in
+    let short : list_all (is_short line_limit) (lines_of x) ≡ true = and-left (list_all (is_short line_limit) (lines_of x)) (is_short line_limit (rest_of x)) going.fits_is in
     let past : fits line_limit (rest_of x ++ piece) ≡ false = sym (taken_fits f x piece going.feed_is) ∙ refused in
     let here : take_while (is_short line_limit) (lines_of (x ++ piece)) ≡ lines_of x ++ take_while (is_short line_limit) (lines_of (rest_of x ++ piece)) = ap (take_while (is_short line_limit)) (lines_joined x piece) ∙ while_append line_limit (lines_of x) (lines_of (rest_of x ++ piece)) short in
     let later = subst (λ h. Handles output stage new holds has (stopped h piece).lines) going.feed_is second in (

@@ -1,4 +1,4 @@
-//! Calls that take memory, made where none is left and then where there is more and more, until each is made. For programs
+//! Calls that take memory, made with none left and then with more and more, until each is made. For programs
 //! that run themselves once more with little memory.
 #![tactic(auto)]
 

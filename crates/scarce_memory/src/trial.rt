@@ -1,4 +1,5 @@
-//! A call under trial: made again and again where memory is short, by less and less, until it has enough.
+//! A call under trial: made again and again with too little memory, and each time with a little more, until it has
+//! enough.
 
 use crate::hoard::Hoard;
 use std::alloc::{AllocError, Global};

@@ -1,2 +1,1 @@
-pub use Rattle.json_kinds.specs.Faults
 pub mod Sockets

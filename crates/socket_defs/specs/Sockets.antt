@@ -11,7 +11,7 @@ use Rattle.serde_json.specs.Find.{get, as_number}
 use Rattle.history_model.specs.declared.Reason.TheVariants.{Missing, OutOfRange, TooLong, Unsupported}
 use Rattle.history_model.specs.declared.KeyName.TheVariants as keys
 use Rattle.history_model.specs.Machine.{Fault}
-use Rattle.history_model.specs.Texts.{key_text}
+use Rattle.history_model.specs.RefusalTexts.{key_text}
 use Rattle.socket_defs.specs.declared.parts.Socket.{Socket}
 use Rattle.socket_defs.specs.declared.parts.Address.{Address}
 use Rattle.socket_defs.specs.declared.parts.Address.TheVariants.{Unix, Inet}
@@ -148,7 +148,7 @@ abbrev pub is_off : Option Bool → Bool
 is_off (Some false) = true
 is_off _ = false
 
--- `Wait` has to be a boolean where it stands, and false where there are sockets
+-- `Wait` has to be a boolean if it stands, and to stand and be false if there are sockets
 unfoldable pub inetd_at : Bool → Data → Result ⊤ Fault
 inetd_at has_sockets d = do
   compatibility ← object_at keys.InetdCompatibility d

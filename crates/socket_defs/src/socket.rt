@@ -1,6 +1,6 @@
 //! The keys of one socket.
 
-ghost use Rattle.std.specs.Prelude.{◌≡◌, List, ℕ, ⊤};
+ghost use Rattle.std.specs.Prelude.{◌≡◌, ⊤};
 ghost use Rattle.serde_json.specs.View.{view};
 ghost use Rattle.serde_json.specs.Find.{get};
 ghost use Rattle.history_model.specs.declared.KeyName.TheVariants as keys;

@@ -1,6 +1,6 @@
 //! The connections at a job's sockets that wait for a run.
 
-ghost use Rattle.std.specs.Prelude.{◌≡◌, ◌==◌, ◌<◌, ◌≤◌, ◌↔◌, ℕ, [], ◌∷◌, ◌++◌, drop, filter, length, not, nat_lt, IfOk, IfErr, OnOk, OnErr, IsOk, IsTrue, slice_get, None};
+ghost use Rattle.std.specs.Prelude.{◌≡◌, ◌==◌, ◌<◌, ◌≤◌, ◌↔◌, ℕ, [], ◌∷◌, ◌++◌, drop, filter, length, not, IfOk, OnOk, OnErr, IsOk, IsTrue, slice_get, None};
 ghost use Rattle.std.specs.List.{list_any};
 ghost use Rattle.history_model.specs.Search.{first};
 

@@ -7,7 +7,7 @@ use Rattle.history_model.specs.declared.Answer.TheVariants as answers
 use Rattle.history_model.specs.Items.{Asked, Answered, Came, Left, RunEnded, WaitRefused}
 use Rattle.history_model.specs.Machine.{Event, Unreadable, UnloadJob, Set, ListJobs, PrintJob, ShutDown, Tick, Sight, OfJob}
 use Rattle.job_table.specs.Loads.{load_of}
-use Rattle.ctl_protocol.specs.EventLines.{event_at}
+use Rattle.event_reader.specs.EventLines.{event_at}
 
 -- the machine's event; a load's definition is what its text reads as
 abbrev pub event_of : journal.Event → Event

@@ -31,7 +31,7 @@ mod tests {
         assert_eq!(rt; are_fronts(rt.alloc(), true), Ok(true));
     }
 
-    /// A writer that keeps its bytes back is asked for them once, and where it refuses the journal is closed.
+    /// A writer that keeps its bytes back is asked for them once, and if it refuses the journal is closed.
     #[test]
     fn a_refused_flush_closes(rt: HostRuntime) {
         assert_eq!(rt; is_flushed_once(rt.alloc()), Ok(true));

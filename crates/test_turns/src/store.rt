@@ -1,7 +1,6 @@
 //! A store that answers as it was told to, and counts how often it was asked.
 
-ghost use Rattle.std.specs.Prelude.{List, None};
-ghost use Rattle.history_model.specs.declared.event.Setting.{Setting as Held};
+ghost use Rattle.std.specs.Prelude.{None};
 
 use history_model::Setting;
 use load_asking::{SettingStore, StoreFault};

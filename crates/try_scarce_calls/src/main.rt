@@ -1,4 +1,4 @@
-//! Makes calls of one job, of the store and of a launcher where no memory is left, and then with more and more, until each
+//! Makes calls of one job, of the store and of a launcher with no memory left, and then with more and more, until each
 //! is made. The program runs itself once more for that, with its memory limited by the shell: `try_scarce_calls`, and within
 //! `try_scarce_calls short`. It writes a line for each call.
 #![tactic(auto)]

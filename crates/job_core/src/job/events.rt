@@ -5,7 +5,8 @@ ghost use Rattle.history_model.specs.Items.{Read, Saw, Asked, Came, Left, Answer
 ghost use Rattle.history_model.specs.declared.Answer.TheVariants.{Spawned as SpawnOk, SpawnRefused as SpawnNo, Termed as TermAnswer, Killed as KillAnswer};
 ghost use Rattle.history_model.specs.Demands.{carries};
 ghost use Rattle.history_model.specs.Refusals.{is_number_used};
-ghost use Rattle.history_model.specs.ByFacts.{is_busy_by, fired_by, conn_of, Follows};
+ghost use Rattle.history_model.specs.ByFacts.{fired_by, conn_of, Follows};
+ghost use Rattle.history_model.specs.DueByFacts.{is_busy_by};
 
 use super::Job;
 use history_model::{Act, Ask, Ended, MAX_UP, MAX_WALL, Obs, Reading, Refusal};

@@ -2,7 +2,8 @@
 
 ghost use Rattle.std.specs.Prelude.{◌≡◌, ◌≤◌};
 ghost use Rattle.history_model.specs.Items.{Ordered};
-ghost use Rattle.history_model.specs.ByFacts.{is_throttled_by, level_by, is_wanted_by, may_spawn_by, may_kill_by, may_term_by, due_by, facts_after, facts_after_order};
+ghost use Rattle.history_model.specs.ByFacts.{facts_after, facts_after_order};
+ghost use Rattle.history_model.specs.DueByFacts.{is_throttled_by, level_by, is_wanted_by, may_spawn_by, may_kill_by, may_term_by, due_by};
 ghost use Rattle.history_model.specs.Coming.{is_from, next_by};
 
 use super::Job;

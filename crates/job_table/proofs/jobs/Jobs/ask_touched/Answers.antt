@@ -22,10 +22,11 @@ use Rattle.job_table.proofs.PlacesLemmas.{rows-all}
 use Rattle.job_table.proofs.KnownNumbersLemmas.{all-named}
 use Rattle.job_table.proofs.HeldNumbersLemmas.{held-names}
 use Rattle.job_table.proofs.AdvanceLemmas.{heard-labelled, visits-counted, name-get}
-use Rattle.job_table.proofs.IndexGrowthLemmas.{named-of, length-names}
+use Rattle.job_table.proofs.IndexGrowthLemmas.{named-of}
 use Rattle.job_table.proofs.TouchedLemmas.{spared-all, rest-all, spared-count, not-true, marked-at}
 use Rattle.history_model.specs.WholeLaws.{AreInOrder}
 use Rattle.job_table.proofs.jobs.Jobs.ask_touched.Goals as goal
+use Rattle.std.proofs.lemmas.List.{length-map}
 
 pub mark_touched-requires-clause-listed : goal.mark_touched-requires-clause-listed
 mark_touched-requires-clause-listed c =
@@ -120,7 +121,7 @@ returns-clause-whole c =
       empty = c.visit_ready-visited.ensures.done;
       marks =
           let count : length _ ≡ length after = ap length whole in
-          let names_long = length-names es in
+          let names_long = length-map es name in
           let spaces = c.visit_ready-visited.ensures.marks ∙ c.mark_touched.ensures.room in
           omega (arith, count, long, fits, spaces, names_long);
     } in

@@ -3,9 +3,10 @@ use Rattle.std.proofs.Common.{true, false, not, ◌*◌, ◌&&◌, ◌||◌, nat
 use Rattle.std.specs.List.{list_any}
 use Rattle.history_model.specs.Search.{last}
 use Rattle.history_model.specs.Clock.{definition_of, moments}
-use Rattle.history_model.specs.Runs.{is_term_order, is_kill_answer, runs, is_struck}
+use Rattle.history_model.specs.Runs.{runs, is_struck}
+use Rattle.history_model.specs.Kinds.{is_term_order, is_kill_answer}
 use Rattle.history_model.specs.Due.{is_over}
-use Rattle.history_model.specs.ByFacts.{is_newest_within}
+use Rattle.history_model.specs.DueByFacts.{is_newest_within}
 use Rattle.history_model.proofs.ClockLemmas.{any-within}
 use Rattle.pace.specs.Paces.{Ends}
 use Rattle.pace.proofs.ending.Ending.kill_at.Goals as goal

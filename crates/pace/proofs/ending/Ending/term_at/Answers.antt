@@ -1,8 +1,9 @@
 -- Some refusal is too near exactly if the newest is.
 use Rattle.std.proofs.Common.{true, false, not, ◌&&◌, sym, ap, ◌∙◌}
 use Rattle.std.specs.List.{list_any}
-use Rattle.history_model.specs.Runs.{is_term_answer, is_kill_answer, runs, is_struck}
-use Rattle.history_model.specs.ByFacts.{is_newest_within}
+use Rattle.history_model.specs.Runs.{runs, is_struck}
+use Rattle.history_model.specs.Kinds.{is_term_answer, is_kill_answer}
+use Rattle.history_model.specs.DueByFacts.{is_newest_within}
 use Rattle.history_model.proofs.ClockLemmas.{any-within}
 use Rattle.pace.specs.Paces.{Ends}
 use Rattle.pace.proofs.ending.Ending.term_at.Goals as goal

@@ -1,8 +1,8 @@
 -- Some moment is too near exactly if the newest is.
 use Rattle.std.proofs.Common.{◌*◌, ◌||◌, sym, ap, ◌∙◌}
 use Rattle.history_model.specs.Clock.{definition_of}
-use Rattle.history_model.specs.Runs.{is_spawn_order, is_spawn_refusal}
-use Rattle.history_model.specs.ByFacts.{is_newest_within}
+use Rattle.history_model.specs.Kinds.{is_spawn_order, is_spawn_refusal}
+use Rattle.history_model.specs.DueByFacts.{is_newest_within}
 use Rattle.history_model.proofs.ClockLemmas.{any-within}
 use Rattle.pace.specs.Paces.{Spacing}
 use Rattle.pace.proofs.throttle.Throttle.free_at.Goals as goal
