@@ -5,7 +5,7 @@
 # make build  proves, and leaves the programs as build/jobd and build/jobctl
 # make bench  times build/jobd, the calendar and the live launcher, and counts the instructions of a line; BASELINE=PROGRAM takes turns
 #             with another program
-.PHONY: run test times build bench need_rt
+.PHONY: run test times bench need_rt
 
 # One job a check, as many checks side by side as there are processors: two jobs of one check cost a quarter more.
 RT_JOBS ?= $(shell nproc)
@@ -21,13 +21,6 @@ test: need_rt
 times: need_rt
 	@RT_JOBS=$(RT_JOBS) python3 bench/times.py
 
-build: need_rt
-	@mkdir -p build
-	@cd crates/jobd_program && { rt run -- replay < ../../examples/first.jsonl > ../../build/build.log 2>&1 || { cat ../../build/build.log >&2; exit 1; }; }
-	@cp crates/jobd_program/out/jobd_program build/jobd
-	@cd crates/jobctl_program && { rt run -- --help > ../../build/build.log 2>&1 || { cat ../../build/build.log >&2; exit 1; }; }
-	@cp crates/jobctl_program/out/jobctl_program build/jobctl
-
 bench: build
 	@python3 bench/replay.py
 	@bench/calendar.sh
@@ -40,3 +33,5 @@ need_rt:
 # make install, make uninstall: the programs of build/, manual pages, completions, documents and licences, below PREFIX
 # (/usr/local), each path behind DESTDIR
 include install.mk
+
+include build.mk

@@ -1,0 +1,40 @@
+# make build: proves both programs and all that they stand on, and leaves them as build/jobd and build/jobctl. A crate begins as soon as
+# those that it stands on are proved, as many side by side as there are processors; what did not change since is taken as it stands.
+# The rules are made from crates.txt: one for each crate, with the crates that its line names before it.
+PROGRAMS := jobd_program jobctl_program
+BUILD_JOBS ?= $(shell nproc)
+CRATES := $(shell sed -nE 's/^([a-z0-9_]+)[^:]*:.*/\1/p' crates.txt)
+stands_on = $(filter $(CRATES),$(shell sed -nE 's/^$(1)( [^:]*)?:(.*)/\2/p' crates.txt))
+# The crates below the named ones, each once.
+closure = $(if $(strip $(1)),$(sort $(1) $(call closure,$(sort $(foreach name,$(1),$(call stands_on,$(name)))))))
+
+.PHONY: build built_programs
+build: need_rt
+	@mkdir -p build/log
+	@$(MAKE) --no-print-directory -j$(BUILD_JOBS) built_programs
+
+ifneq ($(filter built_programs library_%,$(MAKECMDGOALS)),)
+LIBRARIES := $(filter-out $(PROGRAMS),$(call closure,$(PROGRAMS)))
+LAST := $(words $(LIBRARIES) $(PROGRAMS))
+
+built_programs: program_jobd program_jobctl
+
+# Each line is written once the crate is proved: how many of all are, and its name. What a failed proof said is printed, and is kept in build/log/.
+define library
+.PHONY: library_$(1)
+library_$(1): $(foreach low,$(call stands_on,$(1)),library_$(low))
+	@cd crates/$(1) && { rt lib > ../../build/log/$(1).log 2>&1 || { cat ../../build/log/$(1).log >&2; exit 1; }; }
+	@echo "proved $(1)"
+endef
+$(foreach name,$(LIBRARIES),$(eval $(call library,$(name))))
+
+define program
+.PHONY: program_$(1)
+program_$(1): $(foreach low,$(call stands_on,$(1)_program),library_$(low))
+	@cd crates/$(1)_program && { rt run -- $(2) > ../../build/log/$(1)_program.log 2>&1 || { cat ../../build/log/$(1)_program.log >&2; exit 1; }; }
+	@cp crates/$(1)_program/out/$(1)_program build/$(1)
+	@echo "proved and built build/$(1)"
+endef
+$(eval $(call program,jobd,replay < ../../examples/first.jsonl))
+$(eval $(call program,jobctl,--help))
+endif
