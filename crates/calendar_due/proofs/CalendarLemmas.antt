@@ -29,7 +29,7 @@ found-calendar_fires zone entries previous now minutes found are is =
     ∙ list_any-map (λ minute. list_any (λ entry. matches entry minute) entries) zone (crossed previous now)
 
 -- a search finds a number that is there
-any_of : (p : ℕ → Bool) (xs : List ℕ) (m : ℕ) → list_any (λ c. c == m) xs ≡ true → p m ≡ true → list_any p xs ≡ true
+pub any_of : (p : ℕ → Bool) (xs : List ℕ) (m : ℕ) → list_any (λ c. c == m) xs ≡ true → p m ≡ true → list_any p xs ≡ true
 any_of p [] m found passes = cc
 any_of p (x ∷ xs) m found passes = elim (cases_Bool (x == m)) [
   | inl same ↦ ap (λ z. p z || list_any p xs) (eqb-true x m same) ∙ ap (λ b. b || list_any p xs) passes

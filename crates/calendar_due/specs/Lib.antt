@@ -3,3 +3,4 @@ pub mod Offsets
 pub mod Zone
 pub mod Rules
 pub mod Changes
+pub mod Next

@@ -1,9 +1,13 @@
 //! Which entries of a calendar match a civil minute.
-ghost use Rattle.std.specs.Prelude.{◌≡◌, ℕ, map};
+ghost use Rattle.std.specs.Prelude.{◌≡◌, ◌≤◌, ◌+◌, ℕ, map};
 ghost use Rattle.std.specs.List.{list_any};
-ghost use Rattle.history_model.specs.Calendar.{Zone, matches as entry_matches, allows, is_weekday, allows_day, crossed, calendar_fires};
+ghost use Rattle.history_model.specs.Calendar.{Zone as Minutes, matches as entry_matches, allows, is_weekday, allows_day, crossed, calendar_fires};
+ghost use Rattle.history_model.specs.Coming.{is_from};
+ghost use Rattle.calendar_due.specs.Rules.{minute_at};
+ghost use Rattle.calendar_due.specs.Next.{is_matched, IsFirstDue};
 
-use history_model::{CivilMinute, Entry};
+use crate::Zone;
+use history_model::{CivilMinute, Entry, MAX_WALL};
 
 /// The calendar of a job: its entries, of which one suffices (launchd.plist(5), StartCalendarInterval).
 pub struct Calendar;
@@ -21,12 +25,46 @@ impl Calendar {
     pub fn fires(entries: &[Entry], minutes: &[CivilMinute]) -> bool
         ensures any { result ≡ list_any
             (λ minute. list_any (λ entry. entry_matches entry minute) entries.now) minutes.now }
-        ensures fires { (zone : Zone) (previous now : ℕ) →
+        ensures fires { (zone : Minutes) (previous now : ℕ) →
             minutes.now ≡ map zone (crossed previous now) →
             result ≡ calendar_fires zone entries.now previous now }
     {
         !entries.is_empty() && is_any_matched(entries, minutes)
     }
+
+    /// The least whole minute of Unix time after `after` and not after `until`, both in seconds, whose civil minute some entry
+    /// matches; none if no such minute is matched. It is the minute from which on a reading fires the calendar, if the clock
+    /// goes on from `after` by at most 400 days. The caller's condition: `until` is at most 250,000,000,000. Takes no
+    /// memory. It looks at each minute in turn, so the caller bounds the time by `until`.
+    pub fn next(entries: &[Entry], zone: &Zone, after: u64, until: u64) -> Option<u64>
+        requires { until ≤ MAX_WALL }
+        ensures least { IsFirstDue (minute_at zone.now) entries.now after until result }
+        ensures fires { (wall : ℕ) → wall ≤ until → wall ≤ after + 34560000 →
+            calendar_fires (minute_at zone.now) entries.now after wall ≡ is_from result wall }
+    {
+        first_due(entries, zone, after, until)
+    }
+}
+
+// That minute. The minutes are counted from 1970.
+fn first_due(entries: &[Entry], zone: &Zone, after: u64, until: u64) -> Option<u64>
+    requires { until ≤ MAX_WALL }
+    ensures { IsFirstDue (minute_at zone.now) entries.now after until result }
+{
+    for k in after / 60..until / 60 {
+        if is_matched(entries, zone, 60 * (k + 1)) {
+            return Some(60 * (k + 1));
+        }
+    }
+    None
+}
+
+// Some entry matches what the clock shows at the second.
+fn is_matched(entries: &[Entry], zone: &Zone, second: u64) -> bool
+    requires { second ≤ MAX_WALL }
+    ensures { result ≡ is_matched (minute_at zone.now) entries.now second }
+{
+    Calendar::matches(entries, &zone.civil_minute(second))
 }
 
 // Some entry matches some of the minutes.

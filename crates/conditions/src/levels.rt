@@ -4,8 +4,9 @@ ghost use Rattle.std.specs.Prelude.{◌≡◌, ◌==◌, [], ◌∷◌, map, ◌
 ghost use Rattle.std.specs.List.{list_any};
 ghost use Rattle.history_model.specs.Items.{History, Loaded, Saw, RunEnded};
 ghost use Rattle.history_model.specs.Kinds.{is_stopping_order};
-ghost use Rattle.history_model.specs.Levels.{is_crash_end, agrees, presence_holds, end_holds_of};
+ghost use Rattle.history_model.specs.Levels.{is_success, is_crash_end, agrees, presence_holds, end_holds_of};
 ghost use Rattle.history_model.specs.ByFacts.{seen_after};
+ghost use Rattle.history_model.specs.Reasons.{exit_wants, crash_wants};
 ghost use Rattle.history_model.specs.DueByFacts.{any_seen};
 ghost use Rattle.conditions.specs.States.{wanted_of, sight_of, after_sight};
 ghost use Rattle.job_defs.specs.Definitions.{definition, path_wish};
@@ -114,8 +115,32 @@ impl Conditions {
         self.keep_alive || of_end || of_paths
     }
 
+    /// Whether `KeepAlive` is true.
+    pub fn is_kept_alive(&self) -> bool
+        ensures { result ≡ self.now.keep_alive }
+    {
+        self.keep_alive
+    }
+
+    /// Whether the last end is as `SuccessfulExit` says.
+    pub fn exit_wants(&self) -> bool
+        ensures { result ≡ exit_wants self.now.successful_exit self.now.ended }
+    {
+        match self.last_end {
+            None => false,
+            Some((_, how)) => agrees(self.successful_exit, is_success(how)),
+        }
+    }
+
+    /// Whether the last end is as `Crashed` says.
+    pub fn crash_wants(&self) -> bool
+        ensures { result ≡ crash_wants self.now.crashed self.now.has_crashed self.now.ended }
+    {
+        self.last_end.is_some() && agrees(self.crashed, self.has_crashed)
+    }
+
     /// Whether a path was last seen as its condition wants it.
-    fn path_holds(&self) -> bool
+    pub fn path_holds(&self) -> bool
         ensures { result ≡ any_seen
             (λ state. presence_holds state.1) self.now.path_state self.now.seen }
     {
@@ -167,9 +192,16 @@ fn end_holds(
     match last_end {
         None => false,
         Some((_, how)) => {
-            agrees(successful_exit, matches!(how, Ended::Code(0))) || agrees(crashed, has_crashed)
+            agrees(successful_exit, is_success(how)) || agrees(crashed, has_crashed)
         }
     }
+}
+
+/// Whether a run ended with the code 0.
+fn is_success(how: Ended) -> bool
+    ensures { result ≡ is_success how }
+{
+    matches!(how, Ended::Code(0))
 }
 
 /// Whether a value is given, and is this one.

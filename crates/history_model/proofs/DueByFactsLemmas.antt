@@ -86,6 +86,9 @@ module _ (up at : ℕ) (order : up ≤ at) where
       let spawn = both at (coming_after up (SECOND * f.definition.throttle_interval) f.spawn_ordered) (coming_after up SECOND f.spawn_refused) inner.0 in
       record { period = outer.0; spawn = spawn.0; refusal = spawn.1; end = inner.1 }
 
+  pub throttled-same : (f : Facts) → IsLater at (next_by f up) → is_throttled_by f at ≡ is_throttled_by f up
+  throttled-same f later = let parts = parts-of f later in throttled f parts.spawn parts.refusal
+
   beside : (f : Facts) (c : Option (ℕ × ℕ)) → c ≡ f.living_child → Parts f → due_beside_by c f at ≡ due_beside_by c f up
   beside f None is parts = λ i. cond (not f.removes && is_wanted_by f && not (throttled f parts.spawn parts.refusal i)
       && not (f.definition.launch_only_once && f.spawned_before) && nat_lt f.run_count (2 ^ 63)) (Some (Spawn (f.run_count + 1) (first f.queue))) None

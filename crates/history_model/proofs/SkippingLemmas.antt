@@ -1,5 +1,5 @@
 -- A reading before the next moment of a job: the same is known of it, it owes the same order, and its next moment stays.
-use Rattle.std.proofs.Common.{◌≡◌, ◌≤◌, ◌<◌, ℕ, false, ◌||◌, Option, None, Some, ◌∷◌, refl, sym, ap, ◌∙◌, subst}
+use Rattle.std.proofs.Common.{◌≡◌, ◌≤◌, ◌<◌, ℕ, false, ◌||◌, cond, Option, None, Some, ◌∷◌, refl, sym, ap, ◌∙◌, subst}
 use Rattle.std.specs.Option.{ForSome}
 use Rattle.history_model.specs.declared.Reading.{Reading}
 use Rattle.history_model.specs.Items.{Read, History}
@@ -12,11 +12,14 @@ use Rattle.history_model.specs.DueByFacts.{due_by}
 use Rattle.history_model.specs.ByFacts.{fired_by, facts_after}
 use Rattle.history_model.specs.Keeps.{Keeps}
 use Rattle.history_model.specs.Coming.{next_by}
+use Rattle.history_model.specs.Reasons.{reasons_of}
+use Rattle.history_model.specs.ReasonsByFacts.{free_by, reasons_by}
 use Rattle.history_model.specs.Skipping.{IsLater}
 use Rattle.history_model.proofs.ByFactsLemmas.{due-by, facts-after}
 use Rattle.history_model.proofs.ComingLemmas.{next-by}
 use Rattle.history_model.proofs.ClockLemmas.{now-grows}
-use Rattle.history_model.proofs.DueByFactsLemmas.{due-same, crosses-none, next-same}
+use Rattle.history_model.proofs.DueByFactsLemmas.{due-same, crosses-none, next-same, throttled-same}
+use Rattle.history_model.proofs.ReasonsLemmas.{reasons-by}
 
 later-for : (up : ℕ) (moment : Option ℕ) → ForSome moment (λ m. up < m) → IsLater up moment
 later-for up None later = tt
@@ -53,6 +56,15 @@ module _ (at : Reading) (t : History) (lawful : IsLawful (Read at false ∷ t)) 
     moment-kept =
         next-by (Read at false ∷ t) lawful ∙ ap (λ f. next_by f at.up) facts-kept
         ∙ next-same (now t).up at.up order (facts_of t) by_facts_later ∙ sym (next-by t lawful.1)
+
+    -- what keeps its spawn from being due stays too
+    pub reasons-kept : reasons_of (Read at false ∷ t) ≡ reasons_of t
+    reasons-kept =
+        reasons-by (Read at false ∷ t) lawful ∙ ap (λ f. reasons_by f at.up) facts-kept
+        ∙ (λ i. record (reasons_by (facts_of t) (now t).up) {
+          throttled_until = cond (throttled-same (now t).up at.up order (facts_of t) by_facts_later i) (Some (free_by (facts_of t))) None;
+        })
+        ∙ sym (reasons-by t lawful.1)
 
   pub keeps-still : (f : Facts) → Keeps f t → ForSome (next_by f (now t).up) (λ m. at.up < m) → Keeps f (Read at false ∷ t)
   keeps-still f keeps later = record {

@@ -8,6 +8,7 @@ ghost use Rattle.history_model.specs.DueByFacts.{is_busy_by};
 
 mod events;
 mod orders;
+mod reasons;
 
 use crate::JobEvent;
 use crate::calendar::Calendar;

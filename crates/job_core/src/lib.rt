@@ -13,12 +13,13 @@ ghost use Rattle.history_model.specs.Keeps.{Keeps, reply, ordered};
 ghost use Rattle.history_model.specs.Due.{due};
 ghost use Rattle.history_model.specs.Moments as moments;
 ghost use Rattle.history_model.specs.Coming.{next_by};
+ghost use Rattle.history_model.specs.Reasons.{reasons_of, spawns_from};
 
 mod calendar;
 mod job;
 mod paths;
 
-use history_model::{Act, Answer, Ask, Ended, MAX_UP, Obs, Reading, Refusal, ShownJob};
+use history_model::{Act, Answer, Ask, Ended, MAX_UP, Obs, Reading, Reasons, Refusal, ShownJob};
 use job::Job;
 use job_defs::Def;
 use std::alloc::{AllocError, Global};
@@ -142,6 +143,25 @@ impl JobCore {
         ensures known { result ≡ next_by self.now.facts now.up }
     {
         self.job.next_moment(now.up)
+    }
+
+    /// What keeps the next spawn from being due, and what wants the job: all that holds. It takes no memory, and changes nothing.
+    pub fn reasons(&self, now: Reading) -> Reasons
+        ensures { (past : History) → Keeps self.now.facts past → now ≡ clock.now past →
+            result ≡ reasons_of past }
+    {
+        self.job.reasons(now.up)
+    }
+
+    /// The moment, in milliseconds of `up`, from which a reading makes the spawn due if nothing but readings happens and no calendar
+    /// entry fires: that of the throttle's end, or of the next end of the interval if nothing wants the job before. None if
+    /// no reading does. It takes no memory, and changes nothing.
+    pub fn spawns_from(&self, now: Reading) -> Option<u64>
+        requires { now.up ≤ MAX_UP }
+        ensures { (past : History) → Keeps self.now.facts past → now ≡ clock.now past →
+            result ≡ spawns_from past }
+    {
+        self.job.spawns_from(now.up)
     }
 
     /// What is shown of the job.

@@ -23,3 +23,4 @@ pub mod Index
 pub mod Touching
 pub mod Touched
 pub mod Ends
+pub mod Waking

@@ -4,13 +4,15 @@
 ghost use Rattle.std.specs.Prelude.{◌≡◌, ◌≤◌, Bool, true, false, Some, None, Err, IsOk, IfOk, IfErr, MatchResult, length};
 ghost use Rattle.std.specs.Borrow.{sem};
 ghost use Rattle.std.specs.String.{string_bytes};
+ghost use Rattle.std.specs.Option.{option_map};
+ghost use Rattle.history_model.specs.Reasons.{reasons_of};
 ghost use Rattle.history_model.specs.declared.Answer.TheVariants as answers;
 ghost use Rattle.history_model.specs.declared.TheConstants.{MAX_UP, MAX_WALL};
 ghost use Rattle.calendar_due.specs.Rules.{minute_at};
 ghost use Rattle.history_model.specs.Acceptance.{refusal_in};
 ghost use Rattle.history_model.specs.Items.{Asked, Answered, Came, Left, RunEnded, WaitRefused};
 ghost use Rattle.history_model.specs.declared.Refusal.TheVariants.{NoMemory};
-ghost use Rattle.history_model.specs.Machine.{State, opened, ListJobs, PrintJob, OfJob, UnloadJob, ShutDown, Tick, Sight};
+ghost use Rattle.history_model.specs.Machine.{State, opened, past_of, ListJobs, PrintJob, OfJob, UnloadJob, ShutDown, Tick, Sight};
 
 mod advance;
 mod after;
@@ -33,10 +35,11 @@ mod texts;
 mod trigger;
 mod triggers;
 mod visit;
+mod why;
 
 use calendar_due::Zone;
 pub use changing::NewSetting;
-use history_model::{Answer, Ask, Ended, JobNo, Obs, Order, Reading, Refusal, Setting};
+use history_model::{Answer, Ask, Ended, JobNo, Obs, Order, Reading, Reasons, Refusal, Setting};
 pub use job_core::JobEvent;
 use job_defs::Def;
 use jobs::Jobs;
@@ -105,6 +108,7 @@ impl JobTable {
     ghost use Rattle.job_table.specs.Opening.{opening_refusal};
     ghost use Rattle.job_table.specs.Minutes.{has_calendars};
     ghost use Rattle.job_table.specs.Numbers.{IsNumbered};
+    ghost use Rattle.job_table.specs.Waking.{waking, spawning};
     ghost use Rattle.job_table.specs.Triggers.{listed_in};
     ghost use Rattle.history_model.specs.Clock.{reading_in};
     ghost use Rattle.job_core.specs.Events.{item_of};
@@ -383,6 +387,32 @@ impl JobTable {
             KeepsState self.now s → refusal_in s (PrintJob label.now) ≡ Some refusal)) }
     {
         self.jobs.print(alloc, label)
+    }
+
+    /// What keeps the next spawn of the job with this label from being due at the last reading, and what wants the job: all that holds.
+    /// None if no such job is loaded. It takes no memory, and changes nothing.
+    pub fn reasons(&self, label: &str) -> Option<Reasons>
+        ensures { (s : State) → KeepsState self.now s →
+            result ≡ option_map reasons_of (past_of s label.now) }
+    {
+        self.jobs.reasons(label)
+    }
+
+    /// The next moment, in milliseconds of `up` and after the last reading, at which time alone may make an order of the job with
+    /// this label due, by its interval, its throttle, its time to end or a refused order; those of its calendar are left aside.
+    /// None if there is no such moment, and if no such job is loaded. It takes no memory, and changes nothing.
+    pub fn wakes(&self, label: &str) -> Option<u64>
+        ensures { (s : State) → KeepsState self.now s → result ≡ waking (past_of s label.now) }
+    {
+        self.jobs.wakes(label)
+    }
+
+    /// The moment, in milliseconds of `up`, from which a reading makes the spawn of the job with this label due if nothing but
+    /// readings happens and no calendar entry fires. None if no reading does, and if no such job is loaded. It takes no memory, and changes nothing.
+    pub fn spawns_from(&self, label: &str) -> Option<u64>
+        ensures { (s : State) → KeepsState self.now s → result ≡ spawning (past_of s label.now) }
+    {
+        self.jobs.spawns_from(label)
     }
 
     /// Whether no job is loaded.

@@ -11,7 +11,7 @@ use history_model::{Act, MAX_UP};
 use pace::sooner;
 
 /// How many runs a load has at most.
-const MAX_RUNS: u64 = 1 << 63;
+pub const MAX_RUNS: u64 = 1 << 63;
 
 impl Job {
     ghost use Rattle.job_core.specs.Fields.{facts};
@@ -31,7 +31,7 @@ impl Job {
     }
 
     /// Whether a demand is pending, a connection waits, or a level holds.
-    fn is_wanted(&self) -> bool
+    pub fn is_wanted(&self) -> bool
         ensures { result ≡ is_wanted_by (facts self.now) }
     {
         self.has_demand || self.waiting.first().is_some() || self.level_holds()

@@ -1,0 +1,102 @@
+-- Worked examples of why a job has no spawn due (launchd.plist(5): RunAtLoad, KeepAlive, ThrottleInterval, LaunchOnlyOnce;
+-- launchctl(1): unload, kickstart). Each is a theorem that computes.
+use Rattle.std.specs.Prelude.{◌≡◌, ℕ, Bool, true, false, List, [], ◌∷◌, Option, Some, None, refl}
+use Rattle.history_model.specs.declared.Ended.TheVariants.{Code}
+use Rattle.history_model.specs.declared.Act.TheVariants.{Spawn, Term}
+use Rattle.history_model.specs.declared.Answer.TheVariants.{Spawned, SpawnRefused}
+use Rattle.history_model.specs.declared.Ask.TheVariants.{Start, Unload, Kickstart}
+use Rattle.history_model.specs.declared.reasons.Wants.{Wants}
+use Rattle.history_model.specs.declared.reasons.Reasons.{Reasons}
+use Rattle.history_model.specs.Items.{Definition, Item, Loaded, Read, Asked, Came, Answered, RunEnded, History}
+use Rattle.history_model.specs.Clock.{no_definition}
+use Rattle.history_model.specs.Refusals.{refusal_of}
+use Rattle.history_model.specs.Reasons.{reasons_of, some_reason, waits_alone, standing_child}
+use Rattle.history_model.proofs.ExampleWords.{read_at, at_load}
+use Rattle.history_model.proofs.ThrottleExamples.{behind}
+
+-- ---- words of the examples
+
+-- the past after these events, oldest first, each with the order that is then due
+abbrev pub past_by : List Item → History → History
+past_by [] t = t
+past_by (x ∷ xs) t = past_by xs (behind (refusal_of x t) x t)
+
+-- why nothing is ordered after these events
+abbrev pub why : List Item → Reasons
+why xs = reasons_of (past_by xs [])
+
+-- nothing wants the job
+abbrev pub no_wants : Wants
+no_wants = record { demand = false; connections = 0; keep_alive = false; successful_exit = false; crashed = false; path_state = false; queue_directories = false }
+
+-- no reason but that nothing wants the job
+abbrev pub unwanted : Reasons
+unwanted = record { is_removing = false; child = None; awaited = None; wants = no_wants; throttled_until = None; is_launch_spent = false; are_runs_spent = false }
+
+-- a job that is kept alive
+abbrev pub kept_alive : Definition
+kept_alive = record no_definition { keep_alive = true }
+
+-- ---- the examples
+
+-- nothing wants a job without demands
+pub idle : why (Loaded no_definition (read_at 0) ∷ []) ≡ unwanted
+idle = refl
+
+-- the answer to the spawn is awaited; the throttle runs from the order
+pub spawning : why (Loaded at_load (read_at 0) ∷ [])
+    ≡ record unwanted { awaited = Some (Spawn 1 None); wants = record no_wants { demand = true }; throttled_until = Some 10000 }
+spawning = refl
+
+-- a child, a throttle, and nothing that wants another run
+pub running : why (Loaded at_load (read_at 0) ∷ Answered (Spawned 1 812) ∷ Read (read_at 4000) false ∷ [])
+    ≡ record unwanted { child = Some (standing_child false false (1, 812)); throttled_until = Some 10000 }
+running = refl
+
+-- a job that is kept alive, and whose run ended early, waits for its throttle alone
+pub throttled : why (Loaded kept_alive (read_at 0) ∷ Answered (Spawned 1 812) ∷ Read (read_at 4000) false ∷ RunEnded 1 (Code 0) ∷ [])
+    ≡ record unwanted { wants = record no_wants { keep_alive = true }; throttled_until = Some 10000 }
+throttled = refl
+
+pub throttled_alone : waits_alone (why (Loaded kept_alive (read_at 0) ∷ Answered (Spawned 1 812) ∷ Read (read_at 4000) false ∷ RunEnded 1 (Code 0) ∷ [])) ≡ true
+throttled_alone = refl
+
+-- of a refused spawn the order counts if that wait is longer, and the refusal if that one is
+pub refused : why (Loaded at_load (read_at 0) ∷ Read (read_at 4000) false ∷ Answered (SpawnRefused 1) ∷ [])
+    ≡ record unwanted { wants = record no_wants { demand = true }; throttled_until = Some 10000 }
+refused = refl
+
+pub refused_late : why (Loaded at_load (read_at 0) ∷ Read (read_at 9500) false ∷ Answered (SpawnRefused 1) ∷ [])
+    ≡ record unwanted { wants = record no_wants { demand = true }; throttled_until = Some 10500 }
+refused_late = refl
+
+-- all that holds is told: the job is being removed, its child is stopped, the answer to TERM is awaited, nothing wants it, it is
+-- throttled, and it may run once only; a kickstart -k after the unload is refused, and so no reason
+pub all_at_once : why (
+    Loaded (record at_load { launch_only_once = true }) (read_at 0) ∷ Answered (Spawned 1 7) ∷ Read (read_at 4000) false ∷ Asked (Kickstart false)
+    ∷ Asked Unload ∷ Asked (Kickstart true) ∷ []
+    )
+    ≡ record unwanted {
+      is_removing = true;
+      child = Some (standing_child true false (1, 7));
+      awaited = Some (Term 1);
+      throttled_until = Some 10000;
+      is_launch_spent = true;
+    }
+all_at_once = refl
+
+-- a job that may run once and did
+pub spent : why (
+    Loaded (record at_load { launch_only_once = true }) (read_at 0) ∷ Answered (Spawned 1 7) ∷ RunEnded 1 (Code 0) ∷ Read (read_at 60000) false
+    ∷ Asked Start ∷ []
+    )
+    ≡ record unwanted { wants = record no_wants { demand = true }; is_launch_spent = true }
+spent = refl
+
+-- what wants it is told each for itself: two waiting connections and a condition on the last end
+pub wants : (why (
+    Loaded (record no_definition { has_sockets = true; successful_exit = Some true }) (read_at 0) ∷ Answered (Spawned 1 7) ∷ Came 1 ∷ Came 2
+    ∷ RunEnded 1 (Code 0) ∷ []
+    )).wants
+    ≡ record no_wants { connections = 2; successful_exit = true }
+wants = refl

@@ -1,0 +1,52 @@
+//! Why a job has no spawn due: what keeps it back, and what wants it.
+
+use crate::Act;
+
+/// What wants a job, each way for itself (launchd.plist(5)). A job that nothing wants has no spawn due.
+#[derive(Clone, Copy)]
+pub struct Wants {
+    /// A one-shot demand is pending.
+    pub demand: bool,
+    /// How many connections wait.
+    pub connections: usize,
+    /// `KeepAlive` is true.
+    pub keep_alive: bool,
+    /// The last end is as the condition `SuccessfulExit` says.
+    pub successful_exit: bool,
+    /// The last end is as the condition `Crashed` says.
+    pub crashed: bool,
+    /// A path of `PathState` was last seen as its condition says.
+    pub path_state: bool,
+    /// A directory of `QueueDirectories` was last seen with something in it.
+    pub queue_directories: bool,
+}
+
+/// The child of a job, and whether its end was asked for.
+#[derive(Clone, Copy)]
+pub struct StandingChild {
+    pub run: u64,
+    pub pid: u32,
+    /// A stop, an unload or a shutdown was asked.
+    pub is_stopped: bool,
+    /// A `kickstart -k` was asked.
+    pub is_struck: bool,
+}
+
+/// What keeps the next spawn of a job from being due: all that holds, not the first alone.
+#[derive(Clone, Copy)]
+pub struct Reasons {
+    /// An unload or a shutdown was asked.
+    pub is_removing: bool,
+    /// A run lives.
+    pub child: Option<StandingChild>,
+    /// The order whose answer is awaited.
+    pub awaited: Option<Act>,
+    /// What wants the job; it is a reason if nothing does.
+    pub wants: Wants,
+    /// If the job is throttled, the least `up` from which it is not.
+    pub throttled_until: Option<u64>,
+    /// `LaunchOnlyOnce` stands, and a spawn succeeded.
+    pub is_launch_spent: bool,
+    /// 2^63 spawns were ordered.
+    pub are_runs_spent: bool,
+}

@@ -1,0 +1,98 @@
+//! Why one job has no spawn due.
+
+ghost use Rattle.std.specs.Prelude.{◌≡◌, ◌≤◌};
+ghost use Rattle.std.specs.Option.{option_map};
+ghost use Rattle.history_model.specs.Reasons.{standing_child};
+ghost use Rattle.history_model.specs.ReasonsByFacts.{wants_by, throttled_until_by, reasons_by, needs_by, spawns_from_by};
+
+use super::Job;
+use super::orders::MAX_RUNS;
+use history_model::{MAX_UP, Reasons, StandingChild, Wants};
+
+impl Job {
+    ghost use Rattle.job_core.specs.Fields.{facts};
+
+    /// What wants the job.
+    fn wants(&self) -> Wants
+        ensures { result ≡ wants_by (facts self.now) }
+    {
+        Wants {
+            demand: self.has_demand,
+            connections: self.waiting.len(),
+            keep_alive: self.conditions.is_kept_alive(),
+            successful_exit: self.conditions.exit_wants(),
+            crashed: self.conditions.crash_wants(),
+            path_state: self.conditions.path_holds(),
+            queue_directories: self.queues.holds(),
+        }
+    }
+
+    /// The end of the throttle, if it is not over.
+    fn throttled_until(&self, up: u64) -> Option<u64>
+        ensures { result ≡ throttled_until_by (facts self.now) up }
+    {
+        let free = self.throttle.free_at();
+        if up < free { Some(free) } else { None }
+    }
+
+    /// The child, and whether its end was asked for.
+    fn standing_child(&self) -> Option<StandingChild>
+        ensures { result ≡ option_map
+            (standing_child (facts self.now).stops (facts self.now).strikes)
+            (facts self.now).living_child }
+    {
+        match self.child {
+            None => None,
+            Some((run, pid)) => Some(StandingChild {
+                run,
+                pid,
+                is_stopped: self.stops,
+                is_struck: self.ending.is_struck(),
+            }),
+        }
+    }
+
+    /// All that keeps the next spawn from being due.
+    pub fn reasons(&self, up: u64) -> Reasons
+        ensures { result ≡ reasons_by (facts self.now) up }
+    {
+        Reasons {
+            is_removing: self.removes,
+            child: self.standing_child(),
+            awaited: self.awaited,
+            wants: self.wants(),
+            throttled_until: self.throttled_until(up),
+            is_launch_spent: self.launch_only_once && self.spawned_before,
+            are_runs_spent: self.runs >= MAX_RUNS,
+        }
+    }
+
+    /// Whether only an event of the job, and no reading, can bring a spawn.
+    fn needs_event(&self) -> bool
+        ensures { result ≡ needs_by (facts self.now) }
+    {
+        self.removes
+            || self.child.is_some()
+            || self.awaited.is_some()
+            || (self.launch_only_once && self.spawned_before)
+            || self.runs >= MAX_RUNS
+    }
+
+    /// The moment from which a reading makes the spawn due, if nothing else happens and no calendar entry fires.
+    pub fn spawns_from(&self, up: u64) -> Option<u64>
+        requires { up ≤ MAX_UP }
+        ensures { result ≡ spawns_from_by (facts self.now) up }
+    {
+        if self.needs_event() {
+            return None;
+        }
+        let free = self.throttle.free_at();
+        if self.is_wanted() {
+            return Some(free);
+        }
+        match self.interval.next_moment(up) {
+            None => None,
+            Some(moment) => Some(free.max(moment)),
+        }
+    }
+}

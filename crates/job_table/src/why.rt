@@ -1,0 +1,52 @@
+//! Why a loaded job has no spawn due, and when time alone may change that.
+
+ghost use Rattle.std.specs.Prelude.{◌≡◌};
+ghost use Rattle.std.specs.Option.{option_map};
+ghost use Rattle.history_model.specs.Machine.{State, past_of};
+ghost use Rattle.history_model.specs.Reasons.{reasons_of};
+ghost use Rattle.job_table.specs.Kept.{KeepsState};
+ghost use Rattle.job_table.specs.Waking.{waking, spawning};
+
+use crate::find::place_here;
+use crate::jobs::Jobs;
+use history_model::Reasons;
+
+impl Jobs {
+    ghost use Rattle.job_table.specs.Sound.{seen, IsSound};
+
+    /// What keeps the spawn of the job with this label from being due, at the last reading; none if no such job is loaded.
+    pub fn reasons(&self, label: &str) -> Option<Reasons>
+        requires { IsSound self.now }
+        ensures { (s : State) → KeepsState (seen self.now) s →
+            result ≡ option_map reasons_of (past_of s label.now) }
+    {
+        match place_here(&self.entries, label) {
+            None => None,
+            Some(place) => Some(self.entries[place].core.reasons(self.reading)),
+        }
+    }
+
+    /// The next moment, after the last reading, at which time alone may make an order of the job due.
+    pub fn wakes(&self, label: &str) -> Option<u64>
+        requires { IsSound self.now }
+        ensures { (s : State) → KeepsState (seen self.now) s →
+            result ≡ waking (past_of s label.now) }
+    {
+        match place_here(&self.entries, label) {
+            None => None,
+            Some(place) => self.entries[place].core.next_moment(self.reading),
+        }
+    }
+
+    /// The moment from which a reading makes the job's spawn due, if nothing but readings happens and no calendar entry fires.
+    pub fn spawns_from(&self, label: &str) -> Option<u64>
+        requires { IsSound self.now }
+        ensures { (s : State) → KeepsState (seen self.now) s →
+            result ≡ spawning (past_of s label.now) }
+    {
+        match place_here(&self.entries, label) {
+            None => None,
+            Some(place) => self.entries[place].core.spawns_from(self.reading),
+        }
+    }
+}
