@@ -2,7 +2,7 @@
 
 ghost use Rattle.std.specs.Prelude.{◌<◌, IfOk};
 
-use history_model::{Ended, JobNo};
+use history_model::{Ended, JobNo, Text};
 use slab::Slab;
 use std::alloc::Global;
 use std::collections::BTreeMap;
@@ -10,19 +10,30 @@ use std::io;
 use std::io::ErrorKind;
 use std::os::unix::process::ExitStatusExt;
 use std::process::{Child, Command, ExitStatus, OpenProcess, Processes, Stdio};
+use std::time::Instant;
 
-/// A child, and the connection that its run serves.
+/// What is kept of a run beside its child: the connection that it serves, its job's label if there was memory for it, and its
+/// start if that is to be told.
+#[derive(Drop)]
+pub(crate) struct Kept {
+    pub(crate) conn: Option<u64>,
+    pub(crate) label: Option<Text>,
+    pub(crate) since: Option<Instant>,
+}
+
 #[derive(Drop)]
 struct Started<P: OpenProcess + Drop> {
     child: Child<P>,
-    conn: Option<u64>,
+    kept: Kept,
+    // The system refused to wait for it: its process id may be another's.
+    is_lost: bool,
 }
 
-/// A run's end, and the connection that it served.
-#[derive(Clone, Copy)]
+/// A run's end, and what was kept of it.
+#[derive(Drop)]
 pub(crate) struct End {
     pub(crate) ended: Ended,
-    pub(crate) conn: Option<u64>,
+    pub(crate) kept: Kept,
 }
 
 /// Children, each under a number of its own, and the number of each run that has one. A child that was not waited for
@@ -50,7 +61,7 @@ impl<P: OpenProcess + Drop> Children<P> {
         rt: &R,
         job: JobNo,
         run: u64,
-        conn: Option<u64>,
+        kept: Kept,
         command: &mut Command,
     ) -> io::Result<u32>
         ensures { IfOk result (λ pid. 0 < pid) }
@@ -63,7 +74,11 @@ impl<P: OpenProcess + Drop> Children<P> {
         self.numbers.insert((job, run), number)?;
         match spawn(rt, command) {
             Ok((pid, child)) => {
-                self.started.insert_reserved(Started { child, conn });
+                self.started.insert_reserved(Started {
+                    child,
+                    kept,
+                    is_lost: false,
+                });
                 Ok(pid)
             }
             Err(error) => {
@@ -73,23 +88,39 @@ impl<P: OpenProcess + Drop> Children<P> {
         }
     }
 
-    fn child(&mut self, job: JobNo, run: u64) -> io::Result<&mut Child<P>> {
-        let number = self.numbers.get(&(job, run)).copied();
-        match self.started.get_mut(number.unwrap_or(usize::MAX)) {
-            Some(started) => Ok(&mut started.child),
+    fn number(&self, job: JobNo, run: u64) -> usize {
+        self.numbers.get(&(job, run)).copied().unwrap_or(usize::MAX)
+    }
+
+    fn started(&mut self, job: JobNo, run: u64) -> io::Result<&mut Started<P>> {
+        let number = self.number(job, run);
+        match self.started.get_mut(number) {
+            Some(started) => Ok(started),
             None => Err(io::Error::from(ErrorKind::NotFound)),
         }
     }
 
-    /// Gives the run's child TERM, by running `sh`, and says whether that ended well.
+    /// The label of the run's job, if the run has a child.
+    pub(crate) fn label(&self, job: JobNo, run: u64) -> Option<&str> {
+        let started = self.started.get(self.number(job, run))?;
+        let label = started.kept.label.as_ref()?;
+        Some(label.as_str())
+    }
+
+    /// Gives the run's child TERM, by running `sh`. It is refused for a child that the system refused to wait for, as its
+    /// process id may be another's.
     pub(crate) fn term<R: Processes<Started = P>>(
         &mut self,
         rt: &R,
         job: JobNo,
         run: u64,
-    ) -> io::Result<bool> {
+    ) -> io::Result<()> {
         let alloc = self.alloc;
-        let pid = self.child(job, run)?.id();
+        let started = self.started(job, run)?;
+        if started.is_lost {
+            return Err(io::Error::other("it can't be waited for, so its number may be another's"));
+        }
+        let pid = started.child.id();
         let text = format!(in alloc; "kill -s TERM {pid}")?;
         let mut command = Command::new(alloc, "/bin/sh")?;
         command.arg("-c")?;
@@ -97,12 +128,16 @@ impl<P: OpenProcess + Drop> Children<P> {
         command.stdin(Stdio::null());
         command.stdout(Stdio::null());
         command.stderr(Stdio::null());
-        Ok(command.status(rt)?.success())
+        if command.status(rt)?.success() {
+            Ok(())
+        } else {
+            Err(io::Error::other("kill of /bin/sh was refused"))
+        }
     }
 
     /// Gives the run's child KILL.
     pub(crate) fn kill(&mut self, job: JobNo, run: u64) -> io::Result<()> {
-        self.child(job, run)?.kill()
+        self.started(job, run)?.child.kill()
     }
 
     /// The first child, from the job of this number on, that has ended or whose wait the system refuses: its job and run. It
@@ -118,24 +153,33 @@ impl<P: OpenProcess + Drop> Children<P> {
 
     /// How the run's child ended, if it did. It is then waited for, and gone.
     pub(crate) fn poll(&mut self, job: JobNo, run: u64) -> io::Result<Option<End>> {
-        let Some(status) = self.child(job, run)?.try_wait()? else {
+        let Some(status) = try_wait(self.started(job, run)?)? else {
             return Ok(None);
         };
-        let number = self.numbers.remove(&(job, run));
-        let started = self.started.try_remove(number.unwrap_or(usize::MAX));
-        Ok(Some(End {
-            ended: end_of(status),
-            conn: started.and_then(|gone| gone.conn),
-        }))
+        let number = self.numbers.remove(&(job, run)).unwrap_or(usize::MAX);
+        match self.started.try_remove(number) {
+            Some(gone) => Ok(Some(End {
+                ended: end_of(status),
+                kept: gone.kept,
+            })),
+            None => Err(io::Error::from(ErrorKind::NotFound)),
+        }
     }
 }
 
 // Whether a poll of the child would tell more than that it runs.
 fn is_over<P: OpenProcess + Drop>(started: &mut Slab<Started<P>>, number: usize) -> bool {
     match started.get_mut(number) {
-        Some(started) => !matches!(started.child.try_wait(), Ok(None)),
+        Some(started) => !matches!(try_wait(started), Ok(None)),
         None => true,
     }
+}
+
+// How the child ended, if it did. It notes whether the system refused to tell.
+fn try_wait<P: OpenProcess + Drop>(started: &mut Started<P>) -> io::Result<Option<ExitStatus>> {
+    let answer = started.child.try_wait();
+    started.is_lost = answer.is_err();
+    answer
 }
 
 fn spawn<R: Processes>(rt: &R, command: &mut Command) -> io::Result<(u32, Child<R::Started>)>

@@ -16,6 +16,8 @@ pub(crate) struct Connections {
     alloc: Global,
     folder: String,
     held: BTreeMap<(JobNo, u64), Connection>,
+    // As many are held at a time.
+    room: usize,
 }
 
 impl Connections {
@@ -24,7 +26,13 @@ impl Connections {
             alloc,
             folder,
             held: BTreeMap::new(alloc),
+            room: 256,
         }
+    }
+
+    /// From now on as many are held at a time.
+    pub(crate) fn set_room(&mut self, room: usize) {
+        self.room = room;
     }
 
     /// Spools the request and holds the connection. A number that is in use is refused. After an `Err` the client is let

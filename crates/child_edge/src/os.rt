@@ -3,25 +3,30 @@
 ghost use Rattle.std.specs.Prelude.{◌≡◌, ◌<◌, None, IfOk, OnOk, OnErr};
 ghost use Rattle.child_edge.specs.Calls.{one_more};
 
-use crate::children::Children;
+use crate::children::{Children, End, Kept};
 use crate::command::{Streams, command_of};
 use crate::connections::Connections;
+use crate::failure::{Failure, Part};
 use crate::fault::fault_of;
+use crate::notices::{Asked, Notices};
 use crate::sockets::Sockets;
-use crate::streams::{read_from, write_to};
-use crate::{ChildEdge, Client, ClockEdge, Edge, EdgeFault, PathEdge, SocketEdge, clock, paths};
-use history_model::{Ended, JobNo, Obs, Reading};
+use crate::streams::{own_streams, served_streams};
+use crate::{
+    ChildEdge, Client, ClockEdge, Edge, EdgeFault, Notice, PathEdge, SocketEdge, clock, paths,
+    words,
+};
+use history_model::{Ended, JobNo, Obs, Reading, Text};
 use job_defs::Def;
 use mio::{Registry, Token};
 use socket_demand::Exchange;
 use std::alloc::Global;
 use std::fs::{File, Files};
-use std::io;
 use std::marker::Model;
 use std::net::Net;
 use std::process::Processes;
 use std::rt::Clock;
 use std::time::Instant;
+use std::{fs, io};
 
 /// Does what is asked by the system of its runtime, and counts what fails.
 #[derive(Drop)]
@@ -32,6 +37,8 @@ pub struct OsEdge<R: Processes> {
     children: Children<R::Started>,
     sockets: Sockets,
     connections: Connections,
+    notices: Notices,
+    logs_runs: bool,
     failures: u64,
 }
 
@@ -57,6 +64,8 @@ impl<R: Clock + Drop + Processes> OsEdge<R> {
             children: Children::new(alloc),
             sockets: Sockets::new(alloc),
             connections: Connections::new(alloc, spool),
+            notices: Notices::new(alloc),
+            logs_runs: false,
             failures: 0,
         })
     }
@@ -70,8 +79,35 @@ impl<R: Processes> OsEdge<R> {
         self.failures
     }
 
-    /// The next client that waits at one of the job's sockets, if there is one. Takes no memory.
-    pub fn accept(&self, job: JobNo) -> Option<Client> {
+    /// The oldest of what is to be told and was not, if there is something: what the system refused, with its own reason, and
+    /// what became of runs if [`log_runs`](OsEdge::log_runs) asked for that. 64 wait at most; of further ones the number is told.
+    /// A refusal is told at its first time, when its reason changes, and anew after the call was done. Want of memory drops it.
+    pub fn next_notice(&mut self) -> Option<Notice>
+        ensures { self.new ≡ self.old }
+    {
+        self.notices.next()
+    }
+
+    /// From now on each start, end, TERM and KILL of a run is told too. Takes no memory.
+    pub fn log_runs(&mut self)
+        ensures { self.new ≡ self.old }
+    {
+        self.logs_runs = true;
+    }
+
+    /// From now on as many connections of jobs' sockets are held at a time by the whole launcher (256 if this was never
+    /// called). Takes no memory.
+    pub fn set_room(&mut self, connections: usize)
+        ensures { self.new ≡ self.old }
+    {
+        self.connections.set_room(connections);
+    }
+
+    /// The next client that waits at one of the job's sockets, if there is one. A client that the system does not let in is
+    /// told as a notice, once until one comes in.
+    pub fn accept(&mut self, job: JobNo) -> Option<Client>
+        ensures { self.new ≡ self.old }
+    {
         self.sockets.accept(job)
     }
 
@@ -141,40 +177,113 @@ impl<R: Files<File = File> + Processes> OsEdge<R> {
     }
 
     // A run that serves a connection reads its request and writes its reply.
-    fn streams(&self, job: JobNo, def: &Def, conn: Option<u64>) -> io::Result<Streams> {
-        let (input, output) = match conn {
-            None => (def.standard_in_path(), def.standard_out_path()),
-            Some(conn) => {
-                let paths = self.connections.paths(job, conn)?;
-                (Some(paths.request()), Some(paths.reply()))
-            }
+    fn streams(&self, job: JobNo, def: &Def, conn: Option<u64>) -> Result<Streams, Failure> {
+        let Some(conn) = conn else {
+            return own_streams(&self.rt, def);
         };
-        Ok(Streams {
-            input: read_from(&self.rt, input)?,
-            output: write_to(&self.rt, output)?,
-            errors: write_to(&self.rt, def.standard_error_path())?,
-        })
+        match self.connections.paths(job, conn) {
+            Ok(paths) => served_streams(&self.rt, def, paths),
+            Err(error) => Err(Failure {
+                part: Part::Request,
+                error,
+            }),
+        }
     }
+}
 
-    fn launch(&mut self, job: JobNo, run: u64, def: &Def, conn: Option<u64>) -> io::Result<u32>
+impl<R: Clock + Files<File = File> + Processes> OsEdge<R> {
+    fn launch(&mut self, job: JobNo, run: u64, def: &Def, conn: Option<u64>) -> Result<u32, Failure>
         ensures pid { IfOk result (λ pid. 0 < pid) }
         ensures failures { self.new ≡ self.old }
     {
         let streams = self.streams(job, def, conn)?;
-        let mut command = command_of(self.alloc, def, streams)?;
-        self.children.start(&self.rt, job, run, conn, &mut command)
+        let kept = self.kept(def, conn);
+        match self.spawn(job, run, def, kept, streams) {
+            Ok(pid) => Ok(pid),
+            Err(error) => Err(culprit(&self.rt, self.alloc, def, error)),
+        }
     }
 
-    fn wait(&mut self, job: JobNo, run: u64) -> io::Result<Option<Ended>>
+    fn spawn(
+        &mut self,
+        job: JobNo,
+        run: u64,
+        def: &Def,
+        kept: Kept,
+        streams: Streams,
+    ) -> io::Result<u32>
+        ensures pid { IfOk result (λ pid. 0 < pid) }
+        ensures failures { self.new ≡ self.old }
+    {
+        let mut command = command_of(self.alloc, def, streams)?;
+        self.children.start(&self.rt, job, run, kept, &mut command)
+    }
+
+    fn kept(&self, def: &Def, conn: Option<u64>) -> Kept {
+        let since = if self.logs_runs {
+            Instant::now(&self.rt).ok()
+        } else {
+            None
+        };
+        Kept {
+            conn,
+            label: Text::copy_of(self.alloc, def.label()).ok(),
+            since,
+        }
+    }
+
+    // The run's child ended so.
+    fn end(&mut self, job: JobNo, run: u64, end: End) -> Ended
         ensures { self.new ≡ self.old }
     {
-        let Some(end) = self.children.poll(job, run)? else {
-            return Ok(None);
-        };
-        if let Some(conn) = end.conn {
+        let End { ended, kept } = end;
+        if let Some(conn) = kept.conn {
             self.connections.end(job, conn);
         }
-        Ok(Some(end.ended))
+        if self.logs_runs {
+            let took = match kept.since {
+                Some(since) => since.elapsed(&self.rt).ok(),
+                None => None,
+            };
+            if let Some(label) = &kept.label {
+                let line = words::ended(self.alloc, label.as_str(), run, ended, took);
+                self.notices.run(line);
+            }
+        }
+        ended
+    }
+}
+
+impl<R: Processes> OsEdge<R> {
+    // The run got the signal, or the system refused that.
+    fn tell_signal(
+        &mut self,
+        job: JobNo,
+        run: u64,
+        asked: Asked,
+        signal: &str,
+        answer: io::Result<()>,
+    ) -> io::Result<()>
+        ensures failures { self.new ≡ self.old }
+        ensures answer { result ≡ answer }
+    {
+        let Some(label) = self.children.label(job, run) else {
+            return answer;
+        };
+        match answer {
+            Ok(()) => {
+                self.notices.done(job, asked);
+                if self.logs_runs {
+                    let line = words::signalled(self.alloc, label, run, signal);
+                    self.notices.run(line);
+                }
+            }
+            Err(error) => {
+                let what = words::cannot(self.alloc, signal, error);
+                self.notices.refused(job, asked, label, Some(run), what);
+            }
+        }
+        answer
     }
 }
 
@@ -184,7 +293,7 @@ impl<R: Processes> Edge for OsEdge<R> {
     ghost failures = { λ failures. failures };
 }
 
-impl<R: Files<File = File> + Processes> ChildEdge for OsEdge<R> {
+impl<R: Clock + Files<File = File> + Processes> ChildEdge for OsEdge<R> {
     fn start(
         &mut self,
         job: JobNo,
@@ -192,40 +301,93 @@ impl<R: Files<File = File> + Processes> ChildEdge for OsEdge<R> {
         def: &Def,
         conn: Option<u64>,
     ) -> Result<u32, EdgeFault> {
+        if run <= 1 {
+            self.notices.begin(job);
+        }
         match self.launch(job, run, def, conn) {
-            Ok(pid) => Ok(pid),
-            Err(error) => Err(self.fail(error)),
+            Ok(pid) => {
+                self.notices.done(job, Asked::Start);
+                if self.logs_runs {
+                    let line = words::started(self.alloc, def.label(), run, pid);
+                    self.notices.run(line);
+                }
+                Ok(pid)
+            }
+            Err(failure) => {
+                let what = failure.words(self.alloc, def).ok();
+                self.notices
+                    .refused(job, Asked::Start, def.label(), Some(run), what);
+                Err(self.fail(failure.error))
+            }
         }
     }
 
     fn term(&mut self, job: JobNo, run: u64) -> Result<(), EdgeFault> {
-        match self.children.term(&self.rt, job, run) {
-            Ok(true) => Ok(()),
-            Ok(false) => Err(self.fail(io::Error::from(io::ErrorKind::Other))),
+        let answer = self.children.term(&self.rt, job, run);
+        match self.tell_signal(job, run, Asked::Term, "TERM", answer) {
+            Ok(()) => Ok(()),
             Err(error) => Err(self.fail(error)),
         }
     }
 
     fn kill(&mut self, job: JobNo, run: u64) -> Result<(), EdgeFault> {
-        match self.children.kill(job, run) {
+        let answer = self.children.kill(job, run);
+        match self.tell_signal(job, run, Asked::Kill, "KILL", answer) {
             Ok(()) => Ok(()),
             Err(error) => Err(self.fail(error)),
         }
     }
 
     fn poll(&mut self, job: JobNo, run: u64) -> Result<Option<Ended>, EdgeFault> {
-        match self.wait(job, run) {
-            Ok(ended) => Ok(ended),
-            Err(error) => Err(self.fail(error)),
+        match self.children.poll(job, run) {
+            Ok(None) => Ok(None),
+            Ok(Some(end)) => {
+                self.notices.done(job, Asked::Wait);
+                Ok(Some(self.end(job, run, end)))
+            }
+            Err(error) => {
+                if let Some(label) = self.children.label(job, run) {
+                    let what = words::cannot(self.alloc, "wait for its end", error);
+                    self.notices
+                        .refused(job, Asked::Wait, label, Some(run), what);
+                }
+                Err(self.fail(error))
+            }
         }
     }
+}
+
+// Whose error a spawn's is: the system does not tell the folder's from the program's, so the folder is tried.
+fn culprit<R: Files>(rt: &R, alloc: Global, def: &Def, error: io::Error) -> Failure {
+    if let Some(folder) = def.working_directory() {
+        if let Err(error) = enter(rt, alloc, folder) {
+            let part = Part::Folder;
+            return Failure { part, error };
+        }
+    }
+    let part = Part::Program;
+    Failure { part, error }
+}
+
+// An error if the folder is none, or may not be entered.
+fn enter<R: Files>(rt: &R, alloc: Global, folder: &str) -> io::Result<()> {
+    let inside = format!(in alloc; "{folder}/.")?;
+    fs::metadata(rt, inside.as_str())?;
+    Ok(())
 }
 
 impl<R: AllocGlobal + Clone + Drop + Files + Processes> PathEdge for OsEdge<R> {
     fn look(&mut self, path: &str) -> Result<Obs, EdgeFault> {
         match paths::look(&self.rt, path) {
-            Ok(seen) => Ok(seen),
-            Err(error) => Err(self.fail(error)),
+            Ok(seen) => {
+                self.notices.seen(path);
+                Ok(seen)
+            }
+            Err(error) => {
+                let reason = words::cannot_look(self.alloc, path, error);
+                self.notices.unseen(path, reason);
+                Err(self.fail(error))
+            }
         }
     }
 }
@@ -244,8 +406,17 @@ impl<
 > SocketEdge for OsEdge<R> {
     fn bind(&mut self, job: JobNo, def: &Def) -> Result<(), EdgeFault> {
         match self.sockets.bind(&self.rt, job, def) {
-            Ok(()) => Ok(()),
-            Err(error) => Err(self.fail(error)),
+            Ok(()) => {
+                self.notices.done(job, Asked::Bind);
+                Ok(())
+            }
+            Err(fault) => {
+                let socket = def.sockets().get(fault.socket);
+                let what = words::cannot_bind(self.alloc, socket, fault.error);
+                self.notices
+                    .refused(job, Asked::Bind, def.label(), None, what);
+                Err(self.fail(fault.error))
+            }
         }
     }
 

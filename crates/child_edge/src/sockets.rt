@@ -28,6 +28,22 @@ pub(crate) struct Sockets {
     binds: u64,
 }
 
+/// Which socket of a definition was refused, by its place in it, and why. A place past the last is none of them.
+#[derive(Clone, Copy)]
+pub(crate) struct BindFault {
+    pub(crate) socket: usize,
+    pub(crate) error: io::Error,
+}
+
+impl BindFault {
+    fn of_all(kind: ErrorKind) -> BindFault {
+        BindFault {
+            socket: usize::MAX,
+            error: io::Error::from(kind),
+        }
+    }
+}
+
 impl Sockets {
     pub(crate) fn new(alloc: Global) -> Sockets {
         Sockets {
@@ -40,9 +56,15 @@ impl Sockets {
     /// Binds each socket of the definition for the job, or none. A job that has sockets is refused.
     pub(crate) fn bind<
         R: Files + Net<Listener = std::net::TcpListener, Stream = std::net::TcpStream>,
-    >(&mut self, rt: &R, job: JobNo, def: &Def) -> io::Result<()> {
-        if self.jobs.contains_key(&job) || def.sockets().iter().any(|wanted| self.has(wanted)) {
-            return Err(io::Error::from(ErrorKind::AddrInUse));
+    >(&mut self, rt: &R, job: JobNo, def: &Def) -> Result<(), BindFault> {
+        if self.jobs.contains_key(&job) {
+            return Err(BindFault::of_all(ErrorKind::AddrInUse));
+        }
+        if let Some(socket) = def.sockets().iter().position(|wanted| self.has(wanted)) {
+            return Err(BindFault {
+                socket,
+                error: io::Error::from(ErrorKind::AddrInUse),
+            });
         }
         let bound = Bound {
             listeners: bind_all(rt, self.alloc, def.sockets())?,
@@ -54,7 +76,7 @@ impl Sockets {
             Ok(_) => Ok(()),
             Err(failed) => {
                 give_up(rt, &failed.value.1.listeners);
-                Err(io::Error::from(ErrorKind::OutOfMemory))
+                Err(BindFault::of_all(ErrorKind::OutOfMemory))
             }
         }
     }
@@ -130,13 +152,16 @@ fn bind_all<R: Files + Net<Listener = std::net::TcpListener, Stream = std::net::
     rt: &R,
     alloc: Global,
     wanted: &[Socket],
-) -> io::Result<Vec<Listener>> {
+) -> Result<Vec<Listener>, BindFault> {
     let mut listeners = Vec::new(alloc);
     match bind_each(rt, alloc, wanted, &mut listeners) {
         Ok(()) => Ok(listeners),
         Err(error) => {
             give_up(rt, &listeners);
-            Err(error)
+            Err(BindFault {
+                socket: listeners.len(),
+                error,
+            })
         }
     }
 }

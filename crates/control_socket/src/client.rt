@@ -1,6 +1,7 @@
 //! A client of the control socket.
 
-use crate::dialogue::{Answers, Dialogue};
+use crate::dialogue::Dialogue;
+use crate::turn::{Answers, Limit, Turn};
 use mio::net::UnixStream;
 use std::alloc::Global;
 use std::io;
@@ -11,9 +12,9 @@ use std::io::{ErrorKind, Read, Write};
 pub(crate) enum Progress {
     /// The client has to go on first.
     Waits,
-    /// There may be more to read or to send at once.
+    /// There may be more to read, to answer or to send at once.
     MayGoOn,
-    /// All was answered and sent, or the client is gone, or there was no memory for it.
+    /// All was answered and sent.
     Ended,
 }
 
@@ -23,17 +24,30 @@ const PIECES: u32 = 4;
 /// As often a write is tried in a round.
 const WRITES: u32 = 4;
 
+/// A client that takes nothing of its reply for so many milliseconds may be let go for a new one.
+const STUCK: u64 = 1_000;
+
 #[derive(Drop)]
 pub(crate) struct Client {
     stream: UnixStream,
     dialogue: Dialogue,
+    // The last round in which it was looked at.
+    looked: u64,
+    // The last round in which it came, sent something, or had a line or a reply under way.
+    heard: u64,
+    // The `up` at which it last took something of a reply, or had none to take.
+    taken: u64,
 }
 
 impl Client {
-    pub(crate) fn new(alloc: Global, stream: UnixStream) -> Client {
+    /// A client that came after the round of this number.
+    pub(crate) fn new(alloc: Global, stream: UnixStream, round: u64) -> Client {
         Client {
             stream,
             dialogue: Dialogue::new(alloc),
+            looked: round,
+            heard: round,
+            taken: 0,
         }
     }
 
@@ -41,19 +55,38 @@ impl Client {
         !self.dialogue.to_send().is_empty()
     }
 
-    /// Reads what came, by pieces of the room's length, answers each whole line, and sends what is taken.
-    pub(crate) fn advance<A: Answers>(
+    /// Since which round the client is silent, if the round of this number looked at it and found nothing under way.
+    pub(crate) fn silent_since(&self, round: u64) -> Option<u64> {
+        (self.looked == round && self.heard < round).then_some(self.heard)
+    }
+
+    /// Since which `up` the client takes nothing of its reply, if the round of this number found it so, and that is a second ago.
+    pub(crate) fn stuck_since(&self, round: u64, up: u64) -> Option<u64> {
+        let is_stuck = self.has_unsent() && self.taken.saturating_add(STUCK) <= up;
+        (self.looked == round && is_stuck).then_some(self.taken)
+    }
+
+    /// Reads what came, by pieces of the room's length, answers whole lines, and sends what is taken. An error is want of
+    /// memory, or that of a read or a write.
+    pub(crate) fn advance<A: Answers, L: Limit>(
         &mut self,
         alloc: Global,
         room: &mut [u8],
-        answers: &mut A,
-    ) -> Progress {
-        let Ok(is_more) = self.converse(alloc, room, answers) else {
-            return Progress::Ended;
-        };
-        let Ok(()) = self.send() else {
-            return Progress::Ended;
-        };
+        turn: &mut Turn<'_, A, L>,
+    ) -> io::Result<Progress> {
+        self.looked = turn.number();
+        if !self.has_unsent() {
+            self.taken = turn.up();
+        }
+        let is_more = self.converse(alloc, room, turn)?;
+        self.send(turn.up())?;
+        if !self.dialogue.is_silent() {
+            self.heard = self.looked;
+        }
+        Ok(self.progress(is_more))
+    }
+
+    fn progress(&self, is_more: bool) -> Progress {
         if self.dialogue.is_over() {
             Progress::Ended
         } else if is_more || self.dialogue.may_answer() {
@@ -64,18 +97,19 @@ impl Client {
     }
 
     // Whether more may be there to be read at once.
-    fn converse<A: Answers>(
+    fn converse<A: Answers, L: Limit>(
         &mut self,
         alloc: Global,
         room: &mut [u8],
-        answers: &mut A,
+        turn: &mut Turn<'_, A, L>,
     ) -> io::Result<bool> {
-        self.dialogue.answer(alloc, answers)?;
+        turn.begin();
+        self.dialogue.answer(alloc, turn)?;
         for _ in 0..PIECES {
             if !self.dialogue.wants_more() || !self.read(room)? {
                 return Ok(false);
             }
-            self.dialogue.answer(alloc, answers)?;
+            self.dialogue.answer(alloc, turn)?;
         }
         Ok(self.dialogue.wants_more())
     }
@@ -84,7 +118,10 @@ impl Client {
     fn read(&mut self, room: &mut [u8]) -> io::Result<bool> {
         match self.stream.read(room) {
             Ok(0) => self.dialogue.end(),
-            Ok(count) => self.dialogue.take(&room[..count])?,
+            Ok(count) => {
+                self.heard = self.looked;
+                self.dialogue.take(&room[..count])?;
+            }
             Err(error) if error.kind() == ErrorKind::WouldBlock => return Ok(false),
             Err(error) if error.kind() == ErrorKind::Interrupted => {}
             Err(error) => return Err(error),
@@ -93,13 +130,16 @@ impl Client {
     }
 
     // Sends what the client's side takes at once.
-    fn send(&mut self) -> io::Result<()> {
+    fn send(&mut self, up: u64) -> io::Result<()> {
         for _ in 0..WRITES {
             if self.dialogue.to_send().is_empty() {
                 return Ok(());
             }
             match self.stream.write(self.dialogue.to_send()) {
-                Ok(count) => self.dialogue.sent(count),
+                Ok(count) => {
+                    self.taken = up;
+                    self.dialogue.sent(count);
+                }
                 Err(error) if error.kind() == ErrorKind::WouldBlock => return Ok(()),
                 Err(error) if error.kind() == ErrorKind::Interrupted => {}
                 Err(error) => return Err(error),

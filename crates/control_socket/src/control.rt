@@ -1,16 +1,18 @@
 //! The control socket with its clients.
 
 use crate::client::{Client, Progress};
-use crate::dialogue::Answers;
-use crate::socket_file;
+use crate::lock::Lock;
+use crate::notices::Notices;
+use crate::turn::{Answers, Limit, Turn};
 use history_model::Text;
 use mio::net::{UnixListener, UnixStream};
 use mio::{Interest, Registry, Token};
 use slab::Slab;
+use socket_file::SocketMark;
 use std::alloc::Global;
-use std::fs::Files;
+use std::fs::{File, Files};
 use std::io;
-use std::io::ErrorKind;
+use std::io::{ErrorKind, Read, Write};
 use std::net::Net;
 
 /// As many clients are served at a time.
@@ -18,6 +20,9 @@ pub const CLIENTS: usize = 64;
 
 /// As many bytes are read at once.
 const PIECE: usize = 16_384;
+
+/// What a client gets for which there is no place.
+const TOO_MANY: &[u8] = b"{\"code\":2,\"text\":\"too many clients\\n\"}\n";
 
 /// The control socket: one listener at a path, and its clients.
 ///
@@ -28,27 +33,67 @@ pub struct ControlSocket {
     alloc: Global,
     listener: UnixListener,
     path: Text,
+    mark: SocketMark,
+    lock: Lock,
     token: Token,
     clients: Slab<Client>,
     room: Vec<u8>,
+    notices: Notices,
+    // As many rounds there were, and the `up` of the last.
+    rounds: u64,
+    up: u64,
+    // The next round begins with this key.
+    first: usize,
+    // The last round looked at every client.
+    is_whole: bool,
+}
+
+/// Where a new client can be.
+#[derive(Drop)]
+enum Place {
+    Free,
+    /// In the place of the client of this key, which is let go.
+    Of(usize),
+    /// That is known only once a round looked at the other clients too.
+    Unknown,
+    Nowhere,
 }
 
 impl ControlSocket {
     /// Binds the socket at the path, for this user alone (mode 0600). A socket file on which nobody listens any more is
-    /// replaced. `AddrInUse`: somebody listens at the path, or a file of another kind is there; it is left as it is. Any
-    /// other error is that of the system's call, or `OutOfMemory`; then no file is left.
-    pub fn open<R: Files + Net>(rt: &R, alloc: Global, path: &str) -> io::Result<ControlSocket> {
+    /// replaced. A lock on the file of the path and `.lock`, which is made if it is absent, is held as long as the socket
+    /// lives. `AddrInUse`: somebody listens at the path or holds the lock, or a file of another kind is at one of them; it is
+    /// left as it is. Any other error is that of the system's call, or `OutOfMemory`; then no file of ours is left.
+    pub fn open<R: Files<File = File> + Net>(
+        rt: &R,
+        alloc: Global,
+        path: &str,
+    ) -> io::Result<ControlSocket> {
         let own_path = Text::copy_of(alloc, path)?;
         let room = zeros(alloc)?;
         let clients = Slab::with_capacity(alloc, CLIENTS)?;
-        let listener = socket_file::bind(rt, path)?;
+        let lock = Lock::take(rt, alloc, path)?;
+        let (listener, mark) = match socket_file::bind(rt, path) {
+            Ok(bound) => bound,
+            Err(error) => {
+                lock.remove(rt);
+                return Err(error);
+            }
+        };
         Ok(ControlSocket {
             alloc,
             listener,
             path: own_path,
+            mark,
+            lock,
             token: Token(0),
             clients,
             room,
+            notices: Notices::new(),
+            rounds: 0,
+            up: 0,
+            first: 0,
+            is_whole: true,
         })
     }
 
@@ -58,46 +103,161 @@ impl ControlSocket {
         registry.register(&mut self.listener, token, Interest::READABLE)
     }
 
-    /// Moves each client on: reads what came, at most 65,536 bytes, answers whole lines in their order, and sends what is
-    /// taken. A client that is done or gone, or that there is no memory for, is closed. True: one of them may go on at once.
-    pub fn serve<A: Answers>(&mut self, alloc: Global, answers: &mut A) -> bool {
+    /// Which file the socket is.
+    pub fn mark(&self) -> SocketMark {
+        self.mark
+    }
+
+    /// A round: moves each client on. Reads what came, at most 65,536 bytes, answers whole lines in their order, at most
+    /// [`crate::LINES`], and sends what is taken. Once a line was answered and the limit says that there is no more time, no
+    /// further line is answered and no further client moved on; the next round begins with the client behind. A client that is
+    /// done or gone, or that there is no memory for, is closed. True: one of them may go on at once.
+    pub fn serve<A: Answers, L: Limit>(
+        &mut self,
+        alloc: Global,
+        answers: &mut A,
+        limit: &mut L,
+    ) -> bool {
+        self.rounds = self.rounds.saturating_add(1);
+        let mut turn = Turn::new(self.rounds, answers, limit);
+        self.up = turn.up();
+        let first = self.first;
         let mut is_busy = false;
-        for key in 0..CLIENTS {
-            let progress = match self.clients.get_mut(key) {
-                None => Progress::Waits,
-                Some(client) => client.advance(alloc, &mut self.room, answers),
-            };
-            match progress {
-                Progress::Waits => {}
-                Progress::MayGoOn => is_busy = true,
-                Progress::Ended => {
-                    let _ended = self.clients.try_remove(key);
-                }
+        for step in 0..CLIENTS {
+            let key = first.wrapping_add(step) % CLIENTS;
+            if !turn.has_time() {
+                self.first = key;
+                self.is_whole = false;
+                return true;
             }
+            let may_go_on = self.move_on(alloc, key, &mut turn);
+            is_busy = is_busy || may_go_on;
         }
+        self.is_whole = true;
         is_busy
     }
 
-    /// Takes the clients that wait; those past [`CLIENTS`] at a time are closed. It is called after `serve`, which lets go of
-    /// the clients that are done. An accept that the system refuses is left for the next call.
+    // Moves the client of the key on, if there is one. True: it may go on at once.
+    fn move_on<A: Answers, L: Limit>(
+        &mut self,
+        alloc: Global,
+        key: usize,
+        turn: &mut Turn<'_, A, L>,
+    ) -> bool {
+        let progress = match self.clients.get_mut(key) {
+            None => return false,
+            Some(client) => client.advance(alloc, &mut self.room, turn),
+        };
+        match progress {
+            Ok(Progress::Waits) => return false,
+            Ok(Progress::MayGoOn) => return true,
+            Ok(Progress::Ended) => self.notices.ended_well(),
+            Err(error) => self.notices.let_go(error),
+        }
+        let _gone = self.clients.try_remove(key);
+        false
+    }
+
+    /// Takes the clients that wait, after a `serve`, which lets go of the clients that are done. Where [`CLIENTS`] are there
+    /// already, the one is let go that has been silent for longest: the last `serve` found nothing new of it, no whole line to
+    /// answer and nothing to send. If none is silent, one that has taken nothing of its reply for longest, and for a second at
+    /// least. If there is none of these too, the new client gets the reply `too many clients` of code 2, and is closed. An
+    /// accept that the system refuses is left for the next call.
     pub fn accept(&mut self, registry: &Registry) {
         for _ in 0..2 * CLIENTS {
+            let place = self.place();
+            if matches!(place, Place::Unknown) {
+                return;
+            }
             match self.listener.accept() {
-                Ok((stream, _)) => self.welcome(registry, stream),
+                Ok((stream, _)) => self.welcome(registry, stream, place),
                 Err(error) if error.kind() == ErrorKind::Interrupted => {}
-                Err(_) => return,
+                Err(error) if error.kind() == ErrorKind::WouldBlock => return,
+                Err(error) => {
+                    self.notices.accept_refused(error);
+                    return;
+                }
             }
         }
     }
 
-    fn welcome(&mut self, registry: &Registry, stream: UnixStream) {
+    fn welcome(&mut self, registry: &Registry, stream: UnixStream, place: Place) {
+        match place {
+            Place::Free => {}
+            Place::Of(key) => {
+                let _gone = self.clients.try_remove(key);
+            }
+            Place::Unknown | Place::Nowhere => {
+                self.turn_away(stream);
+                return;
+            }
+        }
         let mut stream = stream;
         let interest = Interest::READABLE | Interest::WRITABLE;
-        if self.clients.len() < CLIENTS
-            && registry.register(&mut stream, self.token, interest).is_ok()
-        {
-            let _ = self.clients.insert(Client::new(self.alloc, stream));
+        match registry.register(&mut stream, self.token, interest) {
+            Ok(()) => {
+                let client = Client::new(self.alloc, stream, self.rounds);
+                let _ = self.clients.insert(client);
+                self.notices.accepted();
+            }
+            Err(error) => self.notices.accept_refused(error),
         }
+    }
+
+    // What the client sent already is taken first: a close before that would take its reply from it.
+    fn turn_away(&mut self, stream: UnixStream) {
+        let mut stream = stream;
+        let _taken = stream.read(&mut self.room);
+        let _sent = stream.write(TOO_MANY);
+    }
+
+    fn place(&self) -> Place {
+        if self.clients.len() < CLIENTS {
+            return Place::Free;
+        }
+        if let Some(key) = self.longest_silent() {
+            return Place::Of(key);
+        }
+        match self.longest_stuck() {
+            Some(key) => Place::Of(key),
+            None if self.is_whole => Place::Nowhere,
+            None => Place::Unknown,
+        }
+    }
+
+    fn longest_silent(&self) -> Option<usize> {
+        let mut least = u64::MAX;
+        let mut longest = None;
+        for (key, client) in self.clients.iter() {
+            if let Some(since) = client.silent_since(self.rounds) {
+                if since < least {
+                    least = since;
+                    longest = Some(key);
+                }
+            }
+        }
+        longest
+    }
+
+    fn longest_stuck(&self) -> Option<usize> {
+        let mut least = u64::MAX;
+        let mut longest = None;
+        for (key, client) in self.clients.iter() {
+            if let Some(since) = client.stuck_since(self.rounds, self.up) {
+                if since < least {
+                    least = since;
+                    longest = Some(key);
+                }
+            }
+        }
+        longest
+    }
+
+    /// The next line on what was refused, without a newline: an accept, or a client that was let go for want of memory or since
+    /// a read or a write failed. Each is told once until one goes well, and again when its reason changes. A client that only
+    /// went away is not told.
+    pub fn next_notice(&mut self) -> Option<Text> {
+        self.notices.next(self.alloc)
     }
 
     /// Whether no client has a reply that is not yet sent. A client that never reads keeps it false, so whoever waits for it
@@ -106,9 +266,10 @@ impl ControlSocket {
         !self.clients.iter().any(|(_, client)| client.has_unsent())
     }
 
-    /// Removes the socket's file, at a clean end.
-    pub fn remove<R: Files>(&self, rt: &R) {
-        socket_file::remove(rt, self.path.as_str());
+    /// Removes the socket's file and then the lock's, at a clean end. A file that somebody else put in the place of one is left.
+    pub fn remove<R: Files<File = File>>(&self, rt: &R) {
+        socket_file::remove(rt, self.path.as_str(), self.mark);
+        self.lock.remove(rt);
     }
 }
 

@@ -1,15 +1,10 @@
 //! What passes between a client and the launcher: the requests that came and are not yet answered, and the replies that are
 //! not yet sent.
 
+use crate::turn::{Answers, LINES, Limit, Turn};
 use ctl_protocol::{LINE_LIMIT, LineFault, LineFeed, reply_line};
 use history_model::{Refusal, Reply, Text};
 use std::alloc::{AllocError, Global};
-
-/// Who answers the line of a request.
-pub trait Answers {
-    /// The reply to the line, which stands without its newline.
-    fn answer(&mut self, alloc: Global, line: &[u8]) -> Reply;
-}
 
 /// If more bytes of replies than these wait to be sent, no further request is read or answered.
 pub const UNSENT: usize = 65_536;
@@ -82,32 +77,32 @@ impl Dialogue {
         }
     }
 
-    /// Answers whole lines in their order, until none is left, or too much waits to be sent.
-    pub(crate) fn answer<A: Answers>(
+    /// Answers whole lines in their order, until none is left, too much waits to be sent, or the client's turn is over.
+    pub(crate) fn answer<A: Answers, L: Limit>(
         &mut self,
         alloc: Global,
-        answers: &mut A,
+        turn: &mut Turn<'_, A, L>,
     ) -> Result<(), AllocError> {
-        for _ in 0..LINE_LIMIT {
-            if !self.has_lines || self.replies.len() > UNSENT {
+        for _ in 0..=LINES {
+            if !self.may_answer() || !turn.may_answer() {
                 return Ok(());
             }
-            self.answer_next(alloc, answers)?;
+            self.answer_next(alloc, turn)?;
         }
         Ok(())
     }
 
-    fn answer_next<A: Answers>(
+    fn answer_next<A: Answers, L: Limit>(
         &mut self,
         alloc: Global,
-        answers: &mut A,
+        turn: &mut Turn<'_, A, L>,
     ) -> Result<(), AllocError> {
         let Ok(next) = self.requests.next_line() else {
             return Err(AllocError);
         };
         match next {
             Some(line) => {
-                let reply = answers.answer(alloc, line.as_slice());
+                let reply = turn.answer(alloc, line.as_slice());
                 self.add(alloc, &reply)
             }
             None => {
@@ -152,12 +147,17 @@ impl Dialogue {
         let _ = self.replies.drain(..count);
     }
 
-    /// Whether requests wait only for replies to be sent.
+    /// Whether lines may be left, and not too much waits to be sent.
     pub(crate) fn may_answer(&self) -> bool {
         self.has_lines && self.replies.len() <= UNSENT
     }
 
-    /// Nothing is left to be answered or sent.
+    /// No whole line is left to be answered, and nothing to be sent: at most a part of a line came.
+    pub(crate) fn is_silent(&self) -> bool {
+        !self.has_lines && self.replies.is_empty()
+    }
+
+    /// Nothing is left to be answered or sent, and nothing comes.
     pub(crate) fn is_over(&self) -> bool {
         matches!(self.intake, Intake::Refused | Intake::Over) && self.replies.is_empty()
     }

@@ -5,7 +5,11 @@
 mod client;
 mod control;
 mod dialogue;
-mod socket_file;
+mod lock;
+mod notices;
+mod turn;
 
 pub use control::{CLIENTS, ControlSocket};
-pub use dialogue::{Answers, UNSENT};
+pub use dialogue::UNSENT;
+pub use socket_file::SocketMark;
+pub use turn::{Answers, LINES, Limit};

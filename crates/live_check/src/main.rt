@@ -4,6 +4,7 @@
 
 mod asking;
 mod calling;
+mod edge;
 mod files;
 mod journal;
 mod player;

@@ -2,6 +2,7 @@
 
 use crate::asking::{ask, comes_to_tell, list, run};
 use crate::calling::{begin, call, call_port, finish, send};
+use crate::edge::play_edge;
 use crate::files::{comes_to_have, comes_to_hold, is_there};
 use crate::journal::{compare, replay};
 use crate::scenes::{
@@ -139,10 +140,16 @@ fn play_scenes(rt: &HostRuntime) -> io::Result<()> {
     play_states(rt)
 }
 
-/// Plays each scene. The status is 0, or 1 if a step could not be made.
+fn play_both(rt: &HostRuntime) -> io::Result<bool> {
+    play_scenes(rt)?;
+    play_edge(rt)
+}
+
+/// Plays each scene. The status is 0, or 1 if a step could not be made, or a scene of the edge failed.
 pub fn play_all(rt: &HostRuntime) -> u8 {
-    match play_scenes(rt) {
-        Ok(()) => 0,
+    match play_both(rt) {
+        Ok(true) => 0,
+        Ok(false) => 1,
         Err(error) => {
             let _written = eprintln!(rt; "live_check: {error}");
             1

@@ -31,7 +31,8 @@ pub struct Reply {
     pub text: String,
 }
 
-fn own_path(rt: &HostRuntime) -> io::Result<String> {
+/// Where this program lies.
+pub fn own_path(rt: &HostRuntime) -> io::Result<String> {
     let path = env::current_exe(rt)?;
     match path.as_path().to_str() {
         Some(text) => Ok(String::from_str(rt.alloc(), text)?),
@@ -39,9 +40,9 @@ fn own_path(rt: &HostRuntime) -> io::Result<String> {
     }
 }
 
-// What this process was started with behind its program, with blanks between the words. A scene is played if that is no word
-// of its own.
-fn own_front(rt: &HostRuntime) -> io::Result<String> {
+/// What this process was started with behind its program, with a blank after each word. A scene is played if that is no word
+/// of its own.
+pub fn own_front(rt: &HostRuntime) -> io::Result<String> {
     let told = fs::read_to_string(rt, "/proc/self/cmdline")?;
     let mut front = String::new(rt.alloc());
     for word in told.split('\0').skip(1) {

@@ -1,0 +1,196 @@
+//! What the edge has to tell in words: what the system refused and, if it is asked for, what became of each run.
+
+ghost use Rattle.std.specs.Prelude.{◌≡◌};
+
+use history_model::{JobNo, Text};
+use std::alloc::{AllocError, Global};
+use std::collections::{BTreeMap, VecDeque};
+
+/// What a notice is about.
+#[derive(Clone, Copy, PartialEq, Eq)]
+pub enum NoticeKind {
+    /// The system refused something, or a client was let go.
+    Refusal,
+    /// A run started or ended, or was given a signal.
+    Run,
+}
+
+/// One line to be told. The text has no name of the program before it, and neither a newline nor another control character.
+#[derive(Drop)]
+pub struct Notice {
+    pub kind: NoticeKind,
+    pub text: Text,
+}
+
+/// As many notices wait to be told; of further ones their number alone is kept.
+const ROOM: usize = 64;
+
+/// The reasons of as many paths are remembered; of further ones none is told.
+const PATHS: usize = 1024;
+
+/// What was asked of the system for a job. Of each the reason is told when it is another than the last.
+#[derive(Clone, Copy, PartialEq, Eq, PartialOrd, Ord)]
+pub(crate) enum Asked {
+    Start,
+    Term,
+    Kill,
+    Wait,
+    Bind,
+    Accept,
+    Spool,
+    Room,
+    Client,
+}
+
+/// What a job's runs ask for: a job that is loaded anew begins with none of it told.
+const OF_RUNS: [Asked; 4] = [Asked::Start, Asked::Term, Asked::Kill, Asked::Wait];
+
+/// The notices that wait, and the reason that was told last for each call of a job and for each path.
+#[derive(Drop)]
+pub(crate) struct Notices {
+    alloc: Global,
+    waiting: VecDeque<Notice>,
+    dropped: u64,
+    told: BTreeMap<(JobNo, Asked), String>,
+    paths: BTreeMap<String, String>,
+}
+
+impl Notices {
+    pub(crate) fn new(alloc: Global) -> Notices {
+        Notices {
+            alloc,
+            waiting: VecDeque::new(alloc),
+            dropped: 0,
+            told: BTreeMap::new(alloc),
+            paths: BTreeMap::new(alloc),
+        }
+    }
+
+    /// The oldest notice, taken out. Once those that had room are told, one says how many had none.
+    pub(crate) fn next(&mut self) -> Option<Notice> {
+        if let Some(notice) = self.waiting.pop_front() {
+            return Some(notice);
+        }
+        if self.dropped == 0 {
+            return None;
+        }
+        let dropped = self.dropped;
+        self.dropped = 0;
+        let text = format!(in self.alloc; "{dropped} more lines were dropped").ok()?;
+        Some(Notice {
+            kind: NoticeKind::Refusal,
+            text: Text::new(text),
+        })
+    }
+
+    /// Tells what became of a run.
+    pub(crate) fn run(&mut self, line: Option<String>) {
+        if let Some(line) = line {
+            self.push(NoticeKind::Run, line.as_str());
+        }
+    }
+
+    /// The call for the job was refused, as `what` says: that is told if it was not told last of this call.
+    pub(crate) fn refused(
+        &mut self,
+        job: JobNo,
+        asked: Asked,
+        label: &str,
+        run: Option<u64>,
+        what: Option<String>,
+    ) {
+        let Some(what) = what else {
+            return;
+        };
+        let alloc = self.alloc;
+        let Ok(reason) = reason_of(alloc, label, what.as_str()) else {
+            return;
+        };
+        if let Some(last) = self.told.get(&(job, asked)) {
+            if last.as_str() == reason.as_str() {
+                return;
+            }
+        }
+        let is_told = match line_of(alloc, label, run, what.as_str()) {
+            Ok(line) => self.push(NoticeKind::Refusal, line.as_str()),
+            Err(_) => false,
+        };
+        if is_told {
+            let _ = self.told.insert((job, asked), reason);
+        }
+    }
+
+    /// The call for the job was done: the next refusal is told, whatever its reason.
+    pub(crate) fn done(&mut self, job: JobNo, asked: Asked) {
+        if !self.told.is_empty() {
+            let _reason = self.told.remove(&(job, asked));
+        }
+    }
+
+    /// The job runs for the first time since it was loaded.
+    pub(crate) fn begin(&mut self, job: JobNo) {
+        for asked in OF_RUNS {
+            self.done(job, asked);
+        }
+    }
+
+    /// A look at the path was refused, for this reason.
+    pub(crate) fn unseen(&mut self, path: &str, reason: Option<String>) {
+        let Some(reason) = reason else {
+            return;
+        };
+        let is_told = match self.paths.get(path) {
+            Some(last) => last.as_str() == reason.as_str(),
+            None => self.paths.len() >= PATHS,
+        };
+        if is_told || !self.push(NoticeKind::Refusal, reason.as_str()) {
+            return;
+        }
+        if let Ok(path) = String::from_str(self.alloc, path) {
+            let _ = self.paths.insert(path, reason);
+        }
+    }
+
+    /// The path was looked at.
+    pub(crate) fn seen(&mut self, path: &str) {
+        if !self.paths.is_empty() {
+            let _reason = self.paths.remove(path);
+        }
+    }
+
+    // Whether the line has room. Want of memory drops it.
+    fn push(&mut self, kind: NoticeKind, line: &str) -> bool {
+        if self.dropped > 0 || self.waiting.len() >= ROOM {
+            self.dropped = self.dropped.saturating_add(1);
+            return false;
+        }
+        match one_line(self.alloc, line) {
+            Ok(line) => {
+                let text = Text::new(line);
+                self.waiting.push_back(Notice { kind, text }).is_ok()
+            }
+            Err(_) => false,
+        }
+    }
+}
+
+fn reason_of(alloc: Global, label: &str, what: &str) -> Result<String, AllocError> {
+    format!(in alloc; "{label}: {what}")
+}
+
+fn line_of(alloc: Global, label: &str, run: Option<u64>, what: &str) -> Result<String, AllocError> {
+    match run {
+        Some(run) => format!(in alloc; "{label}: run {run}: {what}"),
+        None => reason_of(alloc, label, what),
+    }
+}
+
+// The text with `?` for each control character: a path may hold a newline, and what stands behind it would pass for a line
+// of the launcher's own.
+fn one_line(alloc: Global, line: &str) -> Result<String, AllocError> {
+    let mut plain = String::new(alloc);
+    for letter in line.chars() {
+        plain.push(if letter.is_control() { '?' } else { letter })?;
+    }
+    Ok(plain)
+}

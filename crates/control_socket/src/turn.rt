@@ -1,0 +1,86 @@
+//! One call of `serve`: who answers in it, and how much.
+
+use history_model::Reply;
+use std::alloc::Global;
+
+/// Who answers the line of a request.
+pub trait Answers {
+    /// The reply to the line, which stands without its newline.
+    fn answer(&mut self, alloc: Global, line: &[u8]) -> Reply;
+}
+
+/// Who says how long the clients may be served in a round.
+pub trait Limit {
+    /// Whether there is time for a further line. It is asked after each line that was answered, so a round that has lines
+    /// answers one at least.
+    fn has_time(&mut self) -> bool;
+
+    /// The milliseconds since a fixed moment, by a clock that never goes back. It is asked once a round, before the first
+    /// line. By it a client that takes nothing of its reply is known. Where it stays 0, no such client is let go.
+    fn up(&mut self) -> u64 {
+        0
+    }
+}
+
+/// As many lines of a client are answered in a round.
+pub const LINES: u32 = 16;
+
+/// A round, with what may still be answered in it.
+#[derive(Drop)]
+pub(crate) struct Turn<'a, A, L> {
+    answers: &'a mut A,
+    limit: &'a mut L,
+    number: u64,
+    up: u64,
+    // So many further lines of the client whose turn it is.
+    left: u32,
+    has_time: bool,
+}
+
+impl<'a, A: Answers, L: Limit> Turn<'a, A, L> {
+    /// The round of this number.
+    pub(crate) fn new(number: u64, answers: &'a mut A, limit: &'a mut L) -> Turn<'a, A, L> {
+        let up = limit.up();
+        Turn {
+            answers,
+            limit,
+            number,
+            up,
+            left: 0,
+            has_time: true,
+        }
+    }
+
+    /// The rounds are counted from 1.
+    pub(crate) fn number(&self) -> u64 {
+        self.number
+    }
+
+    /// The milliseconds of the round's beginning.
+    pub(crate) fn up(&self) -> u64 {
+        self.up
+    }
+
+    /// Whether there is time for a further client.
+    pub(crate) fn has_time(&self) -> bool {
+        self.has_time
+    }
+
+    /// It is the next client's turn.
+    pub(crate) fn begin(&mut self) {
+        self.left = LINES;
+    }
+
+    /// Whether a further line of the client is answered in this round.
+    pub(crate) fn may_answer(&self) -> bool {
+        self.has_time && self.left > 0
+    }
+
+    /// The reply to the client's next line.
+    pub(crate) fn answer(&mut self, alloc: Global, line: &[u8]) -> Reply {
+        let reply = self.answers.answer(alloc, line);
+        self.left = self.left.saturating_sub(1);
+        self.has_time = self.limit.has_time();
+        reply
+    }
+}

@@ -1,0 +1,944 @@
+#!/usr/bin/env python3
+"""Scenes with a real `jobd serve` whose surroundings are hostile: files, clients, limits and other launchers.
+
+    edge_scenes.py [--jobd WORDS] [--jobctl WORDS] [--at-once N] [SCENE..]
+
+WORDS start the program; blanks part them. Without scenes all are played, N at a time. Each prints `ok NAME` or `FAILED NAME: why`, and
+the last line counts. The status is 1 if one failed. Each scene has a folder of its own below TMPDIR, and every process that
+it started is ended. A scene waits for facts, with a bound; no user and no network is needed.
+"""
+import argparse
+import concurrent.futures
+import ctypes
+import json
+import os
+import re
+import select
+import shlex
+import shutil
+import signal
+import socket
+import stat
+import statistics
+import subprocess
+import sys
+import tempfile
+import threading
+import time
+
+HERE = os.path.dirname(os.path.abspath(__file__))
+BUILD = os.path.join(HERE, "..", "..", "..", "build")
+BOUND = 10.0
+
+
+class Fault(Exception):
+    """What was seen, and is not as it has to be."""
+
+
+def check(fact, why):
+    if not fact:
+        raise Fault(why)
+
+
+def comes(fact, bound=BOUND):
+    """The fact's first value that counts as true, or None when the bound is over."""
+    end = time.monotonic() + bound
+    while True:
+        value = fact()
+        if value:
+            return value
+        if time.monotonic() > end:
+            return None
+        time.sleep(0.01)
+
+
+def wait_for(fact, why, bound=BOUND):
+    value = comes(fact, bound)
+    check(value, f"{why}, in {bound:.0f} s")
+    return value
+
+
+def text_at(path):
+    try:
+        with open(path, "r", encoding="utf-8", errors="replace") as file:
+            return file.read()
+    except OSError:
+        return ""
+
+
+def bytes_at(path):
+    with open(path, "rb") as file:
+        return file.read()
+
+
+def make(path, text=""):
+    with open(path, "w", encoding="utf-8") as file:
+        file.write(text)
+    return path
+
+
+def children_of(pid):
+    """The process ids below this one, the nearest first."""
+    found = []
+    for task in os.listdir(f"/proc/{pid}/task") if os.path.exists(f"/proc/{pid}/task") else []:
+        for child in text_at(f"/proc/{pid}/task/{task}/children").split():
+            found += [int(child), *children_of(int(child))]
+    return found
+
+
+def end_process(pid):
+    try:
+        os.kill(pid, signal.SIGKILL)
+    except OSError:
+        pass
+
+
+def descriptors(pid):
+    return len(os.listdir(f"/proc/{pid}/fd"))
+
+
+# ---- clients
+
+def connect(path, bound=BOUND):
+    client = socket.socket(socket.AF_UNIX)
+    client.settimeout(bound)
+    try:
+        client.connect(path)
+    except BaseException:
+        client.close()
+        raise
+    return client
+
+
+def read_line(client, text=b""):
+    """The bytes up to the first newline, or to the end."""
+    while b"\n" not in text:
+        try:
+            piece = client.recv(65536)
+        except ConnectionResetError:
+            break
+        if not piece:
+            break
+        text += piece
+    return text.partition(b"\n")[0]
+
+
+def read_all(client):
+    text = b""
+    while True:
+        try:
+            piece = client.recv(65536)
+        except ConnectionResetError:
+            return text
+        if not piece:
+            return text
+        text += piece
+
+
+def call(path, text=b"", bound=BOUND):
+    """What a job's socket sends back to this request."""
+    with connect(path, bound) as client:
+        try:
+            client.sendall(text)
+            client.shutdown(socket.SHUT_WR)
+        except (BrokenPipeError, ConnectionResetError, OSError):
+            pass
+        return read_all(client)
+
+
+def begin(path, text=b""):
+    """A client of a job's socket whose request is whole."""
+    client = connect(path)
+    client.sendall(text)
+    client.shutdown(socket.SHUT_WR)
+    return client
+
+
+# ---- a scene's folder and its launchers
+
+IGNORING = """
+import json, os, signal, sys
+words, ignored = json.loads(sys.argv[1]), sys.argv[2].split()
+for name in ignored:
+    signal.signal(getattr(signal, name), signal.SIG_IGN)
+signal.signal(signal.SIGPIPE, signal.SIG_DFL)
+signal.signal(signal.SIGXFSZ, signal.SIG_DFL)
+os.execv(words[0], words)
+"""
+
+
+class Launcher:
+    """A started `jobd serve`."""
+
+    def __init__(self, process, said, path):
+        self.process, self.said_at, self.path = process, said, path
+        self.pid, self.out = process.pid, b""
+
+    def said(self):
+        return text_at(self.said_at)
+
+    def lines(self, part):
+        return [line for line in self.said().splitlines() if part in line]
+
+    def is_ready(self):
+        """Reads standard output until the ready line or the end."""
+        end = time.monotonic() + BOUND
+        while b"\n" not in self.out and time.monotonic() < end:
+            ready, _, _ = select.select([self.process.stdout], [], [], 0.1)
+            if ready:
+                piece = os.read(self.process.stdout.fileno(), 4096)
+                if not piece:
+                    break
+                self.out += piece
+        return self.out == b"jobd: ready\n"
+
+    def ends(self, bound=BOUND):
+        """The status, or a Fault if it does not end."""
+        try:
+            return self.process.wait(bound)
+        except subprocess.TimeoutExpired:
+            raise Fault(f"the launcher does not end in {bound:.0f} s; it said {self.said()!r}") from None
+
+    def ask_over(self, client, request, bound=BOUND):
+        client.settimeout(bound)
+        try:
+            client.sendall(json.dumps(request).encode() + b"\n")
+            line = read_line(client)
+        except TimeoutError:
+            raise Fault(f"no answer to {request['req']} in {bound:.0f} s") from None
+        except OSError as error:
+            raise Fault(f"no answer to {request['req']}: {error}") from None
+        check(line, f"no answer to {request['req']}: the connection was closed")
+        return json.loads(line)
+
+    def ask(self, request, bound=BOUND):
+        try:
+            client = connect(self.path, bound)
+        except OSError as error:
+            raise Fault(f"no connection for {request['req']}: {error}") from None
+        with client:
+            return self.ask_over(client, request, bound)
+
+    def load(self, definition, code=0):
+        reply = self.ask({"req": "load", "def": json.dumps(definition)})
+        check(reply["code"] == code, f"load of {definition['Label']} got {reply}")
+        return reply
+
+    def print(self, label):
+        return self.ask({"req": "print", "job": label})["text"]
+
+    def tells(self, label, part, bound=BOUND):
+        wait_for(lambda: part in self.print(label), f"print {label} does not come to say {part!r}", bound)
+
+    def answers(self, why, bound=5.0):
+        """An honest client is answered."""
+        try:
+            reply = self.ask({"req": "list"}, bound)
+        except Fault as fault:
+            raise Fault(f"{why}: {fault}") from None
+        check(reply["code"] == 0, f"{why}: list got {reply}")
+
+    def shut_down(self, bound=BOUND):
+        reply = self.ask({"req": "shutdown"})
+        check(reply["code"] == 0, f"shutdown got {reply}")
+        status = self.ends(bound)
+        check(status == 0, f"the launcher ended with {status} after shutdown: {self.said()!r}")
+
+
+class Stage:
+    """A scene's folder, and what was started in it."""
+
+    def __init__(self, given, folder):
+        self.given, self.folder, self.started, self.count = given, folder, [], 0
+        os.mkdir(self.at("spool"), 0o700)
+
+    def at(self, name):
+        return os.path.join(self.folder, name)
+
+    def start(self, words=(), ignored=None, shell=None, env=None, **places):
+        """Starts `jobd serve` on the scene's places, or others of these; it is not yet ready."""
+        self.count += 1
+        said = self.at(f"said{self.count}")
+        place = {"socket": "socket", "store": "store", "spool": "spool", **places}
+        command = [*self.given.jobd, "serve"]
+        for option, name in place.items():
+            command += [f"--{option}", self.at(name)]
+        command += words
+        if shell:
+            command = ["/bin/sh", "-c", f'{shell}; exec "$@"', "sh", *command]
+        if ignored:
+            command = [sys.executable, "-I", "-S", "-c", IGNORING, json.dumps(command), ignored]
+        around = {key: value for key, value in os.environ.items() if key not in ("JOURNAL_STREAM", "JOBD_LOG")}
+        with open(said, "wb") as errors:
+            process = subprocess.Popen(
+                command, cwd=self.folder, stdin=subprocess.DEVNULL, stdout=subprocess.PIPE, stderr=errors, env={**around, **(env or {})}
+            )
+        launcher = Launcher(process, said, self.at(place["socket"]))
+        self.started.append(launcher)
+        return launcher
+
+    def serve(self, words=(), **how):
+        launcher = self.start(words, **how)
+        check(launcher.is_ready(), f"no ready line, but {launcher.out!r}; it said {launcher.said()!r}")
+        return launcher
+
+    def run(self, words, bound=BOUND):
+        """Runs `jobd` with these words to its end."""
+        try:
+            return subprocess.run(
+                [*self.given.jobd, *words], cwd=self.folder, stdin=subprocess.DEVNULL, capture_output=True, timeout=bound, text=True
+            )
+        except subprocess.TimeoutExpired:
+            raise Fault(f"jobd {words[0]} does not end in {bound:.0f} s") from None
+
+    def jobctl(self, words, bound=BOUND):
+        command = [*self.given.jobctl, "--socket", self.at("socket"), *words]
+        return subprocess.run(command, cwd=self.folder, stdin=subprocess.DEVNULL, capture_output=True, timeout=bound, text=True)
+
+    def replay(self, journal):
+        with open(self.at(journal), "rb") as given:
+            run = subprocess.run([*self.given.jobd, "replay"], stdin=given, capture_output=True, timeout=3 * BOUND, text=True)
+        return run
+
+    def clear(self):
+        for launcher in self.started:
+            below = children_of(launcher.pid) if launcher.process.poll() is None else []
+            for pid in [launcher.pid, *below]:
+                end_process(pid)
+            launcher.process.wait()
+            launcher.process.stdout.close()
+        shutil.rmtree(self.folder, ignore_errors=True)
+
+
+def shell_job(label, script, **keys):
+    return {"Label": label, "ProgramArguments": ["/bin/sh", "-c", script], **keys}
+
+
+def socket_job(stage, label, words, **keys):
+    """A job whose socket is at its label in the scene's folder."""
+    return {
+        "Label": label,
+        "ProgramArguments": words,
+        "ThrottleInterval": 0,
+        "inetdCompatibility": {"Wait": False},
+        "Sockets": {"s": {"SockPathName": stage.at(label)}},
+        **keys,
+    }
+
+
+def gated_job(stage, label="slow"):
+    """A job that answers with its request once the file `go` is there."""
+    script = f"until [ -e {stage.at('go')} ]; do sleep 0.02; done; exec cat"
+    return socket_job(stage, label, ["/bin/sh", "-c", script])
+
+
+def requests_in(stage, spool="spool"):
+    return sorted(name for name in os.listdir(stage.at(spool)) if name.endswith(".request"))
+
+
+# ---- the scenes
+
+def a_stream_at_a_fifo(stage):
+    """A stream's path names a FIFO without a peer, itself or by a link: the launcher serves on, and says what it refused."""
+    launcher = stage.serve()
+    os.mkfifo(stage.at("fifo"))
+    os.symlink("fifo", stage.at("link"))
+    for key in ("StandardInPath", "StandardOutPath", "StandardErrorPath"):
+        for name in ("fifo", "link"):
+            label = f"{key}.{name}"
+            request = {"req": "load", "def": json.dumps(shell_job(label, ":", RunAtLoad=True, **{key: stage.at(name)}))}
+            launcher.ask(request, 5.0)
+            launcher.answers(f"{key} at a {name}")
+            wait_for(lambda: launcher.lines(f"jobd: {label}: run 1: cannot "), f"nothing said of {label}")
+            check(stage.at(name) in launcher.lines(f"{label}: run 1")[0], f"the path is missing in {launcher.lines(label)}")
+    plain = shell_job("plain", "echo said", RunAtLoad=True, StandardOutPath=stage.at("plain"))
+    launcher.load(plain)
+    wait_for(lambda: text_at(stage.at("plain")) == "said\n", "a plain file is not written")
+    launcher.shut_down()
+
+
+def clients_that_never_read(stage):
+    """60 clients of a job take no reply, at 64 descriptors: others are served, jobs start and get TERM all the same."""
+    launcher = stage.serve(shell="ulimit -n 64")
+    launcher.load(shell_job("lasting", "exec sleep 1000", RunAtLoad=True))
+    launcher.load(socket_job(stage, "greedy", ["/bin/sh", "-c", "exec head -c 400000 /dev/zero"]))
+    launcher.load(socket_job(stage, "honest", ["/bin/cat"]))
+    clients = []
+    for _ in range(60):
+        clients.append(begin(stage.at("greedy"), b"x"))
+    runs = lambda: int(re.search(r"runs = (\d+)", launcher.print("greedy"))[1])
+    wait_for(lambda: runs() >= 3, "the greedy clients are not served")
+    for number in range(3):
+        launcher.answers("beside clients that never read")
+        launcher.load(shell_job(f"new{number}", f"echo run > {stage.at(f'new{number}')}", RunAtLoad=True, StandardOutPath=stage.at("out")))
+        wait_for(lambda: text_at(stage.at(f"new{number}")), "no job starts beside clients that never read")
+    got = call(stage.at("honest"), b"hello")
+    check(got == b"hello", f"another job's client got {got!r}")
+    launcher.ask({"req": "stop", "job": "lasting"})
+    launcher.tells("lasting", "last exit = signal 15")
+    for client in clients:
+        client.close()
+    got = call(stage.at("greedy"), b"x")
+    check(len(got) == 400000, f"a later client of the same job got {len(got)} bytes")
+    launcher.shut_down()
+
+
+def silent_clients_of_one_port(stage):
+    """64 clients of a job send nothing: another job's clients are served, and after five seconds further ones of this job."""
+    launcher = stage.serve()
+    launcher.load(socket_job(stage, "deaf", ["/bin/cat"]))
+    launcher.load(socket_job(stage, "other", ["/bin/cat"]))
+    before = descriptors(launcher.pid)
+    clients = [connect(stage.at("deaf")) for _ in range(64)]
+    wait_for(lambda: descriptors(launcher.pid) >= before + 60, "64 clients are not held")
+    got = call(stage.at("other"), b"hello")
+    check(got == b"hello", f"another job's client got {got!r} beside 64 silent ones")
+    wait_for(lambda: call(stage.at("deaf"), b"hello") == b"hello", "no further client of the job is served")
+    for client in clients:
+        client.close()
+    wait_for(lambda: descriptors(launcher.pid) <= before, "descriptors are left")
+    launcher.shut_down()
+
+
+def ends_that_cannot_be_seen(stage):
+    """SIGCHLD is ignored by whoever starts the launcher: it refuses to serve, and says why."""
+    launcher = stage.start(ignored="SIGCHLD")
+    check(not launcher.is_ready(), "it serves, though no end of a child can be seen")
+    status = launcher.ends()
+    check(status > 0, f"it ended with {status}")
+    check(re.search(r"jobd: .*(SIGCHLD|child)", launcher.said()), f"it said {launcher.said()!r}")
+    check(not os.path.exists(stage.at("socket")), "its socket is left")
+
+
+def shared_places(stage, shared):
+    """A second launcher with these places of the first."""
+    mark = "-".join(shared)
+    first = stage.serve(socket=f"a.{mark}", store=f"store.{mark}", spool=f"spool.{mark}", journal=f"journal.{mark}")
+    label = f"slow.{mark}"
+    first.load(gated_job(stage, label))
+    serving = begin(stage.at(label), b"first")
+    waiting = begin(stage.at(label), b"second")
+    wait_for(lambda: len(requests_in(stage, f"spool.{mark}")) == 2, "two requests are not spooled")
+    before = bytes_at(stage.at(f"journal.{mark}"))
+    own = {"socket": f"b.{mark}", "store": f"store2.{mark}", "spool": f"spool2.{mark}", "journal": f"journal2.{mark}"}
+    os.mkdir(stage.at(own["spool"]), 0o700)
+    second = stage.start(**{**own, **{name: f"{name}.{mark}" for name in shared}})
+    check(not second.is_ready(), f"a second launcher serves with the {' and the '.join(shared)} of the first")
+    status = second.ends()
+    check(status > 0 and "jobd: " in second.said(), f"a second launcher with the same {shared} ended with {status}: {second.said()!r}")
+    after = bytes_at(stage.at(f"journal.{mark}"))
+    check(after.startswith(before), f"the first's journal was cut by a second with the same {shared}")
+    check(len(requests_in(stage, f"spool.{mark}")) == 2, f"the first's spool was emptied by a second with the same {shared}")
+    make(stage.at("go"))
+    got = (read_all(serving), read_all(waiting))
+    check(got == (b"first", b"second"), f"the first's clients got {got} after a second with the same {shared}")
+    first.shut_down()
+    os.remove(stage.at("go"))
+    check(b"\0" not in bytes_at(stage.at(f"journal.{mark}")), "the journal has a hole")
+    replayed = stage.replay(f"journal.{mark}")
+    check(replayed.returncode == 0, f"the first's journal replays with {replayed.returncode}")
+    return own
+
+
+def a_second_launcher(stage):
+    """A second launcher with the journal, the spool or the store of one that runs, in each combination, changes nothing of it."""
+    names = ("journal", "spool", "store")
+    for number in range(1, 8):
+        shared = tuple(name for place, name in enumerate(names) if number >> place & 1)
+        os.mkdir(stage.at(f"spool.{'-'.join(shared)}"), 0o700)
+        shared_places(stage, shared)
+    again = {"socket": "a.store", "store": "store.store", "spool": "spool.store", "journal": "journal.store"}
+    launcher = stage.serve(**again)
+    end_process(launcher.pid)
+    launcher.ends()
+    stage.serve(**again).shut_down()
+
+
+def a_start_that_fails(stage):
+    """A start that fails by its store, its spool or its socket leaves the journal of the last one as it was."""
+    stage.serve(journal="journal").shut_down()
+    before = bytes_at(stage.at("journal"))
+    os.mkdir(stage.at("folder"))
+    make(stage.at("text"), "no database, but a text that is long enough to be looked at\n" * 20)
+    for places in ({"store": "folder"}, {"store": "text"}, {"socket": "nowhere/socket"}):
+        launcher = stage.start(journal="journal", **places)
+        check(not launcher.is_ready(), f"it serves with {places}")
+        status = launcher.ends()
+        check(status > 0 and "jobd: " in launcher.said(), f"with {places} it ended with {status}: {launcher.said()!r}")
+        check(bytes_at(stage.at("journal")) == before, f"the journal was changed by a start that failed with {places}")
+
+
+def spool_links_and_fifos(stage):
+    """Somebody foresees the names of spool files: nothing is written through a link, and no FIFO is waited for."""
+    victim = make(stage.at("victim"), "precious\n")
+    for kind in ("link", "fifo"):
+        launcher = stage.serve()
+        launcher.load(socket_job(stage, "cat", ["/bin/cat"]))
+        for job in range(3):
+            for end in ("request", "reply"):
+                path = stage.at(f"spool/{job}-1.{end}")
+                if kind == "link":
+                    os.symlink(victim, path)
+                else:
+                    os.mkfifo(path)
+        try:
+            got = call(stage.at("cat"), b"hello", 5.0)
+        except TimeoutError:
+            got = None
+        launcher.answers(f"a {kind} at a spool file's name")
+        check(text_at(victim) == "precious\n", f"a file was written through a link in the spool: {text_at(victim)!r}")
+        check(got is not None, f"a client at a {kind} was neither served nor closed")
+        if got != b"hello":
+            check(got == b"", f"a client got {got!r}")
+            wait_for(lambda: launcher.lines("jobd: cat: "), f"nothing said of the {kind} in the spool")
+        wait_for(lambda: call(stage.at("cat"), b"again") == b"again", "the next client is not served")
+        launcher.shut_down()
+        for name in os.listdir(stage.at("spool")):
+            os.remove(stage.at(f"spool/{name}"))
+
+
+def a_spool_that_others_may_write(stage):
+    """The spool's folder may be written by others: it is refused, and that is said."""
+    os.chmod(stage.at("spool"), 0o777)
+    launcher = stage.start()
+    if launcher.is_ready():
+        launcher.load(socket_job(stage, "cat", ["/bin/cat"]))
+        got = call(stage.at("cat"), b"hello")
+        check(got == b"", f"a folder in which others may write is used as spool: {got!r}")
+    else:
+        check(launcher.ends() > 0, "it ended with 0")
+    wait_for(lambda: launcher.lines(stage.at("spool")), f"the folder is not named, but said {launcher.said()!r}")
+
+
+def another_ones_socket(stage):
+    """Somebody else has bound the path of a control socket, or of a job's, since: it is not removed."""
+    launcher = stage.serve()
+    launcher.load(socket_job(stage, "cat", ["/bin/cat"]))
+    others = []
+    with connect(launcher.path) as client:
+        for path in (stage.at("cat"), stage.at("socket")):
+            os.remove(path)
+            other = socket.socket(socket.AF_UNIX)
+            other.bind(path)
+            other.listen(1)
+            others.append(other)
+        reply = launcher.ask_over(client, {"req": "unload", "job": "cat"})
+        check(reply["code"] == 0, f"unload got {reply}")
+        wait_for(lambda: launcher.ask_over(client, {"req": "print", "job": "cat"})["code"] == 3, "the job is not removed")
+        check(os.path.exists(stage.at("cat")), "another one's socket was removed when the job was unloaded")
+        launcher.ask_over(client, {"req": "shutdown"})
+    check(launcher.ends() == 0, "no clean end")
+    check(os.path.exists(stage.at("socket")), "another one's socket was removed at the shutdown")
+    for other in others:
+        other.close()
+
+
+def many_at_a_stale_socket(stage):
+    """Six launchers start at once where a socket file is left over: one serves, and the others are refused."""
+    stale = socket.socket(socket.AF_UNIX)
+    stale.bind(stage.at("socket"))
+    stale.close()
+    launchers = []
+    for number in range(6):
+        os.mkdir(stage.at(f"spool{number}"), 0o700)
+        launchers.append(stage.start(store=f"store{number}", spool=f"spool{number}"))
+    ready = [launcher for launcher in launchers if launcher.is_ready()]
+    check(len(ready) == 1, f"{len(ready)} of six launchers serve one socket")
+    for launcher in launchers:
+        if launcher is not ready[0]:
+            check(launcher.ends() == 6, f"a refused one ended with {launcher.ends()}: {launcher.said()!r}")
+    ready[0].shut_down()
+
+
+def a_lost_spool_file(stage):
+    """The request of a client that waits is removed: that client is closed, and the next one served."""
+    launcher = stage.serve()
+    launcher.load(gated_job(stage))
+    known, clients = [], []
+    for text in (b"first", b"second", b"third"):
+        clients.append(begin(stage.at("slow"), text))
+        wait_for(lambda: len(requests_in(stage)) == len(clients), f"the {text.decode()} request is not spooled")
+        known.append((set(requests_in(stage)) - set(known)).pop())
+    os.remove(stage.at(f"spool/{known[1]}"))
+    make(stage.at("go"))
+    got = []
+    for client in clients:
+        try:
+            got.append(read_all(client))
+        except TimeoutError:
+            raise Fault(f"the queue is stuck: only {got} were answered in {BOUND:.0f} s") from None
+    check(got == [b"first", b"", b"third"], f"the clients got {got}")
+    wait_for(lambda: launcher.lines("jobd: slow: "), "nothing said of the lost file")
+    launcher.shut_down()
+
+
+def closed_standard_streams(stage):
+    """Started with standard streams closed, the launcher writes no line of its own into its files."""
+    for number, closed in enumerate(("<&-", ">&-", "2>&-", "<&- >&- 2>&-")):
+        places = {"socket": f"socket{number}", "store": f"store{number}", "journal": f"journal{number}"}
+        launcher = stage.start(shell=f"exec {closed}", **places)
+        wait_for(lambda: os.path.exists(launcher.path), f"no socket with {closed}")
+        launcher.load({"Label": "missing", "ProgramArguments": ["/no/such/program"], "RunAtLoad": True})
+        launcher.tells("missing", "runs = 1")
+        launcher.shut_down()
+        lines = text_at(stage.at(places["journal"])).splitlines()
+        check(lines and all(line.startswith("{") for line in lines), f"with {closed} the journal has {[x for x in lines if x[:1] != '{']}")
+        replayed = stage.replay(places["journal"])
+        check(replayed.returncode == 0, f"with {closed} the journal replays with {replayed.returncode}")
+
+
+def pipelined_settings(stage):
+    """A client sends 300 settings at once: another one is answered after some of them, and not after all."""
+    launcher = stage.serve(journal="journal")
+    greedy, honest = connect(launcher.path, 60.0), connect(launcher.path, 60.0)
+    line = json.dumps({"req": "disable", "job": "x"}).encode() + b"\n"
+    left = [300]
+    text = line * left[0]
+
+    def read():
+        while left[0] > 0:
+            piece = greedy.recv(65536)
+            if not piece:
+                return
+            left[0] -= piece.count(b"\n")
+
+    reader = threading.Thread(target=read, daemon=True)
+    greedy.sendall(text)
+    reader.start()
+    while left[0] > 0 and reader.is_alive():
+        launcher.ask_over(honest, {"req": "list"}, 60.0)
+    reader.join(60.0)
+    check(left[0] <= 0, f"{left[0]} of the settings were not answered")
+    launcher.shut_down()
+    gaps, run = [], 0
+    for event in text_at(stage.at("journal")).splitlines()[1:]:
+        if '"ev":"disable"' in event:
+            run += 1
+        elif '"ev":"list"' in event:
+            gaps.append(run)
+            run = 0
+    gaps = [gap for gap in gaps if gap] or [300]
+    check(statistics.median(gaps) <= 60, f"between two answers of another client {statistics.median(gaps):.0f} settings were done (median)")
+
+
+def silent_clients_of_the_control_socket(stage):
+    """64 clients of the control socket say nothing: a further one is answered, and `shutdown` gets in."""
+    launcher = stage.serve()
+    before = descriptors(launcher.pid)
+    clients = [connect(launcher.path) for _ in range(64)]
+    wait_for(lambda: descriptors(launcher.pid) >= before + 60, "64 clients are not held")
+    launcher.answers("beside 64 silent clients of the control socket")
+    for client in clients:
+        client.close()
+    wait_for(lambda: descriptors(launcher.pid) <= before, "descriptors are left")
+    busy = []
+    for _ in range(64):
+        busy.append(connect(launcher.path))
+        busy[-1].sendall(b'{"req":"li')
+    wait_for(lambda: descriptors(launcher.pid) >= before + 60, "64 clients are not held")
+    with connect(launcher.path) as client:
+        reply = launcher.ask_over(client, {"req": "list"}, 5.0)
+    check(reply["code"] == 0 or reply == {"code": 2, "text": "too many clients\n"}, f"beside 64 half requests one got {reply}")
+    for client in busy:
+        client.close()
+    wait_for(lambda: descriptors(launcher.pid) <= before, "descriptors are left")
+    idle = [connect(launcher.path) for _ in range(64)]
+    launcher.shut_down()
+    for client in idle:
+        client.close()
+
+
+def settings_in_the_log(stage):
+    """After a clean end the store's file and the log beside it hold the settings, also where they were copied, or made one."""
+    launcher = stage.serve()
+    for label in ("one", "two"):
+        check(launcher.ask({"req": "disable", "job": label})["code"] == 0, "disable refused")
+    launcher.shut_down()
+    for end in ("", "-wal"):
+        if os.path.exists(stage.at(f"store{end}")):
+            shutil.copyfile(stage.at(f"store{end}"), stage.at(f"copy{end}"))
+    shown = stage.run(["overrides", "--store", "copy"]).stdout
+    check([line.split("\t")[:2] for line in shown.splitlines()] == [["one", "disabled"], ["two", "disabled"]], f"the copy has {shown!r}")
+    try:
+        import sqlite3
+    except ImportError:
+        return
+    database = sqlite3.connect(stage.at("store"))
+    database.execute("PRAGMA wal_checkpoint(TRUNCATE)").fetchall()
+    database.close()
+    os.mkdir(stage.at("alone"))
+    shutil.copyfile(stage.at("store"), stage.at("alone/store"))
+    alone = stage.run(["overrides", "--store", "alone/store"]).stdout
+    check(alone == shown, f"the store that was made one has {alone!r}")
+
+
+def limits_and_ignored_signals(stage):
+    """Limits that the launcher can't live with, and signals that jobs will inherit as ignored, are told at the start."""
+    launcher = stage.start(shell="ulimit -n 8")
+    if launcher.is_ready():
+        wait_for(lambda: re.search(r"jobd: .*(descriptor|open files)", launcher.said()), "8 descriptors, and nothing said of it")
+    else:
+        status = launcher.ends()
+        check(status > 0 and "jobd: " in launcher.said(), f"with 8 descriptors it ended with {status}: {launcher.said()!r}")
+    launcher = stage.serve(shell="ulimit -f 2000", socket="socket2", store="store2")
+    wait_for(lambda: re.search(r"jobd: .*file size", launcher.said()), f"a limit on file sizes is not told, but {launcher.said()!r}")
+    launcher.shut_down()
+    launcher = stage.serve(ignored="SIGHUP SIGINT SIGQUIT", socket="socket3", store="store3")
+    wait_for(lambda: re.search(r"jobd: .*(ignored|HUP)", launcher.said()), f"ignored signals are not told, but {launcher.said()!r}")
+    launcher.shut_down()
+    launcher = stage.serve(socket="socket4", store="store4")
+    launcher.shut_down()
+    check(launcher.said() == "", f"with nothing amiss it said {launcher.said()!r}")
+
+
+def private_files(stage):
+    """Journal and store are for their user alone, and no spool file is left at the end."""
+    launcher = stage.serve(journal="journal", shell="umask 022")
+    launcher.ask({"req": "disable", "job": "x"})
+    launcher.load(socket_job(stage, "greedy", ["/bin/sh", "-c", "exec head -c 400000 /dev/zero"]))
+    client = begin(stage.at("greedy"), b"x")
+    launcher.tells("greedy", "last exit = code 0")
+    for name in ("journal", "store"):
+        mode = stat.S_IMODE(os.stat(stage.at(name)).st_mode)
+        check(mode == 0o600, f"the {name} has mode {mode:04o}")
+    launcher.shut_down()
+    left = [name for name in os.listdir(stage.at("spool")) if name.endswith((".request", ".reply"))]
+    check(not left, f"spool files are left after the end: {left}")
+    client.close()
+
+
+def a_journal_at_a_fifo(stage):
+    """A journal that is no plain file is refused, and not waited for."""
+    os.mkfifo(stage.at("fifo"))
+    os.symlink("fifo", stage.at("link"))
+    for name in ("fifo", "link", "spool"):
+        launcher = stage.start(journal=name)
+        check(not launcher.is_ready(), f"it serves with a journal at a {name}")
+        status = launcher.ends(5.0)
+        check(status == 8 and stage.at(name) in launcher.said(), f"a journal at a {name}: {status}, {launcher.said()!r}")
+
+
+def what_is_no_store(stage):
+    """`jobd overrides` of a file that is no store of ours does not write to it."""
+    files = {"text": b"a text\n" * 100, "noise": bytes(range(256)) * 32, "empty": b""}
+    try:
+        import sqlite3
+        for name, mode in (("theirs", "delete"), ("logged", "wal")):
+            database = sqlite3.connect(stage.at("other"))
+            database.execute(f"PRAGMA journal_mode={mode}").fetchall()
+            database.execute("CREATE TABLE theirs (word TEXT)")
+            database.execute("INSERT INTO theirs VALUES ('precious')")
+            database.commit()
+            database.close()
+            files[name] = bytes_at(stage.at("other"))
+            os.remove(stage.at("other"))
+    except ImportError:
+        pass
+    for name, held in files.items():
+        folder = stage.at(f"folder.{name}")
+        os.mkdir(folder)
+        path = os.path.join(folder, name)
+        with open(path, "wb") as file:
+            file.write(held)
+        run = stage.run(["overrides", "--store", path])
+        check(run.returncode >= 0, f"overrides of {name} ended by signal {-run.returncode}")
+        check(bytes_at(path) == held, f"overrides wrote to the file {name} ({run.returncode}, {run.stderr!r})")
+        if held:
+            check(run.returncode == 5 and run.stderr.startswith("jobd: "), f"overrides of {name}: {run.returncode}, {run.stderr!r}")
+        left = sorted(os.listdir(folder))
+        check(left == [name], f"overrides of {name} left {left}")
+
+
+def long_lines_and_headers(stage):
+    """What `jobd replay` could not take is refused by `jobctl`, and told at the start."""
+    launcher = stage.serve(journal="journal")
+    front, back = '{"Label":"long","ProgramArguments":["/bin/true"]', "}"
+    size = len(json.dumps({"req": "load", "def": front + back}, separators=(",", ":")))
+    for wanted in (262100, 262120, 262144):
+        make(stage.at("long.json"), front + " " * (wanted - size) + back)
+        run = stage.jobctl(["load", stage.at("long.json")])
+        check(run.returncode in (0, 4, 65), f"a definition of {wanted} bytes: {run.returncode}, {run.stderr!r}")
+        check(run.returncode != 65 or "long.json" in run.stderr, f"refused with {run.stderr!r}")
+        check(wanted < 262101 or run.returncode == 65, f"jobctl hands in a line of {wanted} bytes, which can't be replayed")
+    labels = [f"{number:04d}" + "x" * 246 for number in range(1050)]
+    with connect(launcher.path, 60.0) as client:
+        sender = threading.Thread(target=lambda: [client.sendall(b'{"req":"disable","job":"%s"}\n' % x.encode()) for x in labels], daemon=True)
+        sender.start()
+        got = 0
+        while got < len(labels):
+            piece = client.recv(65536)
+            check(piece, "the settings were not answered")
+            got += piece.count(b"\n")
+    launcher.shut_down()
+    replayed = stage.replay("journal")
+    check(replayed.returncode == 0, f"the journal replays with {replayed.returncode}")
+    launcher = stage.serve(journal="journal2")
+    wait_for(lambda: re.search(r"jobd: .*(journal|header|replay)", launcher.said()), "a header that can't be replayed is not told")
+    launcher.shut_down()
+
+
+def reasons_are_told(stage):
+    """Whatever the system refuses is told once, with the system's reason, and again when the reason changes."""
+    launcher = stage.serve()
+    absent = "No such file or directory (os error 2)"
+    make(stage.at("plain"), "no program\n")
+    os.chmod(stage.at("plain"), 0o644)
+    os.symlink("loop", stage.at("loop"))
+    keys = {"RunAtLoad": True}
+    jobs = [
+        ("program", {"ProgramArguments": ["/no/such/program"], **keys}, f"run 1: cannot start /no/such/program: {absent}"),
+        ("barred", {"ProgramArguments": [stage.at("plain")], **keys}, f"run 1: cannot start {stage.at('plain')}: Permission denied (os error 13)"),
+        ("folder", shell_job("", ":", WorkingDirectory=stage.at("gone"), **keys), f"{stage.at('gone')}: {absent}"),
+        ("output", shell_job("", ":", StandardOutPath=stage.at("gone/out"), **keys), f"{stage.at('gone/out')}: {absent}"),
+        ("errors", shell_job("", ":", StandardErrorPath=stage.at("gone/err"), **keys), f"{stage.at('gone/err')}: {absent}"),
+        ("input", shell_job("", ":", StandardInPath=stage.at("gone/in"), **keys), f"{stage.at('gone/in')}: {absent}"),
+        ("watch", shell_job("", ":", WatchPaths=[stage.at("loop/x")]), f"{stage.at('loop/x')}: Too many levels of symbolic links (os error 40)"),
+    ]
+    for label, definition, _ in jobs:
+        launcher.load({**definition, "Label": label})
+    launcher.load({**socket_job(stage, "bound", ["/bin/cat"]), "Sockets": {"s": {"SockPathName": stage.at("gone/socket")}}}, 11)
+    jobs.append(("bound", None, f"{stage.at('gone/socket')}: {absent}"))
+    for label, _, text in jobs:
+        wait_for(lambda: [x for x in launcher.lines(f"jobd: {label}: ") if x.endswith(text)], f"no line `jobd: {label}: ..{text}` in {launcher.said()!r}")
+    launcher.load({"Label": "often", "ProgramArguments": [stage.at("later")], "KeepAlive": True, "ThrottleInterval": 0})
+    wait_for(lambda: int(re.search(r"runs = (\d+)", launcher.print("often"))[1]) >= 3, "the job is not tried again")
+    check(len(launcher.lines("jobd: often: ")) == 1, f"a refusal that repeats is told as {launcher.lines('often')[:3]}")
+    make(stage.at("later"), "no program\n")
+    wait_for(lambda: [x for x in launcher.lines("jobd: often: ") if x.endswith("Permission denied (os error 13)")], "the reason that changed is not told")
+    check(len(launcher.lines("jobd: often: ")) == 2, f"two reasons are told as {launcher.lines('often')[:4]}")
+    launcher.load(socket_job(stage, "cat", ["/bin/cat"]))
+    got = call(stage.at("cat"), b"x" * 65537)
+    check(got == b"", f"a request that is too long got {got[:20]!r}")
+    wait_for(lambda: launcher.lines("jobd: cat: "), "a request that is too long is not told")
+    launcher.shut_down()
+    strange = [line for line in launcher.said().splitlines() if not line.startswith("jobd: ")]
+    check(not strange, f"lines of another form: {strange[:2]}")
+
+
+def run_log(stage):
+    """JOBD_LOG=runs tells starts, ends, TERM and KILL; JOURNAL_STREAM puts a level before each line."""
+    told = []
+    for env in ({"JOBD_LOG": "runs"}, {"JOBD_LOG": "runs", "JOURNAL_STREAM": "8:1"}, {"JOURNAL_STREAM": "8:1"}, {}):
+        launcher = stage.serve(env=env)
+        launcher.load(shell_job("seven", "exit 7", RunAtLoad=True))
+        launcher.load(shell_job("mild", "exec sleep 1000", RunAtLoad=True))
+        launcher.load(shell_job("deaf", f"trap '' TERM; : > {stage.at('deaf')}; while :; do sleep 0.05; done", RunAtLoad=True, ExitTimeOut=1))
+        launcher.load({"Label": "missing", "ProgramArguments": ["/no/such/program"], "RunAtLoad": True})
+        wait_for(lambda: os.path.exists(stage.at("deaf")), "the job does not start")
+        pid = re.search(r"pid = (\d+)", launcher.print("mild"))
+        for label, end in (("mild", "signal 15"), ("deaf", "signal 9")):
+            if "JOBD_LOG" in env:
+                launcher.ask({"req": "stop", "job": label})
+                launcher.tells(label, f"last exit = {end}")
+        launcher.tells("seven", "last exit = code 7")
+        end_all(launcher)
+        os.remove(stage.at("deaf"))
+        told.append((launcher.said(), pid))
+    (plain, pid), (leveled, _), (refusals, _), (still, _) = told
+    wanted = [
+        rf"jobd: mild: run 1 started as {pid[1] if pid else '[0-9]+'}", r"jobd: mild: TERM to run 1", r"jobd: mild: run 1 ended by signal 15 after \d+\.\d s",
+        r"jobd: seven: run 1 started as \d+", r"jobd: seven: run 1 ended with code 7 after \d+\.\d s",
+        r"jobd: deaf: TERM to run 1", r"jobd: deaf: KILL to run 1", r"jobd: deaf: run 1 ended by signal 9 after \d+\.\d s",
+    ]
+    for line in wanted:
+        check(re.search(f"^{line}$", plain, re.M), f"no line {line!r} in {plain!r}")
+        check(re.search(f"^<6>{line}$", leveled, re.M) or "started as" in line, f"no line '<6>{line}' in {leveled!r}")
+    refusal = "jobd: missing: run 1: cannot start /no/such/program: No such file or directory (os error 2)"
+    check(refusal in plain.splitlines() and refusal in still.splitlines(), f"no line {refusal!r} in {still!r}")
+    check(f"<4>{refusal}" in leveled.splitlines() and f"<4>{refusal}" in refusals.splitlines(), f"no level before the refusal in {refusals!r}")
+    check(len(still.splitlines()) == 1 and len(refusals.splitlines()) == 1, f"without JOBD_LOG it said {still!r}")
+
+
+def end_all(launcher):
+    """A shutdown that may wait for a job that heeds no TERM."""
+    launcher.ask({"req": "shutdown"})
+    check(launcher.ends() == 0, "no clean end")
+
+
+SCENES = [
+    a_stream_at_a_fifo, clients_that_never_read, silent_clients_of_one_port, ends_that_cannot_be_seen, a_second_launcher,
+    a_start_that_fails, spool_links_and_fifos, a_spool_that_others_may_write, another_ones_socket, many_at_a_stale_socket,
+    a_lost_spool_file, closed_standard_streams, pipelined_settings, silent_clients_of_the_control_socket, settings_in_the_log,
+    limits_and_ignored_signals, private_files, a_journal_at_a_fifo, what_is_no_store, long_lines_and_headers, reasons_are_told, run_log,
+]
+
+
+def play(scene, given, folder):
+    """The line that tells how the scene went, and whether it went well."""
+    place = os.path.join(folder, str(SCENES.index(scene)))
+    os.mkdir(place)
+    stage = Stage(given, place)
+    start = time.monotonic()
+    try:
+        scene(stage)
+        line = f"ok {scene.__name__}"
+    except Fault as fault:
+        line = f"FAILED {scene.__name__}: {fault}"
+    except Exception as error:  # a client that is cut off, or an answer of another form
+        line = f"FAILED {scene.__name__}: {type(error).__name__}: {error} (line {error.__traceback__.tb_next.tb_lineno})"
+    finally:
+        stage.clear()
+    if given.times:
+        line += f" ({time.monotonic() - start:.1f} s)"
+    return line.replace(folder, "@").replace("\n", "\\n")
+
+
+def adopt_orphans():
+    """The children of a launcher that was killed become children of this process, so that they can be ended."""
+    try:
+        ctypes.CDLL(None).prctl(36, 1, 0, 0, 0)
+    except (OSError, AttributeError):
+        pass
+
+
+def end_children():
+    """Ends and waits for all that is left below this process."""
+    for pid in children_of(os.getpid()):
+        end_process(pid)
+    end = time.monotonic() + BOUND
+    while time.monotonic() < end:
+        try:
+            if os.waitpid(-1, os.WNOHANG) == (0, 0):
+                time.sleep(0.01)
+        except ChildProcessError:
+            return
+
+
+def read_words():
+    words = argparse.ArgumentParser()
+    words.add_argument("--jobd", type=shlex.split, default=[os.path.join(BUILD, "jobd")])
+    words.add_argument("--jobctl", type=shlex.split, default=[os.path.join(BUILD, "jobctl")])
+    words.add_argument("--at-once", type=int, default=4)
+    words.add_argument("--times", action="store_true")
+    words.add_argument("scenes", nargs="*", metavar="SCENE")
+    given = words.parse_args()
+    for command in (given.jobd, given.jobctl):
+        command[0] = os.path.abspath(command[0])
+    unknown = [name for name in given.scenes if name not in [scene.__name__ for scene in SCENES]]
+    if unknown:
+        words.error(f"no scene {unknown[0]}")
+    return given
+
+
+def main():
+    given = read_words()
+    adopt_orphans()
+    scenes = [scene for scene in SCENES if not given.scenes or scene.__name__ in given.scenes]
+    failed = 0
+    folder = tempfile.mkdtemp(prefix="edge.")
+    try:
+        with concurrent.futures.ThreadPoolExecutor(given.at_once) as pool:
+            for line in pool.map(lambda scene: play(scene, given, folder), scenes):
+                failed += line.startswith("FAILED")
+                print(line, flush=True)
+                if line.startswith("FAILED"):
+                    print(line, file=sys.stderr)
+    finally:
+        end_children()
+        shutil.rmtree(folder, ignore_errors=True)
+    print(f"{len(scenes)} scenes, {failed} failed", flush=True)
+    return 1 if failed else 0
+
+
+if __name__ == "__main__":
+    sys.exit(main())
