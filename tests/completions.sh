@@ -10,7 +10,10 @@ import os, pty, re, select, shutil, subprocess, sys, tempfile, time
 
 FOLDER, JOBD, CONTROL = sys.argv[1:]
 # The labels of the jobs behind each socket.
-LABELS = {"jobd.sock": ["org.example.web", "org.example.backup", "local.poll"], "other.sock": ["far.away"]}
+LABELS = {
+    "jobd.sock": ["org.example.web", "org.example.backup", "local.poll", "com:colon:x", "my label", "at@home=x", "-dash.job"],
+    "other.sock": ["far.away"],
+}
 JOBCTL = """#!/bin/sh
 socket=jobd.sock
 if [ "$1" = --socket ]; then socket=$2; shift 2; fi
@@ -18,14 +21,39 @@ if [ "$1" = --socket ]; then socket=$2; shift 2; fi
 printf 'PID\\tStatus\\tLabel\\n'
 case $socket in
 other.sock) printf -- '-\\t0\\tfar.away\\n' ;;
-*) printf '12\\t0\\torg.example.web\\n-\\t0\\torg.example.backup\\n-\\t1\\tlocal.poll\\n' ;;
+*) printf -- '-\\t0\\t%s\\n' org.example.web org.example.backup local.poll com:colon:x 'my label' at@home=x -dash.job ;;
 esac
 """
+# Stands before jobctl: writes down the words of each call but a list.
+RECORDER = """#!/bin/sh
+case " $* " in
+*" list "*) exec "{real}" "$@" ;;
+*) printf '%s\\0' "$@" >>"{log}.part" && mv "{log}.part" "{log}" ;;
+esac
+"""
+# A command line that ends where TAB is pressed and then the line is run, and the words that jobctl gets.
+RUNS = [
+    ("jobctl stop com:c", ["stop", "com:colon:x"]),
+    ("jobctl stop com:colon:", ["stop", "com:colon:x"]),
+    ("jobctl start at@h", ["start", "at@home=x"]),
+    ("jobctl start at@home=", ["start", "at@home=x"]),
+    ("jobctl stop my", ["stop", "my label"]),
+    ("jobctl stop my\\ l", ["stop", "my label"]),
+    ('jobctl stop "my la', ["stop", "my label"]),
+    ("jobctl stop 'com:c", ["stop", "com:colon:x"]),
+    ("jobctl stop -- -da", ["stop", "--", "-dash.job"]),
+    ("jobctl print system/com:c", ["print", "system/com:colon:x"]),
+    ("jobctl print gui/501/my", ["print", "gui/501/my label"]),
+    ("jobctl disable user/0/-d", ["disable", "user/0/-dash.job"]),
+    ("jobctl kickstart -k system/loc", ["kickstart", "-k", "system/local.poll"]),
+    ("jobctl --socket other.sock enable system/", ["--socket", "other.sock", "enable", "system/far.away"]),
+    ("jobctl --socket=other.sock stop f", ["--socket=other.sock", "stop", "far.away"]),
+]
 # A command line that ends where TAB is pressed, what is offered, and what is not.
 CASES = [
     ("jobctl ", ["load", "unload", "start", "stop", "enable", "disable", "kickstart", "list", "print", "shutdown"], []),
     ("jobctl st", ["start", "stop"], ["load"]),
-    ("jobctl stop ", ["org.example.web", "org.example.backup", "local.poll"], ["far.away"]),
+    ("jobctl stop ", ["org.example.web", "org.example.backup", "local.poll", "--"], ["far.away", "-dash.job"]),
     ("jobctl kickstart -k org.example.", ["org.example.web", "org.example.backup"], ["local.poll"]),
     ("jobctl --socket other.sock print ", ["far.away"], ["local.poll"]),
     ("jobctl load ", ["web.json", "old.plist", "jobs.d"], []),
@@ -80,19 +108,54 @@ def ask(program, words, setup, line, folder, environment):
         os.waitpid(pid, 0)
 
 
-def by_bash(line, folder, environment):
-    setup = f"source {FOLDER}/bash/jobctl; source {FOLDER}/bash/jobd; bind 'set page-completions off'; bind 'set completion-query-items 0'"
-    return ask("bash", ["--norc", "--noprofile", "-i"], setup, line, folder, environment)
+def run_by(program, words, setup, line, folder, environment):
+    """The words that jobctl gets once TAB is pressed behind the line and the line is run, or nothing."""
+    log = f"{folder}/log"
+    if os.path.exists(log):
+        os.unlink(log)
+    pid, fd = pty.fork()
+    if pid == 0:
+        os.chdir(folder)
+        os.execvpe(program, [program, *words], environment)
+    try:
+        os.write(fd, (setup + "; echo set''up\n").encode())
+        read_until(fd, 1.0, 60, b"setup\r\n")
+        read_until(fd, 0.5, 5)
+        os.write(fd, line.encode() + b"\t")
+        shown = read_until(fd, 1.0, 10)
+        os.write(fd, b"\n")
+        end = time.time() + 10
+        while time.time() < end and not os.path.exists(log):
+            shown += read_until(fd, 0.1, 0.2)
+        if not os.path.exists(log):
+            return None, shown
+        with open(log) as it:
+            return it.read().split("\0")[:-1], shown
+    finally:
+        os.close(fd)
+        os.waitpid(pid, 0)
 
 
-def by_zsh(line, folder, environment):
-    setup = f"PS1='> '; fpath=({FOLDER}/zsh $fpath); autoload -Uz compinit; compinit -u -D; zstyle ':completion:*' list-prompt ''; LISTMAX=0"
-    return ask("zsh", ["-f", "-i"], setup, line, folder, environment)
+# How each shell is started, and what it is told first.
+SHELLS = {
+    "bash": (
+        ["--norc", "--noprofile", "-i"],
+        f"source {FOLDER}/bash/jobctl; source {FOLDER}/bash/jobd; bind 'set page-completions off'; bind 'set completion-query-items 0'",
+    ),
+    "zsh": (
+        ["-f", "-i"],
+        f"PS1='> '; fpath=({FOLDER}/zsh $fpath); autoload -Uz compinit; compinit -u -D; zstyle ':completion:*' list-prompt ''; LISTMAX=0",
+    ),
+    "fish": (["--no-config", "-i"], f"source {FOLDER}/fish/jobctl.fish; source {FOLDER}/fish/jobd.fish"),
+}
 
 
-def by_fish(line, folder, environment):
-    script = f"source {FOLDER}/fish/jobctl.fish; source {FOLDER}/fish/jobd.fish; complete -C {line!r}"
-    run = subprocess.run(["fish", "-c", script], cwd=folder, env=environment, capture_output=True, text=True)
+def shown_by(name, line, folder, environment):
+    """What the shell offers behind the line."""
+    words, setup = SHELLS[name]
+    if name != "fish":
+        return ask(name, words, setup, line, folder, environment)
+    run = subprocess.run(["fish", "-c", f"{setup}; complete -C {line!r}"], cwd=folder, env=environment, capture_output=True, text=True)
     return "\n".join(row.split("\t")[0] for row in run.stdout.splitlines())
 
 
@@ -110,19 +173,29 @@ def launch(folder, socket, labels):
     return launcher
 
 
+def write_program(path, text):
+    with open(path, "w") as program:
+        program.write(text)
+    os.chmod(path, 0o755)
+
+
+def record(folder, real):
+    """Puts the recorder into the folder's bin, before this jobctl."""
+    write_program(f"{folder}/bin/jobctl", RECORDER.format(real=real, log=f"{folder}/log"))
+
+
 def give_programs(folder):
     """Puts jobctl into the folder's bin: the real one with its launchers, which are returned, or the stand-in."""
     if os.path.isfile(JOBD) and os.path.isfile(CONTROL):
-        os.symlink(CONTROL, f"{folder}/bin/jobctl")
+        record(folder, CONTROL)
         return {socket: launch(folder, socket, labels) for socket, labels in LABELS.items()}
-    with open(f"{folder}/bin/jobctl", "w") as program:
-        program.write(JOBCTL)
-    os.chmod(f"{folder}/bin/jobctl", 0o755)
+    write_program(f"{folder}/bin/stand-in", JOBCTL)
+    record(folder, f"{folder}/bin/stand-in")
     open(f"{folder}/other.sock", "w").close()
     return {}
 
 
-def try_shell(name, asked):
+def try_shell(name):
     if shutil.which(name) is None:
         print(f"completions: {name} is not here, so it was not asked")
         return
@@ -134,7 +207,7 @@ def try_shell(name, asked):
             open(f"{folder}/{file}", "w").close()
         environment = dict(os.environ, PATH=f"{folder}/bin:" + os.environ["PATH"], HOME=folder, TERM="dumb", LC_ALL="C.UTF-8")
         for line, offered, others in CASES:
-            shown = asked(line, folder, environment)
+            shown = shown_by(name, line, folder, environment)
             words = words_in(shown.replace(line, " ", 1)) | {word.rstrip("/") for word in words_in(shown)}
             # A lone candidate is completed on the line itself.
             whole = re.sub(r"[^\w./-]", "", shown)
@@ -144,15 +217,18 @@ def try_shell(name, asked):
             for word in others:
                 if word in words:
                     faults.append(f"{name}: {line!r} offers {word}")
+        for line, wanted in RUNS:
+            got, shown = run_by(name, *SHELLS[name], line, folder, environment)
+            if got != wanted:
+                faults.append(f"{name}: {line!r} and TAB runs {got}, not {wanted}: {shown!r}")
         for socket, launcher in launchers.items():
             subprocess.run([CONTROL, "--socket", socket, "shutdown"], cwd=folder, check=True)
             launcher.wait(timeout=30)
-    print(f"completions: {name} was asked {len(CASES)} times, " + ("beside two launchers" if launchers else "with a stand-in for jobctl"))
+    print(f"completions: {name} was asked {len(CASES)} times and ran {len(RUNS)} lines, " + ("beside two launchers" if launchers else "with a stand-in for jobctl"))
 
 
-try_shell("bash", by_bash)
-try_shell("zsh", by_zsh)
-try_shell("fish", by_fish)
+for name in SHELLS:
+    try_shell(name)
 for fault in faults:
     print("completions:", fault, file=sys.stderr)
 sys.exit(1 if faults else 0)

@@ -1,26 +1,52 @@
 # Completion of jobctl for fish.
 
-# The control socket that the command line names.
+# The option with the control socket that the command line names, if it names one.
 function __jobctl_socket
     set -l words (commandline -opc)
     for at in (seq 2 (count $words))
         switch $words[$at]
             case '--socket=*'
-                string replace -- --socket= '' $words[$at]
+                echo $words[$at]
                 return
             case --socket
                 if test (math $at + 1) -le (count $words)
-                    echo $words[(math $at + 1)]
-                    return
+                    echo --socket=$words[(math $at + 1)]
                 end
+                return
         end
     end
-    echo jobd.sock
 end
 
 # The labels that are loaded, one a line.
 function __jobctl_labels
-    jobctl --socket (__jobctl_socket) list 2>/dev/null | awk -F '\t' 'NR > 1 { print $3 }'
+    set -lx JOBCTL_TIMEOUT 2
+    jobctl (__jobctl_socket) list 2>/dev/null | awk -F '\t' 'NR > 1 { print $3 }'
+end
+
+# The labels as words. One that begins with - is offered behind --, and -- where such a label is.
+function __jobctl_words
+    set -l labels (__jobctl_labels)
+    if contains -- -- (commandline -opc)
+        printf '%s\n' $labels
+        return
+    end
+    printf '%s\n' (string match -v -- '-*' $labels)
+    if string match -q -- '-*' $labels
+        echo --
+    end
+end
+
+# The labels as targets, behind the domain that the word names.
+function __jobctl_targets
+    set -l found (string match -r -- '^["\']?((?:system|user/[0-9]+|gui/[0-9]+)/)' (commandline -ct))
+    if test (count $found) -eq 2
+        string replace -r '^' $found[2] -- (__jobctl_labels)
+        return
+    end
+    if string match -q -- 's*' (commandline -ct)
+        echo system/
+    end
+    __jobctl_words
 end
 
 # The files that may be definitions, and the folders.
@@ -51,4 +77,5 @@ complete -c jobctl -n '__fish_seen_subcommand_from load' -s w -d 'Also enable th
 complete -c jobctl -n '__fish_seen_subcommand_from load' -s F -d 'Load a disabled definition too'
 complete -c jobctl -n '__fish_seen_subcommand_from unload' -s w -d 'Also disable the label'
 complete -c jobctl -n '__fish_seen_subcommand_from kickstart' -s k -d 'End a running child by KILL first'
-complete -c jobctl -n '__fish_seen_subcommand_from start stop enable disable kickstart print' -a '(__jobctl_labels)'
+complete -c jobctl -n '__fish_seen_subcommand_from start stop' -a '(__jobctl_words)'
+complete -c jobctl -n '__fish_seen_subcommand_from enable disable kickstart print' -a '(__jobctl_targets)'

@@ -4,9 +4,10 @@ use crate::fault::Fault;
 use crate::reply::{Replied, read_reply};
 use std::alloc::Global;
 use std::io;
-use std::io::{BufRead, BufReader, Read, Write};
+use std::io::{BufRead, BufReader, ErrorKind, Read, Write};
 use std::net::Net;
 use std::os::unix::net::UnixStream;
+use std::time::Duration;
 
 /// A reply has at most as many bytes before its newline.
 pub const REPLY: usize = 1_048_576;
@@ -14,22 +15,47 @@ pub const REPLY: usize = 1_048_576;
 #[derive(Drop)]
 pub(crate) struct Connection {
     reader: BufReader<UnixStream>,
+    // The longest wait for a part of an answer, in seconds; 0 for ever.
+    patience: u32,
 }
 
 impl Connection {
-    /// Connects to the launcher whose socket is at the path.
-    pub(crate) fn open<R: Net>(rt: &R, alloc: Global, socket: &str) -> Result<Connection, Fault> {
-        match connect(rt, alloc, socket) {
-            Ok(reader) => Ok(Connection { reader }),
+    /// Connects to the launcher whose socket is at the path. An answer is waited for so many seconds, or for ever if they
+    /// are 0.
+    pub(crate) fn open<R: Net>(
+        rt: &R,
+        alloc: Global,
+        socket: &str,
+        patience: u32,
+    ) -> Result<Connection, Fault> {
+        match connect(rt, alloc, socket, patience) {
+            Ok(reader) => Ok(Connection { reader, patience }),
             Err(error) => Err(Fault::of_connection(error)),
         }
     }
 
-    /// Sends a request's line, and waits for its reply.
+    /// Sends a request's line, and waits for its reply. A launcher that has no room for a client says so and ends the
+    /// connection, so what it said is heard also if the request can't be sent.
     pub(crate) fn ask(&mut self, alloc: Global, request: &[u8]) -> Result<Replied, Fault> {
-        match self.reader.get_mut().write_all(request) {
-            Ok(()) => hear(alloc, &mut self.reader),
-            Err(error) => Err(Fault::of_connection(error)),
+        let sent = self.reader.get_mut().write_all(request);
+        match sent {
+            Ok(()) => self.hear_in_time(alloc),
+            Err(error) if error.kind() == ErrorKind::WouldBlock => {
+                Err(Fault::Silent(self.patience))
+            }
+            Err(error) => match hear(alloc, &mut self.reader) {
+                Ok(reply) => Ok(reply),
+                Err(_) => Err(Fault::of_connection(error)),
+            },
+        }
+    }
+
+    fn hear_in_time(&mut self, alloc: Global) -> Result<Replied, Fault> {
+        match hear(alloc, &mut self.reader) {
+            Err(Fault::Connection(error)) if error.kind() == ErrorKind::WouldBlock => {
+                Err(Fault::Silent(self.patience))
+            }
+            heard => heard,
         }
     }
 }
@@ -51,8 +77,18 @@ fn read_line<B: BufRead>(reader: &mut B, line: &mut Vec<u8>) -> io::Result<()> {
     Ok(())
 }
 
-fn connect<R: Net>(rt: &R, alloc: Global, socket: &str) -> io::Result<BufReader<UnixStream>> {
+fn connect<R: Net>(
+    rt: &R,
+    alloc: Global,
+    socket: &str,
+    patience: u32,
+) -> io::Result<BufReader<UnixStream>> {
     let stream = UnixStream::connect(rt, socket)?;
+    if patience > 0 {
+        let longest = Some(Duration::from_secs(u64::from(patience)));
+        stream.set_read_timeout(longest)?;
+        stream.set_write_timeout(longest)?;
+    }
     BufReader::new(alloc, stream)
 }
 

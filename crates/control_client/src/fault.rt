@@ -8,6 +8,9 @@ use std::alloc::AllocError;
 use std::io;
 use std::io::ErrorKind;
 
+/// The exit status if the standard output's reader has gone: that of a program which a shell's pipe ended by SIGPIPE.
+pub const READER_GONE: u8 = 141;
+
 /// What keeps a request from its reply.
 #[derive(Debug, Drop, thiserror::Error)]
 pub enum Fault {
@@ -21,12 +24,18 @@ pub enum Fault {
     /// The request would be longer than a line may be.
     #[error("too long for a request")]
     TooLong,
+    /// The journal's line of the request would be longer than a line may be, so that `jobd replay` could not read it.
+    #[error("too long for a line of the journal")]
+    LongRecord,
     /// The file is no definition, so its label is not known.
     #[error("{0}")]
     Definition(DefFault),
     /// The launcher can't be reached, or the connection failed.
     #[error("{0}")]
     Connection(io::Error),
+    /// The launcher took the connection, and no answer came within so many seconds.
+    #[error("no answer within {0} s (JOBCTL_TIMEOUT)")]
+    Silent(u32),
     /// The connection ended before the reply did.
     #[error("no reply came")]
     NoReply,
@@ -41,12 +50,15 @@ pub enum Fault {
 
 impl Fault {
     /// The exit status that tells it, as sysexits.h has them: 65 of a file, 69 of the launcher, 74 of the output; 1 for want
-    /// of memory.
+    /// of memory. If the output's reader has gone, [`READER_GONE`].
     pub fn status(&self) -> u8 {
         match self {
             Fault::NoMemory => 1,
-            Fault::File(_) | Fault::NotText | Fault::TooLong | Fault::Definition(_) => 65,
-            Fault::Connection(_) | Fault::NoReply | Fault::LongReply | Fault::BadReply => 69,
+            Fault::File(_) | Fault::NotText | Fault::TooLong => 65,
+            Fault::LongRecord | Fault::Definition(_) => 65,
+            Fault::Connection(_) | Fault::Silent(_) | Fault::NoReply => 69,
+            Fault::LongReply | Fault::BadReply => 69,
+            Fault::Output(error) if error.kind() == ErrorKind::BrokenPipe => READER_GONE,
             Fault::Output(_) => 74,
         }
     }
@@ -54,6 +66,11 @@ impl Fault {
     /// Whether no further request is made.
     pub fn is_last(&self) -> bool {
         self.status() == 1 || self.status() == 69
+    }
+
+    /// Whether it is told: that a reader has gone is no fault of the program.
+    pub(crate) fn is_told(&self) -> bool {
+        self.status() != READER_GONE
     }
 
     pub(crate) fn of_file(error: io::Error) -> Fault {

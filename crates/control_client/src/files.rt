@@ -6,16 +6,27 @@ use std::fs::Files;
 use std::io::ErrorKind;
 use std::{fs, io};
 
-/// A file that a path stands for, or a folder that can't be listed, with the reason.
+/// What stands at a path.
+#[derive(Clone, Copy, Drop)]
+pub(crate) enum Kind {
+    /// A file that may be a definition.
+    File,
+    /// A folder that can't be listed, with the reason.
+    Unlisted(ErrorKind),
+    /// A folder without a file that may be a definition.
+    Empty,
+}
+
+/// A file that a path stands for, or a folder that stands for none.
 #[derive(Drop)]
 pub(crate) struct Found {
     pub(crate) path: String,
-    pub(crate) fault: Option<ErrorKind>,
+    pub(crate) kind: Kind,
 }
 
 /// The files that the paths stand for, in their order. A folder stands for its files whose names end in `.plist` or `.json`,
-/// in byte order of names, and not for its folders; behind them stands what of it can't be listed. Any other path stands for
-/// itself. `AllocError` if memory ran out.
+/// in byte order of names, and not for its folders; behind them stands what of it can't be listed, or the folder if it has
+/// none of them. Any other path stands for itself. `AllocError` if memory ran out.
 pub(crate) fn files_at<R: Files + AllocGlobal + Clone + Drop>(
     rt: &R,
     paths: &[Text],
@@ -25,7 +36,7 @@ pub(crate) fn files_at<R: Files + AllocGlobal + Clone + Drop>(
         if is_folder(rt, path.as_str()) {
             add_folder(rt, path.as_str(), &mut found)?;
         } else {
-            add(rt.alloc(), path.as_str(), None, &mut found)?;
+            add(rt.alloc(), path.as_str(), Kind::File, &mut found)?;
         }
     }
     Ok(found)
@@ -38,14 +49,9 @@ fn is_folder<R: Files>(rt: &R, path: &str) -> bool {
     }
 }
 
-fn add(
-    alloc: Global,
-    path: &str,
-    fault: Option<ErrorKind>,
-    found: &mut Vec<Found>,
-) -> Result<(), AllocError> {
+fn add(alloc: Global, path: &str, kind: Kind, found: &mut Vec<Found>) -> Result<(), AllocError> {
     let path = String::from_str(alloc, path)?;
-    found.push(Found { path, fault })?;
+    found.push(Found { path, kind })?;
     Ok(())
 }
 
@@ -58,11 +64,12 @@ fn add_folder<R: Files + AllocGlobal + Clone + Drop>(
     let listed = list(rt, folder, &mut names);
     names.sort()?;
     for name in names.iter() {
-        add(rt.alloc(), name.as_str(), None, found)?;
+        add(rt.alloc(), name.as_str(), Kind::File, found)?;
     }
     match listed {
+        Ok(()) if names.is_empty() => add(rt.alloc(), folder, Kind::Empty, found),
         Ok(()) => Ok(()),
-        Err(error) => add(rt.alloc(), folder, Some(error.kind()), found),
+        Err(error) => add(rt.alloc(), folder, Kind::Unlisted(error.kind()), found),
     }
 }
 

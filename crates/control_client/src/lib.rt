@@ -9,10 +9,11 @@ mod program;
 mod reply;
 mod request;
 mod session;
+mod settings;
 
 pub use connection::{REPLY, hear};
 pub use ctl_protocol::LINE_LIMIT;
-pub use fault::Fault;
+pub use fault::{Fault, READER_GONE};
 pub use program::{NO_MEMORY, USAGE, jobctl};
 pub use reply::Replied;
 pub use request::request_of;

@@ -1,15 +1,17 @@
 //! One run of the control program.
 
 use crate::fault::Fault;
-use crate::files::{Found, files_at};
+use crate::files::{Found, Kind, files_at};
 use crate::request::{load_event, unload_event};
 use crate::session::Session;
+use crate::settings::{SettingFault, Settings, settings_of};
 use history_model::Event;
-use launchctl_words::{Command, Paths, WordFault, Words, explain, read_words};
+use launchctl_words::{Command, Paths, WordFault, Words, explain, read_words, read_words_beside};
 use std::alloc::Global;
 use std::fs::Files;
 use std::io;
 use std::net::Net;
+use std::rt::Env;
 
 /// The exit status for want of memory.
 pub const NO_MEMORY: u8 = 1;
@@ -73,15 +75,23 @@ fn task_of(command: Command) -> Task {
 /// in their order, and a file's fault leaves out that file alone.
 ///
 /// A reply's text goes to the standard output at code 0, else to the standard error, behind a line that names its file if
-/// there are several. A fault is one line on the standard error that names what it is about, and the reason.
-pub fn jobctl<R: Net + Files + Print + Eprint + AllocGlobal + Clone + Drop>(
+/// there are several. A fault is one line on the standard error that names what it is about, and the reason. If the standard
+/// output's reader has gone, nothing is told and the status is [`crate::READER_GONE`].
+///
+/// Of the environment, `JOBD_SOCKET` is the control socket if the words name none, and `JOBCTL_TIMEOUT` the seconds for which
+/// an answer is waited (30 if absent, 0 for ever); after them the status is 69. One that can't be read: 64.
+pub fn jobctl<R: Net + Files + Env + Print + Eprint + AllocGlobal + Clone + Drop>(
     rt: &R,
     alloc: Global,
     words: &[String],
 ) -> u8 {
-    match read_words(alloc, words) {
+    let settings = match settings_of(rt) {
+        Ok(settings) => settings,
+        Err(fault) => return tell_setting(rt, fault),
+    };
+    match read_by(alloc, &settings, words) {
         Ok(Words { socket, command }) => {
-            let mut session = Session::new(socket);
+            let mut session = Session::new(socket, settings.patience);
             match task_of(command) {
                 Task::Files(deed, paths) => hand_in(rt, alloc, &mut session, deed, &paths),
                 Task::Request(event) => session.ask_once(rt, alloc, &event),
@@ -91,6 +101,27 @@ pub fn jobctl<R: Net + Files + Print + Eprint + AllocGlobal + Clone + Drop>(
         Err(WordFault::Usage) => explain_words(rt, alloc, words),
         Err(WordFault::NoMemory) => want_memory(rt),
     }
+}
+
+// What the words mean beside the environment's socket, if it names one.
+fn read_by(alloc: Global, settings: &Settings, words: &[String]) -> Result<Words, WordFault> {
+    match &settings.socket {
+        Some(socket) => read_words_beside(alloc, words, socket.as_str()),
+        None => read_words(alloc, words),
+    }
+}
+
+fn tell_setting<R: Eprint>(rt: &R, fault: SettingFault) -> u8 {
+    match fault {
+        SettingFault::NoMemory => return want_memory(rt),
+        SettingFault::Socket => {
+            let _written = eprintln!(rt; "jobctl: JOBD_SOCKET: not UTF-8");
+        }
+        SettingFault::Patience => {
+            let _written = eprintln!(rt; "jobctl: JOBCTL_TIMEOUT: no number of seconds");
+        }
+    }
+    USAGE
 }
 
 fn want_memory<R: Eprint>(rt: &R) -> u8 {
@@ -110,8 +141,11 @@ fn explain_words<R: Print + Eprint>(rt: &R, alloc: Global, words: &[String]) -> 
     match print!(rt; "{text}") {
         Ok(()) => 0,
         Err(error) => {
-            let _written = eprintln!(rt; "jobctl: standard output: {error}");
-            Fault::Output(error).status()
+            let fault = Fault::Output(error);
+            if fault.is_told() {
+                let _written = eprintln!(rt; "jobctl: standard output: {fault}");
+            }
+            fault.status()
         }
     }
 }
@@ -149,10 +183,17 @@ fn hand_in_one<R: Net + Files + Print + Eprint>(
     file: &Found,
     is_named: bool,
 ) -> Result<(), Fault> {
-    if let Some(kind) = file.fault {
-        return Err(Fault::File(io::Error::from(kind)));
-    }
     let path = file.path.as_str();
+    match file.kind {
+        Kind::Unlisted(kind) => return Err(Fault::File(io::Error::from(kind))),
+        Kind::Empty => {
+            let _written = eprintln!(rt;
+                "jobctl: {path}: no definition in this folder (*.plist, *.json)"
+            );
+            return Ok(());
+        }
+        Kind::File => {}
+    }
     let event = event_for(rt, alloc, deed, path)?;
     let name = if is_named { Some(path) } else { None };
     session.ask(rt, alloc, &event, name)

@@ -1,7 +1,7 @@
 //! What is asked of the launcher.
 
 use crate::fault::Fault;
-use ctl_protocol::{LINE_LIMIT, request_line};
+use ctl_protocol::{LINE_LIMIT, event_line, request_line};
 use history_model::{Event, Text};
 use job_defs::{DefFault, read_def};
 use std::alloc::Global;
@@ -78,12 +78,24 @@ fn text_of(bytes: Vec<u8>) -> Result<Text, Fault> {
     }
 }
 
-/// The line that asks for the event, with its newline. TooLong: it has more than [`LINE_LIMIT`] bytes before it.
+// The journal may say `false` where the event has `true`, once of the job's sockets and once of the store.
+const REFUSED_MORE: usize = 2;
+
+/// The line that asks for the event, with its newline. TooLong: it has more than [`LINE_LIMIT`] bytes before it. LongRecord:
+/// the line that the launcher's journal may get for it has.
 pub fn request_of(alloc: Global, event: &Event) -> Result<Vec<u8>, Fault> {
     let line = request_line(alloc, event)?;
-    if line.len() <= LINE_LIMIT + 1 {
-        Ok(line)
-    } else {
-        Err(Fault::TooLong)
+    if line.len() > LINE_LIMIT + 1 {
+        return Err(Fault::TooLong);
     }
+    if record_len(alloc, event)? > LINE_LIMIT + 1 {
+        return Err(Fault::LongRecord);
+    }
+    Ok(line)
+}
+
+// The longest that the journal's line for the event may be, with its newline.
+fn record_len(alloc: Global, event: &Event) -> Result<usize, Fault> {
+    let record = event_line(alloc, event)?;
+    Ok(record.len().saturating_add(REFUSED_MORE))
 }

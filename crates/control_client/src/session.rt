@@ -1,11 +1,12 @@
 //! The requests of one run, in their order, and the exit status that they come to.
 
 use crate::connection::Connection;
-use crate::fault::Fault;
+use crate::fault::{Fault, READER_GONE};
 use crate::reply::Replied;
 use crate::request::request_of;
 use history_model::{Event, Text};
 use std::alloc::Global;
+use std::io;
 use std::net::Net;
 
 /// One connection for all requests, made for the first.
@@ -13,15 +14,19 @@ use std::net::Net;
 pub(crate) struct Session {
     socket: Text,
     connection: Option<Connection>,
+    // The longest wait for a part of an answer, in seconds; 0 for ever.
+    patience: u32,
     // The first that is not 0.
     status: u8,
 }
 
 impl Session {
-    pub(crate) fn new(socket: Text) -> Session {
+    /// No request yet to the launcher at the socket, whose answers are waited for so many seconds, or for ever if they are 0.
+    pub(crate) fn new(socket: Text, patience: u32) -> Session {
         Session {
             socket,
             connection: None,
+            patience,
             status: 0,
         }
     }
@@ -36,7 +41,7 @@ impl Session {
         }
     }
 
-    /// Asks for the event and prints the reply's text, behind the name if the reply is a refusal and there is a name.
+    /// Asks for the event and prints the reply's text, behind the name if there are both.
     pub(crate) fn ask<R: Net + Print + Eprint>(
         &mut self,
         rt: &R,
@@ -65,7 +70,7 @@ impl Session {
 
     fn exchange<R: Net>(&mut self, rt: &R, alloc: Global, line: &[u8]) -> Result<Replied, Fault> {
         if self.connection.is_none() {
-            let connection = Connection::open(rt, alloc, self.socket.as_str())?;
+            let connection = Connection::open(rt, alloc, self.socket.as_str(), self.patience)?;
             self.connection = Some(connection);
         }
         match &mut self.connection {
@@ -74,9 +79,10 @@ impl Session {
         }
     }
 
-    /// Tells what kept the request for the file from its reply.
+    /// Tells what kept the request for the file from its reply. That the output's reader has gone is not told.
     pub(crate) fn fail<R: Eprint>(&mut self, rt: &R, file: &str, fault: &Fault) {
         match fault.status() {
+            READER_GONE => {}
             69 => {
                 let socket = self.socket.as_str();
                 let _written = eprintln!(rt; "jobctl: {socket}: {fault}");
@@ -95,7 +101,7 @@ impl Session {
 fn print<R: Print + Eprint>(rt: &R, reply: &Replied, name: Option<&str>) -> Result<(), Fault> {
     let text = reply.text.as_str();
     if reply.code == 0 {
-        return match print!(rt; "{text}") {
+        return match print_note(rt, text, name) {
             Ok(()) => Ok(()),
             Err(error) => Err(Fault::Output(error)),
         };
@@ -105,4 +111,12 @@ fn print<R: Print + Eprint>(rt: &R, reply: &Replied, name: Option<&str>) -> Resu
     }
     let _written = eprint!(rt; "{text}");
     Ok(())
+}
+
+// To the standard output, behind the file's name if there is one and something is said.
+fn print_note<R: Print>(rt: &R, text: &str, name: Option<&str>) -> io::Result<()> {
+    match name {
+        Some(name) if !text.is_empty() => print!(rt; "jobctl: {name}:\n{text}"),
+        _ => print!(rt; "{text}"),
+    }
 }

@@ -8,7 +8,7 @@ use Rattle.clap.proofs.OnLiterals.{clap_on_literals}
 use Rattle.launchctl_words.specs.declared.command.WordFault.{WordFault}
 use Rattle.launchctl_words.specs.declared.command.WordFault.TheVariants.{Usage, NoMemory}
 use Rattle.launchctl_words.specs.Meaning.{IsFound, Says, is_empty_list}
-use Rattle.launchctl_words.specs.Jobctl.{jobctl_app, found_meant, meant}
+use Rattle.launchctl_words.specs.Jobctl.{jobctl_app, found_meant, meant_beside}
 use Rattle.launchctl_words.specs.Jobd.{jobd_app, daemon_found_meant, daemon_meant}
 
 pub none_more : (kinds : Kinds) → kinds ≡ [] → is_empty_list kinds ≡ true
@@ -29,18 +29,18 @@ pub jobctl_simple : is_simple_and_free jobctl_app ≡ true
 unfolding clap_on_literals
 jobctl_simple = refl
 
-pub meant_found : (a : App) (words : List Text) (m : ArgMatches) → a ≡ jobctl_app → (is_simple_and_free a ≡ true → IsFound a words m)
-    → meant words ≡ found_meant (rows_of (found_of m)) (subcommand_rows_of m)
-meant_found a words m is found =
+pub meant_found : (default : Text) (a : App) (words : List Text) (m : ArgMatches) → a ≡ jobctl_app → (is_simple_and_free a ≡ true → IsFound a words m)
+    → meant_beside default words ≡ found_meant default (rows_of (found_of m)) (subcommand_rows_of m)
+meant_found default a words m is found =
     let f = subst (λ b. IsFound b words m) is (found (ap is_simple_and_free is ∙ jobctl_simple)) in
-    ap (λ b. if b then found_meant (matches_of jobctl_app words) (subcommand_of jobctl_app words) else None) f.none
-    ∙ ap₂ found_meant (sym f.rows) (sym f.subcommand)
+    ap (λ b. if b then found_meant default (matches_of jobctl_app words) (subcommand_of jobctl_app words) else None) f.none
+    ∙ ap₂ (found_meant default) (sym f.rows) (sym f.subcommand)
 
-pub meant_faulty : (a : App) (words : List Text) → a ≡ jobctl_app → (is_simple_and_free a ≡ true → is_empty_list (fault_of a words) ≡ false)
-    → meant words ≡ None
-meant_faulty a words is faulty =
+pub meant_faulty : (default : Text) (a : App) (words : List Text) → a ≡ jobctl_app → (is_simple_and_free a ≡ true → is_empty_list (fault_of a words) ≡ false)
+    → meant_beside default words ≡ None
+meant_faulty default a words is faulty =
     let f = subst (λ b. is_empty_list (fault_of b words) ≡ false) is (faulty (ap is_simple_and_free is ∙ jobctl_simple)) in
-    ap (λ b. if b then found_meant (matches_of jobctl_app words) (subcommand_of jobctl_app words) else None) f
+    ap (λ b. if b then found_meant default (matches_of jobctl_app words) (subcommand_of jobctl_app words) else None) f
 
 -- ---- the daemon
 

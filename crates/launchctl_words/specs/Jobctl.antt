@@ -132,23 +132,27 @@ command_meant name rows =
     (or_else (settings_meant name rows)
     (or_else (targets_meant name rows) (bare_meant name))))
 
--- the socket that was named, or the one in the present folder
-abbrev pub socket_in : List Row → Text
-socket_in rows = unwrap_or (first_of (codes "socket") rows) (codes "jobd.sock")
+-- the socket that was named, or the default one
+abbrev pub socket_in : Text → List Row → Text
+socket_in default rows = unwrap_or (first_of (codes "socket") rows) default
 
 -- what was found of a subcommand means
 abbrev pub command_found : Option (Text × List Row) → Option Command
 command_found sub = option_and_then (λ s. command_meant s.0 s.1) sub
 
 -- what was found among the words means, on top and of a subcommand
-abbrev pub found_meant : List Row → Option (Text × List Row) → Option Words
-found_meant top sub =
-    option_map (λ c. record { socket = socket_in top; command = c }) (command_found sub)
+abbrev pub found_meant : Text → List Row → Option (Text × List Row) → Option Words
+found_meant default top sub =
+    option_map (λ c. record { socket = socket_in default top; command = c }) (command_found sub)
 
--- what the words mean, the program's own name being the first: nothing if clap finds a fault in
--- them, or if a label is none or a target names none
-abbrev pub meant : List Text → Option Words
-meant words =
+-- what the words mean beside a default socket, the program's own name being the first: nothing if
+-- clap finds a fault in them, or if a label is none or a target names none
+abbrev pub meant_beside : Text → List Text → Option Words
+meant_beside default words =
     if is_empty_list (fault_of jobctl_app words)
-    then found_meant (matches_of jobctl_app words) (subcommand_of jobctl_app words)
+    then found_meant default (matches_of jobctl_app words) (subcommand_of jobctl_app words)
     else None
+
+-- the same beside the socket in the present folder
+abbrev pub meant : List Text → Option Words
+meant words = meant_beside (codes "jobd.sock") words

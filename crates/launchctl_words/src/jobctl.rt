@@ -184,13 +184,13 @@ fn read_command(
     Ok(read_bare(name))
 }
 
-/// The socket that was named, or the one in the present folder.
-fn socket_in(alloc: Global, matches: &ArgMatches<'_>) -> Result<Text, AllocError>
-    ensures { IfOk result (λ socket. socket ≡ spec.socket_in (rows_in matches.now)) }
+/// The socket that was named, or the default one.
+fn socket_in(alloc: Global, matches: &ArgMatches<'_>, default: &str) -> Result<Text, AllocError>
+    ensures { IfOk result (λ socket. socket ≡ spec.socket_in default.now (rows_in matches.now)) }
 {
     match value_of(alloc, matches, "socket")? {
         Some(socket) => Ok(socket),
-        None => Text::copy_of(alloc, "jobd.sock"),
+        None => Text::copy_of(alloc, default),
     }
 }
 
@@ -208,11 +208,15 @@ fn read_subcommand(alloc: Global, matches: &ArgMatches<'_>) -> Result<Option<Com
     }
 }
 
-fn read_matches(alloc: Global, matches: &ArgMatches<'_>) -> Result<Option<Words>, AllocError>
+fn read_matches(
+    alloc: Global,
+    matches: &ArgMatches<'_>,
+    default: &str,
+) -> Result<Option<Words>, AllocError>
     ensures { IfOk result (λ words. words
-        ≡ spec.found_meant (rows_in matches.now) (subcommand_rows_of matches.now)) }
+        ≡ spec.found_meant default.now (rows_in matches.now) (subcommand_rows_of matches.now)) }
 {
-    let socket = socket_in(alloc, matches)?;
+    let socket = socket_in(alloc, matches, default)?;
     match read_subcommand(alloc, matches)? {
         Some(command) => Ok(Some(Words { socket, command })),
         None => Ok(None),
@@ -226,11 +230,18 @@ fn read_matches(alloc: Global, matches: &ArgMatches<'_>) -> Result<Option<Words>
 pub fn read_words(alloc: Global, words: &[String]) -> Result<Words, WordFault>
     ensures { Says result (spec.meant (map string_bytes words.now)) }
 {
+    read_words_beside(alloc, words, "jobd.sock")
+}
+
+/// The same, but that the socket is `default` if the words name none.
+pub fn read_words_beside(alloc: Global, words: &[String], default: &str) -> Result<Words, WordFault>
+    ensures { Says result (spec.meant_beside default.now (map string_bytes words.now)) }
+{
     let Ok(command) = jobctl_words(alloc) else {
         return Err(WordFault::NoMemory);
     };
     match parse(command, words) {
-        Ok(matches) => match read_matches(alloc, &matches) {
+        Ok(matches) => match read_matches(alloc, &matches, default) {
             Ok(Some(words)) => Ok(words),
             Ok(None) => Err(WordFault::Usage),
             Err(_) => Err(WordFault::NoMemory),
@@ -239,7 +250,8 @@ pub fn read_words(alloc: Global, words: &[String]) -> Result<Words, WordFault>
     }
 }
 
-/// The text to print if the words are no command of jobctl, or ask for help.
+/// The text to print if the words are no command of jobctl, or ask for help. If clap takes them, it is one line that says
+/// which LABEL is no label, or which TARGET names none.
 pub fn explain(alloc: Global, words: &[String]) -> Result<Explanation, AllocError> {
     explain_by(alloc, jobctl_words(alloc), words)
 }

@@ -243,7 +243,8 @@ pub fn read_daemon_words(alloc: Global, words: &[String]) -> Result<DaemonComman
     }
 }
 
-/// The text to print if the words are no command of jobd, or ask for help.
+/// The text to print if the words are no command of jobd, or ask for help. If clap takes them, it is one line that says that
+/// both zone options stand.
 pub fn explain_daemon(alloc: Global, words: &[String]) -> Result<Explanation, AllocError> {
     explain_by(alloc, jobd_words(alloc), words)
 }

@@ -7,8 +7,9 @@ mod control_words;
 mod jobctl;
 mod jobd;
 mod parse;
+mod reason;
 
 pub use command::{Command, DaemonCommand, Paths, WordFault, Words, ZoneWords};
-pub use jobctl::{explain, read_words};
+pub use jobctl::{explain, read_words, read_words_beside};
 pub use jobd::{explain_daemon, read_daemon_words};
 pub use parse::Explanation;

@@ -4,6 +4,7 @@ ghost use Rattle.clap.specs.Words.{app_of, fault_of, is_simple_and_free, kind_of
 ghost use Rattle.launchctl_words.specs.Meaning.{IsFound, is_empty_list};
 
 use crate::command::WordFault;
+use crate::reason::reason_in;
 use clap::error::ErrorKind;
 use clap::{ArgMatches, Error};
 use std::alloc::{AllocError, Global};
@@ -44,7 +45,8 @@ pub struct Explanation {
     pub is_help: bool,
 }
 
-/// The text for words that clap does not take; the whole help if it takes them.
+/// The text for words that clap does not take. If it takes them, the line that says why they are no command all the same, or
+/// the whole help if they are one.
 pub fn explain_by<'a>(
     alloc: Global,
     command: Result<clap::Command<'a>, AllocError>,
@@ -59,7 +61,13 @@ fn explain_with<'a>(
     words: &'a [String],
 ) -> Result<Explanation, AllocError> {
     match command.try_get_matches_from_mut(words) {
-        Ok(_) => whole_help(command),
+        Ok(matches) => match reason_in(alloc, &matches)? {
+            Some(text) => Ok(Explanation {
+                text,
+                is_help: false,
+            }),
+            None => whole_help(command),
+        },
         Err(error) => fault_text(alloc, &error),
     }
 }

@@ -1,6 +1,7 @@
 //! How long requests and replies may be.
 
-use control_client::{Fault, Replied, hear, request_of};
+use control_client::{Fault, LINE_LIMIT, Replied, hear, request_of};
+use ctl_protocol::event_line;
 use history_model::{Event, Text};
 use std::alloc::{AllocError, Global};
 use std::test::Fail;
@@ -23,21 +24,43 @@ fn load(alloc: Global, count: usize) -> Result<Event, AllocError> {
     })
 }
 
-/// The length of a request for a definition of so many letters, with its newline; 0 if it is too long.
+/// The length of a request for a definition of so many letters, with its newline; 0 if it is too long, and 1 if the journal's
+/// line for it is.
 fn request_len(alloc: Global, count: usize) -> Result<usize, Fail> {
     let event = load(alloc, count)?;
     match request_of(alloc, &event) {
         Ok(line) => Ok(line.len()),
         Err(Fault::TooLong) => Ok(0),
+        Err(Fault::LongRecord) => Ok(1),
         Err(_) => Err(Fail::from("no memory")),
     }
 }
 
-/// Beside the definition the line has 43 bytes.
+/// Beside the definition the request has 43 bytes, and the journal's line has 69 if both answers of the outside are `false`.
 #[test]
-fn a_request_has_at_most_262144_bytes(rt: HostRuntime) -> Result<(), Fail> {
-    assert_eq!(rt; request_len(rt.alloc(), 262_101)?, 262_145);
+fn a_request_and_its_record_have_at_most_262144_bytes(rt: HostRuntime) -> Result<(), Fail> {
+    assert_eq!(rt; request_len(rt.alloc(), 262_075)?, 262_119);
+    assert_eq!(rt; request_len(rt.alloc(), 262_076)?, 1);
+    assert_eq!(rt; request_len(rt.alloc(), 262_101)?, 1);
     assert_eq!(rt; request_len(rt.alloc(), 262_102)?, 0);
+    Ok(())
+}
+
+/// A refused load, as the journal tells it.
+fn refused(alloc: Global, count: usize) -> Result<Event, AllocError> {
+    Ok(Event::Load {
+        def: letters(alloc, count)?,
+        writes_setting: false,
+        force: false,
+        bind: false,
+        store: false,
+    })
+}
+
+#[test]
+fn the_longest_record_fits_a_line(rt: HostRuntime) -> Result<(), Fail> {
+    let event = refused(rt.alloc(), 262_075)?;
+    assert_eq!(rt; event_line(rt.alloc(), &event)?.len(), LINE_LIMIT + 1);
     Ok(())
 }
 

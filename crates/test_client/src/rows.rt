@@ -5,6 +5,8 @@
 pub struct Row {
     /// The words behind the program's own name.
     pub words: &'static [&'static str],
+    /// The environment's variables.
+    pub variables: &'static [(&'static str, &'static str)],
     /// What the launcher says, and then ends the connection.
     pub replies: &'static str,
     pub status: u8,
@@ -13,6 +15,17 @@ pub struct Row {
     /// The lines on the standard error, each told by its front.
     pub told: &'static [&'static str],
 }
+
+/// Nothing is asked, answered or told.
+pub static PLAIN: Row = Row {
+    words: &[],
+    variables: &[],
+    replies: "",
+    status: 0,
+    asked: "",
+    printed: "",
+    told: &[],
+};
 
 /// Words, and the request that they make.
 pub static REQUESTS: &[(&[&str], &str)] = &[
@@ -65,6 +78,7 @@ pub static REQUESTS: &[(&[&str], &str)] = &[
 /// What a reply of code 0 prints, and a refusal tells.
 pub static A_TEXT: Row = Row {
     words: &["list"],
+    variables: &[],
     replies: "{\"code\":0,\"text\":\"PID\\tStatus\\tLabel\\n\"}\n",
     status: 0,
     asked: "{\"req\":\"list\"}\n",
@@ -74,6 +88,7 @@ pub static A_TEXT: Row = Row {
 
 pub static A_REFUSAL: Row = Row {
     words: &["start", "a"],
+    variables: &[],
     replies: "{\"code\":3,\"text\":\"no such job\\n\"}\n",
     status: 3,
     asked: "{\"job\":\"a\",\"req\":\"start\"}\n",
@@ -84,10 +99,11 @@ pub static A_REFUSAL: Row = Row {
 /// One request for each of its files, in byte order of names; the first code that is not 0.
 pub static A_FOLDER: Row = Row {
     words: &["load", "@/jobs"],
+    variables: &[],
     replies: "{\"code\":0,\"text\":\"\"}\n{\"code\":4,\"text\":\"already loaded\\n\"}\n{\"code\":0,\"text\":\"not acted on: X\\n\"}\n{\"code\":5,\"text\":\"disabled\\n\"}\n{\"code\":0,\"text\":\"\"}\n",
     status: 4,
     asked: "{\"F\":false,\"def\":\"B\",\"req\":\"load\",\"w\":false}\n{\"F\":false,\"def\":\"a\",\"req\":\"load\",\"w\":false}\n{\"F\":false,\"def\":\"ab\",\"req\":\"load\",\"w\":false}\n{\"F\":false,\"def\":\"b\",\"req\":\"load\",\"w\":false}\n{\"F\":false,\"def\":\"z\",\"req\":\"load\",\"w\":false}\n",
-    printed: "not acted on: X\n",
+    printed: "jobctl: @/jobs/ab.json:\nnot acted on: X\n",
     told: &[
         "jobctl: @/jobs/a.json:",
         "already loaded",
@@ -98,16 +114,18 @@ pub static A_FOLDER: Row = Row {
 
 pub static AN_EMPTY_FOLDER: Row = Row {
     words: &["load", "@/empty"],
+    variables: &[],
     replies: "",
     status: 0,
     asked: "",
     printed: "",
-    told: &[],
+    told: &["jobctl: @/empty: no definition in this folder (*.plist, *.json)"],
 };
 
 /// A folder whose own name ends so is a folder.
 pub static A_FOLDER_NAMED_AS_A_FILE: Row = Row {
     words: &["load", "@/jobs/folder.json"],
+    variables: &[],
     replies: "{\"code\":10,\"text\":\"too many jobs\\n\"}\n",
     status: 10,
     asked: "{\"F\":false,\"def\":\"d\",\"req\":\"load\",\"w\":false}\n",
@@ -118,6 +136,7 @@ pub static A_FOLDER_NAMED_AS_A_FILE: Row = Row {
 /// A file's fault leaves out that file alone, and has its place among the codes.
 pub static A_MISSING_FILE_FIRST: Row = Row {
     words: &["load", "@/missing", "@/none.json"],
+    variables: &[],
     replies: "{\"code\":8,\"text\":\"bad definition: NotObject -\\n\"}\n",
     status: 65,
     asked: "{\"F\":false,\"def\":\"[]\",\"req\":\"load\",\"w\":false}\n",
@@ -131,6 +150,7 @@ pub static A_MISSING_FILE_FIRST: Row = Row {
 
 pub static A_MISSING_FILE_LAST: Row = Row {
     words: &["load", "@/none.json", "@/missing"],
+    variables: &[],
     replies: "{\"code\":8,\"text\":\"bad definition: NotObject -\\n\"}\n",
     status: 8,
     asked: "{\"F\":false,\"def\":\"[]\",\"req\":\"load\",\"w\":false}\n",
@@ -145,6 +165,7 @@ pub static A_MISSING_FILE_LAST: Row = Row {
 /// Files that make no request: no UTF-8, too long for a line, and for `unload` no definition.
 pub static FAULTY_FILES: Row = Row {
     words: &["load", "@/latin.json", "@/long.json", "@/longer.json"],
+    variables: &[],
     replies: "",
     status: 65,
     asked: "",
@@ -164,6 +185,7 @@ pub static NO_DEFINITIONS: Row = Row {
         "@/latin.json",
         "@/one.json",
     ],
+    variables: &[],
     replies: "{\"code\":0,\"text\":\"\"}\n",
     status: 65,
     asked: "{\"job\":\"one\",\"req\":\"unload\",\"w\":false}\n",
@@ -178,6 +200,7 @@ pub static NO_DEFINITIONS: Row = Row {
 /// The connection ends before the reply, within it, or after the first of two.
 pub static NO_REPLY: Row = Row {
     words: &["list"],
+    variables: &[],
     replies: "",
     status: 69,
     asked: "{\"req\":\"list\"}\n",
@@ -187,6 +210,7 @@ pub static NO_REPLY: Row = Row {
 
 pub static HALF_A_REPLY: Row = Row {
     words: &["--socket", "s", "list"],
+    variables: &[],
     replies: "{\"code\":0,\"text\":\"a\"}",
     status: 69,
     asked: "{\"req\":\"list\"}\n",
@@ -196,6 +220,7 @@ pub static HALF_A_REPLY: Row = Row {
 
 pub static ONE_REPLY_OF_THREE: Row = Row {
     words: &["unload", "@/one.json", "@/two.plist", "@/one.json"],
+    variables: &[],
     replies: "{\"code\":0,\"text\":\"\"}\n",
     status: 69,
     asked: "{\"job\":\"one\",\"req\":\"unload\",\"w\":false}\n{\"job\":\"two\",\"req\":\"unload\",\"w\":false}\n",
@@ -218,6 +243,7 @@ pub static NO_REPLIES: &[&str] = &[
 /// Nobody listens at the socket: that is told once, but a file's own fault before it too.
 pub static NOBODY: Row = Row {
     words: &["unload", "@/missing", "@/one.json", "@/two.plist"],
+    variables: &[],
     replies: "",
     status: 65,
     asked: "",
@@ -227,9 +253,135 @@ pub static NOBODY: Row = Row {
 
 pub static NOBODY_FOR_A_LABEL: Row = Row {
     words: &["--socket", "@/s", "start", "a"],
+    variables: &[],
     replies: "",
     status: 69,
     asked: "",
     printed: "",
     told: &["jobctl: @/s: "],
 };
+
+/// One file's note has no name before it.
+pub static A_NOTE: Row = Row {
+    words: &["load", "@/one.json"],
+    variables: &[],
+    replies: "{\"code\":0,\"text\":\"not acted on: X\\n\"}\n",
+    status: 0,
+    asked: "{\"F\":false,\"def\":\"{\\\"Label\\\":\\\"one\\\",\\\"Program\\\":\\\"/bin/true\\\"}\",\"req\":\"load\",\"w\":false}\n",
+    printed: "not acted on: X\n",
+    told: &[],
+};
+
+/// The launcher takes the connection, and says nothing or the half of a reply.
+pub static NO_ANSWER: Row = Row {
+    words: &["list"],
+    variables: &[("JOBCTL_TIMEOUT", "1")],
+    replies: "",
+    status: 69,
+    asked: "{\"req\":\"list\"}\n",
+    printed: "",
+    told: &["jobctl: jobd.sock: no answer within 1 s (JOBCTL_TIMEOUT)"],
+};
+
+pub static HALF_AN_ANSWER: Row = Row {
+    words: &["list"],
+    variables: &[("JOBCTL_TIMEOUT", "1")],
+    replies: "{\"code\":0,",
+    status: 69,
+    asked: "{\"req\":\"list\"}\n",
+    printed: "",
+    told: &["jobctl: jobd.sock: no answer within 1 s (JOBCTL_TIMEOUT)"],
+};
+
+/// What is said before the connection ends is heard, also if nothing can be asked.
+pub static TOO_MANY_CLIENTS: Row = Row {
+    words: &["list"],
+    variables: &[],
+    replies: "{\"code\":2,\"text\":\"too many clients\\n\"}\n",
+    status: 2,
+    asked: "",
+    printed: "",
+    told: &["too many clients"],
+};
+
+pub static NO_ROOM_AND_NO_WORD: Row = Row {
+    words: &["list"],
+    variables: &[],
+    replies: "",
+    status: 69,
+    asked: "",
+    printed: "",
+    told: &["jobctl: jobd.sock: "],
+};
+
+/// The default socket is the environment's, or else `jobd.sock`.
+pub static A_SOCKET_OF_THE_ENVIRONMENT: Row = Row {
+    words: &["list"],
+    variables: &[("JOBD_SOCKET", "/run/other.sock")],
+    replies: "",
+    status: 69,
+    asked: "",
+    printed: "",
+    told: &["jobctl: /run/other.sock: "],
+};
+
+pub static A_SOCKET_OF_THE_WORDS: Row = Row {
+    words: &["--socket", "jobd.sock", "list"],
+    variables: &[("JOBD_SOCKET", "/run/other.sock")],
+    replies: "",
+    status: 69,
+    asked: "",
+    printed: "",
+    told: &["jobctl: jobd.sock: "],
+};
+
+pub static EMPTY_VARIABLES: Row = Row {
+    words: &["list"],
+    variables: &[("JOBD_SOCKET", ""), ("JOBCTL_TIMEOUT", "")],
+    replies: "",
+    status: 69,
+    asked: "",
+    printed: "",
+    told: &["jobctl: jobd.sock: "],
+};
+
+pub static FOR_EVER: Row = Row {
+    words: &["list"],
+    variables: &[("JOBCTL_TIMEOUT", "0")],
+    replies: "{\"code\":0,\"text\":\"a\\n\"}\n",
+    status: 0,
+    asked: "{\"req\":\"list\"}\n",
+    printed: "a\n",
+    told: &[],
+};
+
+pub static NO_NUMBER: Row = Row {
+    words: &["list"],
+    variables: &[("JOBCTL_TIMEOUT", "soon")],
+    replies: "",
+    status: 64,
+    asked: "",
+    printed: "",
+    told: &["jobctl: JOBCTL_TIMEOUT: no number of seconds"],
+};
+
+/// Words that no parser refuses and that are no command, each with the one line that says why.
+pub static NO_WORDS: &[(&[&str], &[&str])] = &[
+    (
+        &["start", "gui/501/a"],
+        &["jobctl: gui/501/a is no label (start takes a label; kickstart and print take a target)"],
+    ),
+    (
+        &["stop", "a/b"],
+        &["jobctl: a/b is no label (a label has 1 to 255 bytes, no / and no control character)"],
+    ),
+    (
+        &["enable", "a/b"],
+        &[
+            "jobctl: a/b is no target (a target is LABEL, system/LABEL, user/UID/LABEL or gui/UID/LABEL)",
+        ],
+    ),
+    (&["enable", "gui/x/a"], &["jobctl: gui/x/a is no target ("]),
+    (&["print", "a\nb"], &["jobctl: \"a\\nb\" is no target ("]),
+    (&["start", ""], &["jobctl: \"\" is no label ("]),
+];

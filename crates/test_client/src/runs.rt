@@ -3,8 +3,8 @@
 use crate::folder::{new_folder, placed};
 use crate::rows;
 use crate::rows::{NO_REPLIES, REQUESTS, Row};
-use crate::scene::Scene;
-use control_client::jobctl;
+use crate::scene::{Launcher, Scene};
+use control_client::{READER_GONE, jobctl};
 use std::alloc::{AllocError, Global};
 use std::fs;
 use std::io::ErrorKind;
@@ -45,21 +45,15 @@ fn has_seen(alloc: Global, scene: &Scene, row: &Row, folder: &str) -> Result<boo
     let printed = scene.printed(alloc)?;
     let told = scene.told(alloc)?;
     let is_told = has_lines(alloc, told.as_str(), row.told, folder)?;
-    Ok(asked.as_str() == row.asked && printed.as_str() == row.printed && is_told)
+    let wanted = placed(alloc, row.printed, folder)?;
+    Ok(asked.as_str() == row.asked && printed.as_str() == wanted.as_str() && is_told)
 }
 
-/// Whether the run of the row goes as it says, in a folder of this name.
-fn holds(
-    rt: &HostRuntime,
-    name: &str,
-    row: &Row,
-    refusal: Option<ErrorKind>,
-) -> Result<bool, Fail> {
+/// Whether the run of the row goes as it says, in a folder of this name, beside a launcher that behaves so.
+fn holds(rt: &HostRuntime, name: &str, row: &Row, behaves: Launcher) -> Result<bool, Fail> {
     let folder = new_folder(rt, name)?;
-    let mut scene = Scene::new(rt, row.replies)?;
-    if let Some(kind) = refusal {
-        scene.refuse(kind);
-    }
+    let mut scene = Scene::new(rt, behaves, row.replies)?;
+    scene.set(row.variables);
     let status = run(rt.alloc(), &scene, row.words, folder.as_str())?;
     let is_seen = has_seen(rt.alloc(), &scene, row, folder.as_str())?;
     fs::remove_dir_all(rt, folder.as_str())?;
@@ -74,43 +68,64 @@ fn each_command_makes_its_request(rt: HostRuntime) -> Result<(), Fail> {
             replies: "{\"code\":0,\"text\":\"\"}\n",
             status: 0,
             asked,
-            printed: "",
-            told: &[],
+            ..rows::PLAIN
         };
-        assert!(rt; holds(&rt, "requests", &row, None)?, "{asked}");
+        assert!(rt; holds(&rt, "requests", &row, Launcher::Answers)?, "{asked}");
     }
     Ok(())
 }
 
 #[test]
 fn texts_are_printed(rt: HostRuntime) -> Result<(), Fail> {
-    assert!(rt; holds(&rt, "texts", &rows::A_TEXT, None)?);
-    assert!(rt; holds(&rt, "texts", &rows::A_REFUSAL, None)?);
+    assert!(rt; holds(&rt, "texts", &rows::A_TEXT, Launcher::Answers)?);
+    assert!(rt; holds(&rt, "texts", &rows::A_REFUSAL, Launcher::Answers)?);
+    assert!(rt; holds(&rt, "texts", &rows::A_NOTE, Launcher::Answers)?);
     Ok(())
 }
 
 #[test]
 fn a_folder_stands_for_its_files(rt: HostRuntime) -> Result<(), Fail> {
-    assert!(rt; holds(&rt, "folders", &rows::A_FOLDER, None)?);
-    assert!(rt; holds(&rt, "folders", &rows::AN_EMPTY_FOLDER, None)?);
-    assert!(rt; holds(&rt, "folders", &rows::A_FOLDER_NAMED_AS_A_FILE, None)?);
+    assert!(rt; holds(&rt, "folders", &rows::A_FOLDER, Launcher::Answers)?);
+    assert!(rt; holds(&rt, "folders", &rows::AN_EMPTY_FOLDER, Launcher::Answers)?);
+    assert!(rt;
+        holds(
+            &rt,
+            "folders",
+            &rows::A_FOLDER_NAMED_AS_A_FILE,
+            Launcher::Answers
+        )?
+    );
     Ok(())
 }
 
 #[test]
 fn a_file_may_be_faulty(rt: HostRuntime) -> Result<(), Fail> {
-    assert!(rt; holds(&rt, "faulty", &rows::A_MISSING_FILE_FIRST, None)?);
-    assert!(rt; holds(&rt, "faulty", &rows::A_MISSING_FILE_LAST, None)?);
-    assert!(rt; holds(&rt, "faulty", &rows::FAULTY_FILES, None)?);
-    assert!(rt; holds(&rt, "faulty", &rows::NO_DEFINITIONS, None)?);
+    assert!(rt;
+        holds(
+            &rt,
+            "faulty",
+            &rows::A_MISSING_FILE_FIRST,
+            Launcher::Answers
+        )?
+    );
+    assert!(rt; holds(&rt, "faulty", &rows::A_MISSING_FILE_LAST, Launcher::Answers)?);
+    assert!(rt; holds(&rt, "faulty", &rows::FAULTY_FILES, Launcher::Answers)?);
+    assert!(rt; holds(&rt, "faulty", &rows::NO_DEFINITIONS, Launcher::Answers)?);
     Ok(())
 }
 
 #[test]
 fn a_reply_may_not_come(rt: HostRuntime) -> Result<(), Fail> {
-    assert!(rt; holds(&rt, "no-reply", &rows::NO_REPLY, None)?);
-    assert!(rt; holds(&rt, "no-reply", &rows::HALF_A_REPLY, None)?);
-    assert!(rt; holds(&rt, "no-reply", &rows::ONE_REPLY_OF_THREE, None)?);
+    assert!(rt; holds(&rt, "no-reply", &rows::NO_REPLY, Launcher::Answers)?);
+    assert!(rt; holds(&rt, "no-reply", &rows::HALF_A_REPLY, Launcher::Answers)?);
+    assert!(rt;
+        holds(
+            &rt,
+            "no-reply",
+            &rows::ONE_REPLY_OF_THREE,
+            Launcher::Answers
+        )?
+    );
     Ok(())
 }
 
@@ -121,15 +136,18 @@ fn what_comes_may_be_no_reply(rt: HostRuntime) -> Result<(), Fail> {
             replies,
             ..rows::NO_REPLY
         };
-        assert!(rt; holds(&rt, "garbage", &row, None)?, "{replies}");
+        assert!(rt;
+            holds(&rt, "garbage", &row, Launcher::Answers)?,
+            "{replies}"
+        );
     }
     Ok(())
 }
 
 #[test]
 fn nobody_may_listen(rt: HostRuntime) -> Result<(), Fail> {
-    let refused = Some(ErrorKind::ConnectionRefused);
-    let missing = Some(ErrorKind::NotFound);
+    let refused = Launcher::IsAway(ErrorKind::ConnectionRefused);
+    let missing = Launcher::IsAway(ErrorKind::NotFound);
     assert!(rt; holds(&rt, "nobody", &rows::NOBODY, refused)?);
     assert!(rt; holds(&rt, "nobody", &rows::NOBODY_FOR_A_LABEL, missing)?);
     Ok(())
@@ -137,7 +155,7 @@ fn nobody_may_listen(rt: HostRuntime) -> Result<(), Fail> {
 
 /// The status of the words, and whether anything was printed, and told.
 fn outcome(rt: &HostRuntime, words: &[&str]) -> Result<(u8, bool, bool), Fail> {
-    let scene = Scene::new(rt, "")?;
+    let scene = Scene::new(rt, Launcher::Answers, "")?;
     let status = run(rt.alloc(), &scene, words, "")?;
     let printed = scene.printed(rt.alloc())?;
     let told = scene.told(rt.alloc())?;
@@ -154,10 +172,10 @@ fn words_may_be_no_command(rt: HostRuntime) -> Result<(), Fail> {
     Ok(())
 }
 
-/// The status of the words if the output is closed, and whether that is the one line that is told.
-fn closed_outcome(rt: &HostRuntime, words: &[&str]) -> Result<(u8, bool), Fail> {
-    let mut scene = Scene::new(rt, rows::A_TEXT.replies)?;
-    scene.close_output()?;
+/// The status of the words if the output takes nothing, and whether that is the one line that is told.
+fn refused_outcome(rt: &HostRuntime, words: &[&str]) -> Result<(u8, bool), Fail> {
+    let mut scene = Scene::new(rt, Launcher::Answers, rows::A_TEXT.replies)?;
+    scene.refuse_output(ErrorKind::StorageFull);
     let status = run(rt.alloc(), &scene, words, "")?;
     let told = scene.told(rt.alloc())?;
     let is_told = has_lines(
@@ -170,8 +188,75 @@ fn closed_outcome(rt: &HostRuntime, words: &[&str]) -> Result<(u8, bool), Fail> 
 }
 
 #[test]
-fn the_output_may_be_closed(rt: HostRuntime) -> Result<(), Fail> {
-    assert_eq!(rt; closed_outcome(&rt, &["list"])?, (74, true));
-    assert_eq!(rt; closed_outcome(&rt, &["--help"])?, (74, true));
+fn the_output_may_be_refused(rt: HostRuntime) -> Result<(), Fail> {
+    assert_eq!(rt; refused_outcome(&rt, &["list"])?, (74, true));
+    assert_eq!(rt; refused_outcome(&rt, &["--help"])?, (74, true));
+    Ok(())
+}
+
+/// The status of the words if the output's reader has gone, and whether nothing is told.
+fn unread_outcome(rt: &HostRuntime, words: &[&str]) -> Result<(u8, bool), Fail> {
+    let mut scene = Scene::new(rt, Launcher::Answers, rows::A_TEXT.replies)?;
+    scene.close_output()?;
+    let status = run(rt.alloc(), &scene, words, "")?;
+    let told = scene.told(rt.alloc())?;
+    Ok((status, told.is_empty()))
+}
+
+#[test]
+fn the_outputs_reader_may_have_gone(rt: HostRuntime) -> Result<(), Fail> {
+    assert_eq!(rt; unread_outcome(&rt, &["list"])?, (READER_GONE, true));
+    assert_eq!(rt; unread_outcome(&rt, &["--help"])?, (READER_GONE, true));
+    assert_eq!(rt; READER_GONE, 141);
+    Ok(())
+}
+
+#[test]
+fn no_answer_may_come(rt: HostRuntime) -> Result<(), Fail> {
+    assert!(rt; holds(&rt, "silent", &rows::NO_ANSWER, Launcher::IsSilent)?);
+    assert!(rt; holds(&rt, "silent", &rows::HALF_AN_ANSWER, Launcher::IsSilent)?);
+    Ok(())
+}
+
+#[test]
+fn the_launcher_may_have_no_room(rt: HostRuntime) -> Result<(), Fail> {
+    assert!(rt; holds(&rt, "room", &rows::TOO_MANY_CLIENTS, Launcher::HasNoRoom)?);
+    assert!(rt; holds(&rt, "room", &rows::NO_ROOM_AND_NO_WORD, Launcher::HasNoRoom)?);
+    Ok(())
+}
+
+#[test]
+fn the_environment_is_read(rt: HostRuntime) -> Result<(), Fail> {
+    let missing = Launcher::IsAway(ErrorKind::NotFound);
+    assert!(rt;
+        holds(
+            &rt,
+            "environment",
+            &rows::A_SOCKET_OF_THE_ENVIRONMENT,
+            missing
+        )?
+    );
+    assert!(rt; holds(&rt, "environment", &rows::A_SOCKET_OF_THE_WORDS, missing)?);
+    assert!(rt; holds(&rt, "environment", &rows::EMPTY_VARIABLES, missing)?);
+    assert!(rt; holds(&rt, "environment", &rows::FOR_EVER, Launcher::Answers)?);
+    assert!(rt; holds(&rt, "environment", &rows::NO_NUMBER, Launcher::Answers)?);
+    Ok(())
+}
+
+#[test]
+fn a_word_that_is_none_is_named(rt: HostRuntime) -> Result<(), Fail> {
+    for (words, told) in rows::NO_WORDS {
+        let row = Row {
+            words,
+            status: 64,
+            told,
+            ..rows::PLAIN
+        };
+        assert!(rt;
+            holds(&rt, "words", &row, Launcher::Answers)?,
+            "{}",
+            told[0]
+        );
+    }
     Ok(())
 }

@@ -1,12 +1,16 @@
 //! A system whose files are real, and whose one launcher and printed texts are ends of sockets.
 
+ghost use Rattle.std.specs.Io.{WritesAtMost};
+
 use std::alloc::{Allocator, Global};
+use std::env::FillError;
 use std::fmt::Display;
 use std::fs::{Files, Metadata, OpenOptions};
 use std::io;
 use std::io::{ErrorKind, Read, Write};
 use std::net::{Net, Shutdown, SocketAddr, TcpListener, TcpStream};
 use std::os::unix::net::{self, UnixStream};
+use std::rt::Env;
 use std::test::Fail;
 
 /// Both ends of a connection: what one writes the other reads.
@@ -37,11 +41,27 @@ impl Line {
     }
 }
 
+/// How the launcher at the socket behaves.
+#[derive(Clone, Copy, Drop)]
+pub enum Launcher {
+    /// It says its replies, whatever it is asked, and then ends the connection.
+    Answers,
+    /// It says its replies and ends the connection before it is asked.
+    HasNoRoom,
+    /// It takes the connection and says nothing.
+    IsSilent,
+    /// Nobody answers, for this reason.
+    IsAway(ErrorKind),
+}
+
 /// What a run of the control program sees of the world.
 #[derive(Drop)]
 pub struct Scene {
     rt: HostRuntime,
-    // Why nobody answers at the launcher's socket.
+    behaves: Launcher,
+    // The environment's variables.
+    variables: &'static [(&'static str, &'static str)],
+    // Why the standard output takes nothing.
     refusal: Option<ErrorKind>,
     launcher: Line,
     output: Line,
@@ -49,15 +69,21 @@ pub struct Scene {
 }
 
 impl Scene {
-    /// The launcher says this, whatever it is asked, and then ends the connection.
-    pub fn new(rt: &HostRuntime, replies: &str) -> io::Result<Scene> {
+    /// A launcher with these replies, an empty environment, and an output that takes all.
+    pub fn new(rt: &HostRuntime, behaves: Launcher, replies: &str) -> io::Result<Scene> {
         let launcher = Line::new(rt)?;
         launcher.far.set_nonblocking(false)?;
         let mut far = &launcher.far;
         far.write_all(replies.as_bytes())?;
-        launcher.far.shutdown(Shutdown::Write)?;
+        match behaves {
+            Launcher::Answers => launcher.far.shutdown(Shutdown::Write)?,
+            Launcher::HasNoRoom => launcher.far.shutdown(Shutdown::Both)?,
+            Launcher::IsSilent | Launcher::IsAway(_) => {}
+        }
         Ok(Scene {
             rt: rt.clone()?,
+            behaves,
+            variables: &[],
             refusal: None,
             launcher,
             output: Line::new(rt)?,
@@ -65,12 +91,17 @@ impl Scene {
         })
     }
 
-    /// Nobody answers at the launcher's socket, for this reason.
-    pub fn refuse(&mut self, kind: ErrorKind) {
+    /// The environment has these variables, names with values.
+    pub fn set(&mut self, variables: &'static [(&'static str, &'static str)]) {
+        self.variables = variables;
+    }
+
+    /// The standard output takes nothing, for this reason.
+    pub fn refuse_output(&mut self, kind: ErrorKind) {
         self.refusal = Some(kind);
     }
 
-    /// The standard output takes no more.
+    /// The reader of the standard output has gone.
     pub fn close_output(&mut self) -> io::Result<()> {
         self.output.near.shutdown(Shutdown::Write)
     }
@@ -101,11 +132,17 @@ impl Alloc for Scene {
 
 impl Print for Scene {
     fn print<D: Display + Drop>(&self, value: D) -> io::Result<()> {
-        self.output.write(value, "")
+        match self.refusal {
+            Some(kind) => Err(io::Error::from(kind)),
+            None => self.output.write(value, ""),
+        }
     }
 
     fn println<D: Display + Drop>(&self, value: D) -> io::Result<()> {
-        self.output.write(value, "\n")
+        match self.refusal {
+            Some(kind) => Err(io::Error::from(kind)),
+            None => self.output.write(value, "\n"),
+        }
     }
 
     fn write_all(&self, bytes: &[u8]) -> io::Result<()> {
@@ -138,10 +175,42 @@ impl Net for Scene {
     }
 
     fn connect_unix(&self, _addr: &net::SocketAddr) -> io::Result<UnixStream> {
-        match self.refusal {
-            Some(kind) => Err(io::Error::from(kind)),
-            None => self.launcher.near.try_clone(),
+        match self.behaves {
+            Launcher::IsAway(kind) => Err(io::Error::from(kind)),
+            _ => self.launcher.near.try_clone(),
         }
+    }
+}
+
+impl Env for Scene {
+    fn arg(&self, _i: usize, _buf: &mut [u8]) -> Result<usize, FillError> {
+        Err(FillError::NotPresent)
+    }
+
+    fn var(&self, name: &str, buf: &mut [u8]) -> Result<usize, FillError> {
+        for (own, value) in self.variables {
+            if *own == name {
+                return fill(value.as_bytes(), buf);
+            }
+        }
+        Err(FillError::NotPresent)
+    }
+
+    fn var_at(&self, _i: usize, _buf: &mut [u8]) -> Result<usize, FillError> {
+        Err(FillError::NotPresent)
+    }
+}
+
+// Copies the value to the front of the room.
+fn fill(value: &[u8], room: &mut [u8]) -> Result<usize, FillError>
+    ensures bound { WritesAtMost result room.new }
+{
+    match room.get_mut(..value.len()) {
+        Some(front) => {
+            front.copy_from_slice(value);
+            Ok(value.len())
+        }
+        None => Err(FillError::TooLong),
     }
 }
 

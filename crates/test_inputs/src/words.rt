@@ -1,8 +1,8 @@
 //! What no contract says: that the texts of clap's command are read as an administrator means them, and that each call
 //! succeeds. The wanted meanings were written by hand from launchctl(1) and the programs' own help.
 use launchctl_words::{
-    Command, DaemonCommand, Paths, WordFault, ZoneWords, explain, explain_daemon,
-    read_daemon_words, read_words,
+    Command, DaemonCommand, Explanation, Paths, WordFault, ZoneWords, explain, explain_daemon,
+    read_daemon_words, read_words, read_words_beside,
 };
 use std::alloc::{AllocError, Global};
 use std::test::Fail;
@@ -148,15 +148,20 @@ fn reads_the_daemons_words(rt: HostRuntime) -> Result<(), Fail> {
     Ok(())
 }
 
-/// Whether the line of the control program, or of the daemon's, is explained so.
+/// What is said of the line of the control program, or of the daemon's.
+fn explained(alloc: Global, line: &str) -> Result<Explanation, AllocError> {
+    let words = words_of(alloc, line)?;
+    if line.starts_with("jobctl") {
+        explain(alloc, words.as_slice())
+    } else {
+        explain_daemon(alloc, words.as_slice())
+    }
+}
+
+/// Whether the line is explained so.
 fn is_explained(alloc: Global, help: &(&str, bool, &str)) -> Result<bool, AllocError> {
     let (line, is_help, part) = *help;
-    let words = words_of(alloc, line)?;
-    let given = if line.starts_with("jobctl") {
-        explain(alloc, words.as_slice())?
-    } else {
-        explain_daemon(alloc, words.as_slice())?
-    };
+    let given = explained(alloc, line)?;
     let is_told = given.text.contains(part);
     Ok(given.is_help == is_help && is_told)
 }
@@ -169,5 +174,42 @@ fn helps(rt: HostRuntime) -> Result<(), Fail> {
     for help in &cases::DAEMON_HELP {
         assert!(rt; is_explained(rt.alloc(), help)?, "{}", help.0);
     }
+    Ok(())
+}
+
+/// Whether the explanation of the line is this one line, and no help.
+fn is_reasoned(alloc: Global, line: &str, wanted: &str) -> Result<bool, AllocError> {
+    let given = explained(alloc, line)?;
+    Ok(!given.is_help && given.text.strip_suffix('\n') == Some(wanted))
+}
+
+#[test]
+fn says_which_word_is_none(rt: HostRuntime) -> Result<(), Fail> {
+    for (line, wanted) in &cases::REASONS {
+        assert!(rt; is_reasoned(rt.alloc(), line, wanted)?, "{line}");
+    }
+    Ok(())
+}
+
+/// The socket of the line beside this default one.
+fn socket_beside(alloc: Global, line: &str, default: &str) -> Result<String, Fail> {
+    let words = words_of(alloc, line)?;
+    match read_words_beside(alloc, words.as_slice(), default) {
+        Ok(read) => Ok(String::from_str(alloc, read.socket.as_str())?),
+        Err(_) => Err(Fail::from("no words")),
+    }
+}
+
+#[test]
+fn takes_the_default_socket_if_none_is_named(rt: HostRuntime) -> Result<(), Fail> {
+    let alloc = rt.alloc();
+    assert_eq!(rt;
+        socket_beside(alloc, "jobctl list", "/run/s")?.as_str(),
+        "/run/s"
+    );
+    assert_eq!(rt;
+        socket_beside(alloc, "jobctl --socket t list", "/run/s")?.as_str(),
+        "t"
+    );
     Ok(())
 }

@@ -142,6 +142,42 @@ pub static HELP: [(&str, bool, &str); 7] = [
     ("jobctl lis", false, "list"),
 ];
 
+/// Lines that clap takes and that are no command, each with its whole explanation but for the newline.
+pub static REASONS: [(&str, &str); 8] = [
+    (
+        "jobctl start gui/501/a",
+        "jobctl: gui/501/a is no label (start takes a label; kickstart and print take a target)",
+    ),
+    (
+        "jobctl stop system/a",
+        "jobctl: system/a is no label (stop takes a label; kickstart and print take a target)",
+    ),
+    (
+        "jobctl start ''",
+        "jobctl: \"\" is no label (a label has 1 to 255 bytes, no / and no control character)",
+    ),
+    (
+        "jobctl --socket s stop a/b",
+        "jobctl: a/b is no label (a label has 1 to 255 bytes, no / and no control character)",
+    ),
+    (
+        "jobctl enable a/b",
+        "jobctl: a/b is no target (a target is LABEL, system/LABEL, user/UID/LABEL or gui/UID/LABEL)",
+    ),
+    (
+        "jobctl enable gui/x/a",
+        "jobctl: gui/x/a is no target (a target is LABEL, system/LABEL, user/UID/LABEL or gui/UID/LABEL)",
+    ),
+    (
+        "jobctl kickstart -k user/0",
+        "jobctl: user/0 is no target (a target is LABEL, system/LABEL, user/UID/LABEL or gui/UID/LABEL)",
+    ),
+    (
+        "jobd serve --socket s --store o --spool d --zone a --zone-file b",
+        "jobd: --zone and --zone-file can't stand together",
+    ),
+];
+
 /// The same of the daemon.
 pub static DAEMON_HELP: [(&str, bool, &str); 5] = [
     ("jobd --help", true, "overrides"),
