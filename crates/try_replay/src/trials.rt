@@ -67,6 +67,15 @@ fn reads_are_counted(alloc: Global, reads: usize) -> bool {
     ending == Err(ReplayFault::ReadCount) && written.as_slice() == outcomes_of(reads)
 }
 
+/// Whether as few reads as a reader of long pieces makes, and one at its end, are enough for the whole journal: reads are
+/// counted, and not bytes.
+fn few_long_reads_suffice(alloc: Global, piece: usize) -> bool {
+    let reads = JOURNAL.len().div_ceil(piece.max(1)).saturating_add(1);
+    let mut written = Vec::new(alloc);
+    let ending = replay_within(alloc, &mut whole(piece), &mut written, reads as u64);
+    ending == Ok(()) && written.as_slice() == OUTCOMES
+}
+
 /// Whether a journal that ends after so many bytes is answered as far as it goes. Its last line needs no newline, and is
 /// no event if it is cut.
 fn front_is_answered(alloc: Global, bytes: usize) -> bool {
@@ -99,6 +108,10 @@ fn all_writes(alloc: Global, failure: Option<ErrorKind>) -> bool {
 
 fn all_counts(alloc: Global) -> bool {
     (0..=JOURNAL.len()).all(|reads| reads_are_counted(alloc, reads))
+}
+
+fn all_long_reads(alloc: Global) -> bool {
+    (1..=600usize).all(|piece| few_long_reads_suffice(alloc, piece))
 }
 
 fn all_fronts(alloc: Global) -> bool {
@@ -144,5 +157,6 @@ pub fn try_all<R: Print + AllocGlobal>(rt: &R) -> io::Result<()> {
     )?;
     show(rt, "each_write_takes_no_byte", all_writes(alloc, None))?;
     show(rt, "reads_are_counted", all_counts(alloc))?;
+    show(rt, "few_long_reads_suffice", all_long_reads(alloc))?;
     show(rt, "each_front_is_answered", all_fronts(alloc))
 }
