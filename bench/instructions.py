@@ -15,6 +15,7 @@ import sys
 import tempfile
 
 sys.dont_write_bytecode = True
+import history
 from replay import HERE, per_line
 
 # What a line is, the kind of stream, few and many jobs, the lengths of the two streams, and how many times the
@@ -57,6 +58,9 @@ def few_and_many(command, folder):
     for words, kind, (few, many), lengths, aim in LINES:
         less, more = (per_line(command, kind, jobs, folder, lengths) for jobs in (few, many))
         are_kept &= print_row(words, (str(few), less, str(many), more), less, more, aim)
+        for jobs, count in ((few, less), (many, more)):
+            if count != "-":
+                history.append(f"{words}, {jobs} jobs", number(count), "instructions", "bench/instructions.py")
     return are_kept
 
 

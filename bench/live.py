@@ -12,6 +12,7 @@ milliseconds as median, least and greatest; compare figures of one run only.
 """
 import json
 import os
+import re
 import shutil
 import signal
 import socket
@@ -21,6 +22,9 @@ import sys
 import tempfile
 import threading
 import time
+
+sys.dont_write_bytecode = True
+import history
 
 HERE = os.path.dirname(os.path.abspath(__file__))
 JOBS = int(os.environ.get("JOBS", "1000"))
@@ -110,6 +114,10 @@ class Launcher:
 
 def row(what, figure):
     print(f"| {what} | {figure} |", flush=True)
+    number = re.match(r"[0-9.]+", figure)
+    unit = re.search(r"(?<= )(ms|MB)\b", figure)
+    if number:
+        history.append(what, number[0], unit[0] if unit else "", "bench/live.py")
 
 
 def restarts(launcher, times):

@@ -3,8 +3,8 @@
 
     bench/times.py
 
-It calls the same function of rt that `rt ci --anew` calls, so nothing of an earlier run is used, with RT_JOBS lanes (as many
-as there are processors if it is unset). Each process that rt starts is counted by its user and system time, its own
+It calls rt's own function for the gate, and has it use nothing of an earlier run (some kits never do), with RT_JOBS lanes (as many
+as there are processors if it is unset). The sum is appended to bench/history.csv. Each process that rt starts is counted by its user and system time, its own
 children included, and put down to the crate that it names:
 
     proof    the check of the crate from nothing; of a program also its two compilers
@@ -22,6 +22,9 @@ import subprocess
 import sys
 import threading
 import time
+
+sys.dont_write_bytecode = True
+import history
 
 HERE = os.path.dirname(os.path.abspath(__file__))
 COLUMNS = ("proof", "tests", "edits", "runs")
@@ -92,6 +95,7 @@ def print_table(spent, begun):
     sums = [sum(cells[at] for _, cells in rows) for at in range(len(COLUMNS))]
     print(f"{'sum':24}" + "".join(f"{it:9.1f}" for it in (*sums, sum(sums))))
     minutes = (time.monotonic() - begun) / 60
+    history.append("the whole gate", f"{sum(sums) / 60:.1f}", "processor minutes", "make times")
     print(f"{sum(sums) / 60:.1f} processor minutes, {minutes:.1f} minutes by the clock, RT_JOBS={os.environ['RT_JOBS']}")
 
 
@@ -101,7 +105,8 @@ def main():
     rt = load_rt()
     begun = time.monotonic()
     subprocess.Popen = Timed
-    status = rt.ci(True)
+    # a kit that keeps what an earlier run passed is told to begin anew
+    status = rt.ci(True) if rt.ci.__code__.co_argcount else rt.ci()
     sys.stdout.flush()
     print_table(Timed.spent, begun)
     return status
