@@ -5,7 +5,7 @@
 set -eu
 
 case $0 in
-*/packaging/install.sh) cd "${0%/*}/.." ;;
+packaging/install.sh | */packaging/install.sh) cd "${0%/*}/.." ;;
 */*) cd "${0%/*}" ;;
 esac
 prefix=${PREFIX:-/usr/local}
