@@ -48,7 +48,7 @@ tries() {
     for path in bin/jobd bin/jobctl bin/jobctl-reload libexec/jobd-run share/doc/jobd/contrib/split-users share/doc/jobd/contrib/jobd.openrc share/doc/jobd/contrib/jobd.runit; do
         [ -x "$root/$path" ] || fail "$1: no program $path"
     done
-    for path in share/man/man1/jobctl.1 share/man/man1/jobctl-reload.1 share/man/man5/jobd.json.5 share/man/man8/jobd.8 \
+    for path in share/man/man1/jobctl.1 share/man/man1/jobctl-reload.1 share/man/man5/jobd.json.5 share/man/man8/jobd.8 share/man/man8/jobd-run.8 \
         share/bash-completion/completions/{jobctl,jobd} share/fish/vendor_completions.d/{jobctl,jobd}.fish \
         share/zsh/site-functions/{_jobctl,_jobd} share/doc/jobd/contrib/{jobd.service,jobd@.service,jobd.logrotate} \
         share/doc/jobd/{README.md,CHANGELOG.md,LICENSE-MIT,LICENSE-APACHE,USING.md,OPERATING.md,WHY-NOT-RUNNING.md,DIFFERENCES.md} \
