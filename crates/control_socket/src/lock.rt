@@ -2,7 +2,7 @@
 
 use history_model::Text;
 use std::alloc::{AllocError, Global};
-use std::fs::{File, Files, OpenOptions};
+use std::fs::{File, Files, OpenOptions, TryLockError};
 use std::io::{Error, ErrorKind};
 use std::os::unix::fs::{MetadataExt, OpenOptionsExt};
 use std::{fs, io};
@@ -28,8 +28,10 @@ impl Lock {
         let path = Text::new(path_beside(alloc, socket)?);
         for _ in 0..TRIES {
             let file = open(rt, path.as_str())?;
-            if file.try_lock().is_err() {
-                break;
+            match file.try_lock() {
+                Ok(()) => {}
+                Err(TryLockError::WouldBlock) => break,
+                Err(TryLockError::Error(error)) => return Err(error),
             }
             if is_at(rt, path.as_str(), &file) {
                 return Ok(Lock { file, path });
