@@ -11,6 +11,7 @@ below only their sources and their proved libraries are there. JOBS is the numbe
 import os
 import re
 import shutil
+import signal
 import subprocess
 import sys
 import tempfile
@@ -53,6 +54,8 @@ def lay_room(room, name):
 
 
 def main(name, verb, *words):
+    # So that what was made is put back, and the room removed, when this is told to stop.
+    signal.signal(signal.SIGTERM, lambda number, _: sys.exit(128 + number))
     os.makedirs(f"{TOP}/build", exist_ok=True)
     made = f"{TOP}/crates/{name}/out"
     command = ["rt", verb, "--jobs", os.environ.get("JOBS", "1")] + (["--", *words] if verb == "run" else [])
