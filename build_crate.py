@@ -6,7 +6,7 @@
 
 rt lets one run at a time work in a crate's folder and in those of the crates below it, and every crate stands on history_model. In a
 room of its own each crate has folders of its own, so crates are proved side by side. The files are linked and not copied; of the crates
-below only their sources and their proved libraries are there. JOBS is the number of jobs of the check (1 if it is not set).
+below only their sources and their proved libraries are there. JOBS is the number of jobs of the check; rt chooses it if JOBS is absent.
 """
 import os
 import re
@@ -58,7 +58,8 @@ def main(name, verb, *words):
     signal.signal(signal.SIGTERM, lambda number, _: sys.exit(128 + number))
     os.makedirs(f"{TOP}/build", exist_ok=True)
     made = f"{TOP}/crates/{name}/out"
-    command = ["rt", verb, "--jobs", os.environ.get("JOBS", "1")] + (["--", *words] if verb == "run" else [])
+    jobs = ["--jobs", os.environ["JOBS"]] if "JOBS" in os.environ else []
+    command = ["rt", verb, *jobs, *(["--", *words] if verb == "run" else [])]
     with tempfile.TemporaryDirectory(prefix="room.", dir=f"{TOP}/build") as room:
         lay_room(room, name)
         own = f"{room}/crates/{name}"
