@@ -13,6 +13,7 @@ import ctypes
 import json
 import os
 import re
+import resource
 import select
 import shlex
 import shutil
@@ -95,6 +96,12 @@ def end_process(pid):
 
 def descriptors(pid):
     return len(os.listdir(f"/proc/{pid}/fd"))
+
+
+def first_free(pid):
+    """The number that the process's next descriptor gets."""
+    taken = os.listdir(f"/proc/{pid}/fd")
+    return next(number for number in range(len(taken) + 1) if str(number) not in taken)
 
 
 # ---- clients
@@ -648,6 +655,27 @@ def silent_clients_of_the_control_socket(stage):
         client.close()
 
 
+def no_descriptor_left(stage):
+    """No descriptor is left: a silent client of the control socket gives way to the next one, and the refusal is told once."""
+    launcher = stage.serve()
+    told = "jobd: control socket: cannot accept: Too many open files (os error 24)"
+    before = descriptors(launcher.pid)
+    silent = [connect(launcher.path) for _ in range(8)]
+    wait_for(lambda: descriptors(launcher.pid) >= before + 8, "8 clients are not held")
+    limits = resource.prlimit(launcher.pid, resource.RLIMIT_NOFILE)
+    for times in (1, 2):
+        resource.prlimit(launcher.pid, resource.RLIMIT_NOFILE, (first_free(launcher.pid), limits[1]))
+        for _ in range(3):
+            launcher.answers("with no descriptor left")
+        check(launcher.lines("") == [told] * times, f"after {times} such times it said {launcher.said()!r}")
+        resource.prlimit(launcher.pid, resource.RLIMIT_NOFILE, limits)
+        for _ in range(3):
+            launcher.answers("with descriptors again")
+    launcher.shut_down()
+    for client in silent:
+        client.close()
+
+
 def settings_in_the_log(stage):
     """After a clean end the store's file and the log beside it hold the settings, also where they were copied, or made one."""
     launcher = stage.serve()
@@ -760,9 +788,10 @@ def long_lines_and_headers(stage):
         check(run.returncode in (0, 4, 65), f"a definition of {wanted} bytes: {run.returncode}, {run.stderr!r}")
         check(run.returncode != 65 or "long.json" in run.stderr, f"refused with {run.stderr!r}")
         check(wanted < 262101 or run.returncode == 65, f"jobctl hands in a line of {wanted} bytes, which can't be replayed")
-    labels = [f"{number:04d}" + "x" * 246 for number in range(1050)]
+    labels = [f"{number:04d}" + '"' * 251 for number in range(520)]
     with connect(launcher.path, 60.0) as client:
-        sender = threading.Thread(target=lambda: [client.sendall(b'{"req":"disable","job":"%s"}\n' % x.encode()) for x in labels], daemon=True)
+        lines = [json.dumps({"req": "disable", "job": label}).encode() + b"\n" for label in labels]
+        sender = threading.Thread(target=lambda: [client.sendall(line) for line in lines], daemon=True)
         sender.start()
         got = 0
         while got < len(labels):
@@ -858,8 +887,9 @@ def end_all(launcher):
 SCENES = [
     a_stream_at_a_fifo, clients_that_never_read, silent_clients_of_one_port, ends_that_cannot_be_seen, a_second_launcher,
     a_start_that_fails, spool_links_and_fifos, a_spool_that_others_may_write, another_ones_socket, many_at_a_stale_socket,
-    a_lost_spool_file, closed_standard_streams, pipelined_settings, silent_clients_of_the_control_socket, settings_in_the_log,
-    limits_and_ignored_signals, private_files, a_journal_at_a_fifo, what_is_no_store, long_lines_and_headers, reasons_are_told, run_log,
+    a_lost_spool_file, closed_standard_streams, pipelined_settings, silent_clients_of_the_control_socket, no_descriptor_left,
+    settings_in_the_log, limits_and_ignored_signals, private_files, a_journal_at_a_fifo, what_is_no_store, long_lines_and_headers,
+    reasons_are_told, run_log,
 ]
 
 
