@@ -29,7 +29,7 @@ import tempfile
 sys.dont_write_bytecode = True
 HERE = os.path.dirname(os.path.abspath(__file__))
 sys.path.insert(0, os.path.join(HERE, "..", "crates", "live_check", "data"))
-from edge_scenes import BOUND, Fault, Stage, adopt_orphans, check, connect, end_children, end_process, read_line  # noqa: E402
+from edge_scenes import Fault, Stage, adopt_orphans, check, connect, end_children, read_line  # noqa: E402
 
 try:
     import sqlite3

@@ -37,8 +37,6 @@ import random
 import select
 import shlex
 import shutil
-import socket
-import subprocess
 import sys
 import tempfile
 import threading
