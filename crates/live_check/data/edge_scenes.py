@@ -1,12 +1,14 @@
 #!/usr/bin/env python3
 """Scenes with a real `jobd serve` whose surroundings are hostile: files, clients, limits and other launchers.
 
-    edge_scenes.py [--jobd WORDS] [--jobctl WORDS] [--at-once N] [SCENE..]
+    edge_scenes.py [--jobd WORDS] [--jobctl WORDS] [--before WORDS] [--at-once N] [--times] [SCENE..]
 
-WORDS start the program; blanks part them. Without scenes all are played, N at a time. Each prints `ok NAME` or `FAILED NAME: why`, and
-the last line counts. The status is 1 if one failed. Each scene has a folder of its own below TMPDIR, and every process that
-it started is ended. A scene waits for facts; no user and no network is needed. BOUND in the environment is for how many seconds a
-fact is waited for, 10 if it is not set: a slow machine, or programs that were built without a proof, need more.
+WORDS start a program; blanks part them. The program of --before is run to its end first, and nothing is played if it fails.
+Without scenes all are played, N at a time. Each prints `ok NAME` or `FAILED NAME: why`, and the last line counts; --times adds how long
+it took. The status is 1 if one failed. Each scene has a folder of its own below TMPDIR, and every process that it started is ended.
+
+A scene waits for facts; no user and no network is needed. BOUND in the environment is for how many seconds a fact is waited
+for, 10 if it is not set: a slow machine, or programs that were built without a proof, need more.
 """
 import argparse
 import concurrent.futures
@@ -940,10 +942,18 @@ def end_children():
             return
 
 
+def heed_signals():
+    """No signal is ignored in what is started from here: whoever started this script may have had it ignore some, as nohup does."""
+    for number in signal.valid_signals():
+        if signal.getsignal(number) == signal.SIG_IGN and number not in (signal.SIGPIPE, signal.SIGXFSZ):
+            signal.signal(number, signal.SIG_DFL)
+
+
 def read_words():
     words = argparse.ArgumentParser()
     words.add_argument("--jobd", type=shlex.split, default=[os.path.join(BUILD, "jobd")])
     words.add_argument("--jobctl", type=shlex.split, default=[os.path.join(BUILD, "jobctl")])
+    words.add_argument("--before", type=shlex.split)
     words.add_argument("--at-once", type=int, default=4)
     words.add_argument("--times", action="store_true")
     words.add_argument("scenes", nargs="*", metavar="SCENE")
@@ -958,7 +968,10 @@ def read_words():
 
 def main():
     given = read_words()
+    heed_signals()
     adopt_orphans()
+    if given.before and subprocess.run(given.before, stdin=subprocess.DEVNULL).returncode != 0:
+        return 1
     scenes = [scene for scene in SCENES if not given.scenes or scene.__name__ in given.scenes]
     failed = 0
     folder = tempfile.mkdtemp(prefix="edge.")
