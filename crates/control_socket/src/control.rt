@@ -3,7 +3,7 @@
 use crate::client::{Client, Progress};
 use crate::notices::Notices;
 use crate::turn::{Answers, Limit, Turn};
-use held_files::LockFile;
+use own_files::LockFile;
 use history_model::Text;
 use mio::net::{UnixListener, UnixStream};
 use mio::{Interest, Registry, Token};
