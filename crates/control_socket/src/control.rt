@@ -1,9 +1,9 @@
 //! The control socket with its clients.
 
 use crate::client::{Client, Progress};
-use crate::lock::Lock;
 use crate::notices::Notices;
 use crate::turn::{Answers, Limit, Turn};
+use own_files::LockFile;
 use history_model::Text;
 use mio::net::{UnixListener, UnixStream};
 use mio::{Interest, Registry, Token};
@@ -12,7 +12,7 @@ use socket_file::SocketMark;
 use std::alloc::Global;
 use std::fs::{File, Files};
 use std::io;
-use std::io::{ErrorKind, Read, Write};
+use std::io::{Error, ErrorKind, Read, Write};
 use std::net::Net;
 
 /// As many clients are served at a time.
@@ -34,7 +34,7 @@ pub struct ControlSocket {
     listener: UnixListener,
     path: Text,
     mark: SocketMark,
-    lock: Lock,
+    lock: LockFile,
     token: Token,
     clients: Slab<Client>,
     room: Vec<u8>,
@@ -72,7 +72,7 @@ impl ControlSocket {
         let own_path = Text::copy_of(alloc, path)?;
         let room = zeros(alloc)?;
         let clients = Slab::with_capacity(alloc, CLIENTS)?;
-        let lock = Lock::take(rt, alloc, path)?;
+        let lock = lock_beside(rt, alloc, path)?;
         let (listener, mark) = match socket_file::bind(rt, path) {
             Ok(bound) => bound,
             Err(error) => {
@@ -299,6 +299,23 @@ impl ControlSocket {
     pub fn remove<R: Files<File = File>>(&self, rt: &R) {
         socket_file::remove(rt, self.path.as_str(), self.mark);
         self.lock.remove(rt);
+    }
+}
+
+// The lock on the file of the socket's path and `.lock`.
+fn lock_beside<R: Files<File = File>>(rt: &R, alloc: Global, path: &str) -> io::Result<LockFile> {
+    let beside = format!(in alloc; "{path}.lock")?;
+    match LockFile::take(rt, beside) {
+        Ok(lock) => Ok(lock),
+        Err(error) => Err(match error.kind() {
+            ErrorKind::ResourceBusy => {
+                Error::new(ErrorKind::AddrInUse, "another launcher holds its lock")
+            }
+            ErrorKind::AlreadyExists => {
+                Error::new(ErrorKind::AddrInUse, "its lock is no plain file")
+            }
+            _ => error,
+        }),
     }
 }
 
