@@ -11,7 +11,10 @@ closure = $(if $(strip $(1)),$(sort $(1) $(call closure,$(sort $(foreach name,$(
 .PHONY: build built_programs
 build: need_rt
 	@mkdir -p build/log
+	@rm -f build/proved.txt
 	@$(MAKE) --no-print-directory -j$(BUILD_JOBS) built_programs
+	@{ echo "Commit: $$(git rev-parse HEAD)"; echo "Kit: $$(rt version)"; \
+	    echo "Programs: $$(cd build && sha256sum jobd jobctl | tr '\n' ' ')"; } > build/proved.txt
 
 ifneq ($(filter built_programs library_%,$(MAKECMDGOALS)),)
 LIBRARIES := $(filter-out $(PROGRAMS),$(call closure,$(PROGRAMS)))
