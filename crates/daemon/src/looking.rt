@@ -51,13 +51,13 @@ impl From<StoreFault> for LookFault {
 pub(crate) fn look(rt: &HostRuntime, alloc: Global, path: &str) -> Result<Found, LookFault> {
     let real = fs::canonicalize(rt, path)?;
     let file = bytes_at(rt, alloc, real.as_str())?;
-    if file.is_empty() {
-        return Ok(Found::Empty);
-    }
     let log = match log_beside(rt, alloc, real.as_str()) {
         Ok(log) => log,
         Err(error) => return Err(LookFault::Log(error)),
     };
+    if file.is_empty() && log.is_empty() {
+        return Ok(Found::Empty);
+    }
     let files = Files {
         log: in_memory(alloc, log.as_slice())?,
         db: in_memory(alloc, file.as_slice())?,
