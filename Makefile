@@ -3,6 +3,7 @@
 #             same files is not proved or tried again
 # make times  the gate with nothing kept from earlier runs, and then what each crate cost it, in processor seconds
 # make build  proves, and leaves the programs as build/jobd and build/jobctl
+# make dist   the archive of the programs in build/, with what belongs to them; make deb, the Debian package of it
 # make bench  times build/jobd, the calendar and the live launcher, and counts the instructions of a line; BASELINE=PROGRAM takes turns
 #             with another program
 .PHONY: run test times bench need_rt
@@ -15,8 +16,13 @@ run: need_rt
 	@cd crates/replay_look && { rt try < ../../examples/first.jsonl 2> ../../build/run.log || { cat ../../build/run.log >&2; exit 1; }; }
 	@echo "make run: nothing was proved for this look; make build proves the programs and leaves them as build/jobd and build/jobctl" >&2
 
+# What the gate said last is kept for `make dist`.
 test: need_rt
-	@RT_JOBS=$(RT_JOBS) rt ci
+	@mkdir -p build
+	@rm -f build/gate.txt
+	@{ RT_JOBS=$(RT_JOBS) rt ci; echo $$? > build/gate.status; } 2>&1 | tee build/gate.log
+	@[ "$$(cat build/gate.status)" -eq 0 ] || exit 1; \
+	    { echo "Commit: $$(git rev-parse HEAD)"; echo "Gate: $$(tail -n 1 build/gate.log)"; } > build/gate.txt
 
 times: need_rt
 	@RT_JOBS=$(RT_JOBS) python3 bench/times.py
@@ -33,5 +39,8 @@ need_rt:
 # make install, make uninstall: the programs of build/, manual pages, completions, documents and licences, below PREFIX
 # (/usr/local), each path behind DESTDIR
 include install.mk
+
+# make dist, make deb: by packaging/
+include dist.mk
 
 include build.mk

@@ -139,7 +139,7 @@ impl Connections {
             }
             return true;
         }
-        match self.stillest((0, 0), (JobNo::MAX, u64::MAX)) {
+        match self.stillest(None) {
             Some(key) => {
                 self.let_go(rt, notices, key, LetGo::Room(self.room));
                 true
@@ -148,15 +148,19 @@ impl Connections {
         }
     }
 
-    // Of those between both whose run is over, the one whose client has been still for longest.
-    fn stillest(&self, from: Key, to: Key) -> Option<Key> {
+    // Of those of the job, or of all jobs, whose run is over: the one whose client has been still for longest.
+    fn stillest(&self, of: Option<JobNo>) -> Option<Key> {
         let mut found: Option<(Key, Instant)> = None;
-        for (key, connection) in self.held.range(from..=to) {
+        for (key, connection) in self.held.iter() {
+            let is_of = match of {
+                Some(job) => key.0 == job,
+                None => true,
+            };
             let is_stiller = match &found {
                 Some((_, moved)) => connection.moved < *moved,
                 None => true,
             };
-            if connection.is_over && is_stiller {
+            if is_of && connection.is_over && is_stiller {
                 found = Some((*key, connection.moved));
             }
         }
@@ -183,7 +187,7 @@ impl Connections {
             connection.is_over = true;
         }
         if self.over_of(job) > OVER {
-            if let Some(key) = self.stillest((job, 0), (job, u64::MAX)) {
+            if let Some(key) = self.stillest(Some(job)) {
                 self.let_go(rt, notices, key, LetGo::Job(OVER));
             }
         }

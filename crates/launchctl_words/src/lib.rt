@@ -8,6 +8,7 @@ mod jobctl;
 mod jobd;
 mod parse;
 mod reason;
+mod version;
 
 pub use command::{Command, DaemonCommand, Paths, WordFault, Words, ZoneWords};
 pub use jobctl::{explain, read_words, read_words_beside};

@@ -5,6 +5,7 @@ ghost use Rattle.launchctl_words.specs.Meaning.{IsFound, is_empty_list};
 
 use crate::command::WordFault;
 use crate::reason::reason_in;
+use crate::version::VERSION_LINE;
 use clap::error::ErrorKind;
 use clap::{ArgMatches, Error};
 use std::alloc::{AllocError, Global};
@@ -45,8 +46,8 @@ pub struct Explanation {
     pub is_help: bool,
 }
 
-/// The text for words that clap does not take. If it takes them, the line that says why they are no command all the same, or
-/// the whole help if they are one.
+/// The text for words that clap does not take; a help ends with the version's line. If clap takes them, the line that says why
+/// they are no command all the same, or the whole help if they are one.
 pub fn explain_by<'a>(
     alloc: Global,
     command: Result<clap::Command<'a>, AllocError>,
@@ -81,9 +82,12 @@ fn whole_help(command: &mut clap::Command<'_>) -> Result<Explanation, AllocError
 }
 
 fn fault_text(alloc: Global, error: &Error) -> Result<Explanation, AllocError> {
-    let text = format!(in alloc; "{error}")?;
-    Ok(Explanation {
-        text,
-        is_help: !error.use_stderr(),
-    })
+    let is_help = !error.use_stderr();
+    let text = if is_help {
+        let version = VERSION_LINE;
+        format!(in alloc; "{error}\n{version}\n")?
+    } else {
+        format!(in alloc; "{error}")?
+    };
+    Ok(Explanation { text, is_help })
 }

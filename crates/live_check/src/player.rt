@@ -1,8 +1,7 @@
-//! Plays the scenes.
+//! Plays the scenes that are lists of steps.
 
 use crate::asking::{ask, comes_to_tell, list, run};
 use crate::calling::{begin, call, call_port, finish, send};
-use crate::edge::play_edge;
 use crate::files::{comes_to_have, comes_to_hold, is_there};
 use crate::journal::{compare, replay};
 use crate::scenes::{
@@ -140,16 +139,10 @@ fn play_scenes(rt: &HostRuntime) -> io::Result<()> {
     play_states(rt)
 }
 
-fn play_both(rt: &HostRuntime) -> io::Result<bool> {
-    play_scenes(rt)?;
-    play_edge(rt)
-}
-
-/// Plays each scene. The status is 0, or 1 if a step could not be made, or a scene of the edge failed.
-pub fn play_all(rt: &HostRuntime) -> u8 {
-    match play_both(rt) {
-        Ok(true) => 0,
-        Ok(false) => 1,
+/// Plays each scene that is a list of steps. The status is 0, or 1 if a step could not be made.
+pub fn play_own(rt: &HostRuntime) -> u8 {
+    match play_scenes(rt) {
+        Ok(()) => 0,
         Err(error) => {
             let _written = eprintln!(rt; "live_check: {error}");
             1

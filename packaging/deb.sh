@@ -1,0 +1,45 @@
+#!/bin/sh
+# Makes dist/jobd_VERSION_amd64.deb of the archive's files in dist/, by dpkg-deb. Two runs over one tree give the same bytes.
+set -eu
+
+cd "${0%/*}/.."
+version=$(cat VERSION)
+source=dist/kivgrond-$version-x86_64-linux
+debian=packaging/debian
+umask 022
+LC_ALL=C
+export LC_ALL
+
+fail() {
+    echo "deb: $*" >&2
+    exit 1
+}
+[ -f "$source/SHA256SUMS" ] || fail "$source is not there: make dist first"
+SOURCE_DATE_EPOCH=${SOURCE_DATE_EPOCH:-$(git log -1 --format=%ct)}
+export SOURCE_DATE_EPOCH
+libc=$(sed -n 's/^C library: \([0-9.]*\) .*/\1/p' "$source/PROVED.txt")
+
+root=dist/deb
+rm -rf "$root"
+mkdir -p "$root/DEBIAN" "$root/etc/jobd" "$root/lib/systemd/system"
+PREFIX=/usr DESTDIR=$PWD/$root sh "$source/install.sh"
+doc=$root/usr/share/doc/jobd
+mv "$doc/contrib/jobd.service" "$doc/contrib/jobd@.service" "$root/lib/systemd/system"
+rm "$doc/LICENSE-MIT" "$doc/LICENSE-APACHE"
+# Where Debian looks for each.
+mkdir -p "$root/usr/share/zsh/vendor-completions"
+mv "$root"/usr/share/zsh/site-functions/* "$root/usr/share/zsh/vendor-completions"
+rmdir "$root/usr/share/zsh/site-functions"
+mv "$doc/CHANGELOG.md" "$doc/changelog"
+awk -v license="LICENSE-MIT" '$0 == "@MIT@" { while ((getline row <license) > 0) print row == "" ? " ." : " " row; next } { print }' \
+    "$debian/copyright" >"$doc/copyright"
+gzip -n -9 "$doc/changelog" "$root"/usr/share/man/man*/*
+
+size=$(find "$root/usr" "$root/etc" "$root/lib" -type f -printf '%s\n' | awk '{ sum += int(($1 + 1023) / 1024) } END { print sum }')
+sed "s/@VERSION@/$version/; s/@LIBC@/$libc/; s/@SIZE@/$size/" "$debian/control" >"$root/DEBIAN/control"
+install -m 755 "$debian/postinst" "$debian/prerm" "$debian/postrm" "$root/DEBIAN"
+(cd "$root" && find usr lib etc -type f | sort | xargs md5sum >DEBIAN/md5sums)
+find "$root" -exec touch -h -d "@$SOURCE_DATE_EPOCH" {} +
+dpkg-deb --root-owner-group -Zxz -b "$root" "dist/jobd_${version}_amd64.deb" >/dev/null
+rm -rf "$root"
+echo "dist/jobd_${version}_amd64.deb"

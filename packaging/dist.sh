@@ -1,0 +1,44 @@
+#!/bin/sh
+# Makes dist/kivgrond-VERSION-x86_64-linux.tar.gz of the programs in build/ and the files beside them. Two runs over one tree give
+# the same bytes: names are sorted, each file has the moment of the commit, and root owns it. Needs git, GNU tar and objdump.
+set -eu
+
+cd "${0%/*}/.."
+version=$(cat VERSION)
+name=kivgrond-$version-x86_64-linux
+umask 022
+LC_ALL=C
+export LC_ALL
+
+fail() {
+    echo "dist: $*" >&2
+    exit 1
+}
+for program in jobd jobctl; do
+    [ -x "build/$program" ] || fail "build/$program is not there: make build first"
+    grep -aqF "Kivgrond $version" "build/$program" || fail "build/$program is not of version $version"
+done
+SOURCE_DATE_EPOCH=${SOURCE_DATE_EPOCH:-$(git log -1 --format=%ct)}
+
+stage=dist/$name
+rm -rf "$stage" "dist/$name.tar.gz"
+mkdir -p "$stage/bin" "$stage/man" "$stage/contrib" "$stage/docs" "$stage/examples/jobs"
+install -m 755 build/jobd build/jobctl "$stage/bin"
+install -m 644 man/*.[158] "$stage/man"
+cp -r completions "$stage"
+install -m 644 contrib/jobd.service contrib/jobd@.service contrib/jobd.logrotate "$stage/contrib"
+install -m 755 contrib/jobd-run contrib/jobd.openrc contrib/jobd.runit contrib/jobctl-reload contrib/split-users "$stage/contrib"
+install -m 644 docs/USING.md docs/OPERATING.md docs/WHY-NOT-RUNNING.md docs/DIFFERENCES.md "$stage/docs"
+install -m 644 examples/jobs/*.json "$stage/examples/jobs"
+install -m 644 README.md CHANGELOG.md LICENSE-MIT LICENSE-APACHE VERSION "$stage"
+install -m 755 packaging/install.sh "$stage"
+
+# The newest version of the C library that a program asks for.
+libc=$(objdump -T build/jobd build/jobctl | grep -o 'GLIBC_[0-9.]*' | sort -V | tail -n 1)
+[ -n "$libc" ] || fail "no program asks for a version of the C library"
+packaging/proved.sh "$libc" >"$stage/PROVED.txt"
+
+(cd "$stage" && find . -type f ! -name SHA256SUMS | sort | sed 's|^\./||' | xargs sha256sum >SHA256SUMS)
+tar --sort=name --format=gnu --mtime="@$SOURCE_DATE_EPOCH" --owner=root:0 --group=root:0 --mode='u=rwX,go=rX' -C dist -cf - "$name" |
+    gzip -n -9 >"dist/$name.tar.gz"
+echo "dist/$name.tar.gz: it needs glibc ${libc#GLIBC_} or newer; $(sed -n 's/^Standing: //p' "$stage/PROVED.txt")"

@@ -1,0 +1,74 @@
+#!/bin/sh
+# Puts the programs, manual pages, completions and documents below PREFIX (/usr/local), each path behind DESTDIR; with the word
+# `uninstall` removes them. `make install` runs it in the repository, where the programs are in build/; in an unpacked archive
+# they are in bin/. Nothing is compiled or fetched.
+set -eu
+
+case $0 in
+*/packaging/install.sh) cd "${0%/*}/.." ;;
+*/*) cd "${0%/*}" ;;
+esac
+prefix=${PREFIX:-/usr/local}
+root=${DESTDIR:-}$prefix
+doc=$root/share/doc/jobd
+programs=bin
+[ -d bin ] || programs=build
+umask 022
+
+fail() {
+    echo "install: $*" >&2
+    exit 1
+}
+
+# The file with the prefix in the place of @PREFIX@, as this mode.
+filled() {
+    sed "s|@PREFIX@|$prefix|g" "$1" >"$2"
+    chmod "$3" "$2"
+}
+
+put() {
+    for program in jobd jobctl; do
+        [ -x "$programs/$program" ] || fail "$programs/$program is not there: make build first"
+    done
+    install -d "$root/bin" "$root/libexec" "$root/share/man/man1" "$root/share/man/man5" "$root/share/man/man8" \
+        "$doc/contrib" "$doc/examples" "$root/share/bash-completion/completions" "$root/share/fish/vendor_completions.d" \
+        "$root/share/zsh/site-functions"
+    install -m 755 "$programs/jobd" "$programs/jobctl" contrib/jobctl-reload "$root/bin"
+    install -m 644 man/jobctl.1 man/jobctl-reload.1 "$root/share/man/man1"
+    install -m 644 man/jobd.json.5 "$root/share/man/man5"
+    install -m 644 man/jobd.8 "$root/share/man/man8"
+    install -m 644 completions/bash/jobctl completions/bash/jobd "$root/share/bash-completion/completions"
+    install -m 644 completions/fish/jobctl.fish completions/fish/jobd.fish "$root/share/fish/vendor_completions.d"
+    install -m 644 completions/zsh/_jobctl completions/zsh/_jobd "$root/share/zsh/site-functions"
+    install -m 644 README.md CHANGELOG.md LICENSE-MIT LICENSE-APACHE docs/USING.md docs/WHY-NOT-RUNNING.md \
+        docs/DIFFERENCES.md docs/OPERATING.md "$doc"
+    if [ -f PROVED.txt ]; then install -m 644 PROVED.txt "$doc"; fi
+    install -m 644 examples/jobs/*.json "$doc/examples"
+    filled contrib/jobd-run "$root/libexec/jobd-run" 755
+    for file in jobd.service jobd@.service jobd.logrotate; do
+        filled "contrib/$file" "$doc/contrib/$file" 644
+    done
+    for file in jobd.openrc jobd.runit split-users; do
+        filled "contrib/$file" "$doc/contrib/$file" 755
+    done
+}
+
+# The folder of documents is this project's own; of the others only those that it left empty go.
+remove() {
+    rm -f "$root/bin/jobd" "$root/bin/jobctl" "$root/bin/jobctl-reload" "$root/libexec/jobd-run" \
+        "$root/share/man/man1/jobctl.1" "$root/share/man/man1/jobctl-reload.1" "$root/share/man/man5/jobd.json.5" \
+        "$root/share/man/man8/jobd.8" "$root/share/bash-completion/completions/jobctl" \
+        "$root/share/bash-completion/completions/jobd" "$root/share/fish/vendor_completions.d/jobctl.fish" \
+        "$root/share/fish/vendor_completions.d/jobd.fish" "$root/share/zsh/site-functions/_jobctl" \
+        "$root/share/zsh/site-functions/_jobd"
+    rm -rf "$doc"
+    cd "$root" 2>/dev/null || return 0
+    rmdir -p bin libexec share/man/man1 share/man/man5 share/man/man8 share/doc share/bash-completion/completions \
+        share/fish/vendor_completions.d share/zsh/site-functions 2>/dev/null || true
+}
+
+case ${1:-install} in
+install) put ;;
+uninstall) remove ;;
+*) fail "usage: install.sh [install | uninstall], with PREFIX and DESTDIR in the environment" ;;
+esac

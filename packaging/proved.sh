@@ -1,0 +1,34 @@
+#!/bin/sh
+# Prints what stands behind the programs in build/: the commit, the kit's line, what the gate said last, and the promises. The first
+# word is the version of the C library that they ask for. `make build` leaves what it proved in build/proved.txt, `make test` what
+# it passed in build/gate.txt; if these speak of other programs or of another commit, that is said.
+set -eu
+
+commit=$(git rev-parse HEAD)
+changed=$(git status --porcelain --untracked-files=no)
+line() {
+    sed -n "s/^$1: //p" "build/$2" 2>/dev/null || true
+}
+sums=$(cd build && sha256sum jobd jobctl)
+row=$(echo "$sums" | tr '\n' ' ')
+
+echo "Kivgrond $(cat VERSION)"
+echo
+echo "Commit: $commit${changed:+, with changes that are not committed}"
+if [ -z "$changed" ] && [ "$(line Commit proved.txt)" = "$commit" ] && [ "$(line Programs proved.txt)" = "$row" ]; then
+    echo "Standing: proved, by make build at this commit"
+    echo "Kit: $(line Kit proved.txt)"
+else
+    echo "Standing: NOT PROVED; these programs were not built by make build at this commit, so nothing below is said of them"
+    echo "Kit: none"
+fi
+if [ -z "$changed" ] && [ "$(line Commit gate.txt)" = "$commit" ]; then
+    echo "Gate: $(line Gate gate.txt)"
+else
+    echo "Gate: not run at this commit on this machine"
+fi
+echo "C library: ${1#GLIBC_} of glibc, or newer"
+echo "Programs:"
+echo "$sums" | sed 's/^/    /'
+echo
+sed -n '/^## What is proved, and what is trusted/,/^## /p' README.md | sed '/^## /d' | sed -n '/^1\. /,$p' | sed '/^10\. /,$d'

@@ -1,0 +1,597 @@
+#!/usr/bin/env python3
+"""contrib/jobd-run, tried by hand and under runit's runsv: no job runs twice, none is left behind, and what is wrong is told.
+
+jobd_run.py [--programs FOLDER] [--shell SHELL] [SCENE..]. FOLDER holds jobd and jobctl (build/ if absent); SHELL runs the script
+(sh if absent). It is run by hand, after `make build`. Scenes under runsv are left out, with a line, if runsv is not here.
+"""
+
+import argparse
+import glob
+import json
+import os
+import shutil
+import signal
+import subprocess
+import sys
+import tempfile
+import time
+
+HERE = os.path.dirname(os.path.dirname(os.path.abspath(__file__)))
+SCRIPT = f"{HERE}/contrib/jobd-run"
+options = None
+scenes = {}
+
+
+class Fault(Exception):
+    pass
+
+
+def scene(function):
+    scenes[function.__name__] = function
+    return function
+
+
+def check(holds, what):
+    if not holds:
+        raise Fault(what)
+
+
+# The longest wait for anything, in seconds: programs built without a proof are slow.
+MOST = 90
+
+
+def wait_for(test, what, seconds=MOST):
+    end = time.time() + seconds
+    while True:
+        value = test()
+        if value:
+            return value
+        check(time.time() < end, f"not within {seconds} s: {what}")
+        time.sleep(0.05)
+
+
+def gone(pid):
+    try:
+        with open(f"/proc/{pid}/stat") as it:
+            return it.read().rpartition(")")[2].split()[0] in "ZX"
+    except OSError:
+        return True
+
+
+class Place:
+    """The folders of one launcher, its definitions, and what jobd-run told."""
+
+    def __init__(self, folder):
+        self.folder = folder
+        self.jobs, self.run, self.state = (f"{folder}/{name}" for name in ("jobs", "run", "state"))
+        os.mkdir(self.jobs)
+        self.log = f"{folder}/log"
+        open(self.log, "w").close()
+        self.started = []
+
+    def environment(self, **more):
+        own = {"JOBD_JOBS": self.jobs, "JOBD_RUN": self.run, "JOBD_STATE": self.state, "JOBD_PROGRAMS": options.programs}
+        return {**os.environ, **own, **more}
+
+    def define(self, label, body="exec sleep 1000", **keys):
+        """A job that is kept alive, and holds a lock as long as it lives; one that finds it held writes `twice`."""
+        line = f"exec 8>>{self.folder}/{label}.lock; flock -n 8 || echo {label} >>{self.folder}/twice; {body}"
+        keys = {"Label": label, "ProgramArguments": ["/bin/sh", "-c", line], "KeepAlive": True, "ThrottleInterval": 0, **keys}
+        with open(f"{self.jobs}/{label}.json", "w") as it:
+            json.dump(keys, it)
+
+    def start(self, **more):
+        log = open(self.log, "a")
+        child = subprocess.Popen([options.shell, SCRIPT], env=self.environment(**more), stdin=subprocess.DEVNULL, stdout=log, stderr=log)
+        self.started.append(child)
+        return child
+
+    def control(self, *words):
+        run = subprocess.run(
+            [f"{options.programs}/jobctl", "--socket", f"{self.run}/jobd.sock", *words], capture_output=True, text=True, timeout=60
+        )
+        return run.returncode, run.stdout
+
+    def child_of(self, label):
+        code, text = self.control("list")
+        for row in text.splitlines()[1:]:
+            pid, _, name = row.split("\t")
+            if name == label and pid != "-" and code == 0:
+                return int(pid)
+        return None
+
+    def running(self, label):
+        return wait_for(lambda: self.child_of(label), f"{label} runs; told: {self.told()}")
+
+    def launchers(self):
+        """The process ids of launchers at this place's socket."""
+        found = []
+        for path in glob.glob("/proc/[0-9]*/cmdline"):
+            try:
+                words = open(path, "rb").read().decode(errors="replace").split("\0")
+            except OSError:
+                continue
+            if "serve" in words and f"{self.run}/jobd.sock" in words and os.path.basename(words[0]) == "jobd":
+                found.append(int(path.split("/")[2]))
+        return found
+
+    def told(self):
+        return open(self.log).read()
+
+    def check_told(self, text):
+        check(text in self.told(), f"not told: {text!r} in {self.told()!r}")
+
+    def check_once(self):
+        check(not os.path.exists(f"{self.folder}/twice"), f"two of a job ran at once: {self.told()}")
+
+    def marked(self):
+        """The processes of this place: those that hold a job's lock, and launchers."""
+        mark = open(f"{self.state}/mark").read().split()[0].encode()
+        found = set(self.launchers())
+        for path in glob.glob("/proc/[0-9]*/environ"):
+            try:
+                if b"JOBD_MARK=" + mark in open(path, "rb").read():
+                    found.add(int(path.split("/")[2]))
+            except OSError:
+                pass
+        return {pid for pid in found if not gone(pid)}
+
+    def check_nothing_left(self):
+        check(not self.marked(), f"left: {self.marked()}; told: {self.told()}")
+        self.check_once()
+
+    def clear(self):
+        for child in self.started:
+            if child.poll() is None:
+                child.terminate()
+                try:
+                    child.wait(MOST)
+                except subprocess.TimeoutExpired:
+                    child.kill()
+        if os.path.exists(f"{self.state}/mark"):
+            for pid in self.marked():
+                os.kill(pid, signal.SIGKILL)
+
+
+# ---- ends in order
+
+
+def ends_in_order(place, number):
+    place.define("a", "trap 'echo in order >>%s/ends; exit' TERM; sleep 1000 & : >%s/minds; wait" % (place.folder, place.folder))
+    keeper = place.start()
+    child = place.running("a")
+    wait_for(lambda: os.path.exists(f"{place.folder}/minds"), "the job minds its signal")
+    keeper.send_signal(number)
+    check(keeper.wait(MOST) == 0, f"status {keeper.returncode}: {place.told()}")
+    check(gone(child), "the job lives on")
+    check(open(f"{place.folder}/ends").read() == "in order\n", "the job was not ended in order")
+    check(not os.path.exists(f"{place.run}/jobd.sock"), "the socket's file is left")
+    # The shell's own child was left by the job.
+    place.check_told("(sleep) gets TERM")
+    place.check_nothing_left()
+
+
+@scene
+def term_ends_in_order(place):
+    ends_in_order(place, signal.SIGTERM)
+
+
+@scene
+def int_ends_in_order(place):
+    ends_in_order(place, signal.SIGINT)
+
+
+@scene
+def hup_ends_in_order(place):
+    ends_in_order(place, signal.SIGHUP)
+
+
+@scene
+def quit_ends_in_order(place):
+    ends_in_order(place, signal.SIGQUIT)
+
+
+@scene
+def signal_before_ready(place):
+    place.define("a")
+    keeper = place.start()
+    wait_for(place.launchers, "a launcher")
+    keeper.send_signal(signal.SIGTERM)
+    check(keeper.wait(MOST) == 0, f"status {keeper.returncode}: {place.told()}")
+    place.check_nothing_left()
+
+
+# ---- what was killed
+
+
+@scene
+def killed_script(place):
+    place.define("a")
+    keeper = place.start()
+    child, launcher = place.running("a"), place.launchers()[0]
+    keeper.kill()
+    keeper.wait()
+    check(not gone(child) and not gone(launcher), "a KILL of the script ends the job")
+    place.start()
+    wait_for(lambda: gone(launcher), "the launcher before ends")
+    check(gone(child), "the launcher before ended, and its job did not")
+    second = place.running("a")
+    check(second != child and len(place.launchers()) == 1, "not one launcher")
+    place.check_told(f"the launcher before this one still runs: {launcher} is asked for a shutdown")
+    place.check_once()
+
+
+@scene
+def killed_launcher(place):
+    place.define("a")
+    keeper = place.start()
+    child, launcher = place.running("a"), place.launchers()[0]
+    os.kill(launcher, signal.SIGKILL)
+    check(keeper.wait(MOST) == 128 + 9, f"status {keeper.returncode}: {place.told()}")
+    check(gone(child), "the job is left")
+    place.check_told(f"left by a launcher that ended: {child} (sleep) gets TERM")
+    place.check_nothing_left()
+    place.start()
+    place.running("a")
+    place.check_once()
+
+
+def killed_both(place, script_first):
+    place.define("a")
+    place.define("b")
+    keeper = place.start()
+    children, launcher = [place.running("a"), place.running("b")], place.launchers()[0]
+    if script_first:
+        keeper.kill()
+        os.kill(launcher, signal.SIGKILL)
+    else:
+        keeper.send_signal(signal.SIGSTOP)
+        os.kill(launcher, signal.SIGKILL)
+        keeper.kill()
+    keeper.wait()
+    wait_for(lambda: gone(launcher), "the launcher ends")
+    check(not any(map(gone, children)), "a job ended by itself")
+    place.start()
+    for label in "ab":
+        check(place.running(label) not in children, "a job was not ended")
+    for child in children:
+        check(gone(child), "a job is left")
+        place.check_told(f"left by a launcher that ended: {child} (sleep) gets TERM")
+    place.check_once()
+
+
+@scene
+def killed_script_then_launcher(place):
+    killed_both(place, True)
+
+
+@scene
+def killed_launcher_then_script(place):
+    killed_both(place, False)
+
+
+@scene
+def stopped_launcher(place):
+    """A launcher that answers nobody is ended by KILL, and its job by TERM."""
+    place.define("a")
+    keeper = place.start(JOBCTL_TIMEOUT="2")
+    child, launcher = place.running("a"), place.launchers()[0]
+    os.kill(launcher, signal.SIGSTOP)
+    keeper.send_signal(signal.SIGTERM)
+    check(keeper.wait(MOST) == 128 + 9, f"status {keeper.returncode}: {place.told()}")
+    place.check_told("no shutdown can be asked for")
+    check(gone(child), "the job is left")
+    place.check_nothing_left()
+
+
+@scene
+def deaf_job(place):
+    """A job that hears no TERM gets KILL, and not before its time."""
+    place.define("a", f"trap '' TERM; : >{place.folder}/minds; exec sleep 1000", ExitTimeOut=23)
+    keeper = place.start()
+    child, launcher = place.running("a"), place.launchers()[0]
+    wait_for(lambda: os.path.exists(f"{place.folder}/minds"), "the job is deaf")
+    time.sleep(0.5)
+    begin = time.time()
+    os.kill(launcher, signal.SIGKILL)
+    check(keeper.wait(MOST) == 128 + 9, f"status {keeper.returncode}")
+    check(time.time() - begin >= 22, "KILL came too early")
+    place.check_told(f"{child} (sleep) did not end in 23 seconds: it gets KILL")
+    place.check_nothing_left()
+
+
+@scene
+def job_without_its_variables(place):
+    """A job that has lost the variable is found by its session; so is one of another user, if root tries it."""
+    place.define("a", "exec env -i /bin/sleep 1000")
+    if os.getuid() == 0:
+        place.define("b", "exec setpriv --reuid=65534 --clear-groups /bin/sleep 1000")
+    keeper = place.start()
+    children = [place.running(label) for label in ("ab" if os.getuid() == 0 else "a")]
+    time.sleep(0.5)
+    os.kill(place.launchers()[0], signal.SIGKILL)
+    keeper.wait(MOST)
+    check(all(map(gone, children)), f"left: {place.told()}")
+    place.check_once()
+
+
+@scene
+def job_in_its_own_session(place):
+    place.define("a", "exec setsid /bin/sleep 1000")
+    keeper = place.start()
+    child = place.running("a")
+    time.sleep(0.5)
+    os.kill(place.launchers()[0], signal.SIGKILL)
+    keeper.wait(MOST)
+    check(gone(child), f"left: {place.told()}")
+    place.check_once()
+
+
+@scene
+def others_are_spared(place):
+    """What bears another number, and another user's process that bears this one, live on."""
+    place.define("a")
+    keeper = place.start()
+    place.running("a")
+    number = open(f"{place.state}/mark").read().split()[0]
+    others = [subprocess.Popen(["setsid", "sleep", "1000"], env={"JOBD_MARK": "0" + number[1:-1] + "x", "PATH": os.environ["PATH"]})]
+    if os.getuid() == 0:
+        words = ["setpriv", "--reuid=65534", "--clear-groups", "setsid", "sleep", "1000"]
+        others.append(subprocess.Popen(words, env={"JOBD_MARK": number, "PATH": os.environ["PATH"]}))
+    time.sleep(0.5)
+    try:
+        os.kill(place.launchers()[0], signal.SIGKILL)
+        keeper.wait(MOST)
+        check(not any(other.poll() is not None for other in others), f"another process was ended: {place.told()}")
+    finally:
+        for other in others:
+            other.kill()
+            other.wait()
+
+
+@scene
+def second_keeper(place):
+    """A second jobd-run over the same folders is refused, and ends nothing."""
+    place.define("a")
+    place.start()
+    child = place.running("a")
+    second = place.start()
+    check(second.wait(MOST) == 1, f"status {second.returncode}")
+    place.check_told("another jobd-run keeps it")
+    check(place.child_of("a") == child, "the job was ended")
+
+
+# ---- what is named, kept and told
+
+
+def words_of_launcher(place):
+    launcher = wait_for(place.launchers, f"a launcher: {place.told()}")[0]
+    return open(f"/proc/{launcher}/cmdline").read().split("\0")
+
+
+@scene
+def local_zone(place):
+    wanted = os.access("/etc/localtime", os.R_OK)
+    place.define("a")
+    keeper = place.start()
+    place.running("a")
+    words = words_of_launcher(place)
+    check(("--zone-file" in words) == wanted, f"{words}")
+    check(not wanted or words[words.index("--zone-file") + 1] == "/etc/localtime", f"{words}")
+    keeper.terminate()
+    keeper.wait(MOST)
+    place.start(JOBD_OPTIONS="--zone UTC0")
+    place.running("a")
+    check("--zone-file" not in words_of_launcher(place), "two zones")
+
+
+@scene
+def journal_is_kept(place):
+    place.define("a")
+    keeper = place.start()
+    place.running("a")
+    journal = f"{place.state}/journal.jsonl"
+    check(os.stat(journal).st_mode & 0o777 == 0o600, f"mode {oct(os.stat(journal).st_mode)}")
+    os.kill(place.launchers()[0], signal.SIGKILL)
+    keeper.wait(MOST)
+    before = open(journal).read()
+    check('"load"' in before, "the journal has no load")
+    keeper = place.start()
+    place.running("a")
+    check(open(f"{journal}.1").read() == before, "the journal before is not kept")
+    check(os.stat(f"{journal}.1").st_mode & 0o777 == 0o600, "mode of the journal before")
+    keeper.terminate()
+    keeper.wait(MOST)
+    keeper = place.start(JOBD_JOURNAL=f"{place.folder}/own")
+    place.running("a")
+    check('"load"' in open(f"{place.folder}/own").read(), "the journal that was named has no load")
+    keeper.terminate()
+    keeper.wait(MOST)
+    place.start(JOBD_JOURNAL="")
+    place.running("a")
+    check("--journal" not in words_of_launcher(place), "a journal, though none is wanted")
+
+
+@scene
+def no_folder_is_told(place):
+    os.rmdir(place.jobs)
+    keeper = place.start()
+    wait_for(lambda: f"{place.jobs}: no such folder" in place.told(), "that the folder is not there")
+    keeper.terminate()
+    check(keeper.wait(MOST) == 0, "status")
+
+
+@scene
+def empty_folder_is_told(place):
+    open(f"{place.jobs}/README", "w").close()
+    place.start()
+    wait_for(lambda: f"{place.jobs}: no definition in this folder" in place.told(), "that the folder is empty")
+
+
+@scene
+def bad_definitions_are_told(place):
+    for name, text in (("b.json", '{"Label":"b"}'), ("c d.plist", "<plist/>")):
+        with open(f"{place.jobs}/{name}", "w") as it:
+            it.write(text)
+    os.symlink("nowhere", f"{place.jobs}/e.json")
+    place.define("z", Nice=1)
+    place.start()
+    place.running("z")
+    wait_for(lambda: "z.json" in place.told(), "the key that is not acted on")
+    for row in (
+        f"{place.jobs}/b.json: not loaded: bad definition: Missing ProgramArguments",
+        f"{place.jobs}/c d.plist: not loaded: bad definition: NotJson -",
+        f"{place.jobs}/e.json: not loaded: ",
+        f"{place.jobs}/z.json: not acted on: Nice",
+    ):
+        place.check_told(row)
+
+
+@scene
+def jobs_hear_every_signal(place):
+    place.define("a")
+    place.start()
+    child = place.running("a")
+    row = [row for row in open(f"/proc/{child}/status") if row.startswith("SigIgn")][0]
+    check(int(row.split()[1], 16) & 0b110 == 0, f"INT or QUIT is ignored: {row}")
+
+
+@scene
+def folder_of_others_is_refused(place):
+    os.mkdir(place.run)
+    os.chmod(place.run, 0o777)
+    keeper = place.start()
+    check(keeper.wait(MOST) == 1, f"status {keeper.returncode}")
+    place.check_told("another user owns it or may write to it")
+
+
+# ---- under runit
+
+
+class Service:
+    def __init__(self, place):
+        self.place = place
+        self.folder = f"{place.folder}/sv"
+        os.mkdir(self.folder)
+        with open(f"{self.folder}/run", "w") as it:
+            it.write(f"#!/bin/sh\nexec 2>>{place.log}\nexec {options.shell} {SCRIPT}\n")
+        os.chmod(f"{self.folder}/run", 0o755)
+        self.runsv = subprocess.Popen(["runsv", self.folder], env=place.environment(), stdin=subprocess.DEVNULL)
+        wait_for(lambda: os.path.exists(f"{self.folder}/supervise/ok"), "runsv is ready")
+
+    def sv(self, *words):
+        return subprocess.run(["sv", *words, self.folder], capture_output=True, text=True).stdout
+
+    def script(self):
+        try:
+            return int(open(f"{self.folder}/supervise/pid").read() or 0)
+        except (OSError, ValueError):
+            return 0
+
+    def end(self):
+        self.sv("-w", "60", "force-shutdown")
+        self.runsv.terminate()
+        self.runsv.wait(MOST)
+
+
+def served(place, attack):
+    """Attacks the service three times: never two of a job, and a new one after each within the time of a restart."""
+    place.define("a")
+    service = Service(place)
+    longest = 0
+    try:
+        for _ in range(3):
+            child, launcher = place.running("a"), place.launchers()[0]
+            begin = time.time()
+            attack(service, service.script(), launcher)
+            wait_for(lambda: gone(launcher), "the launcher ends")
+            wait_for(lambda: place.child_of("a") not in (None, child), f"a new run: {place.told()}")
+            longest = max(longest, time.time() - begin)
+            check(len(place.launchers()) == 1, f"launchers: {place.launchers()}")
+            check(gone(child), f"two of a job after {time.time() - begin} s")
+            place.check_once()
+        service.sv("-w", "60", "stop")
+        check(service.script() == 0, "not down")
+        place.check_nothing_left()
+        print(f"jobd_run: a new run came within {longest:.1f} s")
+    finally:
+        service.end()
+
+
+def kill(pid, number=signal.SIGKILL):
+    try:
+        os.kill(pid, number)
+    except ProcessLookupError:
+        pass
+
+
+@scene
+def runsv_killed_script(place):
+    served(place, lambda service, script, launcher: kill(script))
+
+
+@scene
+def runsv_killed_launcher(place):
+    served(place, lambda service, script, launcher: kill(launcher))
+
+
+@scene
+def runsv_killed_script_then_launcher(place):
+    served(place, lambda service, script, launcher: (kill(script), kill(launcher)))
+
+
+@scene
+def runsv_killed_launcher_then_script(place):
+    served(place, lambda service, script, launcher: (kill(launcher), kill(script)))
+
+
+@scene
+def runsv_hup(place):
+    served(place, lambda service, script, launcher: service.sv("hup"))
+
+
+@scene
+def runsv_quit(place):
+    served(place, lambda service, script, launcher: service.sv("quit"))
+
+
+@scene
+def runsv_kill(place):
+    served(place, lambda service, script, launcher: service.sv("kill"))
+
+
+def main():
+    global options
+    parser = argparse.ArgumentParser()
+    parser.add_argument("--programs", default=f"{HERE}/build")
+    parser.add_argument("--shell", default="sh")
+    parser.add_argument("scene", nargs="*")
+    options = parser.parse_args()
+    options.programs = os.path.abspath(options.programs)
+    for program in ("jobd", "jobctl"):
+        if not os.access(f"{options.programs}/{program}", os.X_OK):
+            sys.exit(f"jobd_run: no program at {options.programs}/{program} (make build)")
+    chosen = options.scene or list(scenes)
+    failed = passed = 0
+    for name in chosen:
+        if name.startswith("runsv") and shutil.which("runsv") is None:
+            print(f"jobd_run: {name}: runsv is not here, so it was not tried")
+            continue
+        folder = tempfile.mkdtemp()
+        place = Place(folder)
+        begin = time.time()
+        try:
+            scenes[name](place)
+            passed += 1
+            print(f"jobd_run: {name}: passed in {time.time() - begin:.1f} s", flush=True)
+        except (Fault, subprocess.TimeoutExpired) as fault:
+            failed += 1
+            print(f"jobd_run: {name}: {fault}", file=sys.stderr, flush=True)
+        finally:
+            place.clear()
+            shutil.rmtree(folder, ignore_errors=True)
+    print(f"jobd_run: {passed} scenes passed, {failed} failed, with {options.shell}")
+    sys.exit(1 if failed else 0)
+
+
+main()
