@@ -1,5 +1,6 @@
 //! The clients of jobs' sockets that were let go, and why: each reason is told once, until a client of its job comes through.
 
+use crate::caller::Origin;
 use history_model::{JobNo, Refusal, Text};
 use socket_demand::MAX_REQUEST;
 use std::alloc::{AllocError, Global};
@@ -91,22 +92,22 @@ impl Losses {
         self.waiting.pop_front()
     }
 
-    /// A client was let go that came by this bind to the job of this label. Want of memory drops the line.
-    pub(crate) fn note(&mut self, job: JobNo, bind: u64, label: &str, loss: Loss) {
+    /// A client was let go that came to these sockets, of the job of this label. Want of memory drops the line.
+    pub(crate) fn note(&mut self, origin: Origin, label: &str, loss: Loss) {
         let Ok(reason) = loss.words(self.alloc) else {
             return;
         };
-        if self.is_told(job, bind, reason.as_str()) {
+        if self.is_told(origin, reason.as_str()) {
             return;
         }
         if self.add(label, reason.as_str()).is_ok() {
-            self.remember(job, bind, reason);
+            self.remember(origin, reason);
         }
     }
 
-    fn is_told(&self, job: JobNo, bind: u64, reason: &str) -> bool {
-        match self.told.get(&job) {
-            Some(told) if told.bind == bind => told
+    fn is_told(&self, origin: Origin, reason: &str) -> bool {
+        match self.told.get(&origin.job) {
+            Some(told) if told.bind == origin.bind => told
                 .reasons
                 .iter()
                 .any(|known| known.as_str() == reason),
@@ -124,7 +125,8 @@ impl Losses {
     }
 
     // Want of memory forgets it.
-    fn remember(&mut self, job: JobNo, bind: u64, reason: String) {
+    fn remember(&mut self, origin: Origin, reason: String) {
+        let Origin { job, bind } = origin;
         if let Some(told) = self.told.get_mut(&job) {
             if told.bind == bind {
                 let _kept = told.reasons.push(reason);
