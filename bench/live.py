@@ -75,7 +75,7 @@ class Launcher:
     def __init__(self, jobd, jobctl):
         self.jobctl = jobctl
         self.folder = tempfile.mkdtemp(prefix="live.")
-        os.mkdir(self.path("spool"))
+        os.mkdir(self.path("spool"), 0o700)
         os.mkdir(self.path("jobs"))
         self.process = subprocess.Popen(
             [jobd, "serve", "--socket", self.path("socket"), "--store", self.path("store"), "--spool", self.path("spool")],
