@@ -1,7 +1,8 @@
 #!/bin/sh
 # Prints what stands behind the programs in build/: the commit, the kit's line, what the gate said last, and the promises. The first
-# word is the version of the C library that they ask for, the second the folder that has them without their symbols. `make build` leaves what it proved in build/proved.txt, `make test` what
-# it passed in build/gate.txt; if these speak of other programs or of another commit, that is said.
+# word is the version of the C library that they ask for, the second the folder that has them without their symbols. `make build`
+# leaves what it proved in build/proved.txt, `make test` what it passed in build/gate.txt; if these speak of other programs or of
+# another commit, that is said.
 set -eu
 
 commit=$(git rev-parse HEAD)
