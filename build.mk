@@ -26,7 +26,7 @@ built_programs: program_jobd program_jobctl
 define library
 .PHONY: library_$(1)
 library_$(1): $(foreach low,$(call stands_on,$(1)),library_$(low))
-	@cd crates/$(1) && { rt lib > ../../build/log/$(1).log 2>&1 || { cat ../../build/log/$(1).log >&2; exit 1; }; }
+	@python3 build_crate.py $(1) lib > build/log/$(1).log 2>&1 || { cat build/log/$(1).log >&2; exit 1; }
 	@echo "proved $(1)"
 endef
 $(foreach name,$(LIBRARIES),$(eval $(call library,$(name))))
@@ -34,7 +34,7 @@ $(foreach name,$(LIBRARIES),$(eval $(call library,$(name))))
 define program
 .PHONY: program_$(1)
 program_$(1): $(foreach low,$(call stands_on,$(1)_program),library_$(low))
-	@cd crates/$(1)_program && { rt run -- $(2) > ../../build/log/$(1)_program.log 2>&1 || { cat ../../build/log/$(1)_program.log >&2; exit 1; }; }
+	@python3 build_crate.py $(1)_program run $(2) > build/log/$(1)_program.log 2>&1 || { cat build/log/$(1)_program.log >&2; exit 1; }
 	@cp crates/$(1)_program/out/$(1)_program build/$(1)
 	@echo "proved and built build/$(1)"
 endef

@@ -5,7 +5,7 @@
 set -euo pipefail
 
 cd "$(dirname "$0")/.."
-python3 - "$PWD/completions" "$(realpath "${1:-build/jobd}")" "$(realpath "${2:-build/jobctl}")" <<'END'
+python3 - "$PWD/completions" "$(realpath -m "${1:-build/jobd}")" "$(realpath -m "${2:-build/jobctl}")" <<'END'
 import os, pty, re, select, shutil, subprocess, sys, tempfile, time
 
 FOLDER, JOBD, CONTROL = sys.argv[1:]
@@ -16,7 +16,10 @@ LABELS = {
 }
 JOBCTL = """#!/bin/sh
 socket=jobd.sock
-if [ "$1" = --socket ]; then socket=$2; shift 2; fi
+case $1 in
+--socket) socket=$2; shift 2 ;;
+--socket=*) socket=${1#--socket=}; shift ;;
+esac
 [ "$1" = list ] || exit 64
 printf 'PID\\tStatus\\tLabel\\n'
 case $socket in

@@ -1,50 +1,56 @@
 #!/usr/bin/env python3
-"""Control and job clients that misbehave, against a running `jobd serve`. Another client is answered all the while.
+"""Clients that misbehave, against a running `jobd serve`. Honest clients are answered all the while, and how fast is measured.
 
-    tests/hostile_clients.py [--seed S] [--jobd PROGRAM]
+    tests/hostile_clients.py [--jobd PROGRAM] [--jobctl PROGRAM] [--seed S] [--slack N] [TRIAL..]
+    tests/hostile_clients.py --soak SECONDS [--jobd PROGRAM] [--jobctl PROGRAM] [--slack N]
 
-PROGRAM is build/jobd. Each trial below runs while a second client asks for `list` each 20 ms. It fails if one of these answers
-takes longer than a second, or isn't code 0. At the end the launcher has as many descriptors as at the beginning, and its
-resident memory has grown by at most 2 MiB.
+It is run by hand, after `make build`; the programs are build/jobd and build/jobctl. Beside each trial an honest client connects each
+20 ms and asks for `list`. A trial fails if one of these answers takes longer than a second, or 50 ms in the trials with figures, or
+isn't code 0. --slack multiplies these times, for a slow machine. At the end the launcher has as many descriptors as at the beginning,
+its resident memory has grown by at most 2 MiB, and the spool is empty.
 
-    half a line       100 clients send half a request and leave
-    byte by byte      a request of one byte at a time is answered
-    a long line       262,145 bytes without a newline: one reply of code 2, then the connection is closed
-    a full line       a request of exactly 262,144 bytes is answered with code 0
-    100 connections   all at once: the launcher serves at most 64, and closes the others; each that it serves is answered
-    never reads       a client asks on and on and reads nothing
-    random bytes      10,000 lines: each is answered, in order, with code 2
-    a long request    65,537 bytes to a job's socket: the connection is closed, and no job is started
-    leaves early      a client of a job's socket half-closes and leaves before it is served; the next one is served
+    half_a_line       100 clients send half a request and leave
+    byte_by_byte      a request of one byte at a time is answered
+    long_line         262,145 bytes without a newline: one reply of code 2, then the connection is closed
+    full_line         a request of exactly 262,144 bytes is answered with code 0
+    hundred           100 connections at once: at most 64 of them are served
+    never_reads       a client asks on and on and reads nothing
+    random_bytes      10,000 lines: each is answered, in order, with code 2
+    long_request      65,537 bytes to a job's socket: the connection is closed, and no job is started
+    leaves_early      a client of a job's socket half-closes and leaves before it is served; the next one is served
+
+With figures: the descriptors before, at most and after; the honest client's median and most; how late a KILL came that was due a
+second after TERM (it may be late by half a second):
+
+    replies_unread    130 clients of a job half-close and never read
+    silent_callers    64 clients of a job send nothing: others are served, and after five seconds a further one of this job
+    settings_at_once  a client sends 7,200 settings at once, and again and again
+    silent_control    64 silent clients of the control socket and eight with half a request, replaced as they are let go
+    a_still_minute    a caller that sends nothing, and one that does not read, are let go after a minute
+
+--soak plays such clients of both kinds of sockets all together. The status is 1 if something failed.
 """
 import argparse
 import json
 import os
 import random
 import select
-import socket
-import subprocess
+import shlex
+import shutil
 import sys
 import tempfile
 import threading
 import time
 
+from crowds import (
+    LIST, Beside, Crowd, Deaf, Descriptors, asks, calls, never_reading, pipelining, resident, settles, silent, vanishing,
+)
+from edge_scenes import Fault, Stage, begin, call, check, connect, descriptors, socket_job, wait_for
+
 HERE = os.path.dirname(os.path.abspath(__file__))
-LIST = b'{"req":"list"}\n'
 BAD = {"code": 2, "text": "bad request\n"}
 LONGEST = 262144
-
-
-def fail(text):
-    print(f"hostile_clients: {text}")
-    os._exit(1)
-
-
-def connect(path):
-    it = socket.socket(socket.AF_UNIX)
-    it.settimeout(10)
-    it.connect(path)
-    return it
+MIB = 1024
 
 
 def read_lines(it, count):
@@ -65,68 +71,44 @@ def ask(path, line):
     with connect(path) as it:
         it.sendall(line)
         replies = read_lines(it, 1)
-    if len(replies) != 1:
-        fail(f"no reply to {line[:80]!r}")
+    check(len(replies) == 1, f"no reply to {line[:80]!r}")
     return replies[0]
 
 
-class Watcher(threading.Thread):
-    """A client that behaves: it keeps one connection and asks for `list`."""
+# ---- trials of one client, or of clients that leave
 
-    def __init__(self, path):
-        super().__init__(daemon=True)
-        self.path, self.goes_on, self.slowest, self.asked = path, True, 0.0, 0
-
-    def run(self):
-        with connect(self.path) as it:
-            while self.goes_on:
-                start = time.monotonic()
-                it.sendall(LIST)
-                replies = read_lines(it, 1)
-                took = time.monotonic() - start
-                if len(replies) != 1 or replies[0]["code"] != 0:
-                    fail(f"the other client got {replies}")
-                if took > 1:
-                    fail(f"the other client waited {took:.2f} s")
-                self.slowest, self.asked = max(self.slowest, took), self.asked + 1
-                time.sleep(0.02)
-
-
-def half_a_line(path, _):
+def half_a_line(stage, launcher):
     for _ in range(100):
-        with connect(path) as it:
+        with connect(launcher.path) as it:
             it.sendall(b'{"req":"sh')
 
 
-def byte_by_byte(path, _):
-    with connect(path) as it:
+def byte_by_byte(stage, launcher):
+    with connect(launcher.path) as it:
         for byte in LIST:
             it.sendall(bytes([byte]))
             time.sleep(0.002)
         replies = read_lines(it, 1)
-    if [r["code"] for r in replies] != [0]:
-        fail(f"a request byte by byte got {replies}")
+    check([reply["code"] for reply in replies] == [0], f"a request byte by byte got {replies}")
 
 
-def long_line(path, _):
-    with connect(path) as it:
+def long_line(stage, launcher):
+    with connect(launcher.path) as it:
         try:
             it.sendall(b"x" * (LONGEST + 1))
         except (BrokenPipeError, ConnectionResetError):
             pass
         replies = read_lines(it, 2)
-    if replies != [BAD]:
-        fail(f"a line that is too long got {replies}")
+    check(replies == [BAD], f"a line that is too long got {replies}")
 
 
-def full_line(path, _):
-    reply = ask(path, b'{"req":"list"}'.ljust(LONGEST) + b"\n")
-    if reply["code"] != 0:
-        fail(f"a line of {LONGEST} bytes got {reply}")
+def full_line(stage, launcher):
+    reply = ask(launcher.path, b'{"req":"list"}'.ljust(LONGEST) + b"\n")
+    check(reply["code"] == 0, f"a line of {LONGEST} bytes got {reply}")
 
 
-def hundred(path, _):
-    many = [connect(path) for _ in range(100)]
+def hundred(stage, launcher):
+    many = [connect(launcher.path) for _ in range(100)]
     served = 0
     for it in many:
         try:
@@ -134,16 +116,16 @@ def hundred(path, _):
             replies = read_lines(it, 1)
         except (BrokenPipeError, ConnectionResetError):
             replies = []
-        served += [r["code"] for r in replies] == [0]
+        served += [reply["code"] for reply in replies] == [0]
     for it in many:
         it.close()
-    # The other client is one of the 64.
-    if served != 63:
-        fail(f"{served} of 100 connections were served beside the other client's, wanted 63")
+    # The honest client takes the place of a silent one each time.
+    check(32 <= served <= 64, f"{served} of 100 connections were served, wanted nearly 64")
+    return f"{served} served"
 
 
-def never_reads(path, _):
-    with connect(path) as it:
+def never_reads(stage, launcher):
+    with connect(launcher.path) as it:
         it.setblocking(False)
         end, sent = time.monotonic() + 3, 0
         while time.monotonic() < end:
@@ -155,116 +137,273 @@ def never_reads(path, _):
     return f"{sent} bytes taken"
 
 
-def random_bytes(path, rng):
+def random_bytes(stage, launcher):
+    rng = random.Random(stage.given.seed)
     lines = [bytes(b for b in rng.randbytes(rng.randrange(1, 60)) if b != 10) + b"\n" for _ in range(10000)]
     got = []
-    with connect(path) as it:
+    with connect(launcher.path) as it:
         reader = threading.Thread(target=lambda: got.extend(read_lines(it, len(lines))))
         reader.start()
         for line in lines:
             it.sendall(line)
         reader.join()
-    if got != [BAD] * len(lines):
-        fail(f"{len(got)} replies to {len(lines)} lines of random bytes, {sum(r != BAD for r in got)} of another kind")
+    strange = sum(reply != BAD for reply in got)
+    check(got == [BAD] * len(lines), f"{len(got)} replies to {len(lines)} lines of random bytes, {strange} of another kind")
 
 
-def long_request(path, _):
-    with connect(os.path.dirname(path) + "/job") as it:
-        try:
-            it.sendall(b"x" * 65537)
-            it.shutdown(socket.SHUT_WR)
-            text = it.recv(100)
-        except (BrokenPipeError, ConnectionResetError, OSError):
-            text = b""
-    shown = ask(path, b'{"req":"print","job":"cat"}\n')["text"]
-    if text or "runs = 0" not in shown:
-        fail(f"a request of 65,537 bytes got {text!r}, and the job is {shown!r}")
+def long_request(stage, launcher):
+    runs = launcher.print("cat")
+    got = call(stage.at("cat"), b"x" * 65537)
+    check(not got and launcher.print("cat") == runs, f"a request of 65,537 bytes got {got[:20]!r}: {launcher.print('cat')!r}")
 
 
-def leaves_early(path, _):
+def leaves_early(stage, launcher):
     for _ in range(20):
-        with connect(os.path.dirname(path) + "/job") as it:
-            it.sendall(b"gone")
-            it.shutdown(socket.SHUT_WR)
-    with connect(os.path.dirname(path) + "/job") as it:
-        it.sendall(b"hello")
-        it.shutdown(socket.SHUT_WR)
-        text = b""
-        while piece := it.recv(100):
-            text += piece
-    if text != b"hello":
-        fail(f"the client after those that left got {text!r}")
+        begin(stage.at("cat"), b"gone").close()
+    got = call(stage.at("cat"), b"hello")
+    check(got == b"hello", f"the client after those that left got {got!r}")
 
 
-TRIALS = [half_a_line, byte_by_byte, long_line, full_line, hundred, never_reads, random_bytes, long_request, leaves_early]
+# ---- trials of crowds, with figures
+
+class Watched:
+    """What honest clients see beside crowds, each of which is what a process does, with its words."""
+
+    def __init__(self, stage, launcher, crowds, honest):
+        self.stage, self.launcher = stage, launcher
+        self.before = descriptors(launcher.pid)
+        # Processes before threads: a fork takes no thread along.
+        self.crowds = [Crowd(*words) for words in crowds]
+        self.most = Descriptors(launcher.pid)
+        self.honest = {name: Beside(step, pause) for name, (step, pause) in honest.items()}
+        for thread in (self.most, *self.honest.values()):
+            thread.start()
+
+    def end(self, slack, most=50):
+        """The figures. A Fault if an honest client got no answer, or a late one."""
+        for thread in (*self.honest.values(), self.most):
+            thread.end()
+        for crowd in self.crowds:
+            crowd.end()
+        after = settles(self.launcher.pid, self.before, 10 * slack)
+        for name, seen in self.honest.items():
+            check(not seen.faults, f"{name}: {len(seen.faults)} faults, the first: {seen.faults[:1]}")
+        check(after <= self.before, f"{after} descriptors after it, {self.before} before")
+        slow = [name for name, seen in self.honest.items() if name == "list" and seen.most() > most * slack]
+        figures = [f"{name} {seen.told()}" for name, seen in self.honest.items()]
+        figures.append(f"descriptors {self.before} before, {self.most.most} at most, {after} after")
+        check(not slow, f"an honest list took more than {most * slack:.0f} ms: {'; '.join(figures)}")
+        return figures
 
 
-def descriptors(pid):
-    return len(os.listdir(f"/proc/{pid}/fd"))
+def beside(stage, launcher, crowds, honest, goes_on):
+    """Plays the crowds as long as this takes, with a KILL that is due."""
+    slack = stage.given.slack
+    deaf = Deaf(stage, launcher, f"deaf{len(stage.told)}")
+    watched = Watched(stage, launcher, crowds, honest)
+    try:
+        goes_on()
+        late = deaf.lateness(30 * slack)
+    finally:
+        figures = watched.end(slack)
+    check(late is not None and late <= 500 * slack, f"KILL was {late} ms late: {'; '.join(figures)}")
+    return "; ".join([*figures, f"KILL {late:.0f} ms late"])
 
 
-def resident(pid):
-    with open(f"/proc/{pid}/status", encoding="ascii") as file:
-        return next(int(line.split()[1]) for line in file if line.startswith("VmRSS"))
+def replies_unread(stage, launcher):
+    slack = stage.given.slack
+    served = lambda: int(launcher.print("greedy").partition("runs = ")[2].split()[0]) >= 66
+    crowds = [(never_reading, stage.at("greedy"), b"x", 130, 60 * slack, 60 * slack, True)]
+    honest = {"list": (asks(launcher.path), 0.02), "call": (calls(stage.at("cat")), 0.05)}
+    told = beside(stage, launcher, crowds, honest, lambda: wait_for(served, "66 clients that never read are not served", 50 * slack))
+    wait_for(lambda: len(call(stage.at("greedy"), b"x")) == 400000, "a later client of the same job is not served", 10 * slack)
+    return told
 
 
-def settle(pid, wanted):
-    """Waits until the launcher has as many descriptors, at most five seconds."""
-    end = time.monotonic() + 5
-    while descriptors(pid) != wanted and time.monotonic() < end:
-        time.sleep(0.05)
-    return descriptors(pid)
+def silent_callers(stage, launcher):
+    serves = lambda: call(stage.at("cat"), b"hello") == b"hello"
+    crowds = [(silent, stage.at("cat"), 64)]
+    honest = {"list": (asks(launcher.path), 0.02), "call of another job": (calls(stage.at("other")), 0.05)}
+    return beside(stage, launcher, crowds, honest, lambda: wait_for(serves, "no further client of the job is served", 15))
+
+
+def settings_at_once(stage, launcher):
+    crowds = [(pipelining, launcher.path, b'{"req":"disable","job":"x"}\n' * 7200)]
+    honest = {"list": (asks(launcher.path), 0.02), "print": (asks(launcher.path, b'{"req":"print","job":"cat"}\n'), 0.02)}
+    return beside(stage, launcher, crowds, honest, lambda: time.sleep(5))
+
+
+def silent_control(stage, launcher):
+    crowds = [(silent, launcher.path, 64), (silent, launcher.path, 8, b'{"req":"li')]
+    honest = {"list": (asks(launcher.path), 0.02), "jobctl list": (runs_jobctl(stage), 0.1)}
+    return beside(stage, launcher, crowds, honest, lambda: time.sleep(5))
+
+
+def a_still_minute(stage, launcher):
+    slack = stage.given.slack
+    start = time.monotonic()
+    held = {"one that sends nothing": connect(stage.at("cat"), 120), "one that does not read": begin(stage.at("greedy"), b"x")}
+    gone = {}
+
+    def look():
+        """The launcher's end of a connection is no more: something of it is there to be read, or its end."""
+        for name, client in held.items():
+            if name not in gone and not is_held(launcher, client):
+                gone[name] = time.monotonic() - start
+        return len(gone) == len(held)
+
+    honest = {"list": (asks(launcher.path), 0.02), "call": (calls(stage.at("cat")), 0.05)}
+    told = beside(stage, launcher, [], honest, lambda: wait_for(look, f"after a still minute only {gone} are let go", 80 * slack))
+    for client in held.values():
+        client.close()
+    check(all(55 <= after for after in gone.values()), f"they were let go after {gone}")
+    return "; ".join([told, *(f"{name} let go after {after:.1f} s" for name, after in gone.items())])
+
+
+def is_held(launcher, client):
+    """Whether the launcher has not closed its end: a poll tells it, whatever waits to be read."""
+    poll = select.poll()
+    poll.register(client, select.POLLRDHUP)
+    return not poll.poll(0)
+
+
+def runs_jobctl(stage):
+    """The step of an honest client that is the program `jobctl`."""
+
+    def step():
+        run = stage.jobctl(["list"])
+        return None if run.returncode == 0 else f"jobctl list ended with {run.returncode}: {run.stderr!r}"
+
+    return step
+
+
+# ---- all together
+
+def soak_crowds(stage, path):
+    settings = b'{"req":"disable","job":"x"}\n{"req":"enable","job":"x"}\n' * 50
+    return [
+        (silent, path, 64), (silent, path, 4, b'{"req":"li'), (vanishing, path, b'{"req":"sh'), (vanishing, path, LIST * 20),
+        (vanishing, path, b""), (pipelining, path, (LIST + b'{"req":"print","job":"cat"}\n') * 200), (pipelining, path, settings),
+        (pipelining, path, b"no request\n" * 500), (never_reading, path, LIST * 1000, 2, 1, 4),
+        (silent, stage.at("cat"), 64), (silent, stage.at("greedy"), 20, b"half"), (vanishing, stage.at("cat"), b"gone", True),
+        (vanishing, stage.at("greedy"), b"gone"), (vanishing, stage.at("cat"), b"x" * 65537, True),
+        (never_reading, stage.at("greedy"), b"x", 80, 1, 5, True), (never_reading, stage.at("other"), b"x" * 60000, 5, 1, 5),
+    ]
+
+
+def soak(stage, launcher):
+    slack, seconds = stage.given.slack, stage.given.soak
+    spool = os.listdir(stage.at("spool"))
+    honest = {
+        "list": (asks(launcher.path), 0.02), "jobctl list": (runs_jobctl(stage), 0.5),
+        "call": (calls(stage.at("other")), 0.1), "print": (asks(launcher.path, b'{"req":"print","job":"cat"}\n'), 0.1),
+    }
+    memory = [resident(launcher.pid)]
+    watched = Watched(stage, launcher, soak_crowds(stage, launcher.path), honest)
+    try:
+        for _ in range(10):
+            time.sleep(seconds / 10)
+            memory.append(resident(launcher.pid))
+    finally:
+        figures = watched.end(slack)
+    wait_for(lambda: os.listdir(stage.at("spool")) == spool, "spool files are left", 10 * slack)
+    memory.append(resident(launcher.pid))
+    # What the first tenth took is reached again and again.
+    grown = memory[-1] - memory[1]
+    figures += [f"memory {memory[0]} KiB before, {max(memory)} at most, {memory[-1]} after", f"spool {len(spool)} files before and after"]
+    figures.append(f"{len(launcher.said().splitlines())} lines told")
+    check(grown <= 2 * MIB, f"the memory grew by {grown} KiB after the first tenth: {'; '.join(figures)}")
+    return "; ".join(figures)
+
+
+TRIALS = [
+    half_a_line, byte_by_byte, long_line, full_line, hundred, never_reads, random_bytes, long_request, leaves_early,
+    replies_unread, silent_callers, settings_at_once, silent_control, a_still_minute,
+]
+CROWDED = TRIALS[9:]
+
+
+def play(stage, launcher, trial):
+    """The figures of the trial."""
+    if trial in CROWDED or trial is soak:
+        return trial(stage, launcher)
+    watched = Watched(stage, launcher, [], {"list": (asks(launcher.path), 0.02)})
+    try:
+        said = trial(stage, launcher)
+        time.sleep(0.3)
+    finally:
+        figures = watched.end(stage.given.slack, 1000)
+    return "; ".join([said, *figures] if said else figures)
+
+
+def prepare(stage):
+    launcher = stage.serve()
+    for label in ("cat", "other"):
+        launcher.load(socket_job(stage, label, ["/bin/cat"]))
+    launcher.load(socket_job(stage, "greedy", ["/bin/sh", "-c", "exec head -c 400000 /dev/zero"]))
+    check(call(stage.at("cat"), b"hello") == b"hello", "the job does not answer")
+    return launcher
+
+
+def read_words():
+    words = argparse.ArgumentParser(usage="see the head of this script")
+    words.add_argument("--seed", type=int, default=int(time.time()))
+    words.add_argument("--jobd", type=shlex.split, default=[f"{HERE}/../build/jobd"])
+    words.add_argument("--jobctl", type=shlex.split, default=[f"{HERE}/../build/jobctl"])
+    words.add_argument("--slack", type=float, default=1.0)
+    words.add_argument("--soak", type=float)
+    words.add_argument("trials", nargs="*", metavar="TRIAL")
+    given = words.parse_args()
+    for command in (given.jobd, given.jobctl):
+        command[0] = os.path.abspath(command[0])
+    unknown = [name for name in given.trials if name not in [trial.__name__ for trial in TRIALS]]
+    if unknown:
+        words.error(f"no trial {unknown[0]}")
+    return given
+
+
+def trials_of(given):
+    if given.soak:
+        return [soak]
+    return [trial for trial in TRIALS if not given.trials or trial.__name__ in given.trials]
+
+
+def play_all(stage):
+    """Plays the trials, and says how each went. The number that failed."""
+    launcher = prepare(stage)
+    stage.told, failed = [], 0
+    before, memory = descriptors(launcher.pid), resident(launcher.pid)
+    for trial in trials_of(stage.given):
+        try:
+            line = f"ok {trial.__name__}: {play(stage, launcher, trial)}"
+        except Fault as fault:
+            line, failed = f"FAILED {trial.__name__}: {fault}", failed + 1
+        stage.told.append(line)
+        print(line, flush=True)
+    left, grown = settles(launcher.pid, before, 5), resident(launcher.pid) - memory
+    launcher.shut_down()
+    check(left <= before, f"{left} descriptors at the end, {before} at the beginning")
+    check(stage.given.soak or grown <= 2 * MIB, f"the memory grew by {grown} KiB")
+    check(not os.listdir(stage.at("spool")), f"spool files are left: {os.listdir(stage.at('spool'))[:5]}")
+    print(f"{len(stage.told)} trials, {failed} failed; {before} descriptors before and after, memory grew by {grown} KiB")
+    return failed
 
 
 def main():
-    words = argparse.ArgumentParser()
-    words.add_argument("--seed", type=int, default=int(time.time()))
-    words.add_argument("--jobd", default=f"{HERE}/../build/jobd")
-    given = words.parse_args()
-    rng = random.Random(given.seed)
-    print(f"seed {given.seed}")
-    with tempfile.TemporaryDirectory() as folder:
-        path = f"{folder}/s"
-        os.mkdir(f"{folder}/spool")
-        jobd = subprocess.Popen(
-            [os.path.abspath(given.jobd), "serve", "--socket", path, "--store", f"{folder}/store", "--spool", f"{folder}/spool"],
-            stdout=subprocess.PIPE,
-        )
-        if jobd.stdout.readline() != b"jobd: ready\n":
-            fail("no ready line")
-        job = {
-            "Label": "cat",
-            "ProgramArguments": ["/bin/cat"],
-            "ThrottleInterval": 0,
-            "inetdCompatibility": {"Wait": False},
-            "Sockets": {"l": {"SockPathName": f"{folder}/job"}},
-        }
-        load = {"req": "load", "def": json.dumps(job)}
-        if ask(path, json.dumps(load).encode() + b"\n")["code"] != 0:
-            fail("the job was not loaded")
-        time.sleep(0.5)
-        fds, memory = descriptors(jobd.pid), resident(jobd.pid)
-        for trial in TRIALS:
-            watcher = Watcher(path)
-            watcher.start()
-            time.sleep(0.1)
-            said = trial(path, rng)
-            time.sleep(0.3)
-            watcher.goes_on = False
-            watcher.join()
-            print(f"{trial.__name__}: passed{', ' + said if said else ''}; {watcher.asked} answers, the slowest {watcher.slowest * 1000:.1f} ms")
-        left = settle(jobd.pid, fds)
-        grown = resident(jobd.pid) - memory
-        if left != fds:
-            fail(f"{left} descriptors at the end, {fds} at the beginning")
-        if grown > 2048:
-            fail(f"the memory grew by {grown} KiB")
-        if ask(path, b'{"req":"shutdown"}\n')["code"] != 0 or jobd.wait(30) != 0:
-            fail("no clean end")
-        if os.listdir(f"{folder}/spool"):
-            fail(f"spool files left: {os.listdir(folder + '/spool')}")
-    print(f"{len(TRIALS)} trials passed; {fds} descriptors before and after, memory grew by {grown} KiB")
+    given = read_words()
+    print(f"seed {given.seed}", flush=True)
+    folder = tempfile.mkdtemp(prefix="hostile.")
+    stage = Stage(given, folder)
+    try:
+        failed = play_all(stage)
+    except Fault as fault:
+        print(f"FAILED: {fault}")
+        failed = 1
+    finally:
+        stage.clear()
+        shutil.rmtree(folder, ignore_errors=True)
+    return 1 if failed else 0
 
 
 if __name__ == "__main__":
-    main()
+    sys.exit(main())

@@ -32,7 +32,7 @@ function __jobctl_words
     end
     printf '%s\n' (string match -v -- '-*' $labels)
     if string match -q -- '-*' $labels
-        echo --
+        printf '%s\n' --
     end
 end
 

@@ -1,32 +1,53 @@
-//! The connections whose request came whole, by job and number: those that wait for a run, and those that one serves.
+//! Connections of jobs' sockets, from the end of their request to the end of their reply.
+//!
+//! Three kinds are held: those that wait for their run, those whose run goes on, and those whose run is over and whose client
+//! has still to take what it wrote. Two bounds are kept. Of each job at most 64 of the third kind are held. Of all jobs together
+//! as many as `room` are held, of all three kinds, since each of them takes two descriptors. Beyond a bound a connection of the
+//! third kind is let go: the one whose client has been still for longest. One whose run is still to come or goes on is never
+//! let go for another.
 
-use crate::Client;
 use crate::connection::{Connection, Progress};
-use crate::spool::SpoolPaths;
-use history_model::JobNo;
+use crate::notices::{Asked, LetGo, Notices};
+use crate::spool::Spooled;
+use crate::{Client, words};
+use history_model::{JobNo, Text};
 use socket_demand::Exchange;
 use std::alloc::Global;
 use std::collections::BTreeMap;
 use std::fs::{File, Files};
 use std::io;
 use std::io::ErrorKind;
+use std::rt::Clock;
+use std::time::Instant;
+
+/// A connection's job and its number.
+type Key = (JobNo, u64);
+
+/// As many connections of a job are held whose run is over.
+const OVER: usize = 64;
+
+/// As many are held of all jobs together, if nothing else was said.
+const ROOM: usize = 256;
 
 #[derive(Drop)]
 pub(crate) struct Connections {
     alloc: Global,
     folder: String,
-    held: BTreeMap<(JobNo, u64), Connection>,
+    held: BTreeMap<Key, Connection>,
     // As many are held at a time.
     room: usize,
+    // The clock, as it was read last.
+    now: Instant,
 }
 
 impl Connections {
-    pub(crate) fn new(alloc: Global, folder: String) -> Connections {
+    pub(crate) fn new(alloc: Global, folder: String, now: Instant) -> Connections {
         Connections {
             alloc,
             folder,
             held: BTreeMap::new(alloc),
-            room: 256,
+            room: ROOM,
+            now,
         }
     }
 
@@ -35,82 +56,200 @@ impl Connections {
         self.room = room;
     }
 
-    /// Spools the request and holds the connection. A number that is in use is refused. After an `Err` the client is let
-    /// go, and no file is left.
-    pub(crate) fn take<R: Files<File = File>>(
+    // A clock that can't be read stands still.
+    fn read_clock(&mut self, rt: &impl Clock) {
+        if let Ok(now) = Instant::now(rt) {
+            self.now = now;
+        }
+    }
+
+    /// Spools the request and holds the connection. A number that is in use is refused; so is one more connection where as many
+    /// as may be are held, none of which can be let go. After an `Err` the client is let go, which is told, and no file is left.
+    pub(crate) fn take<R: Clock + Files<File = File>>(
         &mut self,
         rt: &R,
-        job: JobNo,
-        conn: u64,
+        notices: &mut Notices,
+        key: Key,
+        label: Option<&str>,
         client: Client,
         mut exchange: Exchange,
     ) -> io::Result<()> {
-        if self.held.contains_key(&(job, conn)) {
+        if self.held.contains_key(&key) {
             return Err(io::Error::from(ErrorKind::AlreadyExists));
         }
+        self.read_clock(rt);
+        if !self.has_room(rt, notices, key.0) {
+            notices.let_go(key.0, label, LetGo::NoRoom(self.room));
+            return Err(io::Error::from(ErrorKind::Other));
+        }
         exchange.request_end();
-        let paths = SpoolPaths::new(self.alloc, self.folder.as_str(), job, conn)?;
-        let reply = match paths.fill(rt, exchange.request_bytes()) {
-            Ok(reply) => reply,
-            Err(error) => {
-                paths.remove(rt);
-                return Err(error);
+        match self.hold(rt, key, label, client, exchange) {
+            Ok(()) => {
+                notices.done(key.0, Asked::Spool);
+                Ok(())
             }
+            Err(error) => {
+                if let Some(label) = label {
+                    let what = words::cannot_spool(self.alloc, self.folder.as_str(), error);
+                    notices.refused(key.0, Asked::Spool, label, None, what);
+                }
+                Err(error)
+            }
+        }
+    }
+
+    // Makes the connection's files and puts it beside the others. After an `Err` no file is left.
+    fn hold<R: Files<File = File>>(
+        &mut self,
+        rt: &R,
+        key: Key,
+        label: Option<&str>,
+        client: Client,
+        exchange: Exchange,
+    ) -> io::Result<()> {
+        let label = match label {
+            Some(label) => Some(Text::copy_of(self.alloc, label)?),
+            None => None,
         };
+        let folder = self.folder.as_str();
+        let (files, reply) = Spooled::make(rt, self.alloc, folder, key, exchange.request_bytes())?;
         let connection = Connection {
             client,
             exchange,
-            paths,
+            files,
             reply,
+            label,
             is_over: false,
+            moved: self.now,
         };
-        match self.held.insert((job, conn), connection) {
+        match self.held.insert(key, connection) {
             Ok(_) => Ok(()),
             Err(failed) => {
-                failed.value.1.paths.remove(rt);
+                failed.value.1.files.remove(rt);
                 Err(io::Error::from(ErrorKind::OutOfMemory))
             }
         }
     }
 
-    /// The names of the connection's files.
-    pub(crate) fn paths(&self, job: JobNo, conn: u64) -> io::Result<&SpoolPaths> {
-        match self.held.get(&(job, conn)) {
-            Some(connection) => Ok(&connection.paths),
-            None => Err(io::Error::from(ErrorKind::NotFound)),
+    // Whether one more may be held, if need be once another was let go.
+    fn has_room<R: Files>(&mut self, rt: &R, notices: &mut Notices, job: JobNo) -> bool {
+        if self.held.len() < self.room {
+            if self.held.range((job, 0)..=(job, u64::MAX)).next().is_none() {
+                notices.has_room(job);
+            }
+            return true;
+        }
+        match self.stillest(None) {
+            Some(key) => {
+                self.let_go(rt, notices, key, LetGo::Room(self.room));
+                true
+            }
+            None => false,
         }
     }
 
-    /// The run that served the connection has ended.
-    pub(crate) fn end(&mut self, job: JobNo, conn: u64) {
+    // Of those of the job, or of all jobs, whose run is over: the one whose client has been still for longest.
+    fn stillest(&self, of: Option<JobNo>) -> Option<Key> {
+        let mut found: Option<(Key, Instant)> = None;
+        for (key, connection) in self.held.iter() {
+            let is_of = match of {
+                Some(job) => key.0 == job,
+                None => true,
+            };
+            let is_stiller = match &found {
+                Some((_, moved)) => connection.moved < *moved,
+                None => true,
+            };
+            if is_of && connection.is_over && is_stiller {
+                found = Some((*key, connection.moved));
+            }
+        }
+        let (key, _) = found?;
+        Some(key)
+    }
+
+    fn let_go<R: Files>(&mut self, rt: &R, notices: &mut Notices, key: Key, why: LetGo) {
+        if let Some(connection) = self.held.remove(&key) {
+            notices.let_go(key.0, connection.label(), why);
+            connection.files.remove(rt);
+        }
+    }
+
+    /// The connection's files, if it is held.
+    pub(crate) fn files(&self, job: JobNo, conn: u64) -> Option<&Spooled> {
+        let connection = self.held.get(&(job, conn))?;
+        Some(&connection.files)
+    }
+
+    /// The run that served the connection has ended. If the job then has more of these than it may, one is let go.
+    pub(crate) fn end<R: Files>(&mut self, rt: &R, notices: &mut Notices, job: JobNo, conn: u64) {
         if let Some(connection) = self.held.get_mut(&(job, conn)) {
             connection.is_over = true;
         }
+        if self.over_of(job) > OVER {
+            if let Some(key) = self.stillest(Some(job)) {
+                self.let_go(rt, notices, key, LetGo::Job(OVER));
+            }
+        }
+    }
+
+    // How many of the job are held whose run is over.
+    fn over_of(&self, job: JobNo) -> usize {
+        let mut count = 0usize;
+        for (_, connection) in self.held.range((job, 0)..=(job, u64::MAX)) {
+            if connection.is_over {
+                count = count.saturating_add(1);
+            }
+        }
+        count
     }
 
     /// Lets the connection go, if it is held, and removes its files.
     pub(crate) fn close<R: Files>(&mut self, rt: &R, job: JobNo, conn: u64) {
         if let Some(connection) = self.held.remove(&(job, conn)) {
-            connection.paths.remove(rt);
+            connection.files.remove(rt);
         }
     }
 
-    /// Sends each client what its run has written since, and lets those go that have it all. It says whether one may go on
-    /// at once.
-    pub(crate) fn forward<R: Files>(&mut self, rt: &R) -> bool {
+    /// Lets each connection go, and removes its files.
+    pub(crate) fn close_all<R: Files>(&mut self, rt: &R) {
+        for connection in self.held.values() {
+            connection.files.remove(rt);
+        }
+        self.held.clear();
+    }
+
+    /// Sends each client what its run has written since, and lets those go that have it all, and those that can't be sent it.
+    /// It says whether one may go on at once. Where none is held no call of the system is made.
+    pub(crate) fn forward<R: Clock + Files>(&mut self, rt: &R, notices: &mut Notices) -> bool {
+        if self.held.is_empty() {
+            return false;
+        }
+        self.read_clock(rt);
+        let now = self.now;
         let mut is_busy = false;
-        self.held
-            .retain(|_, connection| match connection.forward() {
-                Progress::Waits => true,
-                Progress::MayGoOn => {
-                    is_busy = true;
-                    true
-                }
-                Progress::Ended => {
-                    connection.paths.remove(rt);
-                    false
-                }
-            });
+        self.held.retain(|key, connection| {
+            let progress = connection.forward(now);
+            is_busy = is_busy || matches!(progress, Progress::MayGoOn);
+            stays(rt, notices, key.0, connection, progress)
+        });
         is_busy
     }
+}
+
+// Whether the connection is held on. If not, its files are removed.
+fn stays<R: Files>(
+    rt: &R,
+    notices: &mut Notices,
+    job: JobNo,
+    connection: &Connection,
+    progress: Progress,
+) -> bool {
+    match progress {
+        Progress::Waits | Progress::MayGoOn => return true,
+        Progress::Ended => notices.done(job, Asked::Client),
+        Progress::Lost(why) => notices.let_go(job, connection.label(), why),
+    }
+    connection.files.remove(rt);
+    false
 }

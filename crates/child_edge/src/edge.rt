@@ -24,8 +24,8 @@ pub trait Edge {
 /// if it adds one to the count of failures.
 pub trait ChildEdge: Edge {
     /// Starts the run's child as the definition says: its program, arguments, environment, directory and streams. A run
-    /// that carries a connection has the connection's request and reply in place of standard input and output. Answers
-    /// the child's process id, at least 1. After an `Err` there is no child.
+    /// that carries a connection has the connection's request and reply in place of standard input and output, or the null
+    /// device if these were lost. Answers the child's process id, at least 1. After an `Err` there is no child.
     fn start(
         &mut self,
         job: JobNo,

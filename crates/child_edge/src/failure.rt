@@ -1,8 +1,10 @@
 //! Why a start was refused: which part of it, and what the system said.
 
+use crate::words;
 use job_defs::Def;
 use std::alloc::{AllocError, Global};
 use std::io;
+use std::io::ErrorKind;
 
 /// A part of a start.
 #[derive(Clone, Copy)]
@@ -24,6 +26,23 @@ pub(crate) struct Failure {
 }
 
 impl Failure {
+    /// Whether a spool file is lost: it is gone, or another is at its name, or it may not be opened any more. A run that
+    /// needs it can never be started.
+    pub(crate) fn is_lost(&self) -> bool {
+        let kind = self.error.kind();
+        matches!(self.part, Part::Request | Part::Reply)
+            && matches!(
+                kind,
+                ErrorKind::NotFound | ErrorKind::NotADirectory | ErrorKind::PermissionDenied
+            )
+    }
+
+    /// That its client was let go for it.
+    pub(crate) fn given_up(&self, alloc: Global, def: &Def) -> Result<String, AllocError> {
+        let why = self.words(alloc, def)?;
+        words::given_up(alloc, why.as_str())
+    }
+
     /// What could not be done, with the path that the definition gives the part.
     pub(crate) fn words(&self, alloc: Global, def: &Def) -> Result<String, AllocError> {
         let error = self.error;

@@ -3,18 +3,25 @@
 use crate::Client;
 use history_model::Text;
 use job_defs::{Address, Socket};
-use mio::net::{TcpListener, UnixListener, UnixStream};
+use mio::net::{TcpListener, UnixListener};
 use mio::{Interest, Registry, Token};
+use socket_file::SocketMark;
 use std::alloc::Global;
-use std::fs::{Files, Permissions};
+use std::fs::Files;
+use std::io;
 use std::io::ErrorKind;
 use std::net::{Ipv4Addr, Net, SocketAddr};
-use std::os::unix::fs::{FileTypeExt, PermissionsExt};
-use std::{fs, io};
+
+/// As many clients that are gone are passed over at a time.
+const GONE: u32 = 64;
 
 #[derive(Drop)]
 pub(crate) enum Listener {
-    Unix { socket: UnixListener, path: Text },
+    Unix {
+        socket: UnixListener,
+        path: Text,
+        mark: SocketMark,
+    },
     Inet(TcpListener),
 }
 
@@ -26,8 +33,8 @@ impl Listener {
         match &wanted.address {
             Address::Unix(path) => {
                 let path = Text::copy_of(alloc, path.as_str())?;
-                let socket = bind_unix(rt, path.as_str())?;
-                Ok(Listener::Unix { socket, path })
+                let (socket, mark) = socket_file::bind(rt, path.as_str())?;
+                Ok(Listener::Unix { socket, path, mark })
             }
             Address::Inet { host, port } => {
                 let place = SocketAddr::from((Ipv4Addr::from_octets(*host), *port));
@@ -38,12 +45,10 @@ impl Listener {
         }
     }
 
-    /// Removes the socket's file.
+    /// Removes the socket's file, if it is still the one that was bound.
     pub(crate) fn give_up<R: Files>(&self, rt: &R) {
-        if let Listener::Unix { path, .. } = self {
-            if is_socket(rt, path.as_str()).unwrap_or(false) {
-                let _ = fs::remove_file(rt, path.as_str());
-            }
+        if let Listener::Unix { path, mark, .. } = self {
+            socket_file::remove(rt, path.as_str(), *mark);
         }
     }
 
@@ -55,8 +60,22 @@ impl Listener {
         }
     }
 
-    /// The next client that waits, if one does.
-    pub(crate) fn accept(&self) -> io::Result<Client> {
+    /// The next client that waits, if one does. One that was gone before it was let in is passed over.
+    pub(crate) fn accept(&self) -> io::Result<Option<Client>> {
+        for _ in 0..GONE {
+            match self.try_accept() {
+                Ok(client) => return Ok(Some(client)),
+                Err(error) => match error.kind() {
+                    ErrorKind::WouldBlock => return Ok(None),
+                    ErrorKind::Interrupted | ErrorKind::ConnectionAborted => {}
+                    _ => return Err(error),
+                },
+            }
+        }
+        Ok(None)
+    }
+
+    fn try_accept(&self) -> io::Result<Client> {
         match self {
             Listener::Unix { socket, .. } => Ok(Client::Unix(socket.accept()?.0)),
             Listener::Inet(socket) => Ok(Client::Inet(socket.accept()?.0)),
@@ -70,40 +89,4 @@ impl Listener {
             Listener::Inet(socket) => registry.register(socket, token, Interest::READABLE),
         }
     }
-}
-
-// Binds at the path. A socket that nobody listens on any more is replaced; nothing else is.
-fn bind_unix<R: Files + Net>(rt: &R, path: &str) -> io::Result<UnixListener> {
-    match bind_private(rt, path) {
-        Err(error) if error.kind() == ErrorKind::AddrInUse && is_stale(rt, path)? => {
-            fs::remove_file(rt, path)?;
-            bind_private(rt, path)
-        }
-        answer => answer,
-    }
-}
-
-fn bind_private<R: Files + Net>(rt: &R, path: &str) -> io::Result<UnixListener> {
-    let listener = UnixListener::bind(rt, path)?;
-    match fs::set_permissions(rt, path, Permissions::from_mode(0o600)) {
-        Ok(()) => Ok(listener),
-        Err(error) => {
-            let _ = fs::remove_file(rt, path);
-            Err(error)
-        }
-    }
-}
-
-fn is_stale<R: Files + Net>(rt: &R, path: &str) -> io::Result<bool> {
-    if !is_socket(rt, path)? {
-        return Ok(false);
-    }
-    match UnixStream::connect(rt, path) {
-        Ok(_) => Ok(false),
-        Err(error) => Ok(error.kind() == ErrorKind::ConnectionRefused),
-    }
-}
-
-fn is_socket<R: Files>(rt: &R, path: &str) -> io::Result<bool> {
-    Ok(fs::symlink_metadata(rt, path)?.file_type().is_socket())
 }

@@ -2,9 +2,11 @@
 
 ghost use Rattle.std.specs.Prelude.{◌≡◌};
 
+use crate::words;
 use history_model::{JobNo, Text};
 use std::alloc::{AllocError, Global};
 use std::collections::{BTreeMap, VecDeque};
+use std::io;
 
 /// What a notice is about.
 #[derive(Clone, Copy, PartialEq, Eq)]
@@ -36,14 +38,49 @@ pub(crate) enum Asked {
     Kill,
     Wait,
     Bind,
+    Watch,
     Accept,
     Spool,
+    Over,
     Room,
+    NoRoom,
     Client,
+}
+
+/// Why a client of a job's socket was let go.
+#[derive(Clone, Copy)]
+pub(crate) enum LetGo {
+    /// It took nothing of its reply for a minute.
+    Still,
+    /// It could not be sent its reply.
+    Write(io::Error),
+    /// Its reply could not be read.
+    Read(io::Error),
+    /// As many connections of the job are held whose run is over, and it was still for longest.
+    Job(usize),
+    /// As many connections are held of all jobs, and it was still for longest.
+    Room(usize),
+    /// As many connections are held of all jobs, each of which has its run still before it.
+    NoRoom(usize),
+}
+
+impl LetGo {
+    // Whose last reason it is.
+    fn asked(self) -> Asked {
+        match self {
+            LetGo::Still | LetGo::Write(_) | LetGo::Read(_) => Asked::Client,
+            LetGo::Job(_) => Asked::Over,
+            LetGo::Room(_) => Asked::Room,
+            LetGo::NoRoom(_) => Asked::NoRoom,
+        }
+    }
 }
 
 /// What a job's runs ask for: a job that is loaded anew begins with none of it told.
 const OF_RUNS: [Asked; 4] = [Asked::Start, Asked::Term, Asked::Kill, Asked::Wait];
+
+/// What the bounds on connections ask for.
+const OF_ROOM: [Asked; 3] = [Asked::Over, Asked::Room, Asked::NoRoom];
 
 /// The notices that wait, and the reason that was told last for each call of a job and for each path.
 #[derive(Drop)]
@@ -120,6 +157,14 @@ impl Notices {
         }
     }
 
+    /// A client of the job was let go. Nothing is told without the job's label.
+    pub(crate) fn let_go(&mut self, job: JobNo, label: Option<&str>, why: LetGo) {
+        if let Some(label) = label {
+            let what = words::let_go(self.alloc, why);
+            self.refused(job, why.asked(), label, None, what);
+        }
+    }
+
     /// The call for the job was done: the next refusal is told, whatever its reason.
     pub(crate) fn done(&mut self, job: JobNo, asked: Asked) {
         if !self.told.is_empty() {
@@ -130,6 +175,13 @@ impl Notices {
     /// The job runs for the first time since it was loaded.
     pub(crate) fn begin(&mut self, job: JobNo) {
         for asked in OF_RUNS {
+            self.done(job, asked);
+        }
+    }
+
+    /// There is room for a connection of the job, which had none.
+    pub(crate) fn has_room(&mut self, job: JobNo) {
+        for asked in OF_ROOM {
             self.done(job, asked);
         }
     }

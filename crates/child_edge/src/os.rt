@@ -63,7 +63,7 @@ impl<R: Clock + Drop + Processes> OsEdge<R> {
             made,
             children: Children::new(alloc),
             sockets: Sockets::new(alloc),
-            connections: Connections::new(alloc, spool),
+            connections: Connections::new(alloc, spool, made),
             notices: Notices::new(alloc),
             logs_runs: false,
             failures: 0,
@@ -95,8 +95,9 @@ impl<R: Processes> OsEdge<R> {
         self.logs_runs = true;
     }
 
-    /// From now on as many connections of jobs' sockets are held at a time by the whole launcher (256 if this was never
-    /// called). Takes no memory.
+    /// From now on as many connections of jobs' sockets are held at a time by the whole launcher, each with two descriptors:
+    /// those that wait for their run, those whose run goes on, and those whose client has still to take what its run wrote. 256
+    /// if this was never called. Of the last kind a job holds at most 64, whatever is said here. Takes no memory.
     pub fn set_room(&mut self, connections: usize)
         ensures { self.new ≡ self.old }
     {
@@ -108,7 +109,7 @@ impl<R: Processes> OsEdge<R> {
     pub fn accept(&mut self, job: JobNo) -> Option<Client>
         ensures { self.new ≡ self.old }
     {
-        self.sockets.accept(job)
+        self.sockets.accept(&mut self.notices, job)
     }
 
     /// The least number, this one or above it, of a job that has sockets. Takes no memory.
@@ -136,7 +137,7 @@ impl<R: Processes> OsEdge<R> {
     pub fn register(&mut self, registry: &Registry, token: Token) -> io::Result<()>
         ensures { self.new ≡ self.old }
     {
-        self.sockets.register(registry, token)
+        self.sockets.register(&mut self.notices, registry, token)
     }
 
     // Counts an error as a failure.
@@ -148,10 +149,11 @@ impl<R: Processes> OsEdge<R> {
     }
 }
 
-impl<R: Files<File = File> + Processes> OsEdge<R> {
+impl<R: Clock + Files<File = File> + Processes> OsEdge<R> {
     /// Holds a connection whose request came whole, under the job and a number that it has had for no other: its request
-    /// is spooled, and the run that is started with the number serves it. After an `Err`, which is counted as a failure, the
-    /// client is let go and nothing is left.
+    /// is spooled, and the run that is started with the number serves it. If as many are held as [`set_room`](OsEdge::set_room)
+    /// says, the one is let go for it whose run is over and whose client has been still for longest; if none has its run over,
+    /// the new one is refused. After an `Err`, which is counted as a failure and told, the client is let go and nothing is left.
     pub fn take(
         &mut self,
         job: JobNo,
@@ -162,41 +164,66 @@ impl<R: Files<File = File> + Processes> OsEdge<R> {
         ensures fault { OnErr result (self.new ≡ one_more self.old) }
         ensures success { OnOk result (self.new ≡ self.old) }
     {
-        match self.connections.take(&self.rt, job, conn, client, exchange) {
+        let label = self.sockets.label(job);
+        let notices = &mut self.notices;
+        let key = (job, conn);
+        match self
+            .connections
+            .take(&self.rt, notices, key, label, client, exchange)
+        {
             Ok(()) => Ok(()),
             Err(error) => Err(self.fail(error)),
         }
     }
 
     /// Sends the client of each connection what its run has written since, as much as it takes at once. Lets those go that
-    /// have all that a run wrote which has ended, and those whose client is gone. It says whether one may go on at once.
+    /// have all that a run wrote which has ended; and, which is told, those whose client is gone or has taken nothing of its
+    /// reply for a minute. It says whether one may go on at once. While none is held it makes no call of the system.
     pub fn forward(&mut self) -> bool
         ensures { self.new ≡ self.old }
     {
-        self.connections.forward(&self.rt)
+        self.connections.forward(&self.rt, &mut self.notices)
     }
 
-    // A run that serves a connection reads its request and writes its reply.
-    fn streams(&self, job: JobNo, def: &Def, conn: Option<u64>) -> Result<Streams, Failure> {
+    /// Lets each connection go that is held, and removes its files from the spool: at the end, so that nothing is left there of
+    /// clients that took no reply. Takes no memory.
+    pub fn let_all_go(&mut self)
+        ensures { self.new ≡ self.old }
+    {
+        self.connections.close_all(&self.rt);
+    }
+
+    // A run that serves a connection reads its request and writes its reply. If one of these files is lost, the client is let
+    // go and the run is started without it, as one whose client said nothing and takes nothing: what waits behind it is served.
+    fn streams(
+        &mut self,
+        job: JobNo,
+        run: u64,
+        def: &Def,
+        conn: Option<u64>,
+    ) -> Result<Streams, Failure>
+        ensures { self.new ≡ self.old }
+    {
         let Some(conn) = conn else {
             return own_streams(&self.rt, def);
         };
-        match self.connections.paths(job, conn) {
-            Ok(paths) => served_streams(&self.rt, def, paths),
-            Err(error) => Err(Failure {
-                part: Part::Request,
-                error,
-            }),
+        match served_streams(&self.rt, def, self.connections.files(job, conn)) {
+            Err(failure) if failure.is_lost() => {
+                let what = failure.given_up(self.alloc, def).ok();
+                self.notices
+                    .refused(job, Asked::Spool, def.label(), Some(run), what);
+                self.connections.close(&self.rt, job, conn);
+                served_streams(&self.rt, def, None)
+            }
+            answer => answer,
         }
     }
-}
 
-impl<R: Clock + Files<File = File> + Processes> OsEdge<R> {
     fn launch(&mut self, job: JobNo, run: u64, def: &Def, conn: Option<u64>) -> Result<u32, Failure>
         ensures pid { IfOk result (λ pid. 0 < pid) }
         ensures failures { self.new ≡ self.old }
     {
-        let streams = self.streams(job, def, conn)?;
+        let streams = self.streams(job, run, def, conn)?;
         let kept = self.kept(def, conn);
         match self.spawn(job, run, def, kept, streams) {
             Ok(pid) => Ok(pid),
@@ -238,7 +265,7 @@ impl<R: Clock + Files<File = File> + Processes> OsEdge<R> {
     {
         let End { ended, kept } = end;
         if let Some(conn) = kept.conn {
-            self.connections.end(job, conn);
+            self.connections.end(&self.rt, &mut self.notices, job, conn);
         }
         if self.logs_runs {
             let took = match kept.since {

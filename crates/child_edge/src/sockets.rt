@@ -1,8 +1,9 @@
 //! The listening sockets that are bound, by job.
 
-use crate::Client;
 use crate::listener::Listener;
-use history_model::JobNo;
+use crate::notices::{Asked, Notices};
+use crate::{Client, words};
+use history_model::{JobNo, Text};
 use job_defs::{Address, Def, Socket};
 use mio::{Registry, Token};
 use std::alloc::Global;
@@ -12,12 +13,13 @@ use std::io;
 use std::io::ErrorKind;
 use std::net::Net;
 
-/// The sockets of a job, by which bind it has them, and whether a poll knows them.
+/// The sockets of a job, its label, by which bind it has them, and how many of them a poll knows.
 #[derive(Drop)]
 struct Bound {
+    label: Text,
     listeners: Vec<Listener>,
     bind: u64,
-    is_registered: bool,
+    registered: usize,
 }
 
 #[derive(Drop)]
@@ -66,10 +68,14 @@ impl Sockets {
                 error: io::Error::from(ErrorKind::AddrInUse),
             });
         }
+        let Ok(label) = Text::copy_of(self.alloc, def.label()) else {
+            return Err(BindFault::of_all(ErrorKind::OutOfMemory));
+        };
         let bound = Bound {
+            label,
             listeners: bind_all(rt, self.alloc, def.sockets())?,
             bind: self.binds,
-            is_registered: false,
+            registered: 0,
         };
         self.binds = self.binds.wrapping_add(1);
         match self.jobs.insert(job, bound) {
@@ -99,13 +105,27 @@ impl Sockets {
         }
     }
 
-    /// The next client that waits at one of the job's sockets, if there is one. An accept that the system refuses is left
-    /// for later.
-    pub(crate) fn accept(&self, job: JobNo) -> Option<Client> {
+    /// The job's label, if it has sockets.
+    pub(crate) fn label(&self, job: JobNo) -> Option<&str> {
+        let bound = self.jobs.get(&job)?;
+        Some(bound.label.as_str())
+    }
+
+    /// The next client that waits at one of the job's sockets, if there is one. An accept that the system refuses is told, and
+    /// left for later.
+    pub(crate) fn accept(&self, notices: &mut Notices, job: JobNo) -> Option<Client> {
         let bound = self.jobs.get(&job)?;
         for listener in bound.listeners.iter() {
-            if let Ok(client) = listener.accept() {
-                return Some(client);
+            match listener.accept() {
+                Ok(None) => {}
+                Ok(Some(client)) => {
+                    notices.done(job, Asked::Accept);
+                    return Some(client);
+                }
+                Err(error) => {
+                    let what = words::cannot(self.alloc, "let a client in", error);
+                    notices.refused(job, Asked::Accept, bound.label.as_str(), None, what);
+                }
             }
         }
         None
@@ -123,23 +143,41 @@ impl Sockets {
         Some(bound.bind)
     }
 
-    /// Has clients that come to a socket bound since the last call wake the poll, under the token.
-    pub(crate) fn register(&mut self, registry: &Registry, token: Token) -> io::Result<()> {
-        for bound in self.jobs.values_mut() {
-            if !bound.is_registered {
-                register_all(&mut bound.listeners, registry, token)?;
-                bound.is_registered = true;
+    /// Has clients that come to a socket which the poll doesn't know yet wake it, under the token. A socket that the poll
+    /// refuses is told and tried again at the next call, and those of other jobs are tried all the same. `Err` then.
+    pub(crate) fn register(
+        &mut self,
+        notices: &mut Notices,
+        registry: &Registry,
+        token: Token,
+    ) -> io::Result<()> {
+        let mut answer = Ok(());
+        for (job, bound) in self.jobs.iter_mut() {
+            if bound.registered >= bound.listeners.len() {
+                continue;
+            }
+            match bound.register(registry, token) {
+                Ok(()) => notices.done(*job, Asked::Watch),
+                Err(error) => {
+                    let what = words::cannot(self.alloc, "wait for clients", error);
+                    notices.refused(*job, Asked::Watch, bound.label.as_str(), None, what);
+                    answer = Err(error);
+                }
             }
         }
-        Ok(())
+        answer
     }
 }
 
-fn register_all(listeners: &mut [Listener], registry: &Registry, token: Token) -> io::Result<()> {
-    for listener in listeners.iter_mut() {
-        listener.register(registry, token)?;
+impl Bound {
+    // Registers each socket that is not yet, up to the first that is refused.
+    fn register(&mut self, registry: &Registry, token: Token) -> io::Result<()> {
+        for listener in self.listeners.iter_mut().skip(self.registered) {
+            listener.register(registry, token)?;
+            self.registered = self.registered.saturating_add(1);
+        }
+        Ok(())
     }
-    Ok(())
 }
 
 fn give_up<R: Files>(rt: &R, listeners: &[Listener]) {

@@ -1,71 +1,137 @@
 //! The spool: for each connection a file with the client's request, which its run reads, and one for the reply, which its
 //! run writes.
+//!
+//! Both are made anew. Where something lies at the name already, be it a file, a link or a FIFO, it is left as it is, and the
+//! connection is refused: the number of a connection is used once, so the next one has another name. What a launcher left that
+//! was killed is cleared at the start. When the run is started, each file is opened again, if it is still the one that was
+//! made; nothing else is opened.
 
 use history_model::JobNo;
 use std::alloc::{AllocError, Global};
-use std::fs::{File, Files, OpenOptions};
-use std::io::Write;
-use std::os::unix::fs::OpenOptionsExt;
+use std::fs::{File, Files, Metadata, OpenOptions};
+use std::io::{ErrorKind, Write};
+use std::os::unix::fs::{MetadataExt, OpenOptionsExt};
 use std::{fs, io};
 
-/// The names of a connection's two files.
+/// A connection's two files.
 #[derive(Drop)]
-pub(crate) struct SpoolPaths {
-    request: String,
-    reply: String,
+pub(crate) struct Spooled {
+    request: SpoolFile,
+    reply: SpoolFile,
 }
 
-impl SpoolPaths {
-    pub(crate) fn new(
+/// A file that was made: its name, the number of its device, and its own number on it.
+#[derive(Drop)]
+struct SpoolFile {
+    path: String,
+    device: u64,
+    inode: u64,
+}
+
+impl Spooled {
+    /// Makes both files, the request with these bytes and the reply empty, which is open to be read from its beginning. After
+    /// an `Err` neither is left.
+    pub(crate) fn make<R: Files<File = File>>(
+        rt: &R,
         alloc: Global,
         folder: &str,
-        job: JobNo,
-        conn: u64,
-    ) -> io::Result<SpoolPaths> {
-        let request = name_of(alloc, folder, job, conn, "request")?;
-        let reply = name_of(alloc, folder, job, conn, "reply")?;
-        Ok(SpoolPaths { request, reply })
+        key: (JobNo, u64),
+        bytes: &[u8],
+    ) -> io::Result<(Spooled, File)> {
+        let reply = name_of(alloc, folder, key, "reply")?;
+        let request = written(rt, name_of(alloc, folder, key, "request")?, bytes)?;
+        match make(rt, reply) {
+            Ok((reply, file)) => Ok((Spooled { request, reply }, file)),
+            Err(error) => {
+                request.remove(rt);
+                Err(error)
+            }
+        }
     }
 
-    /// Makes both files, the request with these bytes and the reply empty, and opens the reply to be read from its
-    /// beginning.
-    pub(crate) fn fill<R: Files<File = File>>(&self, rt: &R, request: &[u8]) -> io::Result<File> {
-        let mut file = make(rt, self.request.as_str())?;
-        file.write_all(request)?;
-        make(rt, self.reply.as_str())?;
-        File::open(rt, self.reply.as_str())
+    /// Opens the request to be read from its beginning. `NotFound` if it is gone, or another file is at its name.
+    pub(crate) fn read_request<R: Files<File = File>>(&self, rt: &R) -> io::Result<File> {
+        let mut how = OpenOptions::new();
+        how.read(true);
+        self.request.open(rt, &how)
     }
 
-    /// What the run reads.
-    pub(crate) fn request(&self) -> &str {
-        self.request.as_str()
-    }
-
-    /// What the run writes.
-    pub(crate) fn reply(&self) -> &str {
-        self.reply.as_str()
+    /// Opens the reply to be written at its end. `NotFound` if it is gone, or another file is at its name.
+    pub(crate) fn write_reply<R: Files<File = File>>(&self, rt: &R) -> io::Result<File> {
+        let mut how = OpenOptions::new();
+        how.append(true);
+        self.reply.open(rt, &how)
     }
 
     /// Removes both files, as far as they are there.
     pub(crate) fn remove<R: Files>(&self, rt: &R) {
-        let _ = fs::remove_file(rt, self.request.as_str());
-        let _ = fs::remove_file(rt, self.reply.as_str());
+        self.request.remove(rt);
+        self.reply.remove(rt);
+    }
+}
+
+impl SpoolFile {
+    fn open<R: Files<File = File>>(&self, rt: &R, how: &OpenOptions) -> io::Result<File> {
+        self.allow(&fs::symlink_metadata(rt, self.path.as_str())?)?;
+        let file = how.open(rt, self.path.as_str())?;
+        self.allow(&file.metadata()?)?;
+        Ok(file)
+    }
+
+    // An error if this is another file than the one that was made.
+    fn allow(&self, data: &Metadata) -> io::Result<()> {
+        if data.is_file() && data.dev() == self.device && data.ino() == self.inode {
+            Ok(())
+        } else {
+            Err(io::Error::new(ErrorKind::NotFound, "another file is at its name"))
+        }
+    }
+
+    fn remove<R: Files>(&self, rt: &R) {
+        let _ = fs::remove_file(rt, self.path.as_str());
     }
 }
 
 fn name_of(
     alloc: Global,
     folder: &str,
-    job: JobNo,
-    conn: u64,
+    key: (JobNo, u64),
     end: &str,
 ) -> Result<String, AllocError> {
+    let (job, conn) = key;
     format!(in alloc; "{folder}/{job}-{conn}.{end}")
 }
 
-// An empty file, which this user alone may read.
-fn make<R: Files<File = File>>(rt: &R, path: &str) -> io::Result<File> {
+// A file with these bytes. After an `Err` it is not left.
+fn written<R: Files<File = File>>(rt: &R, path: String, bytes: &[u8]) -> io::Result<SpoolFile> {
+    let (spooled, mut file) = make(rt, path)?;
+    match file.write_all(bytes) {
+        Ok(()) => Ok(spooled),
+        Err(error) => {
+            spooled.remove(rt);
+            Err(error)
+        }
+    }
+}
+
+// An empty file, which this user alone may read. Where something is at the path already, it is refused and left as it is.
+fn make<R: Files<File = File>>(rt: &R, path: String) -> io::Result<(SpoolFile, File)> {
     let mut how = OpenOptions::new();
-    how.write(true).create(true).truncate(true).mode(0o600);
-    how.open(rt, path)
+    how.read(true).write(true).create_new(true).mode(0o600);
+    let file = how.open(rt, path.as_str())?;
+    match file.metadata() {
+        Ok(data) => {
+            let (device, inode) = (data.dev(), data.ino());
+            let spooled = SpoolFile {
+                path,
+                device,
+                inode,
+            };
+            Ok((spooled, file))
+        }
+        Err(error) => {
+            let _ = fs::remove_file(rt, path.as_str());
+            Err(error)
+        }
+    }
 }

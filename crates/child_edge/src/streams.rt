@@ -8,7 +8,7 @@
 
 use crate::command::Streams;
 use crate::failure::{Failure, Part};
-use crate::spool::SpoolPaths;
+use crate::spool::Spooled;
 use job_defs::Def;
 use std::fs::{File, FileType, Files, Metadata, OpenOptions};
 use std::io::ErrorKind;
@@ -28,14 +28,20 @@ pub(crate) fn own_streams<R: Files<File = File>>(rt: &R, def: &Def) -> Result<St
     })
 }
 
-/// The streams of a run that serves a connection: it reads the request and writes the reply.
+/// The streams of a run that serves a connection: it reads the request and writes the reply. Without a connection, which its
+/// client has given up or which was lost, both are the null device.
 pub(crate) fn served_streams<R: Files<File = File>>(
     rt: &R,
     def: &Def,
-    paths: &SpoolPaths,
+    files: Option<&Spooled>,
 ) -> Result<Streams, Failure> {
-    let input = tried(Part::Request, read_from(rt, Some(paths.request())))?;
-    let output = tried(Part::Reply, write_to(rt, Some(paths.reply())))?;
+    let (input, output) = match files {
+        Some(files) => (
+            tried(Part::Request, stream_of(files.read_request(rt)))?,
+            tried(Part::Reply, stream_of(files.write_reply(rt)))?,
+        ),
+        None => (Stdio::null(), Stdio::null()),
+    };
     let errors = tried(Part::Errors, write_to(rt, def.standard_error_path()))?;
     Ok(Streams {
         input,
@@ -49,6 +55,10 @@ fn tried(part: Part, stream: io::Result<Stdio>) -> Result<Stdio, Failure> {
         Ok(stream) => Ok(stream),
         Err(error) => Err(Failure { part, error }),
     }
+}
+
+fn stream_of(file: io::Result<File>) -> io::Result<Stdio> {
+    Ok(Stdio::from(file?))
 }
 
 // The file at the path is read, from its beginning.

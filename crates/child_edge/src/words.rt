@@ -1,8 +1,9 @@
 //! The lines that the edge has to tell. Each is absent where there was no memory for it.
 
+use crate::notices::LetGo;
 use history_model::Ended;
 use job_defs::{Address, Socket};
-use std::alloc::Global;
+use std::alloc::{AllocError, Global};
 use std::io;
 use std::time::Duration;
 
@@ -72,6 +73,41 @@ pub(crate) fn cannot_bind(
             ).ok()
         }
     }
+}
+
+/// A client was let go.
+pub(crate) fn let_go(alloc: Global, why: LetGo) -> Option<String> {
+    let told = match why {
+        LetGo::Still => given_up(alloc, "it took nothing of its reply for a minute"),
+        LetGo::Write(error) => format!(in alloc; "a client was let go: {error}"),
+        LetGo::Read(error) => format!(in alloc;
+            "a client was let go: cannot read its reply: {error}"
+        ),
+        LetGo::Job(count) => {
+            format!(in alloc;
+                "a client was let go: it takes nothing, and so do {count} others of the job"
+            )
+        }
+        LetGo::Room(count) => {
+            format!(in alloc;
+                "a client was let go: it takes nothing, and {count} connections are held"
+            )
+        }
+        LetGo::NoRoom(count) => {
+            format!(in alloc; "a client was let go: {count} connections are held")
+        }
+    };
+    told.ok()
+}
+
+/// A client was let go, for a reason that stands in words.
+pub(crate) fn given_up(alloc: Global, why: &str) -> Result<String, AllocError> {
+    format!(in alloc; "a client was let go: {why}")
+}
+
+/// A request could not be kept in this folder.
+pub(crate) fn cannot_spool(alloc: Global, folder: &str, error: io::Error) -> Option<String> {
+    format!(in alloc; "a client was let go: cannot spool its request in {folder}: {error}").ok()
 }
 
 /// A path could not be looked at.

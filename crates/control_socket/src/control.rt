@@ -1,18 +1,18 @@
 //! The control socket with its clients.
 
 use crate::client::{Client, Progress};
-use crate::lock::Lock;
 use crate::notices::Notices;
 use crate::turn::{Answers, Limit, Turn};
 use history_model::Text;
 use mio::net::{UnixListener, UnixStream};
 use mio::{Interest, Registry, Token};
+use own_files::LockFile;
 use slab::Slab;
 use socket_file::SocketMark;
 use std::alloc::Global;
 use std::fs::{File, Files};
 use std::io;
-use std::io::{ErrorKind, Read, Write};
+use std::io::{Error, ErrorKind, Read, Write};
 use std::net::Net;
 
 /// As many clients are served at a time.
@@ -34,7 +34,7 @@ pub struct ControlSocket {
     listener: UnixListener,
     path: Text,
     mark: SocketMark,
-    lock: Lock,
+    lock: LockFile,
     token: Token,
     clients: Slab<Client>,
     room: Vec<u8>,
@@ -54,7 +54,7 @@ enum Place {
     Free,
     /// In the place of the client of this key, which is let go.
     Of(usize),
-    /// That is known only once a round looked at the other clients too.
+    /// That is known only once a round looked at every client.
     Unknown,
     Nowhere,
 }
@@ -63,7 +63,7 @@ impl ControlSocket {
     /// Binds the socket at the path, for this user alone (mode 0600). A socket file on which nobody listens any more is
     /// replaced. A lock on the file of the path and `.lock`, which is made if it is absent, is held as long as the socket
     /// lives. `AddrInUse`: somebody listens at the path or holds the lock, or a file of another kind is at one of them; it is
-    /// left as it is. Any other error is that of the system's call, or `OutOfMemory`; then no file of ours is left.
+    /// left as it is. Any other error is that of the system's call, or `OutOfMemory`; then no socket of ours is left.
     pub fn open<R: Files<File = File> + Net>(
         rt: &R,
         alloc: Global,
@@ -72,7 +72,7 @@ impl ControlSocket {
         let own_path = Text::copy_of(alloc, path)?;
         let room = zeros(alloc)?;
         let clients = Slab::with_capacity(alloc, CLIENTS)?;
-        let lock = Lock::take(rt, alloc, path)?;
+        let lock = lock_beside(rt, alloc, path)?;
         let (listener, mark) = match socket_file::bind(rt, path) {
             Ok(bound) => bound,
             Err(error) => {
@@ -161,27 +161,42 @@ impl ControlSocket {
     /// Takes the clients that wait, after a `serve`, which lets go of the clients that are done. Where [`CLIENTS`] are there
     /// already, the one is let go that has been silent for longest: the last `serve` found nothing new of it, no whole line to
     /// answer and nothing to send. If none is silent, one that has taken nothing of its reply for longest, and for a second at
-    /// least. If there is none of these too, the new client gets the reply `too many clients` of code 2, and is closed. An
-    /// accept that the system refuses is left for the next call.
+    /// least. If there is none of these too, the new client waits until a `serve` has looked at every client; if that one was
+    /// the last, it gets the reply `too many clients` of code 2, and is closed.
+    ///
+    /// Where the system refuses an accept, a descriptor may be missing: the longest silent client is let go, and the accept is
+    /// tried again, once. What is refused then is left for the next call.
     pub fn accept(&mut self, registry: &Registry) {
+        let mut is_short = false;
+        let mut is_well = false;
         for _ in 0..2 * CLIENTS {
             let place = self.place();
             if matches!(place, Place::Unknown) {
                 return;
             }
             match self.listener.accept() {
-                Ok((stream, _)) => self.welcome(registry, stream, place),
+                Ok((stream, _)) => is_well = self.welcome(registry, stream, place) && !is_short,
                 Err(error) if error.kind() == ErrorKind::Interrupted => {}
-                Err(error) if error.kind() == ErrorKind::WouldBlock => return,
+                Err(error) if error.kind() == ErrorKind::WouldBlock => {
+                    if is_well {
+                        self.notices.accepted();
+                    }
+                    return;
+                }
                 Err(error) => {
                     self.notices.accept_refused(error);
-                    return;
+                    if is_short || !self.let_silent_go() {
+                        return;
+                    }
+                    is_short = true;
+                    is_well = false;
                 }
             }
         }
     }
 
-    fn welcome(&mut self, registry: &Registry, stream: UnixStream, place: Place) {
+    // False: the system refuses to tell when the client is ready.
+    fn welcome(&mut self, registry: &Registry, stream: UnixStream, place: Place) -> bool {
         match place {
             Place::Free => {}
             Place::Of(key) => {
@@ -189,7 +204,7 @@ impl ControlSocket {
             }
             Place::Unknown | Place::Nowhere => {
                 self.turn_away(stream);
-                return;
+                return true;
             }
         }
         let mut stream = stream;
@@ -198,9 +213,23 @@ impl ControlSocket {
             Ok(()) => {
                 let client = Client::new(self.alloc, stream, self.rounds);
                 let _ = self.clients.insert(client);
-                self.notices.accepted();
+                true
             }
-            Err(error) => self.notices.accept_refused(error),
+            Err(error) => {
+                self.notices.accept_refused(error);
+                false
+            }
+        }
+    }
+
+    // False: no client is silent.
+    fn let_silent_go(&mut self) -> bool {
+        match self.longest_silent() {
+            Some(key) => {
+                let _gone = self.clients.try_remove(key);
+                true
+            }
+            None => false,
         }
     }
 
@@ -220,9 +249,13 @@ impl ControlSocket {
         }
         match self.longest_stuck() {
             Some(key) => Place::Of(key),
-            None if self.is_whole => Place::Nowhere,
+            None if self.is_whole && !self.has_new() => Place::Nowhere,
             None => Place::Unknown,
         }
+    }
+
+    fn has_new(&self) -> bool {
+        self.clients.iter().any(|(_, client)| client.is_new())
     }
 
     fn longest_silent(&self) -> Option<usize> {
@@ -254,8 +287,9 @@ impl ControlSocket {
     }
 
     /// The next line on what was refused, without a newline: an accept, or a client that was let go for want of memory or since
-    /// a read or a write failed. Each is told once until one goes well, and again when its reason changes. A client that only
-    /// went away is not told.
+    /// a read or a write failed. Each is told once, and again when its reason changes; an accept also after a call of `accept`
+    /// that took a client and was refused nothing, a client after one that had all its replies. A client that only went away is
+    /// not told.
     pub fn next_notice(&mut self) -> Option<Text> {
         self.notices.next(self.alloc)
     }
@@ -270,6 +304,23 @@ impl ControlSocket {
     pub fn remove<R: Files<File = File>>(&self, rt: &R) {
         socket_file::remove(rt, self.path.as_str(), self.mark);
         self.lock.remove(rt);
+    }
+}
+
+// The lock on the file of the socket's path and `.lock`.
+fn lock_beside<R: Files<File = File>>(rt: &R, alloc: Global, path: &str) -> io::Result<LockFile> {
+    let beside = format!(in alloc; "{path}.lock")?;
+    match LockFile::take(rt, beside) {
+        Ok(lock) => Ok(lock),
+        Err(error) => Err(match error.kind() {
+            ErrorKind::ResourceBusy => {
+                Error::new(ErrorKind::AddrInUse, "another launcher holds its lock")
+            }
+            ErrorKind::AlreadyExists => {
+                Error::new(ErrorKind::AddrInUse, "its lock is no plain file")
+            }
+            _ => error,
+        }),
     }
 }
 

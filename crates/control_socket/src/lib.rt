@@ -5,7 +5,6 @@
 mod client;
 mod control;
 mod dialogue;
-mod lock;
 mod notices;
 mod turn;
 

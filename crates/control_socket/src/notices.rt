@@ -53,7 +53,7 @@ impl Notices {
         self.accepts.note(error);
     }
 
-    /// A client was taken: the next refusal is told again.
+    /// All clients that waited were taken: the next refusal is told again.
     pub(crate) fn accepted(&mut self) {
         self.accepts.last = None;
     }

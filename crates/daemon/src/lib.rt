@@ -1,15 +1,20 @@
 //! The program `jobd` by its words: the launcher, the replay of a journal, and the list of the stored overrides.
 #![tactic(auto)]
 
+mod journal;
+mod looking;
 mod overrides;
 mod places;
+mod plan;
 mod reporting;
 mod serving;
+mod spool;
+mod standing;
 mod store;
 mod words;
 mod zone;
 
-use crate::places::Places;
+use crate::plan::Places;
 use crate::reporting::NO_MEMORY;
 use launchctl_words::{DaemonCommand, WordFault, read_daemon_words};
 use live_loop::System;
@@ -46,7 +51,7 @@ pub fn jobd<R: System + Wait>(host: &HostRuntime, rt: &R, alloc: Global, words: 
                 spool,
                 journal,
             };
-            serving::serve_at(host, rt, alloc, &places, zone)
+            serving::serve_at(host, rt, alloc, places, zone)
         }
         Err(WordFault::Usage) => words::explain(host, alloc, words),
         Err(WordFault::NoMemory) => NO_MEMORY,

@@ -1,20 +1,23 @@
 //! `jobd overrides`: a line for each label that has a stored setting, by rising bytes of the labels.
 
-use crate::reporting::{NO_MEMORY, OUTPUT, STORE, refuse};
-use crate::store::{connect, report_fault};
+use crate::looking::Found;
+use crate::reporting::{Level, OUTPUT};
+use crate::store::{connect, found, report_fault};
 use history_model::Setting;
 use override_store::{OverrideStore, StoreFault};
 use sqlite::{Alter, Connection};
 use std::alloc::Global;
-use std::{fs, io};
+use std::io;
 
 /// Prints `LABEL`, `enabled` or `disabled`, and the second of Unix time in which that was set, with a tab between them.
-/// A store that is not there is not made: status 5, as for one that can't be read.
+/// A store that is not there is not made: status 5, as for one that can't be read. A file that is no store is not written to.
 pub(crate) fn list_store(rt: &HostRuntime, alloc: Global, path: &str) -> u8 {
-    if let Err(error) = fs::metadata(rt, path) {
-        return refuse(rt, STORE, "store", path, &error);
-    }
-    match connect(rt, path) {
+    let listed = match found(rt, alloc, Level::NONE, path) {
+        Ok(Found::Store) => connect(rt, Level::NONE, path),
+        Ok(_) => return 0,
+        Err(status) => Err(status),
+    };
+    match listed {
         Ok(conn) => list_on(rt, alloc, path, conn),
         Err(status) => status,
     }
@@ -30,7 +33,7 @@ fn list_on<S: Alter + Drop>(
 ) -> u8 {
     match OverrideStore::open_on(alloc, conn) {
         Ok(mut store) => list_all(rt, alloc, path, &mut store),
-        Err(fault) => report_fault(rt, path, fault),
+        Err(fault) => report_fault(rt, Level::NONE, path, fault),
     }
 }
 
@@ -42,7 +45,7 @@ fn list_all<S: Alter>(
 ) -> u8 {
     match read_all(alloc, store) {
         Ok((all, changes)) => print_all(rt, all.as_slice(), changes.as_slice()),
-        Err(fault) => report_fault(rt, path, fault),
+        Err(fault) => report_fault(rt, Level::NONE, path, fault),
     }
 }
 

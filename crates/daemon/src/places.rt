@@ -1,24 +1,13 @@
-//! What the launcher stands on beside its store: the system with its clock, the control socket, the journal and the spool.
+//! What the launcher stands on beside its files: the system with its clock, and the control socket.
 
-use crate::reporting::{CLOCK_OR_WAITING, CONTROL_SOCKET, JOURNAL, NO_MEMORY, refuse, report};
-use child_edge::{ClockEdge, OsEdge, clear_spool};
+use crate::plan::Plan;
+use crate::reporting::{CLOCK_OR_WAITING, CONTROL_SOCKET, Level, NO_MEMORY, refuse, tell};
+use crate::standing::{check_standing, room_of};
+use child_edge::{ClockEdge, OsEdge};
 use control_socket::ControlSocket;
-use history_model::{Reading, Text};
+use history_model::Reading;
 use live_loop::System;
 use std::alloc::{AllocError, Global};
-use std::fs::{File, Files};
-use std::io::BufWriter;
-use std::os::unix::fs::FileTypeExt;
-use std::{fs, io};
-
-/// The paths that the words name.
-#[derive(Drop)]
-pub(crate) struct Places {
-    pub(crate) socket: Text,
-    pub(crate) store: Text,
-    pub(crate) spool: Text,
-    pub(crate) journal: Option<Text>,
-}
 
 fn spool_and_runtime<R: System>(
     rt: &R,
@@ -30,81 +19,59 @@ fn spool_and_runtime<R: System>(
     Ok((own, spool))
 }
 
-/// The edge of the system, which spools in this folder, and its first reading. Status 9 if the clock can't be read.
+/// The edge of the system, and its first reading. Status 9 if this process can't serve as it was started, or if the clock
+/// can't be read.
 pub(crate) fn system_of<R: System>(
     rt: &R,
     alloc: Global,
-    spool: &str,
+    plan: &Plan,
 ) -> Result<(OsEdge<R>, Reading), u8> {
-    let Ok((own, folder)) = spool_and_runtime(rt, alloc, spool) else {
+    check_standing(rt, alloc, plan)?;
+    let Ok((own, folder)) = spool_and_runtime(rt, alloc, plan.places.spool.as_str()) else {
         return Err(NO_MEMORY);
     };
     match OsEdge::new(own, alloc, folder) {
-        Ok(edge) => first_reading(rt, edge),
-        Err(_) => Err(no_clock(rt)),
+        Ok(edge) => first_reading(rt, plan, edge),
+        Err(_) => Err(no_clock(rt, plan.wishes.level)),
     }
 }
 
-fn first_reading<R: System>(rt: &R, edge: OsEdge<R>) -> Result<(OsEdge<R>, Reading), u8> {
+fn first_reading<R: System>(
+    rt: &R,
+    plan: &Plan,
+    edge: OsEdge<R>,
+) -> Result<(OsEdge<R>, Reading), u8> {
     let mut edge = edge;
+    if plan.wishes.logs_runs {
+        edge.log_runs();
+    }
+    if let Some(room) = room_of(&plan.standing) {
+        edge.set_room(room);
+    }
     match edge.read() {
         Ok(reading) => Ok((edge, reading)),
-        Err(_) => Err(no_clock(rt)),
+        Err(_) => Err(no_clock(rt, plan.wishes.level)),
     }
 }
 
 /// Tells that the first reading is refused.
-pub(crate) fn no_clock(rt: &impl Eprint) -> u8 {
-    let _written = eprintln!(rt; "jobd: clock: it can't be read, or is past its limit");
+pub(crate) fn no_clock(rt: &impl Eprint, level: Level) -> u8 {
+    tell(rt, level, "clock", "it can't be read, or is past its limit");
     CLOCK_OR_WAITING
 }
 
-/// The control socket at the path. Status 6 if somebody listens there, another file is there, or the system refuses.
-pub(crate) fn bound<R: System>(rt: &R, alloc: Global, path: &str) -> Result<ControlSocket, u8> {
+/// The control socket at its path. Status 6 if somebody listens there, another file is there, or the system refuses.
+pub(crate) fn bound<R: System>(rt: &R, alloc: Global, plan: &Plan) -> Result<ControlSocket, u8> {
+    let path = plan.places.socket.as_str();
     match ControlSocket::open(rt, alloc, path) {
         Ok(control) => Ok(control),
-        Err(error) => Err(refuse(rt, CONTROL_SOCKET, "control socket", path, &error)),
-    }
-}
-
-/// Removes the file of a socket.
-pub(crate) fn unbind<R: Files>(rt: &R, path: &str) {
-    if is_socket(rt, path).unwrap_or(false) {
-        let _left = fs::remove_file(rt, path);
-    }
-}
-
-fn is_socket<R: Files>(rt: &R, path: &str) -> io::Result<bool> {
-    Ok(fs::symlink_metadata(rt, path)?.file_type().is_socket())
-}
-
-/// The journal's file, made or emptied, if one is named. Status 8 if it can't be opened.
-pub(crate) fn journal_at<R: Files<File = File> + Eprint>(
-    rt: &R,
-    alloc: Global,
-    path: Option<&Text>,
-) -> Result<Option<BufWriter<File>>, u8> {
-    match path {
-        None => Ok(None),
-        Some(path) => match emptied(rt, alloc, path.as_str()) {
-            Ok(writer) => Ok(Some(writer)),
-            Err(error) => Err(refuse(rt, JOURNAL, "journal", path.as_str(), &error)),
-        },
-    }
-}
-
-fn emptied<R: Files<File = File>>(
-    rt: &R,
-    alloc: Global,
-    path: &str,
-) -> io::Result<BufWriter<File>> {
-    BufWriter::new(alloc, File::create(rt, path)?)
-}
-
-/// Removes what a launcher that was killed left in the spool. A folder that is not there, or is refused, is told; jobs
-/// without sockets don't need it.
-pub(crate) fn report_spool<R: System>(rt: &R, folder: &str) {
-    if let Err(error) = clear_spool(rt, folder) {
-        report(rt, "spool", folder, &error);
+        Err(error) => Err(refuse(
+            rt,
+            plan.wishes.level,
+            CONTROL_SOCKET,
+            "control socket",
+            path,
+            &error,
+        )),
     }
 }

@@ -16,20 +16,51 @@ pub(crate) const ZONE: u8 = 7;
 
 pub(crate) const JOURNAL: u8 = 8;
 
-/// The clock was refused, or waiting for sockets.
+/// The clock was refused, or waiting, or the process can't serve as it was started.
 pub(crate) const CLOCK_OR_WAITING: u8 = 9;
+
+pub(crate) const SPOOL: u8 = 10;
 
 /// Words that are no command (`EX_USAGE` of sysexits.h).
 pub(crate) const USAGE: u8 = 64;
 
+/// Whether each line begins with its level, as systemd's journal reads it (sd-daemon(3)).
+#[derive(Clone, Copy)]
+pub(crate) struct Level {
+    pub(crate) is_told: bool,
+}
+
+impl Level {
+    /// No level is told.
+    pub(crate) const NONE: Level = Level { is_told: false };
+
+    pub(crate) fn warning(self) -> &'static str {
+        if self.is_told { "<4>" } else { "" }
+    }
+}
+
+/// Tells what is at fault, and why.
+pub(crate) fn tell(rt: &impl Eprint, level: Level, part: &str, reason: &str) {
+    let front = level.warning();
+    let _written = eprintln!(rt; "{front}jobd: {part}: {reason}");
+}
+
 /// Tells what of the program failed, at which path, and why.
-pub(crate) fn report(rt: &impl Eprint, part: &str, path: &str, reason: &impl Display) {
-    let _written = eprintln!(rt; "jobd: {part} {path}: {reason}");
+pub(crate) fn report(
+    rt: &impl Eprint,
+    level: Level,
+    part: &str,
+    path: &str,
+    reason: &impl Display,
+) {
+    let front = level.warning();
+    let _written = eprintln!(rt; "{front}jobd: {part} {path}: {reason}");
 }
 
 /// The status for an error of the system, which is told unless memory was wanting.
 pub(crate) fn refuse(
     rt: &impl Eprint,
+    level: Level,
     status: u8,
     part: &str,
     path: &str,
@@ -38,6 +69,6 @@ pub(crate) fn refuse(
     if error.kind() == io::ErrorKind::OutOfMemory {
         return NO_MEMORY;
     }
-    report(rt, part, path, error);
+    report(rt, level, part, path, error);
     status
 }

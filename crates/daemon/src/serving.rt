@@ -1,20 +1,27 @@
 //! `jobd serve`: what the launcher stands on is opened step by step, and then it serves.
 
-use crate::places::{Places, bound, journal_at, no_clock, report_spool, system_of, unbind};
-use crate::reporting::{CLOCK_OR_WAITING, NO_MEMORY, STORE, report};
-use crate::store::{connect, stored};
+use crate::journal::{begun, journal_at, tell_long_header};
+use crate::places::{bound, no_clock, system_of};
+use crate::plan::{Places, Plan, read_wishes};
+use crate::reporting::{CLOCK_OR_WAITING, NO_MEMORY, STORE, refuse, report};
+use crate::spool::hold_spool;
+use crate::standing::{room_of, tell_standing};
+use crate::store::{open_store, settle, stored};
 use crate::zone::zone_of;
 use child_edge::OsEdge;
 use control_socket::ControlSocket;
 use ctl_protocol::{Header, Settings};
+use history_model::Setting;
 use launchctl_words::ZoneWords;
 use launcher::{Host, HostFault};
 use live_loop::{Live, ServeFault, System, serve};
 use load_asking::SettingStore;
+use own_files::LockFile;
+use own_process::{Standing, open_null_streams};
 use sqlite::{Alter, Connection, FileStore};
 use std::alloc::Global;
 use std::fs::File;
-use std::io::{BufWriter, Write};
+use std::io::BufWriter;
 use std::sync::Wait;
 use stored_settings::StoredSettings;
 
@@ -26,152 +33,229 @@ type Stored = StoredSettings<FileStore<sqlite::File>>;
 struct Parts<R: System> {
     header: Header,
     edge: OsEdge<R>,
-    control: ControlSocket,
+    journal: Option<File>,
+}
+
+/// A launcher that is not yet served, and the lock on its spool.
+#[derive(Drop)]
+struct Made<R: System, T: SettingStore> {
+    launcher: Host<T, OsEdge<R>, BufWriter<File>>,
+    lock: Option<LockFile>,
+}
+
+/// The same with its control socket.
+#[derive(Drop)]
+struct Started<R: System, T: SettingStore> {
+    live: Live<R, T, BufWriter<File>>,
+    lock: Option<LockFile>,
 }
 
 /// Serves until a shutdown was accepted and no job is left: 0. A fault is told, and its status given: in this order the zone
-/// 7, the clock 9, the control socket 6, the journal 8, the store 5, waiting 9; 1 for want of memory. The control socket's
-/// file is removed in each case, and what else was made is left.
+/// 7, how the process was started and the clock 9, the control socket 6, the journal 8, the store 5, the spool 10, waiting 9; 1
+/// for want of memory. A journal is emptied only after the spool. The files of the control socket and of locks are removed in
+/// each case, and what else was made is left.
 pub(crate) fn serve_at<R: System + Wait>(
     host: &HostRuntime,
     rt: &R,
     alloc: Global,
-    places: &Places,
+    places: Places,
     zone: ZoneWords,
 ) -> u8 {
-    let live = match live_at(host, rt, alloc, places, zone) {
-        Ok(live) => live,
-        Err(status) => return status,
+    let Ok(wishes) = read_wishes(host) else {
+        return NO_MEMORY;
     };
-    // Nobody has to hear it.
-    let _written = println!(host; "jobd: ready");
-    match serve(rt, alloc, live) {
-        Ok(()) => 0,
-        Err(fault) => {
-            unbind(rt, places.socket.as_str());
-            report_loop(rt, places, fault)
+    let null = "/dev/null";
+    let _null_streams = match open_null_streams(rt, alloc) {
+        Ok(held) => held,
+        Err(error) => {
+            return refuse(
+                rt,
+                wishes.level,
+                CLOCK_OR_WAITING,
+                "null device",
+                null,
+                &error,
+            );
         }
-    }
+    };
+    let plan = Plan {
+        places,
+        wishes,
+        standing: Standing::read(rt),
+    };
+    serve_by(host, rt, alloc, &plan, zone)
 }
 
-fn live_at<R: System>(
+fn serve_by<R: System + Wait>(
     host: &HostRuntime,
     rt: &R,
     alloc: Global,
-    places: &Places,
+    plan: &Plan,
     zone: ZoneWords,
-) -> Result<Live<R, Stored, BufWriter<File>>, u8> {
-    let parts = parts_of(rt, alloc, places, zone)?;
-    match live_of(host, rt, alloc, places, parts) {
-        Ok(live) => Ok(live),
-        Err(status) => {
-            unbind(rt, places.socket.as_str());
-            Err(status)
-        }
+) -> u8 {
+    let Started { live, lock } = match started(host, rt, alloc, plan, zone) {
+        Ok(started) => started,
+        Err(status) => return status,
+    };
+    tell_standing(rt, plan);
+    // Nobody has to hear it.
+    let _written = println!(host; "jobd: ready");
+    let status = match serve(rt, alloc, live) {
+        Ok(()) => 0,
+        Err(fault) => report_loop(rt, plan, fault),
+    };
+    let_go(rt, lock);
+    settle(host, plan.wishes.level, plan.places.store.as_str());
+    status
+}
+
+fn let_go<R: System>(rt: &R, lock: Option<LockFile>) {
+    if let Some(lock) = lock {
+        lock.remove(rt);
     }
 }
 
-fn parts_of<R: System>(
+fn started<R: System>(
+    host: &HostRuntime,
     rt: &R,
     alloc: Global,
-    places: &Places,
+    plan: &Plan,
     zone: ZoneWords,
-) -> Result<Parts<R>, u8> {
-    let zone = zone_of(rt, alloc, zone)?;
-    let (edge, reading) = system_of(rt, alloc, places.spool.as_str())?;
+) -> Result<Started<R, Stored>, u8> {
+    let zone = zone_of(rt, alloc, plan.wishes.level, zone)?;
+    let (edge, reading) = system_of(rt, alloc, plan)?;
     let header = Header {
         reading,
         zone,
         overrides: Settings::new(Vec::new(alloc)),
     };
-    let control = bound(rt, alloc, places.socket.as_str())?;
-    Ok(Parts {
-        header,
-        edge,
-        control,
-    })
+    let control = bound(rt, alloc, plan)?;
+    match made(host, rt, alloc, plan, header, edge) {
+        Ok(made) => started_with(rt, alloc, plan, made, control),
+        Err(status) => {
+            control.remove(rt);
+            Err(status)
+        }
+    }
 }
 
-fn live_of<R: System>(
+fn made<R: System>(
     host: &HostRuntime,
     rt: &R,
     alloc: Global,
-    places: &Places,
-    parts: Parts<R>,
-) -> Result<Live<R, Stored, BufWriter<File>>, u8> {
-    let journal = journal_at(rt, alloc, places.journal.as_ref())?;
-    let conn = connect(host, places.store.as_str())?;
-    live_on(rt, alloc, places, parts, journal, conn)
+    plan: &Plan,
+    header: Header,
+    edge: OsEdge<R>,
+) -> Result<Made<R, Stored>, u8> {
+    let journal = journal_at(rt, plan)?;
+    let parts = Parts {
+        header,
+        edge,
+        journal,
+    };
+    let conn = open_store(host, alloc, plan.wishes.level, plan.places.store.as_str())?;
+    made_on(rt, alloc, plan, parts, conn)
 }
 
 // What lets a store go is proved for its whole type, so the rest is generic over what the store stands on.
 
-fn live_on<R: System, S: Alter + Drop, W: Write + Drop>(
+fn made_on<R: System, S: Alter + Drop>(
     rt: &R,
     alloc: Global,
-    places: &Places,
+    plan: &Plan,
     parts: Parts<R>,
-    journal: Option<W>,
     conn: Connection<S>,
-) -> Result<Live<R, StoredSettings<S>, W>, u8> {
-    let store = stored(rt, alloc, places.store.as_str(), conn)?;
-    report_spool(rt, places.spool.as_str());
-    live_with(rt, alloc, places, parts, journal, store)
+) -> Result<Made<R, StoredSettings<S>>, u8> {
+    let path = plan.places.store.as_str();
+    let (store, settings) = stored(rt, alloc, plan.wishes.level, path, conn)?;
+    let lock = hold_spool(rt, alloc, plan)?;
+    match launcher_of(rt, alloc, plan, parts, store, settings) {
+        Ok(launcher) => Ok(Made { launcher, lock }),
+        Err(status) => {
+            let_go(rt, lock);
+            Err(status)
+        }
+    }
 }
 
-fn live_with<R: System, T: SettingStore + Drop, W: Write + Drop>(
+fn launcher_of<R: System, T: SettingStore + Drop>(
     rt: &R,
     alloc: Global,
-    places: &Places,
+    plan: &Plan,
     parts: Parts<R>,
-    journal: Option<W>,
     store: T,
-) -> Result<Live<R, T, W>, u8> {
+    settings: Vec<Setting>,
+) -> Result<Host<T, OsEdge<R>, BufWriter<File>>, u8> {
     let Parts {
         header,
         edge,
-        control,
+        journal,
     } = parts;
+    let mut header = header;
+    header.overrides = Settings::new(settings);
+    let journal = begun(rt, alloc, plan, journal)?;
+    tell_long_header(rt, alloc, plan, &header)?;
     match Host::new(alloc, header, store, edge, journal) {
-        Ok(launcher) => live_over(rt, alloc, places, launcher, control),
-        Err(fault) => Err(report_host(rt, places, fault)),
+        Ok(launcher) => Ok(launcher),
+        Err(fault) => Err(report_host(rt, plan, fault)),
     }
 }
 
-fn report_host(rt: &impl Eprint, places: &Places, fault: HostFault) -> u8 {
+fn report_host(rt: &impl Eprint, plan: &Plan, fault: HostFault) -> u8 {
+    let level = plan.wishes.level;
     match fault {
         HostFault::NoMemory => NO_MEMORY,
         HostFault::Store => {
-            report(
-                rt,
-                "store",
-                places.store.as_str(),
-                &"its settings were not read",
-            );
+            let path = plan.places.store.as_str();
+            report(rt, level, "store", path, &"its settings were not read");
             STORE
         }
-        HostFault::Header => no_clock(rt),
+        HostFault::Header => no_clock(rt, level),
     }
 }
 
-fn live_over<R: System, T: SettingStore + Drop, W: Write + Drop>(
+fn started_with<R: System, T: SettingStore + Drop>(
     rt: &R,
     alloc: Global,
-    places: &Places,
-    launcher: Host<T, OsEdge<R>, W>,
+    plan: &Plan,
+    made: Made<R, T>,
     control: ControlSocket,
-) -> Result<Live<R, T, W>, u8> {
+) -> Result<Started<R, T>, u8> {
+    let Made { launcher, lock } = made;
+    let mark = control.mark();
     match Live::new(rt, alloc, launcher, control) {
-        Ok(live) => Ok(live),
-        Err(fault) => Err(report_loop(rt, places, fault)),
+        Ok(live) => Ok(Started {
+            live: as_wished(plan, live),
+            lock,
+        }),
+        Err(fault) => {
+            socket_file::remove(rt, plan.places.socket.as_str(), mark);
+            let_go(rt, lock);
+            Err(report_loop(rt, plan, fault))
+        }
     }
 }
 
-fn report_loop(rt: &impl Eprint, places: &Places, fault: ServeFault) -> u8 {
+fn as_wished<R: System, T: SettingStore>(
+    plan: &Plan,
+    live: Live<R, T, BufWriter<File>>,
+) -> Live<R, T, BufWriter<File>> {
+    let mut live = live;
+    if plan.wishes.level.is_told {
+        live.set_leveled();
+    }
+    if let Some(room) = room_of(&plan.standing) {
+        live.set_room(room);
+    }
+    live
+}
+
+fn report_loop(rt: &impl Eprint, plan: &Plan, fault: ServeFault) -> u8 {
     match fault {
         ServeFault::NoMemory => NO_MEMORY,
         ServeFault::Poll => {
-            report(rt, "control socket", places.socket.as_str(), &fault);
+            let path = plan.places.socket.as_str();
+            report(rt, plan.wishes.level, "control socket", path, &fault);
             CLOCK_OR_WAITING
         }
     }

@@ -1,6 +1,6 @@
 //! The zone that the words name, as the header of a journal tells it.
 
-use crate::reporting::{NO_MEMORY, ZONE, refuse, report};
+use crate::reporting::{Level, NO_MEMORY, ZONE, refuse, report};
 use calendar_due::{Zone, ZoneFault};
 use ctl_protocol::{ZoneFile, ZoneText};
 use history_model::Text;
@@ -17,12 +17,13 @@ const MOST_BYTES: u64 = 65_536;
 pub(crate) fn zone_of<R: Files<File = File> + Eprint>(
     rt: &R,
     alloc: Global,
+    level: Level,
     zone: ZoneWords,
 ) -> Result<ZoneText, u8> {
     match zone {
         ZoneWords::Default => universal(alloc),
-        ZoneWords::Rule(rule) => by_rule(rt, rule),
-        ZoneWords::File(path) => by_file(rt, alloc, path.as_str()),
+        ZoneWords::Rule(rule) => by_rule(rt, level, rule),
+        ZoneWords::File(path) => by_file(rt, alloc, level, path.as_str()),
     }
 }
 
@@ -33,11 +34,11 @@ fn universal(alloc: Global) -> Result<ZoneText, u8> {
     }
 }
 
-fn by_rule(rt: &impl Eprint, rule: Text) -> Result<ZoneText, u8> {
+fn by_rule(rt: &impl Eprint, level: Level, rule: Text) -> Result<ZoneText, u8> {
     match Zone::posix(rule.as_str()) {
         Ok(_) => Ok(ZoneText::Posix(rule)),
         Err(_) => {
-            report(rt, "zone", rule.as_str(), &"no rule of a zone");
+            report(rt, level, "zone", rule.as_str(), &"no rule of a zone");
             Err(ZONE)
         }
     }
@@ -54,21 +55,29 @@ fn bytes_of<R: Files<File = File>>(rt: &R, alloc: Global, path: &str) -> io::Res
 fn by_file<R: Files<File = File> + Eprint>(
     rt: &R,
     alloc: Global,
+    level: Level,
     path: &str,
 ) -> Result<ZoneText, u8> {
     match bytes_of(rt, alloc, path) {
-        Ok(bytes) => by_bytes(rt, alloc, path, bytes),
-        Err(error) => Err(refuse(rt, ZONE, "zone file", path, &error)),
+        Ok(bytes) => by_bytes(rt, alloc, level, path, bytes),
+        Err(error) => Err(refuse(rt, level, ZONE, "zone file", path, &error)),
     }
 }
 
-fn by_bytes(rt: &impl Eprint, alloc: Global, path: &str, bytes: Vec<u8>) -> Result<ZoneText, u8> {
+fn by_bytes(
+    rt: &impl Eprint,
+    alloc: Global,
+    level: Level,
+    path: &str,
+    bytes: Vec<u8>,
+) -> Result<ZoneText, u8> {
     match Zone::tzif(alloc, bytes.as_slice()) {
         Ok(_) => Ok(ZoneText::File(ZoneFile::new(bytes))),
         Err(ZoneFault::NoMemory) => Err(NO_MEMORY),
         Err(ZoneFault::BadZone) => {
             report(
                 rt,
+                level,
                 "zone file",
                 path,
                 &"no zone file of at most 65536 bytes",

@@ -1,11 +1,14 @@
 #!/usr/bin/env python3
 """Scenes with a real `jobd serve` whose surroundings are hostile: files, clients, limits and other launchers.
 
-    edge_scenes.py [--jobd WORDS] [--jobctl WORDS] [--at-once N] [SCENE..]
+    edge_scenes.py [--jobd WORDS] [--jobctl WORDS] [--before WORDS] [--at-once N] [--times] [SCENE..]
 
-WORDS start the program; blanks part them. Without scenes all are played, N at a time. Each prints `ok NAME` or `FAILED NAME: why`, and
-the last line counts. The status is 1 if one failed. Each scene has a folder of its own below TMPDIR, and every process that
-it started is ended. A scene waits for facts, with a bound; no user and no network is needed.
+WORDS start a program; blanks part them. The program of --before is run to its end first, and nothing is played if it fails.
+Without scenes all are played, N at a time. Each prints `ok NAME` or `FAILED NAME: why`, and the last line counts; --times adds how long
+it took. The status is 1 if one failed. Each scene has a folder of its own below TMPDIR, and every process that it started is ended.
+
+A scene waits for facts; no user and no network is needed. BOUND in the environment is for how many seconds a fact is waited
+for, 10 if it is not set: a slow machine, or programs that were built without a proof, need more.
 """
 import argparse
 import concurrent.futures
@@ -13,6 +16,7 @@ import ctypes
 import json
 import os
 import re
+import resource
 import select
 import shlex
 import shutil
@@ -28,7 +32,7 @@ import time
 
 HERE = os.path.dirname(os.path.abspath(__file__))
 BUILD = os.path.join(HERE, "..", "..", "..", "build")
-BOUND = 10.0
+BOUND = float(os.environ.get("BOUND", "10"))
 
 
 class Fault(Exception):
@@ -95,6 +99,12 @@ def end_process(pid):
 
 def descriptors(pid):
     return len(os.listdir(f"/proc/{pid}/fd"))
+
+
+def first_free(pid):
+    """The number that the process's next descriptor gets."""
+    taken = os.listdir(f"/proc/{pid}/fd")
+    return next(number for number in range(len(taken) + 1) if str(number) not in taken)
 
 
 # ---- clients
@@ -230,7 +240,7 @@ class Launcher:
     def tells(self, label, part, bound=BOUND):
         wait_for(lambda: part in self.print(label), f"print {label} does not come to say {part!r}", bound)
 
-    def answers(self, why, bound=5.0):
+    def answers(self, why, bound=BOUND / 2):
         """An honest client is answered."""
         try:
             reply = self.ask({"req": "list"}, bound)
@@ -347,7 +357,7 @@ def a_stream_at_a_fifo(stage):
         for name in ("fifo", "link"):
             label = f"{key}.{name}"
             request = {"req": "load", "def": json.dumps(shell_job(label, ":", RunAtLoad=True, **{key: stage.at(name)}))}
-            launcher.ask(request, 5.0)
+            launcher.ask(request)
             launcher.answers(f"{key} at a {name}")
             wait_for(lambda: launcher.lines(f"jobd: {label}: run 1: cannot "), f"nothing said of {label}")
             check(stage.at(name) in launcher.lines(f"{label}: run 1")[0], f"the path is missing in {launcher.lines(label)}")
@@ -482,7 +492,7 @@ def spool_links_and_fifos(stage):
                 else:
                     os.mkfifo(path)
         try:
-            got = call(stage.at("cat"), b"hello", 5.0)
+            got = call(stage.at("cat"), b"hello")
         except TimeoutError:
             got = None
         launcher.answers(f"a {kind} at a spool file's name")
@@ -590,7 +600,7 @@ def closed_standard_streams(stage):
 def pipelined_settings(stage):
     """A client sends 300 settings at once: another one is answered after some of them, and not after all."""
     launcher = stage.serve(journal="journal")
-    greedy, honest = connect(launcher.path, 60.0), connect(launcher.path, 60.0)
+    greedy, honest = connect(launcher.path, 3 * BOUND), connect(launcher.path, 3 * BOUND)
     line = json.dumps({"req": "disable", "job": "x"}).encode() + b"\n"
     left = [300]
     text = line * left[0]
@@ -606,8 +616,8 @@ def pipelined_settings(stage):
     greedy.sendall(text)
     reader.start()
     while left[0] > 0 and reader.is_alive():
-        launcher.ask_over(honest, {"req": "list"}, 60.0)
-    reader.join(60.0)
+        launcher.ask_over(honest, {"req": "list"}, 3 * BOUND)
+    reader.join(3 * BOUND)
     check(left[0] <= 0, f"{left[0]} of the settings were not answered")
     launcher.shut_down()
     gaps, run = [], 0
@@ -637,7 +647,7 @@ def silent_clients_of_the_control_socket(stage):
         busy[-1].sendall(b'{"req":"li')
     wait_for(lambda: descriptors(launcher.pid) >= before + 60, "64 clients are not held")
     with connect(launcher.path) as client:
-        reply = launcher.ask_over(client, {"req": "list"}, 5.0)
+        reply = launcher.ask_over(client, {"req": "list"})
     check(reply["code"] == 0 or reply == {"code": 2, "text": "too many clients\n"}, f"beside 64 half requests one got {reply}")
     for client in busy:
         client.close()
@@ -645,6 +655,27 @@ def silent_clients_of_the_control_socket(stage):
     idle = [connect(launcher.path) for _ in range(64)]
     launcher.shut_down()
     for client in idle:
+        client.close()
+
+
+def no_descriptor_left(stage):
+    """No descriptor is left: a silent client of the control socket gives way to the next one, and the refusal is told once."""
+    launcher = stage.serve()
+    told = "jobd: control socket: cannot accept: Too many open files (os error 24)"
+    before = descriptors(launcher.pid)
+    silent = [connect(launcher.path) for _ in range(8)]
+    wait_for(lambda: descriptors(launcher.pid) >= before + 8, "8 clients are not held")
+    limits = resource.prlimit(launcher.pid, resource.RLIMIT_NOFILE)
+    for times in (1, 2):
+        resource.prlimit(launcher.pid, resource.RLIMIT_NOFILE, (first_free(launcher.pid), limits[1]))
+        for _ in range(3):
+            launcher.answers("with no descriptor left")
+        check(launcher.lines("") == [told] * times, f"after {times} such times it said {launcher.said()!r}")
+        resource.prlimit(launcher.pid, resource.RLIMIT_NOFILE, limits)
+        for _ in range(3):
+            launcher.answers("with descriptors again")
+    launcher.shut_down()
+    for client in silent:
         client.close()
 
 
@@ -714,8 +745,23 @@ def a_journal_at_a_fifo(stage):
     for name in ("fifo", "link", "spool"):
         launcher = stage.start(journal=name)
         check(not launcher.is_ready(), f"it serves with a journal at a {name}")
-        status = launcher.ends(5.0)
+        status = launcher.ends()
         check(status == 8 and stage.at(name) in launcher.said(), f"a journal at a {name}: {status}, {launcher.said()!r}")
+
+
+def a_journal_that_may_not_grow(stage):
+    """The system refuses the journal more room: that is told once, and the launcher goes on."""
+    launcher = stage.serve(shell="trap '' XFSZ; ulimit -f 64", journal="journal")
+    with connect(launcher.path) as client:
+        for _ in range(400):
+            launcher.ask_over(client, {"req": "start", "job": "x" * 200})
+    wait_for(lambda: launcher.lines("journal"), "nothing said of the journal")
+    launcher.load(shell_job("beside", f"echo run > {stage.at('beside')}", RunAtLoad=True))
+    wait_for(lambda: text_at(stage.at("beside")), "no job starts beside a journal that was refused")
+    launcher.shut_down()
+    check(len(launcher.lines("journal")) == 1, f"a refused journal is told as {launcher.lines('journal')[:3]}")
+    replayed = stage.replay("journal")
+    check(replayed.stdout, f"what the journal has replays with {replayed.returncode}")
 
 
 def what_is_no_store(stage):
@@ -760,9 +806,10 @@ def long_lines_and_headers(stage):
         check(run.returncode in (0, 4, 65), f"a definition of {wanted} bytes: {run.returncode}, {run.stderr!r}")
         check(run.returncode != 65 or "long.json" in run.stderr, f"refused with {run.stderr!r}")
         check(wanted < 262101 or run.returncode == 65, f"jobctl hands in a line of {wanted} bytes, which can't be replayed")
-    labels = [f"{number:04d}" + "x" * 246 for number in range(1050)]
-    with connect(launcher.path, 60.0) as client:
-        sender = threading.Thread(target=lambda: [client.sendall(b'{"req":"disable","job":"%s"}\n' % x.encode()) for x in labels], daemon=True)
+    labels = [f"{number:04d}" + '"' * 251 for number in range(520)]
+    with connect(launcher.path, 3 * BOUND) as client:
+        lines = [json.dumps({"req": "disable", "job": label}).encode() + b"\n" for label in labels]
+        sender = threading.Thread(target=lambda: [client.sendall(line) for line in lines], daemon=True)
         sender.start()
         got = 0
         while got < len(labels):
@@ -780,31 +827,33 @@ def long_lines_and_headers(stage):
 def reasons_are_told(stage):
     """Whatever the system refuses is told once, with the system's reason, and again when the reason changes."""
     launcher = stage.serve()
-    absent = "No such file or directory (os error 2)"
+    absent, barred = "No such file or directory (os error 2)", "Permission denied (os error 13)"
+    looping = "Too many levels of symbolic links (os error 40)"
     make(stage.at("plain"), "no program\n")
     os.chmod(stage.at("plain"), 0o644)
     os.symlink("loop", stage.at("loop"))
     keys = {"RunAtLoad": True}
     jobs = [
         ("program", {"ProgramArguments": ["/no/such/program"], **keys}, f"run 1: cannot start /no/such/program: {absent}"),
-        ("barred", {"ProgramArguments": [stage.at("plain")], **keys}, f"run 1: cannot start {stage.at('plain')}: Permission denied (os error 13)"),
+        ("barred", {"ProgramArguments": [stage.at("plain")], **keys}, f"run 1: cannot start {stage.at('plain')}: {barred}"),
         ("folder", shell_job("", ":", WorkingDirectory=stage.at("gone"), **keys), f"{stage.at('gone')}: {absent}"),
         ("output", shell_job("", ":", StandardOutPath=stage.at("gone/out"), **keys), f"{stage.at('gone/out')}: {absent}"),
         ("errors", shell_job("", ":", StandardErrorPath=stage.at("gone/err"), **keys), f"{stage.at('gone/err')}: {absent}"),
         ("input", shell_job("", ":", StandardInPath=stage.at("gone/in"), **keys), f"{stage.at('gone/in')}: {absent}"),
-        ("watch", shell_job("", ":", WatchPaths=[stage.at("loop/x")]), f"{stage.at('loop/x')}: Too many levels of symbolic links (os error 40)"),
+        ("watch", shell_job("", ":", WatchPaths=[stage.at("loop/x")]), f"{stage.at('loop/x')}: {looping}"),
     ]
     for label, definition, _ in jobs:
         launcher.load({**definition, "Label": label})
     launcher.load({**socket_job(stage, "bound", ["/bin/cat"]), "Sockets": {"s": {"SockPathName": stage.at("gone/socket")}}}, 11)
     jobs.append(("bound", None, f"{stage.at('gone/socket')}: {absent}"))
+    told = lambda label, text: [line for line in launcher.lines(f"jobd: {label}: ") if line.endswith(text)]
     for label, _, text in jobs:
-        wait_for(lambda: [x for x in launcher.lines(f"jobd: {label}: ") if x.endswith(text)], f"no line `jobd: {label}: ..{text}` in {launcher.said()!r}")
+        check(comes(lambda: told(label, text)), f"no line `jobd: {label}: ..{text}` in {launcher.said()!r}")
     launcher.load({"Label": "often", "ProgramArguments": [stage.at("later")], "KeepAlive": True, "ThrottleInterval": 0})
     wait_for(lambda: int(re.search(r"runs = (\d+)", launcher.print("often"))[1]) >= 3, "the job is not tried again")
     check(len(launcher.lines("jobd: often: ")) == 1, f"a refusal that repeats is told as {launcher.lines('often')[:3]}")
     make(stage.at("later"), "no program\n")
-    wait_for(lambda: [x for x in launcher.lines("jobd: often: ") if x.endswith("Permission denied (os error 13)")], "the reason that changed is not told")
+    wait_for(lambda: told("often", barred), "the reason that changed is not told")
     check(len(launcher.lines("jobd: often: ")) == 2, f"two reasons are told as {launcher.lines('often')[:4]}")
     launcher.load(socket_job(stage, "cat", ["/bin/cat"]))
     got = call(stage.at("cat"), b"x" * 65537)
@@ -822,7 +871,8 @@ def run_log(stage):
         launcher = stage.serve(env=env)
         launcher.load(shell_job("seven", "exit 7", RunAtLoad=True))
         launcher.load(shell_job("mild", "exec sleep 1000", RunAtLoad=True))
-        launcher.load(shell_job("deaf", f"trap '' TERM; : > {stage.at('deaf')}; while :; do sleep 0.05; done", RunAtLoad=True, ExitTimeOut=1))
+        deaf = f"trap '' TERM; : > {stage.at('deaf')}; while :; do sleep 0.05; done"
+        launcher.load(shell_job("deaf", deaf, RunAtLoad=True, ExitTimeOut=1))
         launcher.load({"Label": "missing", "ProgramArguments": ["/no/such/program"], "RunAtLoad": True})
         wait_for(lambda: os.path.exists(stage.at("deaf")), "the job does not start")
         pid = re.search(r"pid = (\d+)", launcher.print("mild"))
@@ -836,7 +886,8 @@ def run_log(stage):
         told.append((launcher.said(), pid))
     (plain, pid), (leveled, _), (refusals, _), (still, _) = told
     wanted = [
-        rf"jobd: mild: run 1 started as {pid[1] if pid else '[0-9]+'}", r"jobd: mild: TERM to run 1", r"jobd: mild: run 1 ended by signal 15 after \d+\.\d s",
+        rf"jobd: mild: run 1 started as {pid[1] if pid else '[0-9]+'}",
+        r"jobd: mild: TERM to run 1", r"jobd: mild: run 1 ended by signal 15 after \d+\.\d s",
         r"jobd: seven: run 1 started as \d+", r"jobd: seven: run 1 ended with code 7 after \d+\.\d s",
         r"jobd: deaf: TERM to run 1", r"jobd: deaf: KILL to run 1", r"jobd: deaf: run 1 ended by signal 9 after \d+\.\d s",
     ]
@@ -845,7 +896,8 @@ def run_log(stage):
         check(re.search(f"^<6>{line}$", leveled, re.M) or "started as" in line, f"no line '<6>{line}' in {leveled!r}")
     refusal = "jobd: missing: run 1: cannot start /no/such/program: No such file or directory (os error 2)"
     check(refusal in plain.splitlines() and refusal in still.splitlines(), f"no line {refusal!r} in {still!r}")
-    check(f"<4>{refusal}" in leveled.splitlines() and f"<4>{refusal}" in refusals.splitlines(), f"no level before the refusal in {refusals!r}")
+    for said in (leveled, refusals):
+        check(f"<4>{refusal}" in said.splitlines(), f"no level before the refusal in {said!r}")
     check(len(still.splitlines()) == 1 and len(refusals.splitlines()) == 1, f"without JOBD_LOG it said {still!r}")
 
 
@@ -858,8 +910,9 @@ def end_all(launcher):
 SCENES = [
     a_stream_at_a_fifo, clients_that_never_read, silent_clients_of_one_port, ends_that_cannot_be_seen, a_second_launcher,
     a_start_that_fails, spool_links_and_fifos, a_spool_that_others_may_write, another_ones_socket, many_at_a_stale_socket,
-    a_lost_spool_file, closed_standard_streams, pipelined_settings, silent_clients_of_the_control_socket, settings_in_the_log,
-    limits_and_ignored_signals, private_files, a_journal_at_a_fifo, what_is_no_store, long_lines_and_headers, reasons_are_told, run_log,
+    a_lost_spool_file, closed_standard_streams, pipelined_settings, silent_clients_of_the_control_socket, no_descriptor_left,
+    settings_in_the_log, limits_and_ignored_signals, private_files, a_journal_at_a_fifo, a_journal_that_may_not_grow, what_is_no_store,
+    long_lines_and_headers, reasons_are_told, run_log,
 ]
 
 
@@ -904,10 +957,18 @@ def end_children():
             return
 
 
+def heed_signals():
+    """No signal is ignored in what is started from here: whoever started this script may have had it ignore some, as nohup does."""
+    for number in signal.valid_signals():
+        if signal.getsignal(number) == signal.SIG_IGN and number not in (signal.SIGPIPE, signal.SIGXFSZ):
+            signal.signal(number, signal.SIG_DFL)
+
+
 def read_words():
     words = argparse.ArgumentParser()
     words.add_argument("--jobd", type=shlex.split, default=[os.path.join(BUILD, "jobd")])
     words.add_argument("--jobctl", type=shlex.split, default=[os.path.join(BUILD, "jobctl")])
+    words.add_argument("--before", type=shlex.split)
     words.add_argument("--at-once", type=int, default=4)
     words.add_argument("--times", action="store_true")
     words.add_argument("scenes", nargs="*", metavar="SCENE")
@@ -922,7 +983,10 @@ def read_words():
 
 def main():
     given = read_words()
+    heed_signals()
     adopt_orphans()
+    if given.before and subprocess.run(given.before, stdin=subprocess.DEVNULL).returncode != 0:
+        return 1
     scenes = [scene for scene in SCENES if not given.scenes or scene.__name__ in given.scenes]
     failed = 0
     folder = tempfile.mkdtemp(prefix="edge.")

@@ -1,6 +1,7 @@
-//! The scenes of the launcher's edge: a script among this crate's data plays them, and starts this program for them.
+//! The script that plays the scenes of the launcher's edge: it lies among this crate's data, and starts this program for them. It
+//! starts it first of all for the other scenes, so that none of them depends on the signals that this program ignores.
 
-use crate::stage::{own_front, own_path};
+use crate::stage::{PLAY, own_front, own_path};
 use std::alloc::{AllocError, Global};
 use std::io;
 use std::process::Command;
@@ -17,23 +18,31 @@ fn words_for(alloc: Global, path: &str, front: &str, name: &str) -> Result<Strin
 fn command(rt: &HostRuntime) -> io::Result<Command> {
     let path = own_path(rt)?;
     let front = own_front(rt)?;
-    let jobd = words_for(rt.alloc(), path.as_str(), front.as_str(), "jobd")?;
-    let jobctl = words_for(rt.alloc(), path.as_str(), front.as_str(), "jobctl")?;
     let mut command = Command::new(rt.alloc(), PYTHON)?;
-    for word in [SCRIPT, "--jobd", jobd.as_str(), "--jobctl", jobctl.as_str()] {
-        command.arg(word)?;
+    command.arg(SCRIPT)?;
+    for (option, name) in [
+        ("--before", PLAY),
+        ("--jobd", "jobd"),
+        ("--jobctl", "jobctl"),
+    ] {
+        command.arg(option)?;
+        command.arg(words_for(rt.alloc(), path.as_str(), front.as_str(), name)?.as_str())?;
     }
     Ok(command)
 }
 
-/// Plays the scenes, and says on standard output how each went. False if one failed; an error if Python can't be started.
-pub fn play_edge(rt: &HostRuntime) -> io::Result<bool> {
-    let mut command = command(rt)?;
-    match command.status(rt) {
-        Ok(status) => Ok(status.success()),
+fn is_well(rt: &HostRuntime) -> io::Result<bool> {
+    Ok(command(rt)?.status(rt)?.success())
+}
+
+/// Plays all scenes. The status is 0, or 1 if one failed, or if Python can't be started.
+pub fn play_all(rt: &HostRuntime) -> u8 {
+    match is_well(rt) {
+        Ok(true) => 0,
+        Ok(false) => 1,
         Err(error) => {
-            let _written = eprintln!(rt; "live_check: cannot start {PYTHON}");
-            Err(error)
+            let _written = eprintln!(rt; "live_check: {PYTHON}: {error}");
+            1
         }
     }
 }

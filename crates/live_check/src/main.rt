@@ -1,5 +1,6 @@
 //! Runs the launcher as its users do, and prints what it, its clients and its jobs say. The program starts itself: with no
-//! word it plays the scenes, as `live_check jobd ..` it is the launcher, and as `live_check jobctl ..` the control program.
+//! word it has all scenes played, as `live_check play` it plays those that are lists of steps, as `live_check jobd ..` it is the
+//! launcher, and as `live_check jobctl ..` the control program.
 #![tactic(auto)]
 
 mod asking;
@@ -16,6 +17,7 @@ mod step;
 use control_client::jobctl;
 use daemon::jobd;
 use live_loop::System;
+use stage::PLAY;
 use std::net::{TcpListener, TcpStream};
 use std::process::ExitCode;
 use std::sync::Wait;
@@ -31,7 +33,8 @@ fn words_of(rt: &HostRuntime) -> io::Result<Vec<String>> {
 
 fn status_of<W: System + Wait>(rt: &HostRuntime, waits: &W, words: &[String]) -> u8 {
     match words.first() {
-        None => player::play_all(rt),
+        None => edge::play_all(rt),
+        Some(word) if word.as_str() == PLAY => player::play_own(rt),
         Some(word) if word.as_str() == "jobd" => jobd(rt, waits, rt.alloc(), words),
         Some(_) => jobctl(rt, rt.alloc(), words),
     }

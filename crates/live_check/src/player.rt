@@ -1,17 +1,17 @@
-//! Plays the scenes.
+//! Plays the scenes that are lists of steps.
 
 use crate::asking::{ask, comes_to_tell, list, run};
 use crate::calling::{begin, call, call_port, finish, send};
-use crate::edge::play_edge;
 use crate::files::{comes_to_have, comes_to_hold, is_there};
 use crate::journal::{compare, replay};
 use crate::scenes::{
-    AROUND, CALLERS, CRASHED, DEMANDS, ENDS, FAULTS, FULL, KILLED, REQUESTS, SETTINGS, THERE,
-    TOGETHER,
+    AROUND, CALLERS, CRASHED, DEMANDS, ENDS, FAULTS, KILLED, REQUESTS, SETTINGS, THERE, TOGETHER,
 };
 use crate::serving::{end, kill, serve};
 use crate::stage::Stage;
 use crate::step::Step;
+use std::fs::DirBuilder;
+use std::os::unix::fs::DirBuilderExt;
 use std::{fs, io};
 
 fn make(rt: &HostRuntime, stage: &Stage, name: &str, text: &str) -> io::Result<()> {
@@ -22,7 +22,7 @@ fn make(rt: &HostRuntime, stage: &Stage, name: &str, text: &str) -> io::Result<(
 
 fn make_folder(rt: &HostRuntime, stage: &Stage, name: &str) -> io::Result<()> {
     let path = stage.path(rt.alloc(), name)?;
-    fs::create_dir(rt, path.as_str())
+    DirBuilder::new().mode(0o700).create(rt, path.as_str())
 }
 
 fn tell_wait(rt: &HostRuntime, name: &str, came: bool) -> io::Result<()> {
@@ -116,8 +116,7 @@ fn play_scene(rt: &HostRuntime, name: &str, steps: &[Step]) -> io::Result<()> {
 fn play_requests(rt: &HostRuntime) -> io::Result<()> {
     play_scene(rt, "requests", REQUESTS)?;
     play_scene(rt, "settings", SETTINGS)?;
-    play_scene(rt, "faults", FAULTS)?;
-    play_scene(rt, "full", FULL)
+    play_scene(rt, "faults", FAULTS)
 }
 
 fn play_jobs(rt: &HostRuntime) -> io::Result<()> {
@@ -140,16 +139,10 @@ fn play_scenes(rt: &HostRuntime) -> io::Result<()> {
     play_states(rt)
 }
 
-fn play_both(rt: &HostRuntime) -> io::Result<bool> {
-    play_scenes(rt)?;
-    play_edge(rt)
-}
-
-/// Plays each scene. The status is 0, or 1 if a step could not be made, or a scene of the edge failed.
-pub fn play_all(rt: &HostRuntime) -> u8 {
-    match play_both(rt) {
-        Ok(true) => 0,
-        Ok(false) => 1,
+/// Plays each scene that is a list of steps. The status is 0, or 1 if a step could not be made.
+pub fn play_own(rt: &HostRuntime) -> u8 {
+    match play_scenes(rt) {
+        Ok(()) => 0,
         Err(error) => {
             let _written = eprintln!(rt; "live_check: {error}");
             1

@@ -7,6 +7,9 @@ use std::os::unix::net::UnixStream;
 use std::process::{Child, Command, Processes};
 use std::{env, fs, io, process};
 
+/// The word by which this program plays the scenes that are lists of steps.
+pub const PLAY: &str = "play";
+
 /// A launcher that was started.
 pub type Launcher = Child<<HostRuntime as Processes>::Started>;
 
@@ -40,14 +43,15 @@ pub fn own_path(rt: &HostRuntime) -> io::Result<String> {
     }
 }
 
-/// What this process was started with behind its program, with a blank after each word. A scene is played if that is no word
-/// of its own.
+/// What this process was started with behind its program and before a word of its own, with a blank after each word.
 pub fn own_front(rt: &HostRuntime) -> io::Result<String> {
     let told = fs::read_to_string(rt, "/proc/self/cmdline")?;
     let mut front = String::new(rt.alloc());
     for word in told.split('\0').skip(1) {
-        front.push_str(word)?;
-        front.push(' ')?;
+        if word != PLAY {
+            front.push_str(word)?;
+            front.push(' ')?;
+        }
     }
     Ok(front)
 }

@@ -1,14 +1,15 @@
 //! A client of a job's socket whose request still comes.
 
+use crate::losses::Loss;
 use child_edge::Client;
-use history_model::JobNo;
+use history_model::{JobNo, SECOND};
 use mio::{Interest, Registry, Token};
 use socket_demand::Exchange;
 use std::io;
 use std::io::ErrorKind;
 
 /// What became of a client's request in a round.
-#[derive(Clone, Copy, PartialEq, Eq)]
+#[derive(Clone, Copy)]
 pub(crate) enum Gathered {
     /// No more has come.
     Waits,
@@ -16,23 +17,35 @@ pub(crate) enum Gathered {
     MayGoOn,
     /// The client closed its half: the request is whole.
     Whole,
-    /// The request is too long, or the client is gone.
-    Lost,
+    /// The client is gone, or is to be let go for this reason.
+    Lost(Option<Loss>),
 }
 
 /// As many pieces are read in a round.
 const PIECES: u32 = 16;
 
-/// A client, by the bind that gave the job the socket to which it came. The job's number alone does not tell: another job may
+/// A client of which nothing comes for so many milliseconds is let go.
+const LONGEST_SILENCE: u64 = 60 * SECOND;
+
+/// To whose sockets a client came: the job, and the bind that gave it these. The job's number alone does not tell: another job may
 /// have it since.
-#[derive(Drop)]
-pub(crate) struct Caller {
+#[derive(Clone, Copy)]
+pub(crate) struct Origin {
     pub(crate) job: JobNo,
     pub(crate) bind: u64,
+}
+
+#[derive(Drop)]
+pub(crate) struct Caller {
+    pub(crate) origin: Origin,
     pub(crate) client: Client,
     pub(crate) exchange: Exchange,
-    // Bytes came in the last round.
-    pub(crate) is_heard: bool,
+    // The `up` at which bytes came last, or the client itself.
+    pub(crate) heard_at: u64,
+    // Something may be there to be read.
+    pub(crate) is_ready: bool,
+    // It was not read yet.
+    pub(crate) is_new: bool,
 }
 
 impl Caller {
@@ -45,11 +58,14 @@ impl Caller {
         }
     }
 
-    /// Takes what came of the request, at most 65,536 bytes.
-    pub(crate) fn gather(&mut self) -> Gathered {
-        self.is_heard = false;
+    /// Takes what came of the request by this `up`, at most 65,536 bytes.
+    pub(crate) fn gather(&mut self, up: u64) -> Gathered {
+        if !self.is_ready {
+            return self.waits(up);
+        }
+        self.is_new = false;
         for _ in 0..PIECES {
-            match self.read() {
+            match self.read(up) {
                 Gathered::MayGoOn => {}
                 gathered => return gathered,
             }
@@ -57,24 +73,35 @@ impl Caller {
         Gathered::MayGoOn
     }
 
-    fn read(&mut self) -> Gathered {
+    fn waits(&self, up: u64) -> Gathered {
+        if up.saturating_sub(self.heard_at) >= LONGEST_SILENCE {
+            Gathered::Lost(Some(Loss::Silent))
+        } else {
+            Gathered::Waits
+        }
+    }
+
+    fn read(&mut self, up: u64) -> Gathered {
         let mut piece = [0u8; 4096];
         match self.client.read(&mut piece) {
             Ok(0) => Gathered::Whole,
-            Ok(count) => self.take(&piece[..count]),
+            Ok(count) => self.take(&piece[..count], up),
             Err(error) => match error.kind() {
-                ErrorKind::WouldBlock => Gathered::Waits,
+                ErrorKind::WouldBlock => {
+                    self.is_ready = false;
+                    Gathered::Waits
+                }
                 ErrorKind::Interrupted => Gathered::MayGoOn,
-                _ => Gathered::Lost,
+                _ => Gathered::Lost(Loss::of_read(error)),
             },
         }
     }
 
-    fn take(&mut self, piece: &[u8]) -> Gathered {
-        self.is_heard = true;
+    fn take(&mut self, piece: &[u8], up: u64) -> Gathered {
+        self.heard_at = up;
         match self.exchange.request(piece) {
             Ok(()) => Gathered::MayGoOn,
-            Err(_) => Gathered::Lost,
+            Err(_) => Gathered::Lost(Some(Loss::TooLong)),
         }
     }
 }

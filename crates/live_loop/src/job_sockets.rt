@@ -1,49 +1,67 @@
 //! The clients of jobs' sockets, from their coming to the end of their request. Then the edge of the system has them.
 
-use crate::caller::{Caller, Gathered};
+use crate::caller::{Caller, Gathered, Origin};
+use crate::callers::{CALLERS, Callers};
+use crate::losses::{Loss, Losses};
+use crate::round_time::RoundTime;
+use crate::silence::Place;
 use crate::system::System;
 use child_edge::{Client, OsEdge, SocketEdge};
-use history_model::{JobNo, MAX_JOBS};
+use control_socket::Limit;
+use history_model::{JobNo, MAX_JOBS, Refusal, Text};
 use launcher::Input;
 use launcher_turn::LabelRoom;
 use load_asking::SettingStore;
 use mio::{Registry, Token};
 use round_findings::Inputs;
-use slab::Slab;
-use socket_demand::Exchange;
 use std::alloc::{AllocError, Global};
 use std::io::Write;
-use std::process::Processes;
 
 /// Under this token clients that come wake the poll.
-pub(crate) const COMING: Token = Token(1);
+const COMING: Token = Token(1);
 
-/// Under this token what clients send and take wakes the poll.
-const SENDING: Token = Token(2);
-
-/// As many clients are heard at a time; further ones are closed.
-const CALLERS: usize = 64;
+/// As many clients of a job are taken in a round.
+const TAKEN: usize = 128;
 
 /// The clients whose request still comes, and the number of the next whole one. The numbers rise through all loads of all
 /// jobs, so none is used twice.
 #[derive(Drop)]
 pub(crate) struct JobSockets {
-    alloc: Global,
-    callers: Slab<Caller>,
+    callers: Callers,
+    losses: Losses,
+    label: LabelRoom,
     conn: u64,
     // Clients may have come since all sockets were tried.
     may_have_come: bool,
+    // The next round tries the sockets of this job first, or of the next above it.
+    first_job: JobNo,
+    // The next round hears the client of this key first, or the next above it.
+    first_key: usize,
 }
 
 impl JobSockets {
     pub(crate) fn new(alloc: Global) -> Result<JobSockets, AllocError> {
-        let callers = Slab::with_capacity(alloc, CALLERS)?;
+        let callers = Callers::new(alloc)?;
+        let label = LabelRoom::new(alloc)?;
         Ok(JobSockets {
-            alloc,
             callers,
+            losses: Losses::new(alloc),
+            label,
             conn: 1,
             may_have_come: true,
+            first_job: 0,
+            first_key: 0,
         })
+    }
+
+    /// From now on as many clients are heard at a time, and a quarter of them of one job.
+    pub(crate) fn set_room(&mut self, callers: usize) {
+        self.callers.set_room(callers);
+    }
+
+    /// The next line on a client that was let go, without a newline.
+    pub(crate) fn next_notice(&mut self) -> Option<Text> {
+        self.losses.next()
     }
 
     /// The sockets are to be tried in this round.
@@ -51,92 +69,147 @@ impl JobSockets {
         self.may_have_come = true;
     }
 
-    /// Takes the clients that wait at the sockets, if some may have come. Those past the limit are closed. It says whether
-    /// one came.
-    pub(crate) fn accept<R: Processes>(
-        &mut self,
-        registry: &Registry,
-        edge: &mut OsEdge<R>,
-    ) -> bool {
-        // A registration that is refused is tried again in the next round.
-        let _ = edge.register(registry, COMING);
-        if !self.may_have_come {
-            return false;
+    /// The poll was woken under this token.
+    pub(crate) fn wake_by(&mut self, token: Token) {
+        if token == COMING {
+            self.may_have_come = true;
+        } else {
+            self.callers.wake(token);
         }
-        self.may_have_come = false;
-        let mut has_come = false;
-        let mut job = edge.listener_from(0);
-        for _ in 0..MAX_JOBS {
-            let Some(number) = job else {
-                break;
-            };
-            has_come = self.accept_for(registry, edge, number) || has_come;
-            job = edge.listener_from(number.saturating_add(1));
-        }
-        has_come
     }
 
-    // Takes the clients of one job. If they are many, the others are left for the next round.
-    fn accept_for<R: Processes>(
+    /// Takes the clients that wait at the sockets, if some may have come. Where there is no time left, those of the other jobs are
+    /// left for the next round.
+    pub(crate) fn accept<T: SettingStore, R: System, W: Write>(
         &mut self,
         registry: &Registry,
-        edge: &mut OsEdge<R>,
+        inputs: &mut Inputs<T, OsEdge<R>, W>,
+        time: &mut RoundTime<'_, R>,
+    ) {
+        // Sockets that the poll refuses are tried in each round.
+        if inputs.host.edge().register(registry, COMING).is_err() {
+            self.may_have_come = true;
+        }
+        if !self.may_have_come {
+            return;
+        }
+        // A round that does not begin with the first job is followed by one that does.
+        self.may_have_come = self.first_job > 0;
+        let mut next = self.first_job;
+        self.first_job = 0;
+        for _ in 0..MAX_JOBS {
+            let Some(job) = inputs.host.edge().listener_from(next) else {
+                return;
+            };
+            next = job.saturating_add(1);
+            if self.accept_for(registry, inputs, job) && !time.has_time() {
+                self.first_job = next;
+                self.may_have_come = true;
+                return;
+            }
+        }
+    }
+
+    // Takes the clients of one job. If they are many, or there is no room for all before the first are read, the others are left
+    // for the next round. It says whether one came.
+    fn accept_for<T: SettingStore, R: System, W: Write>(
+        &mut self,
+        registry: &Registry,
+        inputs: &mut Inputs<T, OsEdge<R>, W>,
         job: JobNo,
     ) -> bool {
-        let Some(bind) = edge.bind_of(job) else {
+        let Some(bind) = inputs.host.edge().bind_of(job) else {
             return false;
         };
-        let mut has_come = false;
-        for _ in 0..2 * CALLERS {
-            let Some(client) = edge.accept(job) else {
-                return has_come;
+        let origin = Origin { job, bind };
+        for count in 0..TAKEN {
+            let place = self.callers.place(bind, inputs.at().up);
+            if !matches!(place, Place::Free) && self.callers.has_new(bind) {
+                break;
+            }
+            let Some(client) = inputs.host.edge().accept(job) else {
+                return count > 0;
             };
-            has_come = true;
-            self.welcome(registry, job, bind, client);
+            inputs.stir();
+            self.welcome(registry, inputs, origin, client, place);
         }
         self.may_have_come = true;
-        has_come
+        true
     }
 
-    fn welcome(&mut self, registry: &Registry, job: JobNo, bind: u64, client: Client) {
-        if self.callers.len() >= CALLERS {
-            return;
+    fn welcome<T: SettingStore, R: System, W: Write>(
+        &mut self,
+        registry: &Registry,
+        inputs: &mut Inputs<T, OsEdge<R>, W>,
+        origin: Origin,
+        client: Client,
+        place: Place,
+    ) {
+        match place {
+            Place::Free => {}
+            Place::Of(key) => self.let_go(inputs, key, Some(Loss::Displaced)),
+            Place::Nowhere => {
+                self.tell(inputs, origin, Loss::Crowded);
+                return;
+            }
         }
-        let Ok(exchange) = Exchange::new(self.alloc) else {
-            return;
-        };
-        let mut caller = Caller {
-            job,
-            bind,
-            client,
-            exchange,
-            is_heard: false,
-        };
-        if caller.register(registry, SENDING).is_ok() {
-            let _ = self.callers.insert(caller);
+        let up = inputs.at().up;
+        if let Err(loss) = self.callers.welcome(registry, origin, client, up) {
+            self.tell(inputs, origin, loss);
         }
     }
 
-    /// Takes what the clients have sent, and hands in those whose request is whole. It says whether one may go on at once.
+    fn let_go<T: SettingStore, R: System, W: Write>(
+        &mut self,
+        inputs: &mut Inputs<T, OsEdge<R>, W>,
+        key: usize,
+        loss: Option<Loss>,
+    ) {
+        let Some(caller) = self.callers.remove(key) else {
+            return;
+        };
+        if let Some(loss) = loss {
+            self.tell(inputs, caller.origin, loss);
+        }
+    }
+
+    // A loss is told of a job that has its sockets still.
+    fn tell<T: SettingStore, R: System, W: Write>(
+        &mut self,
+        inputs: &mut Inputs<T, OsEdge<R>, W>,
+        origin: Origin,
+        loss: Loss,
+    ) {
+        if has_sockets(inputs, origin) {
+            let label = inputs.host.table().last_step().label(origin.job);
+            self.losses.note(origin, label, loss);
+        }
+    }
+
+    /// Takes what the clients have sent, and hands in those whose request is whole. Where there is no time left, the other clients
+    /// are left for the next round. It says whether one may go on at once.
     pub(crate) fn gather<T: SettingStore, R: System, W: Write>(
         &mut self,
         alloc: Global,
         inputs: &mut Inputs<T, OsEdge<R>, W>,
-        label: &mut LabelRoom,
+        time: &mut RoundTime<'_, R>,
     ) -> bool {
+        if self.callers.is_empty() {
+            return false;
+        }
+        let first = self.first_key;
         let mut is_busy = false;
-        for key in 0..CALLERS {
+        for step in 0..CALLERS {
+            let key = first.wrapping_add(step) % CALLERS;
             match self.gathered(inputs, key) {
-                Gathered::Waits => {}
+                Gathered::Waits => continue,
                 Gathered::MayGoOn => is_busy = true,
-                Gathered::Whole => {
-                    if let Some(caller) = self.callers.try_remove(key) {
-                        self.hand_in(alloc, inputs, label, caller);
-                    }
-                }
-                Gathered::Lost => {
-                    let _lost = self.callers.try_remove(key);
-                }
+                Gathered::Whole => self.hand_in(alloc, inputs, key),
+                Gathered::Lost(loss) => self.let_go(inputs, key, loss),
+            }
+            if !time.has_time() {
+                self.first_key = key.wrapping_add(1) % CALLERS;
+                return true;
             }
         }
         is_busy
@@ -152,11 +225,12 @@ impl JobSockets {
         let Some(caller) = self.callers.get_mut(key) else {
             return Gathered::Waits;
         };
-        if inputs.host.edge().bind_of(caller.job) != Some(caller.bind) {
-            return Gathered::Lost;
+        if !has_sockets(inputs, caller.origin) {
+            return Gathered::Lost(None);
         }
-        let gathered = caller.gather();
-        if caller.is_heard {
+        let up = inputs.at().up;
+        let gathered = caller.gather(up);
+        if caller.heard_at == up {
             inputs.stir();
         }
         gathered
@@ -167,30 +241,43 @@ impl JobSockets {
         &mut self,
         alloc: Global,
         inputs: &mut Inputs<T, OsEdge<R>, W>,
-        label: &mut LabelRoom,
-        caller: Caller,
+        key: usize,
     ) {
+        let Some(caller) = self.callers.remove(key) else {
+            return;
+        };
         let Caller {
-            job,
+            origin,
             client,
             exchange,
             ..
         } = caller;
+        let job = origin.job;
         let conn = self.conn;
         self.conn = conn.saturating_add(1);
-        if inputs
-            .host
-            .edge()
-            .take(job, conn, client, exchange)
-            .is_err()
-        {
+        let taken = inputs.host.edge().take(job, conn, client, exchange);
+        if taken.is_err() {
             return;
         }
-        label.copy(inputs.host.table().last_step().label(job));
-        if !came(alloc, inputs, label.as_str(), conn) {
-            inputs.host.edge().close(job, conn);
+        self.label.copy(inputs.host.table().last_step().label(job));
+        match came(alloc, inputs, self.label.as_str(), conn) {
+            None => self.losses.came_through(job),
+            Some(refusal) => {
+                inputs.host.edge().close(job, conn);
+                if let Some(loss) = Loss::of_refusal(refusal) {
+                    self.tell(inputs, origin, loss);
+                }
+            }
         }
     }
+}
+
+// Whether the job has the same sockets still.
+fn has_sockets<T: SettingStore, R: System, W: Write>(
+    inputs: &mut Inputs<T, OsEdge<R>, W>,
+    origin: Origin,
+) -> bool {
+    inputs.host.edge().bind_of(origin.job) == Some(origin.bind)
 }
 
 fn came<T: SettingStore, R: System, W: Write>(
@@ -198,9 +285,6 @@ fn came<T: SettingStore, R: System, W: Write>(
     inputs: &mut Inputs<T, OsEdge<R>, W>,
     label: &str,
     conn: u64,
-) -> bool {
-    inputs
-        .give(alloc, Input::Came(label, conn))
-        .refusal
-        .is_none()
+) -> Option<Refusal> {
+    inputs.give(alloc, Input::Came(label, conn)).refusal
 }

@@ -4,16 +4,23 @@
 #![tactic(auto)]
 
 mod caller;
+mod callers;
 mod children;
 mod fault;
 mod job_sockets;
 mod live;
+mod losses;
+mod round_time;
 mod rounds;
+mod silence;
 mod system;
+mod telling;
+mod voice;
 mod waiting;
 
 pub use fault::ServeFault;
 pub use live::Live;
 pub use rounds::{round, serve};
+pub use silence::{CallerRoom, Heard, Place, place_for};
 pub use system::System;
 pub use waiting::{next_pause, round_wait};

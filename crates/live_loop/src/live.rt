@@ -3,8 +3,9 @@
 use crate::fault::ServeFault;
 use crate::job_sockets::JobSockets;
 use crate::system::System;
+use crate::voice::Voice;
 use crate::waiting::SHORTEST;
-use child_edge::OsEdge;
+use child_edge::{Notice, OsEdge};
 use control_socket::ControlSocket;
 use launcher::Host;
 use launcher_turn::LabelRoom;
@@ -17,7 +18,7 @@ use std::io::Write;
 /// Under this token the control socket and its clients wake the poll.
 const CONTROL: Token = Token(0);
 
-/// As many events are told at a time. More of them only wake the next round.
+/// As many events are told at a time. The others are told in the next round.
 const EVENTS: usize = 128;
 
 /// A launcher over the real system, with its control socket, the poll that both wait on, and what its rounds remember of one
@@ -31,6 +32,11 @@ pub struct Live<R: System, T: SettingStore, W: Write> {
     pub(crate) sights: Sights,
     pub(crate) sockets: JobSockets,
     pub(crate) label: LabelRoom,
+    pub(crate) voice: Voice,
+    // What standard error did not take.
+    pub(crate) untold: Option<Notice>,
+    // The journal was closed, and this was not told.
+    pub(crate) has_journal_closed: bool,
     // The longest wait of the next round, in milliseconds.
     pub(crate) pause: u64,
     // A client may go on at once.
@@ -74,7 +80,8 @@ fn polled<R: System>(rt: &R, control: &mut ControlSocket) -> Result<Poll, ServeF
 
 impl<R: System, T: SettingStore + Drop, W: Write + Drop> Live<R, T, W> {
     /// A launcher that waits for its first round. NoMemory, or Poll, if the system refuses the poll or the control socket's
-    /// registration. After an `Err` what was handed in is dropped; the control socket's file is left.
+    /// registration. After an `Err` what was handed in is dropped: the control socket's lock is let go, and its file and the
+    /// lock's are left. Who has the socket's mark can remove its file by that.
     pub fn new(
         rt: &R,
         alloc: Global,
@@ -95,6 +102,7 @@ impl<R: System, T: SettingStore + Drop, W: Write + Drop> Live<R, T, W> {
             sockets,
             label,
         } = rooms;
+        let voice = Voice::new(poll.registry());
         Ok(Live {
             inputs,
             control,
@@ -103,9 +111,26 @@ impl<R: System, T: SettingStore + Drop, W: Write + Drop> Live<R, T, W> {
             sights,
             sockets,
             label,
+            voice,
+            untold: None,
+            has_journal_closed: false,
             pause: SHORTEST,
             is_busy: false,
             ended_at: None,
         })
+    }
+}
+
+impl<R: System, T: SettingStore, W: Write> Live<R, T, W> {
+    /// From now on each line on standard error begins with its level, as the journal of systemd takes it: `<4>` for what was
+    /// refused, `<6>` for what became of a run. Takes no memory.
+    pub fn set_leveled(&mut self) {
+        self.voice.set_leveled();
+    }
+
+    /// From now on as many clients of jobs' sockets are heard at a time, at most 256 (which is the number if this was never
+    /// called), and a quarter of them, at most 64, of one job. Takes no memory.
+    pub fn set_room(&mut self, callers: usize) {
+        self.sockets.set_room(callers);
     }
 }

@@ -2,9 +2,11 @@
 
 use crate::children::poll_children;
 use crate::fault::ServeFault;
-use crate::job_sockets::COMING;
 use crate::live::Live;
+use crate::round_time::RoundTime;
 use crate::system::System;
+use crate::telling::tell;
+use crate::voice::TAKING;
 use crate::waiting::{next_pause, round_wait};
 use history_model::SECOND;
 use load_asking::SettingStore;
@@ -13,36 +15,40 @@ use std::io::Write;
 use std::sync::Wait;
 use std::time::Duration;
 
-/// As many milliseconds of `up` a launcher with no job left waits for clients that don't take their reply.
+/// As many milliseconds of `up` a launcher with no job left waits for clients that don't take their reply, or ask on and on, and
+/// for a standard error that takes nothing.
 const PATIENCE: u64 = SECOND;
 
 /// One round. It waits at most a tenth of a second, reads the clock, asks about each child, looks at the listed paths once in
 /// 1,000 milliseconds of `up`, serves the control clients and takes new ones, and does the same for the clients of jobs'
-/// sockets. What it finds is handed to the launcher, one by one.
+/// sockets. What it finds is handed to the launcher, one by one. In the end it tells what was refused, and what became of runs,
+/// in a line each on standard error.
 ///
-/// True: a shutdown was accepted, no job is left, and the control clients have their replies, or did not take them in a
-/// second. Poll, if the system refuses to wait; nothing was done then.
+/// Control clients are served for 20 milliseconds at most, and a line longer; then clients of jobs' sockets for as long. What is
+/// left is for the next round, which does not wait.
+///
+/// True: a shutdown was accepted, no job is left, and the control clients have their replies, or a second has passed since.
+/// Poll, if the system refuses to wait; nothing was done then.
 pub fn round<R: System, T: SettingStore, W: Write>(
     rt: &R,
     alloc: Global,
     live: &mut Live<R, T, W>,
 ) -> Result<bool, ServeFault> {
-    wait(live)?;
+    let time = Duration::from_millis(next_wait(live));
+    wait(live, time)?;
     live.inputs.begin(alloc);
     poll_children(alloc, &mut live.inputs, &mut live.label);
-    let is_look = live.sights.look(alloc, &mut live.inputs);
-    if is_look || live.events.iter().any(|event| event.token() == COMING) {
+    if live.sights.look(alloc, &mut live.inputs) {
         live.sockets.wake();
     }
-    serve_clients(alloc, live);
-    if live.inputs.host.report_journal_closing() {
-        let _ = eprintln!(rt; "jobd: journal refused");
-    }
+    serve_clients(rt, alloc, live);
+    tell(rt, alloc, live);
     live.pause = next_pause(live.inputs.is_active(), live.pause);
     Ok(is_over(live))
 }
 
-/// Rounds, until one says that it was the last. The control socket's file is then removed.
+/// Rounds, until one says that it was the last, or the system refuses to wait. In each case the control socket's file is then
+/// removed, and the connections of jobs are let go with their files; the children live on.
 pub fn serve<R: System + Wait, T: SettingStore + Drop, W: Write + Drop>(
     rt: &R,
     alloc: Global,
@@ -50,23 +56,47 @@ pub fn serve<R: System + Wait, T: SettingStore + Drop, W: Write + Drop>(
 ) -> Result<(), ServeFault> {
     let mut live = live;
     for _ in rt.forever() {
-        if round(rt, alloc, &mut live)? {
-            live.control.remove(rt);
-            return Ok(());
+        let end = match round(rt, alloc, &mut live) {
+            Ok(false) => None,
+            Ok(true) => Some(Ok(())),
+            Err(fault) => Some(Err(fault)),
+        };
+        if let Some(answer) = end {
+            close(rt, alloc, &mut live);
+            return answer;
         }
     }
     unreachable!()
 }
 
-// Waits for readiness, no longer than until the next moment of the table and the next look.
-fn wait<R: System, T: SettingStore, W: Write>(live: &mut Live<R, T, W>) -> Result<(), ServeFault> {
-    let time = Duration::from_millis(next_wait(live));
-    match live.poll.poll(&mut live.events, Some(time)) {
-        Ok(()) => Ok(()),
-        Err(_) => Err(ServeFault::Poll),
-    }
+fn close<R: System, T: SettingStore, W: Write>(rt: &R, alloc: Global, live: &mut Live<R, T, W>) {
+    live.control.remove(rt);
+    live.inputs.host.edge().let_all_go();
+    let _polled = wait(live, Duration::ZERO);
+    tell(rt, alloc, live);
 }
 
+// Waits for readiness.
+fn wait<R: System, T: SettingStore, W: Write>(
+    live: &mut Live<R, T, W>,
+    time: Duration,
+) -> Result<(), ServeFault> {
+    match live.poll.poll(&mut live.events, Some(time)) {
+        Ok(()) => {}
+        Err(_) => return Err(ServeFault::Poll),
+    }
+    for event in live.events.iter() {
+        let token = event.token();
+        if token == TAKING {
+            live.voice.wake();
+        } else {
+            live.sockets.wake_by(token);
+        }
+    }
+    Ok(())
+}
+
+// No longer than until the next moment of the table and the next look.
 fn next_wait<R: System, T: SettingStore, W: Write>(live: &mut Live<R, T, W>) -> u64 {
     if live.is_busy {
         return 0;
@@ -76,30 +106,30 @@ fn next_wait<R: System, T: SettingStore, W: Write>(live: &mut Live<R, T, W>) -> 
     round_wait(live.pause, up, live.inputs.next_moment(), look)
 }
 
-fn serve_clients<R: System, T: SettingStore, W: Write>(alloc: Global, live: &mut Live<R, T, W>) {
-    let is_asking = live.control.serve(alloc, &mut live.inputs);
+fn serve_clients<R: System, T: SettingStore, W: Write>(
+    rt: &R,
+    alloc: Global,
+    live: &mut Live<R, T, W>,
+) {
+    let up = live.inputs.at().up;
+    let mut time = RoundTime::begin(rt, up);
+    let is_asking = live.control.serve(alloc, &mut live.inputs, &mut time);
     live.control.accept(live.poll.registry());
-    let edge = live.inputs.host.edge();
-    if live.sockets.accept(live.poll.registry(), edge) {
-        live.inputs.stir();
-    }
-    let is_sending = live
-        .sockets
-        .gather(alloc, &mut live.inputs, &mut live.label);
+    let mut time = RoundTime::begin(rt, up);
+    live.sockets
+        .accept(live.poll.registry(), &mut live.inputs, &mut time);
+    let is_sending = live.sockets.gather(alloc, &mut live.inputs, &mut time);
     let is_taking = live.inputs.host.edge().forward();
     live.is_busy = is_asking || is_sending || is_taking;
 }
 
 fn is_over<R: System, T: SettingStore, W: Write>(live: &mut Live<R, T, W>) -> bool {
-    if live.is_busy || !live.inputs.has_ended() {
+    if !live.inputs.has_ended() {
         return false;
     }
     let up = live.inputs.at().up;
-    match live.ended_at {
-        None => {
-            live.ended_at = Some(up);
-            live.control.is_quiet()
-        }
-        Some(ended_at) => live.control.is_quiet() || ended_at.saturating_add(PATIENCE) <= up,
-    }
+    let ended_at = live.ended_at.unwrap_or(up);
+    live.ended_at = Some(ended_at);
+    let is_quiet = !live.is_busy && live.untold.is_none() && live.control.is_quiet();
+    is_quiet || ended_at.saturating_add(PATIENCE) <= up
 }

@@ -13,7 +13,7 @@ use crate::{coming_after, sooner};
 use history_model::{MAX_UP, SECOND};
 use std::marker::Model;
 
-/// What a run is told by.
+/// The signal that ends a run.
 #[derive(Clone, Copy)]
 pub enum Signal {
     Term,

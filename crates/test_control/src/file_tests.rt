@@ -1,99 +1,127 @@
-//! The socket's file.
+//! What is expected of the socket's file and of its lock, step by step.
 
-use crate::stage::path_of;
-use control_socket::ControlSocket;
+use crate::file_stage::play_files;
+use crate::file_steps::FileStep;
+use crate::file_steps::FileStep::*;
 use std::io::ErrorKind;
-use std::os::unix::fs::{FileTypeExt, PermissionsExt};
 use std::test::Fail;
-use std::{fs, io};
 
-fn open(rt: &HostRuntime, path: &str) -> io::Result<ControlSocket> {
-    ControlSocket::open(rt, rt.alloc(), path)
-}
-
-/// Why the socket is not opened at the path.
-fn refusal(rt: &HostRuntime, path: &str) -> Option<ErrorKind> {
-    match open(rt, path) {
-        Ok(_) => None,
-        Err(error) => Some(error.kind()),
-    }
-}
-
-fn is_there(rt: &HostRuntime, path: &str) -> bool {
-    fs::symlink_metadata(rt, path).is_ok()
-}
-
-/// Whether a socket is at the path that its owner alone may call.
-fn is_private(rt: &HostRuntime, path: &str) -> io::Result<bool> {
-    let data = fs::symlink_metadata(rt, path)?;
-    Ok(data.file_type().is_socket() && data.permissions().mode() & 0o777 == 0o600)
-}
+static THE_FILES_ARE_PRIVATE_AND_GO_AT_THE_END: &[FileStep] = &[
+    Opens(0),
+    ArePrivate,
+    Removes(0),
+    Absent(""),
+    Absent(".lock"),
+    Removes(0),
+];
 
 #[test]
-fn the_file_is_private_and_goes_at_the_end(rt: HostRuntime) -> Result<(), Fail> {
-    let path = path_of(&rt, "private")?;
-    let socket = open(&rt, path.as_str())?;
-    assert!(rt; is_private(&rt, path.as_str())?);
-    socket.remove(&rt);
-    assert!(rt; !is_there(&rt, path.as_str()));
-    socket.remove(&rt);
-    Ok(())
+fn the_files_are_private_and_go_at_the_end(rt: HostRuntime) -> Result<(), Fail> {
+    play_files(&rt, "private", THE_FILES_ARE_PRIVATE_AND_GO_AT_THE_END)
 }
 
-#[test]
-fn a_socket_without_listener_is_replaced(rt: HostRuntime) -> Result<(), Fail> {
-    let path = path_of(&rt, "stale")?;
-    drop(open(&rt, path.as_str())?);
-    assert!(rt; is_there(&rt, path.as_str()));
-    let socket = open(&rt, path.as_str())?;
-    assert!(rt; is_private(&rt, path.as_str())?);
-    socket.remove(&rt);
-    Ok(())
-}
+static WHAT_A_LAUNCHER_LEFT_IS_REPLACED: &[FileStep] = &[
+    Opens(0),
+    Ends(0),
+    ArePrivate,
+    Opens(1),
+    ArePrivate,
+    Removes(1),
+    Absent(""),
+    Absent(".lock"),
+];
 
 #[test]
-fn a_socket_with_a_listener_is_left(rt: HostRuntime) -> Result<(), Fail> {
-    let path = path_of(&rt, "live")?;
-    let socket = open(&rt, path.as_str())?;
-    assert_eq!(rt; refusal(&rt, path.as_str()), Some(ErrorKind::AddrInUse));
-    assert!(rt; is_private(&rt, path.as_str())?);
-    socket.remove(&rt);
-    Ok(())
+fn what_a_launcher_left_is_replaced(rt: HostRuntime) -> Result<(), Fail> {
+    play_files(&rt, "stale", WHAT_A_LAUNCHER_LEFT_IS_REPLACED)
 }
+
+/// The path is the first one's as long as it lives, also if its socket's file or its lock's was removed.
+static A_SECOND_LAUNCHER_IS_REFUSED: &[FileStep] = &[
+    Opens(0),
+    Refused(ErrorKind::AddrInUse),
+    ArePrivate,
+    Unlink(""),
+    Refused(ErrorKind::AddrInUse),
+    Absent(""),
+    There(".lock"),
+    Ends(0),
+    Opens(1),
+    Unlink(".lock"),
+    Refused(ErrorKind::AddrInUse),
+    There(""),
+    Absent(".lock"),
+    Removes(1),
+    Absent(""),
+];
+
+#[test]
+fn a_second_launcher_is_refused(rt: HostRuntime) -> Result<(), Fail> {
+    play_files(&rt, "second", A_SECOND_LAUNCHER_IS_REFUSED)
+}
+
+static ANOTHER_FILE_IS_LEFT: &[FileStep] = &[
+    Write(""),
+    Refused(ErrorKind::AddrInUse),
+    Holds(""),
+    Absent(".lock"),
+    Unlink(""),
+    Bind,
+    Refused(ErrorKind::AddrInUse),
+    There(""),
+    Absent(".lock"),
+    Unlink(""),
+    MakeFolder(".lock"),
+    Refused(ErrorKind::AddrInUse),
+    Absent(""),
+    There(".lock"),
+];
 
 #[test]
 fn another_file_is_left(rt: HostRuntime) -> Result<(), Fail> {
-    let path = path_of(&rt, "plain")?;
-    fs::write(&rt, path.as_str(), "text")?;
-    assert_eq!(rt; refusal(&rt, path.as_str()), Some(ErrorKind::AddrInUse));
-    let text = fs::read_to_string(&rt, path.as_str())?;
-    assert_eq!(rt; text.as_str(), "text");
-    fs::remove_file(&rt, path.as_str())?;
-    Ok(())
+    play_files(&rt, "another", ANOTHER_FILE_IS_LEFT)
 }
 
+/// What somebody else put in the place of a launcher's files stays when the launcher removes its own.
+static ANOTHER_FILE_IS_NOT_REMOVED: &[FileStep] = &[
+    Opens(0),
+    Unlink(""),
+    Write(""),
+    Unlink(".lock"),
+    Write(".lock"),
+    Removes(0),
+    Holds(""),
+    Holds(".lock"),
+    Unlink(""),
+    Bind,
+    Removes(0),
+    There(""),
+];
+
 #[test]
-fn a_file_in_place_of_the_socket_is_left(rt: HostRuntime) -> Result<(), Fail> {
-    let path = path_of(&rt, "other")?;
-    let socket = open(&rt, path.as_str())?;
-    fs::remove_file(&rt, path.as_str())?;
-    fs::write(&rt, path.as_str(), "text")?;
-    socket.remove(&rt);
-    assert!(rt; is_there(&rt, path.as_str()));
-    fs::remove_file(&rt, path.as_str())?;
-    Ok(())
+fn another_file_is_not_removed(rt: HostRuntime) -> Result<(), Fail> {
+    play_files(&rt, "other", ANOTHER_FILE_IS_NOT_REMOVED)
 }
 
-/// A folder that is not there, and a path that no address holds: one of more than 107 bytes.
+static NO_FILE_IS_LEFT: &[FileStep] = &[Refused(ErrorKind::NotFound), Absent(""), Absent(".lock")];
+
 #[test]
-fn a_path_that_can_hold_no_socket_is_refused(rt: HostRuntime) -> Result<(), Fail> {
-    let path = path_of(&rt, "none/socket")?;
-    assert_eq!(rt; refusal(&rt, path.as_str()), Some(ErrorKind::NotFound));
-    let long = path_of(
+fn a_folder_that_is_not_there_is_refused(rt: HostRuntime) -> Result<(), Fail> {
+    play_files(&rt, "none/socket", NO_FILE_IS_LEFT)
+}
+
+/// No address holds a path of more than 107 bytes.
+static NO_FILE_OF_A_LONG_PATH_IS_LEFT: &[FileStep] = &[
+    Refused(ErrorKind::InvalidInput),
+    Absent(""),
+    Absent(".lock"),
+];
+
+#[test]
+fn a_path_that_no_address_holds_is_refused(rt: HostRuntime) -> Result<(), Fail> {
+    play_files(
         &rt,
-        "nnnnnnnnnnnnnnnnnnnnnnnnnnnnnnnnnnnnnnnnnnnnnnnnnnnnnnnnnnnnnnnnnnnnnnnnnnnnnnnnnnnnnnnnnnnnnnnnnnnnnnnnnn",
-    )?;
-    assert_eq!(rt; refusal(&rt, long.as_str()), Some(ErrorKind::InvalidInput));
-    assert!(rt; !is_there(&rt, long.as_str()));
-    Ok(())
+        "nnnnnnnnnnnnnnnnnnnnnnnnnnnnnnnnnnnnnnnnnnnnnnnnnnnnnnnnnnnnnnnnnnnnnnnnnnnnnnnnnnnnnnnnnnnnnnnnnnnnnnnnnnn",
+        NO_FILE_OF_A_LONG_PATH_IS_LEFT,
+    )
 }

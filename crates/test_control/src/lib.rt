@@ -3,7 +3,13 @@
 #![tactic(auto)]
 
 #[cfg(test)]
+mod budget;
+#[cfg(test)]
 mod echo;
+#[cfg(test)]
+mod file_stage;
+#[cfg(test)]
+mod file_steps;
 #[cfg(test)]
 mod file_tests;
 #[cfg(test)]
@@ -12,3 +18,5 @@ mod stage;
 mod steps;
 #[cfg(test)]
 mod tests;
+#[cfg(test)]
+mod turn_tests;

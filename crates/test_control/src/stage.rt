@@ -1,5 +1,6 @@
 //! Plays the steps of a test on a socket in the folder for temporary files.
 
+use crate::budget::Budget;
 use crate::echo::Echo;
 use crate::steps::Step;
 use control_socket::ControlSocket;
@@ -12,13 +13,14 @@ use std::test::Fail;
 use std::time::Duration;
 use std::{env, io, process};
 
-/// The socket with its poll, who answers, and the clients.
+/// The socket with its poll, who answers and for how long, and the clients.
 #[derive(Drop)]
 struct Stage {
     poll: Poll,
     events: Events,
     socket: ControlSocket,
     echo: Echo,
+    budget: Budget,
     clients: Vec<Option<UnixStream>>,
 }
 
@@ -34,13 +36,21 @@ fn path_in(alloc: Global, above: &str, id: u32, name: &str) -> Result<String, Al
     format!(in alloc; "{above}/control-{id}-{name}")
 }
 
-/// Plays the steps, and answers the number of the first that goes wrong.
-pub fn first_fault(rt: &HostRuntime, name: &str, steps: &[Step]) -> Result<Option<usize>, Fail> {
+/// Plays the steps, and fails with the number of the first that goes wrong.
+pub fn play_steps(rt: &HostRuntime, name: &str, steps: &[Step]) -> Result<(), Fail> {
     let path = path_of(rt, name)?;
     let mut stage = new_stage(rt, path.as_str())?;
     let fault = play_all(rt, path.as_str(), &mut stage, steps);
     stage.socket.remove(rt);
-    Ok(fault?)
+    passed(fault?)
+}
+
+/// A test passes unless this step of it, which is counted from 0, goes wrong.
+pub fn passed(fault: Option<usize>) -> Result<(), Fail> {
+    match fault {
+        None => Ok(()),
+        Some(number) => Err(Fail::new(format_args!("step {number} goes wrong"))),
+    }
 }
 
 fn new_stage(rt: &HostRuntime, path: &str) -> Result<Stage, Fail> {
@@ -53,6 +63,7 @@ fn new_stage(rt: &HostRuntime, path: &str) -> Result<Stage, Fail> {
         events,
         socket,
         echo: Echo::new(rt.alloc()),
+        budget: Budget::new(),
         clients: Vec::new(rt.alloc()),
     })
 }
@@ -77,11 +88,13 @@ fn play(rt: &HostRuntime, path: &str, stage: &mut Stage, step: Step) -> io::Resu
         Step::Connect(count) => stage.connect(rt, path, count),
         Step::Sends(number, text) => stage.sends(number, text, 1),
         Step::SendsTimes(number, text, count) => stage.sends(number, text, count),
+        Step::OthersSend(number, text) => stage.others_send(number, text),
         Step::SendsBlocks(number, count) => stage.sends_blocks(number, count),
         Step::SendsLetters(number, count) => stage.sends_letters(alloc, number, count),
         Step::HalfCloses(number) => Ok(stage.client(number)?.shutdown(Shutdown::Write).is_ok()),
         Step::Hears(number, text) => stage.hears(alloc, number, text, false),
         Step::HearsLast(number, text) => stage.hears(alloc, number, text, true),
+        Step::IsLetGo(number) => read_all(stage.client(number)?, &mut Vec::new(alloc)),
         Step::Gets(number, count) => stage.gets(alloc, number, count),
         Step::Woken(is_woken) => stage.is_woken(is_woken),
         _ => Ok(stage.play_plain(alloc, step)),
@@ -92,6 +105,14 @@ impl Stage {
     fn play_plain(&mut self, alloc: Global, step: Step) -> bool {
         match step {
             Step::Leaves(number) => self.leaves(number),
+            Step::Time(lines) => {
+                self.budget.lines = lines;
+                true
+            }
+            Step::Later(time) => {
+                self.budget.up = self.budget.up.saturating_add(time);
+                true
+            }
             Step::Round => self.rounds(alloc, 1),
             Step::Rounds(count) => self.rounds(alloc, count),
             Step::Busy(is_busy) => self.round(alloc) == is_busy,
@@ -104,7 +125,7 @@ impl Stage {
 
     // A round of a loop: whether a client may go on at once.
     fn round(&mut self, alloc: Global) -> bool {
-        let is_busy = self.socket.serve(alloc, &mut self.echo);
+        let is_busy = self.socket.serve(alloc, &mut self.echo, &mut self.budget);
         self.socket.accept(self.poll.registry());
         is_busy
     }
@@ -149,6 +170,18 @@ impl Stage {
             }
         }
         Ok(true)
+    }
+
+    fn others_send(&mut self, but: usize, text: &str) -> io::Result<bool> {
+        let mut is_taken = true;
+        for (number, client) in self.clients.iter_mut().enumerate() {
+            if let Some(client) = client {
+                if number != but {
+                    is_taken = is_taken && sent(client, text.as_bytes())? == text.len();
+                }
+            }
+        }
+        Ok(is_taken)
     }
 
     fn sends_blocks(&mut self, number: usize, count: usize) -> io::Result<bool> {

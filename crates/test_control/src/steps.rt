@@ -9,6 +9,8 @@ pub enum Step {
     Sends(usize, &'static str),
     /// The client sends the text so many times, which is taken whole.
     SendsTimes(usize, &'static str, usize),
+    /// Each client that is left sends the text, but for the one of this number.
+    OthersSend(usize, &'static str),
     /// The client sends so many blocks of 4,096 letters, which are taken whole.
     SendsBlocks(usize, usize),
     /// The client sends so many letters, while rounds go on.
@@ -17,6 +19,10 @@ pub enum Step {
     HalfCloses(usize),
     /// The client goes away.
     Leaves(usize),
+    /// In each further round there is time for so many lines.
+    Time(u32),
+    /// The clock goes on by so many milliseconds.
+    Later(u64),
     /// The clients are served, and then those that wait are taken.
     Round,
     /// So many rounds.
@@ -31,6 +37,8 @@ pub enum Step {
     Hears(usize, &'static str),
     /// The client has got this since the last such step, and then the end.
     HearsLast(usize, &'static str),
+    /// The client gets the end, whatever comes before it.
+    IsLetGo(usize),
     /// The client gets so many bytes, while rounds go on, and no more.
     Gets(usize, usize),
     /// Whether no reply waits to be sent.

@@ -1,6 +1,6 @@
 //! What is expected of the control socket, step by step.
 
-use crate::stage::first_fault;
+use crate::stage::play_steps;
 use crate::steps::Step;
 use crate::steps::Step::*;
 use std::test::Fail;
@@ -27,8 +27,7 @@ static A_LINE_COMES_IN_PIECES: &[Step] = &[
 
 #[test]
 fn a_line_comes_in_pieces(rt: HostRuntime) -> Result<(), Fail> {
-    assert_eq!(rt; first_fault(&rt, "pieces", A_LINE_COMES_IN_PIECES)?, None);
-    Ok(())
+    play_steps(&rt, "pieces", A_LINE_COMES_IN_PIECES)
 }
 
 static REPLIES_COME_IN_ORDER: &[Step] = &[
@@ -47,8 +46,7 @@ static REPLIES_COME_IN_ORDER: &[Step] = &[
 
 #[test]
 fn replies_come_in_order(rt: HostRuntime) -> Result<(), Fail> {
-    assert_eq!(rt; first_fault(&rt, "order", REPLIES_COME_IN_ORDER)?, None);
-    Ok(())
+    play_steps(&rt, "order", REPLIES_COME_IN_ORDER)
 }
 
 static A_LAST_LINE_WITHOUT_NEWLINE_IS_DROPPED: &[Step] = &[
@@ -63,11 +61,7 @@ static A_LAST_LINE_WITHOUT_NEWLINE_IS_DROPPED: &[Step] = &[
 
 #[test]
 fn a_last_line_without_newline_is_dropped(rt: HostRuntime) -> Result<(), Fail> {
-    assert_eq!(rt;
-        first_fault(&rt, "last", A_LAST_LINE_WITHOUT_NEWLINE_IS_DROPPED)?,
-        None
-    );
-    Ok(())
+    play_steps(&rt, "last", A_LAST_LINE_WITHOUT_NEWLINE_IS_DROPPED)
 }
 
 static A_LINE_MAY_HAVE_262144_BYTES: &[Step] = &[
@@ -87,11 +81,7 @@ static A_LINE_MAY_HAVE_262144_BYTES: &[Step] = &[
 
 #[test]
 fn a_line_may_have_262144_bytes(rt: HostRuntime) -> Result<(), Fail> {
-    assert_eq!(rt;
-        first_fault(&rt, "limit", A_LINE_MAY_HAVE_262144_BYTES)?,
-        None
-    );
-    Ok(())
+    play_steps(&rt, "limit", A_LINE_MAY_HAVE_262144_BYTES)
 }
 
 /// The lines before it are answered; it is refused once, before its newline comes, and nothing more is taken.
@@ -114,37 +104,7 @@ static A_LINE_OF_262145_BYTES_ENDS_THE_CONNECTION: &[Step] = &[
 
 #[test]
 fn a_line_of_262145_bytes_ends_the_connection(rt: HostRuntime) -> Result<(), Fail> {
-    assert_eq!(rt;
-        first_fault(&rt, "long", A_LINE_OF_262145_BYTES_ENDS_THE_CONNECTION)?,
-        None
-    );
-    Ok(())
-}
-
-/// In the round in which a client leaves, another takes its place.
-static CLIENTS_PAST_64_ARE_CLOSED: &[Step] = &[
-    Connect(65),
-    Round,
-    Hears(63, ""),
-    HearsLast(64, ""),
-    Sends(63, "a\n"),
-    Round,
-    Hears(63, "{\"code\":0,\"text\":\"a\"}\n"),
-    Leaves(5),
-    Connect(2),
-    Round,
-    Hears(65, ""),
-    HearsLast(66, ""),
-    Sends(65, "b\n"),
-    Round,
-    Hears(65, "{\"code\":0,\"text\":\"b\"}\n"),
-    Asked("a\nb\n"),
-];
-
-#[test]
-fn clients_past_64_are_closed(rt: HostRuntime) -> Result<(), Fail> {
-    assert_eq!(rt; first_fault(&rt, "many", CLIENTS_PAST_64_ARE_CLOSED)?, None);
-    Ok(())
+    play_steps(&rt, "long", A_LINE_OF_262145_BYTES_ENDS_THE_CONNECTION)
 }
 
 static A_CLIENT_MAY_LEAVE_BEFORE_ITS_REPLY: &[Step] = &[
@@ -163,11 +123,7 @@ static A_CLIENT_MAY_LEAVE_BEFORE_ITS_REPLY: &[Step] = &[
 
 #[test]
 fn a_client_may_leave_before_its_reply(rt: HostRuntime) -> Result<(), Fail> {
-    assert_eq!(rt;
-        first_fault(&rt, "leaves", A_CLIENT_MAY_LEAVE_BEFORE_ITS_REPLY)?,
-        None
-    );
-    Ok(())
+    play_steps(&rt, "leaves", A_CLIENT_MAY_LEAVE_BEFORE_ITS_REPLY)
 }
 
 /// A reply to `long` has 100,021 bytes; the system holds some two of them.
@@ -191,11 +147,7 @@ static A_CLIENT_THAT_NEVER_READS_IS_NOT_ANSWERED_ON: &[Step] = &[
 
 #[test]
 fn a_client_that_never_reads_is_not_answered_on(rt: HostRuntime) -> Result<(), Fail> {
-    assert_eq!(rt;
-        first_fault(&rt, "reads", A_CLIENT_THAT_NEVER_READS_IS_NOT_ANSWERED_ON)?,
-        None
-    );
-    Ok(())
+    play_steps(&rt, "reads", A_CLIENT_THAT_NEVER_READS_IS_NOT_ANSWERED_ON)
 }
 
 /// What is not yet sent to a client that leaves goes with it.
@@ -212,11 +164,7 @@ static A_CLIENT_THAT_NEVER_READ_MAY_LEAVE: &[Step] = &[
 
 #[test]
 fn a_client_that_never_read_may_leave(rt: HostRuntime) -> Result<(), Fail> {
-    assert_eq!(rt;
-        first_fault(&rt, "unread", A_CLIENT_THAT_NEVER_READ_MAY_LEAVE)?,
-        None
-    );
-    Ok(())
+    play_steps(&rt, "unread", A_CLIENT_THAT_NEVER_READ_MAY_LEAVE)
 }
 
 /// The 230,483 bytes of the replies are more than the system holds at once. Who waits for its client has nothing to do.
@@ -235,11 +183,7 @@ static A_HALF_CLOSED_CLIENT_MAY_READ_LATE: &[Step] = &[
 
 #[test]
 fn a_half_closed_client_may_read_late(rt: HostRuntime) -> Result<(), Fail> {
-    assert_eq!(rt;
-        first_fault(&rt, "late", A_HALF_CLOSED_CLIENT_MAY_READ_LATE)?,
-        None
-    );
-    Ok(())
+    play_steps(&rt, "late", A_HALF_CLOSED_CLIENT_MAY_READ_LATE)
 }
 
 /// At most 65,536 bytes of a client are read in a round, so that the next one has its turn.
@@ -255,11 +199,7 @@ static A_CLIENT_WITH_MUCH_TO_SAY_HOLDS_UP_NOBODY: &[Step] = &[
 
 #[test]
 fn a_client_with_much_to_say_holds_up_nobody(rt: HostRuntime) -> Result<(), Fail> {
-    assert_eq!(rt;
-        first_fault(&rt, "turns", A_CLIENT_WITH_MUCH_TO_SAY_HOLDS_UP_NOBODY)?,
-        None
-    );
-    Ok(())
+    play_steps(&rt, "turns", A_CLIENT_WITH_MUCH_TO_SAY_HOLDS_UP_NOBODY)
 }
 
 static CLIENTS_WAKE_THE_POLL: &[Step] = &[
@@ -278,6 +218,5 @@ static CLIENTS_WAKE_THE_POLL: &[Step] = &[
 
 #[test]
 fn clients_wake_the_poll(rt: HostRuntime) -> Result<(), Fail> {
-    assert_eq!(rt; first_fault(&rt, "wakes", CLIENTS_WAKE_THE_POLL)?, None);
-    Ok(())
+    play_steps(&rt, "wakes", CLIENTS_WAKE_THE_POLL)
 }

@@ -4,7 +4,8 @@ ghost use Rattle.std.specs.Prelude.{◌≤◌, length};
 
 use crate::files::pause;
 use crate::stage::Stage;
-use child_edge::Client;
+use child_edge::{ChildEdge, Client};
+use history_model::Ended;
 use mio::{Events, Poll, Token};
 use socket_demand::Exchange;
 use std::io;
@@ -100,6 +101,30 @@ pub fn takes(
     let exchange = gather(rt, &mut client)?;
     let is_said = exchange.request_bytes() == text.as_bytes();
     Ok(stage.edge.take(0, conn, client, exchange).is_ok() == ok && is_said)
+}
+
+/// Somebody calls for each number, half-closes and does not read; the run of the number serves it.
+pub fn crowds(rt: &HostRuntime, stage: &mut Stage, first: u64, last: u64) -> Result<bool, Fail> {
+    for conn in first..=last {
+        if !joins(rt, stage, conn)? {
+            return Ok(false);
+        }
+    }
+    Ok(true)
+}
+
+fn joins(rt: &HostRuntime, stage: &mut Stage, conn: u64) -> Result<bool, Fail> {
+    calls(rt, stage, "@/s", "")?;
+    let is_served = takes(rt, stage, "", conn, true)? && serves(rt, stage, conn);
+    if let Some(caller) = stage.caller.take() {
+        stage.crowd.push(caller)?;
+    }
+    Ok(is_served)
+}
+
+fn serves(rt: &HostRuntime, stage: &mut Stage, conn: u64) -> bool {
+    let is_started = stage.edge.start(0, conn, &stage.def, Some(conn)).is_ok();
+    is_started && stage.end_of(rt, conn) == Some(Ended::Code(0))
 }
 
 /// The caller gets so many bytes in time, while replies are sent on.

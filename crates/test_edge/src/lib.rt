@@ -10,6 +10,10 @@ mod files;
 #[cfg(test)]
 mod memory;
 #[cfg(test)]
+mod notice_steps;
+#[cfg(test)]
+mod notice_tests;
+#[cfg(test)]
 mod refusing;
 #[cfg(test)]
 mod socket_tests;

@@ -244,8 +244,9 @@ static A_WAITING_CONNECTION_IS_CLOSED: &[Step] = &[
     Close(1),
     Goes("@/0-1.request"),
     Goes("@/0-1.reply"),
-    Start(1, Some(1), false),
-    Failures(2),
+    Start(1, Some(1), true),
+    Ends(1, Ended::Code(0)),
+    Failures(1),
     Release(0),
     NothingOpen,
 ];

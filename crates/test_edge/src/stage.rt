@@ -1,7 +1,8 @@
 //! Plays the steps of a test in a folder of its own.
 
-use crate::client_steps::{accepts, calls, calls_port, gets, hears, takes, wakes};
+use crate::client_steps::{accepts, calls, calls_port, crowds, gets, hears, takes, wakes};
 use crate::files::{fill, holds, is_there, open_count, pause, placed};
+use crate::notice_steps::{floods, tells};
 use crate::steps::Step;
 use child_edge::{ChildEdge, ClockEdge, OsEdge, PathEdge, SocketEdge};
 use history_model::{Ended, Obs, Reading};
@@ -25,6 +26,7 @@ pub struct Stage {
     pub busy: Option<TcpListener>,
     pub caller: Option<UnixStream>,
     pub far: Option<TcpStream>,
+    pub crowd: Vec<UnixStream>,
 }
 
 /// Plays the steps, and answers the number of the first that goes wrong.
@@ -87,6 +89,7 @@ fn new_stage(rt: &HostRuntime, name: &str) -> Result<Stage, Fail> {
         busy: None,
         caller: None,
         far: None,
+        crowd: Vec::new(rt.alloc()),
     })
 }
 
@@ -148,7 +151,7 @@ impl Stage {
         true
     }
 
-    fn end_of(&mut self, rt: &HostRuntime, run: u64) -> Option<Ended> {
+    pub fn end_of(&mut self, rt: &HostRuntime, run: u64) -> Option<Ended> {
         for _ in 0..500u32 {
             match self.edge.poll(0, run) {
                 Ok(Some(ended)) => return Some(ended),
@@ -244,6 +247,9 @@ fn play(rt: &HostRuntime, stage: &mut Stage, step: Step) -> Result<bool, Fail> {
         Step::Takes(text, conn, ok) => takes(rt, stage, text, conn, ok),
         Step::Gets(count) => gets(rt, stage, count),
         Step::Hears(text) => hears(rt, stage, text),
+        Step::Crowd(first, last) => crowds(rt, stage, first, last),
+        Step::Told(lines) => tells(rt, stage, lines),
+        Step::Floods(looks, count, last) => floods(rt, stage, looks, count, last),
         Step::NothingOpen => Ok(open_count(rt)? == stage.opened),
         _ => Ok(play_call(rt, stage, step)),
     }
@@ -269,6 +275,9 @@ fn play_end(rt: &HostRuntime, stage: &mut Stage, step: Step) -> bool {
     match step {
         Step::Release(job) => stage.edge.release(job),
         Step::Close(conn) => stage.edge.close(0, conn),
+        Step::Room(count) => stage.edge.set_room(count),
+        Step::LetsAllGo => stage.edge.let_all_go(),
+        Step::LogsRuns => stage.edge.log_runs(),
         Step::Hangs => {
             stage.listener = None;
             stage.busy = None;

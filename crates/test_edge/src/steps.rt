@@ -68,4 +68,18 @@ pub enum Step {
     Vanishes,
     /// The waiting connection is closed.
     Close(u64),
+    /// For each number from the first to the last somebody calls the socket and half-closes, and stays without reading. The run
+    /// of that number serves it, and ends with code 0.
+    Crowd(u64, u64),
+    /// At most as many connections are held from now on.
+    Room(usize),
+    /// Each connection is let go.
+    LetsAllGo,
+    /// What became of runs is told from now on.
+    LogsRuns,
+    /// These lines wait to be told and no others, in this order. One that begins with `<6>` is about a run; one that ends with
+    /// `*` goes on in any way.
+    Told(&'static [&'static str]),
+    /// So many paths are looked at, each in vain. So many lines are told then, the last of which is this one.
+    Floods(u32, usize, &'static str),
 }

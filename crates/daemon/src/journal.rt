@@ -1,0 +1,78 @@
+//! The journal's file: opened as it is, and emptied only once all else is known to be ours.
+
+use crate::plan::Plan;
+use crate::reporting::{JOURNAL, NO_MEMORY, refuse, report};
+use ctl_protocol::{Header, LINE_LIMIT, header_line};
+use history_model::Text;
+use own_files::open_appended;
+use std::alloc::Global;
+use std::fs::{File, Files};
+use std::io;
+use std::io::BufWriter;
+
+/// The journal's file, made or as it is, and held by this launcher, if one is named. Status 8 if it can't be opened, is no plain
+/// file, or is held by another launcher.
+pub(crate) fn journal_at<R: Files<File = File> + Eprint>(
+    rt: &R,
+    plan: &Plan,
+) -> Result<Option<File>, u8> {
+    match &plan.places.journal {
+        None => Ok(None),
+        Some(path) => match open_appended(rt, path.as_str()) {
+            Ok(file) => Ok(Some(file)),
+            Err(error) => Err(refuse_journal(rt, plan, path, &error)),
+        },
+    }
+}
+
+fn refuse_journal(rt: &impl Eprint, plan: &Plan, path: &Text, error: &io::Error) -> u8 {
+    refuse(
+        rt,
+        plan.wishes.level,
+        JOURNAL,
+        "journal",
+        path.as_str(),
+        error,
+    )
+}
+
+/// Empties the journal, whose first line comes next. Status 8 if that is refused.
+pub(crate) fn begun(
+    rt: &impl Eprint,
+    alloc: Global,
+    plan: &Plan,
+    file: Option<File>,
+) -> Result<Option<BufWriter<File>>, u8> {
+    match (file, &plan.places.journal) {
+        (Some(file), Some(path)) => match emptied(alloc, file) {
+            Ok(writer) => Ok(Some(writer)),
+            Err(error) => Err(refuse_journal(rt, plan, path, &error)),
+        },
+        _ => Ok(None),
+    }
+}
+
+fn emptied(alloc: Global, file: File) -> io::Result<BufWriter<File>> {
+    file.set_len(0)?;
+    BufWriter::new(alloc, file)
+}
+
+/// Tells that `jobd replay` can't read the journal, if its first line is too long for that: it holds all settings.
+pub(crate) fn tell_long_header(
+    rt: &impl Eprint,
+    alloc: Global,
+    plan: &Plan,
+    header: &Header,
+) -> Result<(), u8> {
+    let Some(path) = &plan.places.journal else {
+        return Ok(());
+    };
+    let Ok(line) = header_line(alloc, header) else {
+        return Err(NO_MEMORY);
+    };
+    if line.len() > LINE_LIMIT + 1 {
+        let why = "jobd replay can't read it, since the settings make its first line too long";
+        report(rt, plan.wishes.level, "journal", path.as_str(), &why);
+    }
+    Ok(())
+}

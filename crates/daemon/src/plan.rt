@@ -1,0 +1,56 @@
+//! What a start goes by: the places that the words name, what the environment asks for, and what the system says of this
+//! process.
+
+use crate::reporting::{Level, report};
+use history_model::Text;
+use own_process::Standing;
+use std::alloc::AllocError;
+use std::env;
+use std::env::VarError;
+use std::rt::Env;
+
+/// The paths that the words name.
+#[derive(Drop)]
+pub(crate) struct Places {
+    pub(crate) socket: Text,
+    pub(crate) store: Text,
+    pub(crate) spool: Text,
+    pub(crate) journal: Option<Text>,
+}
+
+/// What the environment asks for.
+#[derive(Clone, Copy)]
+pub(crate) struct Wishes {
+    /// `JOBD_LOG=runs`: starts, ends, TERM and KILL are told too.
+    pub(crate) logs_runs: bool,
+    pub(crate) level: Level,
+}
+
+#[derive(Drop)]
+pub(crate) struct Plan {
+    pub(crate) places: Places,
+    pub(crate) wishes: Wishes,
+    pub(crate) standing: Standing,
+}
+
+/// What stands in `JOBD_LOG` and `JOURNAL_STREAM`. Another word than `runs` is told, and asks for nothing.
+pub(crate) fn read_wishes<R: AllocGlobal + Env + Eprint>(rt: &R) -> Result<Wishes, AllocError> {
+    let level = match env::var(rt, "JOURNAL_STREAM") {
+        Err(VarError::OutOfMemory) => return Err(AllocError),
+        Err(VarError::NotPresent) => Level::NONE,
+        _ => Level { is_told: true },
+    };
+    let logs_runs = match env::var(rt, "JOBD_LOG") {
+        Ok(word) => is_runs(rt, level, word.as_str()),
+        Err(VarError::OutOfMemory) => return Err(AllocError),
+        Err(_) => false,
+    };
+    Ok(Wishes { logs_runs, level })
+}
+
+fn is_runs(rt: &impl Eprint, level: Level, word: &str) -> bool {
+    if word != "runs" && !word.is_empty() {
+        report(rt, level, "JOBD_LOG", word, &"no such word, only runs");
+    }
+    word == "runs"
+}

@@ -1,0 +1,126 @@
+//! The clients of jobs' sockets whose request still comes, as many as there is room for.
+
+use crate::caller::{Caller, Origin};
+use crate::losses::Loss;
+use crate::silence::{CallerRoom, Heard, Place, place_for};
+use child_edge::Client;
+use mio::{Registry, Token};
+use slab::Slab;
+use socket_demand::Exchange;
+use std::alloc::{AllocError, Global};
+
+/// As many clients are heard at a time, if no lower number is set.
+pub(crate) const CALLERS: usize = 256;
+
+/// As many clients of a job are heard at a time at most.
+const CALLERS_OF_A_JOB: usize = 64;
+
+/// What a client sends and takes wakes the poll under its key and this number.
+const FIRST: usize = 3;
+
+#[derive(Drop)]
+pub(crate) struct Callers {
+    alloc: Global,
+    held: Slab<Caller>,
+    // Those of `held`, when a further one comes.
+    heard: Vec<Heard>,
+    room: CallerRoom,
+}
+
+// A job may have a quarter of the room, so that one job's clients leave room for those of others.
+fn room_of(in_all: usize) -> CallerRoom {
+    let in_all = in_all.min(CALLERS);
+    CallerRoom {
+        of_a_job: (in_all / 4).max(1).min(CALLERS_OF_A_JOB),
+        in_all,
+    }
+}
+
+impl Callers {
+    pub(crate) fn new(alloc: Global) -> Result<Callers, AllocError> {
+        let held = Slab::with_capacity(alloc, CALLERS)?;
+        let heard = Vec::with_capacity(alloc, CALLERS)?;
+        Ok(Callers {
+            alloc,
+            held,
+            heard,
+            room: room_of(CALLERS),
+        })
+    }
+
+    /// From now on as many are heard at a time, and a quarter of them of one job.
+    pub(crate) fn set_room(&mut self, in_all: usize) {
+        self.room = room_of(in_all);
+    }
+
+    pub(crate) fn is_empty(&self) -> bool {
+        self.held.is_empty()
+    }
+
+    pub(crate) fn get_mut(&mut self, key: usize) -> Option<&mut Caller> {
+        self.held.get_mut(key)
+    }
+
+    pub(crate) fn remove(&mut self, key: usize) -> Option<Caller> {
+        self.held.try_remove(key)
+    }
+
+    /// Something may have come of the client whose token this is.
+    pub(crate) fn wake(&mut self, token: Token) {
+        let Some(key) = token.0.checked_sub(FIRST) else {
+            return;
+        };
+        if let Some(caller) = self.held.get_mut(key) {
+            caller.is_ready = true;
+        }
+    }
+
+    /// Where a client can be that comes at this `up`, by this bind.
+    pub(crate) fn place(&mut self, bind: u64, up: u64) -> Place {
+        self.heard.clear();
+        for (key, caller) in self.held.iter() {
+            let _listed = self.heard.push(Heard {
+                key,
+                bind: caller.origin.bind,
+                at: caller.heard_at,
+            });
+        }
+        place_for(&self.heard, bind, self.room, up)
+    }
+
+    /// Whether one that came by this bind was not read yet.
+    pub(crate) fn has_new(&self, bind: u64) -> bool {
+        self.held
+            .iter()
+            .any(|(_, caller)| caller.is_new && caller.origin.bind == bind)
+    }
+
+    /// Takes a client in, for which there is a place. After an `Err` it is let go, for this reason.
+    pub(crate) fn welcome(
+        &mut self,
+        registry: &Registry,
+        origin: Origin,
+        client: Client,
+        up: u64,
+    ) -> Result<(), Loss> {
+        let Ok(exchange) = Exchange::new(self.alloc) else {
+            return Err(Loss::NoMemory);
+        };
+        let mut caller = Caller {
+            origin,
+            client,
+            exchange,
+            heard_at: up,
+            is_ready: true,
+            is_new: true,
+        };
+        let token = Token(self.held.vacant_key().saturating_add(FIRST));
+        match caller.register(registry, token) {
+            Ok(()) => {
+                let _ = self.held.insert(caller);
+                Ok(())
+            }
+            Err(error) => Err(Loss::System(error)),
+        }
+    }
+}

@@ -1,0 +1,148 @@
+//! The clients of jobs' sockets that were let go, and why: each reason is told once, until a client of its job comes through.
+
+use crate::caller::Origin;
+use history_model::{JobNo, Refusal, Text};
+use socket_demand::MAX_REQUEST;
+use std::alloc::{AllocError, Global};
+use std::collections::{BTreeMap, VecDeque};
+use std::io::{Error, ErrorKind};
+
+/// Why a client was let go.
+#[derive(Clone, Copy)]
+pub(crate) enum Loss {
+    /// The request is longer than a request may be.
+    TooLong,
+    /// Nothing came for a minute.
+    Silent,
+    /// Nothing came for 5 seconds, and there was no room for another client.
+    Displaced,
+    /// There is no room for it.
+    Crowded,
+    NoMemory,
+    /// As many connections of the job wait as may wait.
+    QueueFull,
+    /// The system refused a read, or to have the poll wait for it.
+    System(Error),
+}
+
+impl Loss {
+    /// Of a client that could not be read. One that only went away is not told.
+    pub(crate) fn of_read(error: Error) -> Option<Loss> {
+        match error.kind() {
+            ErrorKind::BrokenPipe | ErrorKind::ConnectionReset | ErrorKind::ConnectionAborted => {
+                None
+            }
+            _ => Some(Loss::System(error)),
+        }
+    }
+
+    /// Of a connection that the launcher refused. One of a job that is leaving is not told.
+    pub(crate) fn of_refusal(refusal: Refusal) -> Option<Loss> {
+        match refusal {
+            Refusal::TooManyConnections => Some(Loss::QueueFull),
+            Refusal::NoMemory => Some(Loss::NoMemory),
+            _ => None,
+        }
+    }
+
+    fn words(self, alloc: Global) -> Result<String, AllocError> {
+        match self {
+            Loss::TooLong => format!(in alloc; "a request of more than {} bytes", MAX_REQUEST),
+            Loss::Silent => format!(in alloc; "it sent nothing for a minute"),
+            Loss::Displaced => {
+                format!(in alloc; "it sent nothing for 5 seconds, and another one came")
+            }
+            Loss::Crowded => format!(in alloc; "too many clients send at a time"),
+            Loss::NoMemory => format!(in alloc; "no memory"),
+            Loss::QueueFull => format!(in alloc; "too many connections wait"),
+            Loss::System(error) => format!(in alloc; "{error}"),
+        }
+    }
+}
+
+/// As many lines wait to be told. Where there is no room for one, the next loss of its kind is told.
+const ROOM: usize = 64;
+
+/// The reasons that were told of a job's clients, by the bind that gave it its sockets.
+#[derive(Drop)]
+struct Told {
+    bind: u64,
+    reasons: Vec<String>,
+}
+
+/// What is to be told, and what was told of each job.
+#[derive(Drop)]
+pub(crate) struct Losses {
+    alloc: Global,
+    waiting: VecDeque<Text>,
+    told: BTreeMap<JobNo, Told>,
+}
+
+impl Losses {
+    pub(crate) fn new(alloc: Global) -> Losses {
+        Losses {
+            alloc,
+            waiting: VecDeque::new(alloc),
+            told: BTreeMap::new(alloc),
+        }
+    }
+
+    /// The oldest line, taken out.
+    pub(crate) fn next(&mut self) -> Option<Text> {
+        self.waiting.pop_front()
+    }
+
+    /// A client was let go that came to these sockets, of the job of this label. Want of memory drops the line.
+    pub(crate) fn note(&mut self, origin: Origin, label: &str, loss: Loss) {
+        let Ok(reason) = loss.words(self.alloc) else {
+            return;
+        };
+        if self.is_told(origin, reason.as_str()) {
+            return;
+        }
+        if self.add(label, reason.as_str()).is_ok() {
+            self.remember(origin, reason);
+        }
+    }
+
+    fn is_told(&self, origin: Origin, reason: &str) -> bool {
+        match self.told.get(&origin.job) {
+            Some(told) if told.bind == origin.bind => told
+                .reasons
+                .iter()
+                .any(|known| known.as_str() == reason),
+            _ => false,
+        }
+    }
+
+    fn add(&mut self, label: &str, reason: &str) -> Result<(), AllocError> {
+        if self.waiting.len() >= ROOM {
+            return Err(AllocError);
+        }
+        let line = format!(in self.alloc; "{label}: a client was let go: {reason}")?;
+        self.waiting.push_back(Text::new(line))?;
+        Ok(())
+    }
+
+    // Want of memory forgets it.
+    fn remember(&mut self, origin: Origin, reason: String) {
+        let Origin { job, bind } = origin;
+        if let Some(told) = self.told.get_mut(&job) {
+            if told.bind == bind {
+                let _kept = told.reasons.push(reason);
+                return;
+            }
+        }
+        let mut reasons = Vec::new(self.alloc);
+        if reasons.push(reason).is_ok() {
+            let _last = self.told.insert(job, Told { bind, reasons });
+        }
+    }
+
+    /// A client of the job came through: each loss is told again.
+    pub(crate) fn came_through(&mut self, job: JobNo) {
+        if !self.told.is_empty() {
+            let _last = self.told.remove(&job);
+        }
+    }
+}

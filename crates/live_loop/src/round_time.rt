@@ -1,0 +1,44 @@
+//! How long clients are served in a round.
+
+use control_socket::Limit;
+use std::rt::Clock;
+use std::time::{Duration, Instant};
+
+/// As many milliseconds a round serves clients of one kind. Then the clock is read, and done what it orders.
+const LONGEST: u64 = 20;
+
+/// The time since clients are served.
+#[derive(Drop)]
+pub(crate) struct RoundTime<'a, R> {
+    rt: &'a R,
+    // Absent if the clock can't be read.
+    start: Option<Instant>,
+    up: u64,
+}
+
+impl<'a, R: Clock> RoundTime<'a, R> {
+    /// From now on, in the round of this `up`.
+    pub(crate) fn begin(rt: &'a R, up: u64) -> RoundTime<'a, R> {
+        RoundTime {
+            rt,
+            start: Instant::now(rt).ok(),
+            up,
+        }
+    }
+}
+
+impl<R: Clock> Limit for RoundTime<'_, R> {
+    fn has_time(&mut self) -> bool {
+        let Some(start) = self.start else {
+            return false;
+        };
+        match start.elapsed(self.rt) {
+            Ok(time) => time < Duration::from_millis(LONGEST),
+            Err(_) => false,
+        }
+    }
+
+    fn up(&mut self) -> u64 {
+        self.up
+    }
+}

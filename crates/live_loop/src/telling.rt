@@ -1,0 +1,66 @@
+//! What a round tells on standard error: what was refused to the edge of the system, the control socket, the journal and the jobs'
+//! sockets, and what became of runs.
+
+use crate::live::Live;
+use crate::system::System;
+use child_edge::{Notice, NoticeKind};
+use history_model::Text;
+use load_asking::SettingStore;
+use std::alloc::Global;
+use std::io::Write;
+
+/// As many lines a round tells at most.
+const LINES: usize = 256;
+
+/// Tells what there is to tell, in a line each. What standard error does not take at once is left for a later round.
+pub(crate) fn tell<R: System, T: SettingStore, W: Write>(
+    rt: &R,
+    alloc: Global,
+    live: &mut Live<R, T, W>,
+) {
+    for _ in 0..LINES {
+        let Some(notice) = next_notice(alloc, live) else {
+            break;
+        };
+        live.untold = live.voice.tell(rt, notice);
+        if live.untold.is_some() {
+            break;
+        }
+    }
+    live.voice.ask(live.poll.registry());
+}
+
+fn next_notice<R: System, T: SettingStore, W: Write>(
+    alloc: Global,
+    live: &mut Live<R, T, W>,
+) -> Option<Notice> {
+    if let Some(notice) = live.untold.take() {
+        return Some(notice);
+    }
+    if let Some(notice) = live.inputs.host.edge().next_notice() {
+        return Some(notice);
+    }
+    let text = next_refusal(alloc, live)?;
+    Some(Notice {
+        kind: NoticeKind::Refusal,
+        text,
+    })
+}
+
+fn next_refusal<R: System, T: SettingStore, W: Write>(
+    alloc: Global,
+    live: &mut Live<R, T, W>,
+) -> Option<Text> {
+    if live.inputs.host.report_journal_closing() {
+        live.has_journal_closed = true;
+    }
+    if live.has_journal_closed {
+        let text = Text::copy_of(alloc, "journal refused").ok()?;
+        live.has_journal_closed = false;
+        return Some(text);
+    }
+    match live.control.next_notice() {
+        Some(text) => Some(text),
+        None => live.sockets.next_notice(),
+    }
+}

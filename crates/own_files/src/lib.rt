@@ -1,0 +1,12 @@
+//! Files and folders that are this process's own: for its user alone, or held by a lock that the system lets go with the process.
+#![tactic(auto)]
+
+mod appended;
+mod folder;
+mod lock;
+mod private;
+
+pub use appended::open_appended;
+pub use folder::check_folder;
+pub use lock::LockFile;
+pub use private::make_private;

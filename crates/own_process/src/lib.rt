@@ -1,0 +1,11 @@
+//! What a process has to know of itself before it serves: whether its standard streams are open, whether it sees its children's
+//! ends, and which limits and ignored signals it was started with.
+#![tactic(auto)]
+
+mod child;
+mod standing;
+mod streams;
+
+pub use child::sees_children;
+pub use standing::{Signal, Standing};
+pub use streams::open_null_streams;

@@ -1,0 +1,245 @@
+"""Crowds of clients that misbehave, each in a process of its own, and what is measured beside them. hostile_clients.py plays them."""
+import ctypes
+import os
+import random
+import signal
+import socket
+import statistics
+import sys
+import threading
+import time
+import traceback
+
+sys.dont_write_bytecode = True
+sys.path.insert(0, os.path.join(os.path.dirname(os.path.abspath(__file__)), "..", "crates", "live_check", "data"))
+from edge_scenes import comes, connect, descriptors, read_all, read_line, shell_job  # noqa: E402
+
+LIST = b'{"req":"list"}\n'
+
+
+class Crowd:
+    """A process that does this with these words until it is ended."""
+
+    def __init__(self, what, *words):
+        self.pid = os.fork()
+        if self.pid == 0:
+            try:
+                # It ends with whoever made it.
+                ctypes.CDLL(None).prctl(1, signal.SIGKILL, 0, 0, 0)
+                random.seed(os.getpid())
+                what(*words)
+            except BaseException:
+                traceback.print_exc()
+            finally:
+                os._exit(1)
+
+    def end(self):
+        os.kill(self.pid, signal.SIGKILL)
+        os.waitpid(self.pid, 0)
+
+
+# ---- what a crowd does
+
+def again(step, pause):
+    """Does the step again and again. That the launcher cuts a client off is its right."""
+    while True:
+        try:
+            step()
+        except (OSError, TimeoutError):
+            pass
+        time.sleep(random.uniform(0, 2 * pause))
+
+
+def drop(client):
+    """Whether the launcher has closed the connection."""
+    try:
+        return client.recv(4096, socket.MSG_DONTWAIT) == b""
+    except BlockingIOError:
+        return False
+    except OSError:
+        return True
+
+
+def silent(path, count, text=b""):
+    """So many clients that send no more than this, each of them replaced as it is let go."""
+    held = [connect(path) for _ in range(count)]
+    for client in held:
+        client.sendall(text)
+
+    def step():
+        for at, client in enumerate(held):
+            if drop(client):
+                client.close()
+                held[at] = connect(path)
+                held[at].sendall(text)
+
+    again(step, 0.02)
+
+
+def vanishing(path, text, half_closes=False):
+    """Clients that send this and leave."""
+
+    def step():
+        with connect(path) as client:
+            client.sendall(text)
+            if half_closes:
+                client.shutdown(socket.SHUT_WR)
+
+    again(step, 0.01)
+
+
+def pipelining(path, text):
+    """A client that sends these lines all at once, and reads each reply."""
+
+    def step():
+        with connect(path) as client:
+            sender = threading.Thread(target=client.sendall, args=(text,), daemon=True)
+            sender.start()
+            left = text.count(b"\n")
+            while left > 0 and (piece := client.recv(65536)):
+                left -= piece.count(b"\n")
+            sender.join()
+
+    again(step, 0.01)
+
+
+def never_reading(path, text, count, least, most, half_closes=False):
+    """So many clients that send this as long as it is taken, read nothing, and leave after so many seconds."""
+
+    def step():
+        held = [connect(path) for _ in range(count)]
+        for client in held:
+            client.setblocking(False)
+            try:
+                while client.send(text) and not half_closes:
+                    pass
+            except OSError:
+                pass
+            if half_closes:
+                client.shutdown(socket.SHUT_WR)
+        time.sleep(random.uniform(least, most))
+        for client in held:
+            client.close()
+
+    again(step, 0.1)
+
+
+# ---- what is seen beside them
+
+class Beside(threading.Thread):
+    """Does the step again and again beside a crowd, and keeps how long each took. A step that fails says why."""
+
+    def __init__(self, step, pause):
+        super().__init__(daemon=True)
+        self.step, self.pause, self.goes_on, self.took, self.faults = step, pause, True, [], []
+
+    def run(self):
+        while self.goes_on:
+            start = time.monotonic()
+            try:
+                fault = self.step()
+            except Exception as error:
+                fault = f"{type(error).__name__}: {error}"
+            self.took.append(1000 * (time.monotonic() - start))
+            if fault:
+                self.faults.append(f"{fault} after {self.took[-1]:.0f} ms")
+            time.sleep(self.pause)
+
+    def end(self):
+        self.goes_on = False
+        self.join()
+
+    def median(self):
+        return statistics.median(self.took)
+
+    def most(self):
+        return max(self.took)
+
+    def told(self):
+        return f"{len(self.took)} times, median {self.median():.1f} ms, most {self.most():.1f} ms"
+
+
+def asks(path, line=LIST):
+    """The step of an honest client: a connection, a request, its reply of code 0."""
+
+    def step():
+        with connect(path) as client:
+            client.sendall(line)
+            reply = read_line(client)
+        return None if b'"code":0' in reply else f"an honest client got {reply[:80]!r}"
+
+    return step
+
+
+def calls(path, text=b"hello"):
+    """The step of an honest client of a job that says back what it is sent."""
+
+    def step():
+        with connect(path) as client:
+            client.sendall(text)
+            client.shutdown(socket.SHUT_WR)
+            got = read_all(client)
+        return None if got == text else f"an honest caller got {got[:80]!r}"
+
+    return step
+
+
+class Descriptors(threading.Thread):
+    """The most descriptors that a process has, from its start to its end."""
+
+    def __init__(self, pid):
+        super().__init__(daemon=True)
+        self.pid, self.goes_on, self.most = pid, True, 0
+
+    def run(self):
+        while self.goes_on:
+            self.most = max(self.most, descriptors(self.pid))
+            time.sleep(0.01)
+
+    def end(self):
+        self.goes_on = False
+        self.join()
+
+
+def resident(pid):
+    """The resident memory, in KiB."""
+    with open(f"/proc/{pid}/status", encoding="ascii") as file:
+        return next(int(line.split()[1]) for line in file if line.startswith("VmRSS"))
+
+
+def settles(pid, wanted, bound):
+    """Waits until the process has at most so many descriptors, and answers how many it has."""
+    comes(lambda: descriptors(pid) <= wanted, bound)
+    return descriptors(pid)
+
+
+def is_over(pid):
+    """Whether the process ended. Its parent may not have waited for it yet."""
+    try:
+        with open(f"/proc/{pid}/stat", encoding="utf-8", errors="replace") as file:
+            return file.read().rpartition(")")[2].split()[0] == "Z"
+    except (FileNotFoundError, ProcessLookupError):
+        return True
+
+
+class Deaf:
+    """A job that heeds no TERM, so that KILL is due a second after it."""
+
+    def __init__(self, stage, launcher, label):
+        self.launcher, self.label, self.ready = launcher, label, stage.at(f"{label}.ready")
+        script = f"trap '' TERM; : > {self.ready}; while :; do sleep 0.05; done"
+        launcher.load(shell_job(label, script, RunAtLoad=True, ExitTimeOut=1))
+        comes(lambda: os.path.exists(self.ready))
+        shown = launcher.print(label)
+        self.pid = int(next(line.split()[-1] for line in shown.splitlines() if "pid = " in line))
+
+    def lateness(self, bound):
+        """How many milliseconds after the second that follows the request the child ended, or None within the bound."""
+        start = time.monotonic()
+        self.launcher.ask({"req": "stop", "job": self.label}, bound)
+        end = start + bound
+        while not is_over(self.pid):
+            if time.monotonic() > end:
+                return None
+            time.sleep(0.001)
+        return 1000 * (time.monotonic() - start - 1)
