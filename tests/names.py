@@ -17,11 +17,12 @@ import sys
 TOP = os.path.dirname(os.path.dirname(os.path.abspath(__file__)))
 WORD = re.compile(r"[A-Za-z0-9_]+")
 
-# Names of the standard library, of ported crates and of the kernel.
-OUTSIDE = {"include_str", "get_flag", "tcp_wmem"}
+# Names of the standard library, of ported crates, of the kernel and of processors.
+OUTSIDE = {"include_str", "get_flag", "tcp_wmem", "x86_64"}
 
-# Words before a dot that name no file: keys of a definition, as in `KeepAlive.NetworkState`, and words that stand for any name.
-NO_FILES = {"KeepAlive", "Sockets", "StartCalendarInterval", "NAME", "File"}
+# Words before a dot that name no file: keys of a definition, as in `KeepAlive.NetworkState`, words that stand for any name, and what
+# `make dist` writes.
+NO_FILES = {"KeepAlive", "Sockets", "StartCalendarInterval", "NAME", "File", "PROVED"}
 
 
 def files_below(*folders):

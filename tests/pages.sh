@@ -1,6 +1,7 @@
 #!/usr/bin/env bash
 # The manual pages beside the programs: each subcommand and option of the programs' words stands in their page, and the
 # other way round; so does each key that the reader of definitions knows, with its numbers. docs/USING.md has all of them too.
+# VERSION, the programs' source and the pages name one version.
 # If build/jobd and build/jobctl are there, their help is asked too. If mandoc is there, the pages are clean under its lint. It
 # is run by hand.
 set -euo pipefail
@@ -96,6 +97,16 @@ def check_program(program, page_path, source, flags_of, own_name):
 control = read(WORDS + "control_words.rt")
 check_program("build/jobctl", "man/jobctl.1", control, control, "jobctl")
 check_program("build/jobd", "man/jobd.8", read(WORDS + "jobd.rt"), "", "jobd")
+
+# ---- the version
+
+version = read("VERSION").strip()
+for path in ("crates/launchctl_words/src/version.rt", "docs/USING.md", "crates/test_inputs/src/words/cases.rt"):
+    if {f"Kivgrond {version}"} != set(re.findall(r"Kivgrond [0-9.]*[0-9]", read(path))):
+        faults.append(f"{path}: it does not name the version {version} alone")
+newest = re.search(r"^## (\S+), \d{4}-\d\d-\d\d$", read("CHANGELOG.md"), re.M)
+if newest is None or newest.group(1) != version:
+    faults.append(f"CHANGELOG.md: the newest version is not {version}")
 
 # ---- the keys of a definition
 

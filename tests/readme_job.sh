@@ -37,6 +37,8 @@ environment = dict(os.environ, PATH=programs + ":" + os.environ["PATH"])
 shell = subprocess.Popen(
     ["bash"], cwd=folder, env=environment, stdin=subprocess.PIPE, stdout=subprocess.PIPE, stderr=subprocess.STDOUT, text=True
 )
+# As a shell at a terminal: what runs in the background ignores no signal.
+shell.stdin.write("set -m\n")
 failed = False
 
 

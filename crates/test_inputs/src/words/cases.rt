@@ -132,12 +132,13 @@ jobd overrides --store a --store b
 jobd overrides --store a b";
 
 /// Lines that are explained, whether they ask for help, and a part of the text.
-pub static HELP: [(&str, bool, &str); 7] = [
+pub static HELP: [(&str, bool, &str); 8] = [
     ("jobctl --help", true, "kickstart"),
     ("jobctl help load", true, "disabled definition"),
     ("jobctl load --help", true, "-F"),
     ("jobctl start --help", true, "3 no such job"),
     ("jobctl list --help", true, "69 no answer"),
+    ("jobctl --help", true, "\nKivgrond 0.2.0\n"),
     ("jobctl start", false, "LABEL"),
     ("jobctl lis", false, "list"),
 ];
@@ -179,10 +180,11 @@ pub static REASONS: [(&str, &str); 8] = [
 ];
 
 /// The same of the daemon.
-pub static DAEMON_HELP: [(&str, bool, &str); 5] = [
+pub static DAEMON_HELP: [(&str, bool, &str); 6] = [
     ("jobd --help", true, "overrides"),
     ("jobd replay --help", true, "4 a line too long"),
     ("jobd serve --help", true, "--zone-file"),
     ("jobd help overrides", true, "--store"),
+    ("jobd --help", true, "\nKivgrond 0.2.0\n"),
     ("jobd serve", false, "--spool"),
 ];
