@@ -1,18 +1,20 @@
 #!/usr/bin/env python3
 """Times the live launcher and prints a table.
 
-    live.py [JOBD JOBCTL]
+    live.py [JOBD JOBCTL [JOBD JOBCTL]]
 
-The programs are build/jobd and build/jobctl where none are given. A launcher is started in a folder of its own; JOBS (1000)
-jobs of the one program /bin/sleep, kept alive with ThrottleInterval 0, are loaded by one `jobctl load` of their folder. Then:
-all started, restarts of one job after an exit, CPU and wake-ups while nothing happens for IDLE seconds (10), memory, `list`
-of all and `print` of one (over an open connection, and as a program), and all stopped by `shutdown`. A second launcher serves
-a Unix socket by /bin/cat: CALLS connections (200) one after another, then eight at a time. Times are wall times in
-milliseconds as median, least and greatest; compare figures of one run only.
+The programs are build/jobd and build/jobctl if none are given. A second pair is timed after the first in each part, and has a
+column of its own. A launcher is started in a folder of its own; JOBS (1000) jobs of the one program /bin/sleep, kept alive with
+ThrottleInterval 0, are loaded by one `jobctl load` of their folder. Then: all started, restarts of one job after an exit, CPU and
+wake-ups while nothing happens for IDLE seconds (10), memory, `list` of all and `print` of one (over an open connection, and as a
+program), and all stopped by `shutdown`. A second launcher loads JOBS jobs that don't start and unloads them, and does the same
+with FEW (300) that start. A third serves a Unix socket by /bin/cat: CALLS connections (200) one after another, then eight at a
+time, then REPLIES (10) whose reply is a file of 20 MB. Times are wall times in milliseconds as median, least and greatest;
+compare figures of one run only. Two figures have an aim, and behind them stands whether it was kept. The figures of the programs
+of build/ are added to history.csv, but not those of programs that were named.
 """
 import json
 import os
-import re
 import shutil
 import signal
 import socket
@@ -22,6 +24,7 @@ import sys
 import tempfile
 import threading
 import time
+from dataclasses import dataclass
 
 sys.dont_write_bytecode = True
 import history
@@ -30,14 +33,33 @@ HERE = os.path.dirname(os.path.abspath(__file__))
 JOBS = int(os.environ.get("JOBS", "1000"))
 IDLE = float(os.environ.get("IDLE", "10"))
 CALLS = int(os.environ.get("CALLS", "200"))
+FEW = int(os.environ.get("FEW", "300"))
+REPLIES = int(os.environ.get("REPLIES", "10"))
+# The most milliseconds for JOBS loads of jobs that don't start, and the fewest megabytes a second of a reply.
+LOAD_AIM = JOBS
+REPLY_AIM = 200
+REPLY = 20_000_000
 
 
 def now():
     return time.monotonic() * 1000
 
 
-def spread(times):
-    return f"{statistics.median(times):.2f} ({min(times):.2f} to {max(times):.2f}, {len(times)} times)"
+@dataclass
+class Figure:
+    what: str
+    value: str
+    unit: str
+    note: str = ""
+    aim: str = ""
+    is_kept: bool = True
+
+    def text(self):
+        return f"{self.value} {self.unit}" + self.note + ("" if not self.aim else ", kept" if self.is_kept else ", MISSED")
+
+
+def spread(what, times):
+    return Figure(what, f"{statistics.median(times):.2f}", "ms", f" ({min(times):.2f} to {max(times):.2f}, {len(times)} times)")
 
 
 def timed(call, times):
@@ -53,7 +75,7 @@ class Launcher:
     def __init__(self, jobd, jobctl):
         self.jobctl = jobctl
         self.folder = tempfile.mkdtemp(prefix="live.")
-        os.mkdir(self.path("spool"))
+        os.mkdir(self.path("spool"), 0o700)
         os.mkdir(self.path("jobs"))
         self.process = subprocess.Popen(
             [jobd, "serve", "--socket", self.path("socket"), "--store", self.path("store"), "--spool", self.path("spool")],
@@ -112,14 +134,6 @@ class Launcher:
             self.process.kill()
 
 
-def row(what, figure):
-    print(f"| {what} | {figure} |", flush=True)
-    number = re.match(r"[0-9.]+", figure)
-    unit = re.search(r"(?<= )(ms|MB)\b", figure)
-    if number:
-        history.append(what, number[0], unit[0] if unit else "", "bench/live.py")
-
-
 def restarts(launcher, times):
     """From the end of a job's child to the first line of the next one, which a shell writes to a pipe."""
     os.mkfifo(launcher.path("told"))
@@ -160,47 +174,93 @@ def requests(launcher, request):
     return took
 
 
+def hand_in(launcher, word):
+    """The milliseconds until `jobctl load` or `unload` of the launcher's folder has ended."""
+    begun = now()
+    ran = launcher.ask(word, launcher.path("jobs"))
+    if ran.returncode != 0:
+        raise SystemExit(f"live.py: the {word} ended with {ran.returncode}: {ran.stderr}")
+    return now() - begun
+
+
 def many(launcher):
     for number in range(JOBS):
         launcher.define(f"job{number:04d}", ProgramArguments=["/bin/sleep", "100000"], KeepAlive=True, ThrottleInterval=0)
     begun = now()
-    loading = launcher.ask("load", launcher.path("jobs"))
-    loaded = now() - begun
-    if loading.returncode != 0:
-        raise SystemExit(f"live.py: the load ended with {loading.returncode}: {loading.stderr}")
+    loaded = hand_in(launcher, "load")
     launcher.await_children(JOBS)
-    row(f"{JOBS} jobs loaded and started", f"{now() - begun:.0f} ms (jobctl ended after {loaded:.0f})")
+    yield Figure(f"{JOBS} jobs loaded and started", f"{now() - begun:.0f}", "ms", f" (jobctl ended after {loaded:.0f})")
     time.sleep(1)
     cpu, switches = quiet(launcher)
-    row("CPU a minute, nothing happens", f"{cpu:.1f} ms, {switches:.0f} waits")
-    row("resident memory", f"{launcher.status('VmRSS') / 1024:.1f} MB, at most {launcher.status('VmHWM') / 1024:.1f}")
-    row("`list` of all, over a connection", f"{spread(requests(launcher, {'req': 'list'}))} ms")
-    row("`print` of one, over a connection", f"{spread(requests(launcher, {'req': 'print', 'job': 'job0000'}))} ms")
-    row("`jobctl list`", f"{spread(timed(lambda: launcher.ask('list'), 20))} ms")
-    row("`jobctl print` of one", f"{spread(timed(lambda: launcher.ask('print', 'job0000'), 20))} ms")
-    row("a restart after an exit", f"{spread(restarts(launcher, 20))} ms")
-    row("all stopped by `shutdown`", f"{launcher.stop():.0f} ms")
+    yield Figure("CPU a minute, nothing happens", f"{cpu:.1f}", "ms", f", {switches:.0f} waits")
+    yield Figure("resident memory", f"{launcher.status('VmRSS') / 1024:.1f}", "MB", f", at most {launcher.status('VmHWM') / 1024:.1f}")
+    yield spread("`list` of all, over a connection", requests(launcher, {"req": "list"}))
+    yield spread("`print` of one, over a connection", requests(launcher, {"req": "print", "job": "job0000"}))
+    yield spread("`jobctl list`", timed(lambda: launcher.ask("list"), 20))
+    yield spread("`jobctl print` of one", timed(lambda: launcher.ask("print", "job0000"), 20))
+    yield spread("a restart after an exit", restarts(launcher, 20))
+    yield Figure("all stopped by `shutdown`", f"{launcher.stop():.0f}", "ms")
 
 
-def call(path):
+def loads(launcher):
+    for number in range(JOBS):
+        launcher.define(f"job{number:04d}", ProgramArguments=["/bin/true"])
+    took = hand_in(launcher, "load")
+    what = f"{JOBS} loads of jobs that don't start"
+    yield Figure(what, f"{took:.0f}", "ms", aim=f"at most {LOAD_AIM} ms", is_kept=took <= LOAD_AIM)
+    yield Figure("their unloads", f"{hand_in(launcher, 'unload'):.0f}", "ms")
+    shutil.rmtree(launcher.path("jobs"))
+    os.mkdir(launcher.path("jobs"))
+    for number in range(FEW):
+        launcher.define(f"job{number:04d}", ProgramArguments=["/bin/sleep", "100000"], RunAtLoad=True)
+    begun = now()
+    hand_in(launcher, "load")
+    launcher.await_children(FEW)
+    yield Figure(f"{FEW} jobs loaded and started once", f"{now() - begun:.0f}", "ms")
+    begun = now()
+    hand_in(launcher, "unload")
+    launcher.await_children(0)
+    yield Figure(f"these {FEW} unloaded and ended", f"{now() - begun:.0f}", "ms")
+    launcher.stop()
+
+
+def bytes_from(path, request):
+    """What the job behind the socket answers."""
     with socket.socket(socket.AF_UNIX) as caller:
         caller.settimeout(30)
         caller.connect(path)
-        caller.sendall(b"hello")
+        caller.sendall(request)
         caller.shutdown(socket.SHUT_WR)
-        got = b""
-        while piece := caller.recv(4096):
-            got += piece
+        pieces = []
+        while piece := caller.recv(1 << 20):
+            pieces.append(piece)
+    return b"".join(pieces)
+
+
+def call(path):
+    got = bytes_from(path, b"hello")
     if got != b"hello":
         raise SystemExit(f"live.py: cat answered {got!r}")
 
 
-def calls(launcher):
-    path = launcher.path("cat")
+def take_reply(path):
+    got = len(bytes_from(path, b""))
+    if got != REPLY:
+        raise SystemExit(f"live.py: {got} bytes came of a reply of {REPLY}")
+
+
+def serve_by(launcher, label, words):
+    """Loads a job of these words with a Unix socket, whose path it returns."""
+    path = launcher.path(label)
     launcher.ask("load", launcher.define(
-        "cat", ProgramArguments=["/bin/cat"], inetdCompatibility={"Wait": False}, Sockets={"s": {"SockPathName": path}},
+        label, ProgramArguments=words, inetdCompatibility={"Wait": False}, Sockets={"s": {"SockPathName": path}},
         ThrottleInterval=0))
-    row("a connection to `cat`, one after another", f"{spread(timed(lambda: call(path), CALLS))} ms")
+    return path
+
+
+def calls(launcher):
+    path = serve_by(launcher, "cat", ["/bin/cat"])
+    yield spread("a connection to `cat`, one after another", timed(lambda: call(path), CALLS))
     took = []
     callers = [threading.Thread(target=lambda: took.extend(timed(lambda: call(path), CALLS // 8))) for _ in range(8)]
     begun = now()
@@ -208,20 +268,38 @@ def calls(launcher):
         caller.start()
     for caller in callers:
         caller.join()
-    row("a connection to `cat`, eight at once", f"{spread(took)} ms, {len(took) * 1000 / (now() - begun):.0f} a second")
+    rate = len(took) * 1000 / (now() - begun)
+    eight = spread("a connection to `cat`, eight at once", took)
+    eight.note += f", {rate:.0f} a second"
+    yield eight
+    with open(launcher.path("file"), "wb") as out:
+        out.write(os.urandom(REPLY))
+    path = serve_by(launcher, "file.cat", ["/bin/cat", launcher.path("file")])
+    took = timed(lambda: take_reply(path), REPLIES)
+    rate = REPLY / 1000 / statistics.median(took)
+    yield spread("a reply of 20 MB over a job socket", took)
+    yield Figure("the same, as a rate", f"{rate:.0f}", "MB/s", aim=f"at least {REPLY_AIM} MB/s", is_kept=rate >= REPLY_AIM)
     launcher.stop()
 
 
+def figures_of(part, jobd, jobctl):
+    launcher = Launcher(os.path.realpath(jobd), os.path.realpath(jobctl))
+    try:
+        return list(part(launcher))
+    finally:
+        launcher.end()
+
+
 def main():
-    build = os.path.join(HERE, "..", "build")
-    jobd, jobctl = sys.argv[1:] or (os.path.join(build, "jobd"), os.path.join(build, "jobctl"))
-    print("| The live launcher | |\n|---|---|")
-    for part in (many, calls):
-        launcher = Launcher(os.path.realpath(jobd), os.path.realpath(jobctl))
-        try:
-            part(launcher)
-        finally:
-            launcher.end()
+    words = sys.argv[1:] or [os.path.join(HERE, "..", "build", program) for program in ("jobd", "jobctl")]
+    pairs = list(zip(words[::2], words[1::2]))
+    names = sys.argv[1::2] or ["build/jobd"]
+    print("| The live launcher | " + " | ".join(names) + " | aim |\n|---|" + "---|" * (len(names) + 1))
+    for part in (many, loads, calls):
+        for row in zip(*(figures_of(part, *pair) for pair in pairs)):
+            print(f"| {row[0].what} | " + " | ".join(figure.text() for figure in row) + f" | {row[0].aim} |", flush=True)
+            if not sys.argv[1:]:
+                history.append(row[0].what, row[0].value, row[0].unit, "bench/live.py")
 
 
 if __name__ == "__main__":

@@ -17,7 +17,16 @@ fail() {
 [ -f "$source/SHA256SUMS" ] || fail "$source is not there: make dist first"
 SOURCE_DATE_EPOCH=${SOURCE_DATE_EPOCH:-$(git log -1 --format=%ct)}
 export SOURCE_DATE_EPOCH
-libc=$(sed -n 's/^C library: \([0-9.]*\) .*/\1/p' "$source/PROVED.txt")
+
+# The packages of the libraries that the programs ask for.
+depends="libc6 (>= $(sed -n 's/^C library: \([0-9.]*\) .*/\1/p' "$source/PROVED.txt"))"
+for library in $(objdump -p "$source/bin/jobd" "$source/bin/jobctl" | sed -n 's/^ *NEEDED *//p' | sort -u); do
+    case $library in
+    libc.so.6 | libm.so.6 | libdl.so.2 | libpthread.so.0 | librt.so.1 | ld-linux-x86-64.so.2) ;;
+    libgcc_s.so.1) depends="$depends, libgcc-s1" ;;
+    *) fail "$library: no package is known for it" ;;
+    esac
+done
 
 root=dist/deb
 rm -rf "$root"
@@ -30,13 +39,14 @@ rm "$doc/LICENSE-MIT" "$doc/LICENSE-APACHE"
 mkdir -p "$root/usr/share/zsh/vendor-completions"
 mv "$root"/usr/share/zsh/site-functions/* "$root/usr/share/zsh/vendor-completions"
 rmdir "$root/usr/share/zsh/site-functions"
-mv "$doc/CHANGELOG.md" "$doc/changelog"
+printf 'jobd (%s) unstable; urgency=medium\n\n  * CHANGELOG.md beside this file says what changed.\n\n -- %s  %s\n' "$version" \
+    "$(sed -n 's/^Maintainer: //p' "$debian/control")" "$(date -u -R -d "@$SOURCE_DATE_EPOCH")" >"$doc/changelog"
 awk -v license="LICENSE-MIT" '$0 == "@MIT@" { while ((getline row <license) > 0) print row == "" ? " ." : " " row; next } { print }' \
     "$debian/copyright" >"$doc/copyright"
 gzip -n -9 "$doc/changelog" "$root"/usr/share/man/man*/*
 
 size=$(find "$root/usr" "$root/etc" "$root/lib" -type f -printf '%s\n' | awk '{ sum += int(($1 + 1023) / 1024) } END { print sum }')
-sed "s/@VERSION@/$version/; s/@LIBC@/$libc/; s/@SIZE@/$size/" "$debian/control" >"$root/DEBIAN/control"
+sed "s/@VERSION@/$version/; s/@DEPENDS@/$depends/; s/@SIZE@/$size/" "$debian/control" >"$root/DEBIAN/control"
 install -m 755 "$debian/postinst" "$debian/prerm" "$debian/postrm" "$root/DEBIAN"
 (cd "$root" && find usr lib etc -type f | sort | xargs md5sum >DEBIAN/md5sums)
 find "$root" -exec touch -h -d "@$SOURCE_DATE_EPOCH" {} +

@@ -1,6 +1,6 @@
 #!/bin/sh
 # Makes dist/kivgrond-VERSION-x86_64-linux.tar.gz of the programs in build/ and the files beside them. Two runs over one tree give
-# the same bytes: names are sorted, each file has the moment of the commit, and root owns it. Needs git, GNU tar and objdump.
+# the same bytes: names are sorted, each file has the moment of the commit, and root owns it. Needs git, GNU tar and binutils.
 set -eu
 
 cd "${0%/*}/.."
@@ -24,6 +24,7 @@ stage=dist/$name
 rm -rf "$stage" "dist/$name.tar.gz"
 mkdir -p "$stage/bin" "$stage/man" "$stage/contrib" "$stage/docs" "$stage/examples/jobs"
 install -m 755 build/jobd build/jobctl "$stage/bin"
+strip "$stage/bin/jobd" "$stage/bin/jobctl"
 install -m 644 man/*.[158] "$stage/man"
 cp -r completions "$stage"
 install -m 644 contrib/jobd.service contrib/jobd@.service contrib/jobd.logrotate "$stage/contrib"
@@ -36,9 +37,10 @@ install -m 755 packaging/install.sh "$stage"
 # The newest version of the C library that a program asks for.
 libc=$(objdump -T build/jobd build/jobctl | grep -o 'GLIBC_[0-9.]*' | sort -V | tail -n 1)
 [ -n "$libc" ] || fail "no program asks for a version of the C library"
-packaging/proved.sh "$libc" >"$stage/PROVED.txt"
+packaging/proved.sh "$libc" "$stage/bin" >"$stage/PROVED.txt"
 
-(cd "$stage" && find . -type f ! -name SHA256SUMS | sort | sed 's|^\./||' | xargs sha256sum >SHA256SUMS)
+(cd "$stage" && find . -type f | sort | sed 's|^\./||' | xargs sha256sum) >"dist/SHA256SUMS"
+mv dist/SHA256SUMS "$stage"
 tar --sort=name --format=gnu --mtime="@$SOURCE_DATE_EPOCH" --owner=root:0 --group=root:0 --mode='u=rwX,go=rX' -C dist -cf - "$name" |
     gzip -n -9 >"dist/$name.tar.gz"
 echo "dist/$name.tar.gz: it needs glibc ${libc#GLIBC_} or newer; $(sed -n 's/^Standing: //p' "$stage/PROVED.txt")"

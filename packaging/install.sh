@@ -5,7 +5,7 @@
 set -eu
 
 case $0 in
-*/packaging/install.sh) cd "${0%/*}/.." ;;
+packaging/install.sh | */packaging/install.sh) cd "${0%/*}/.." ;;
 */*) cd "${0%/*}" ;;
 esac
 prefix=${PREFIX:-/usr/local}
@@ -36,7 +36,7 @@ put() {
     install -m 755 "$programs/jobd" "$programs/jobctl" contrib/jobctl-reload "$root/bin"
     install -m 644 man/jobctl.1 man/jobctl-reload.1 "$root/share/man/man1"
     install -m 644 man/jobd.json.5 "$root/share/man/man5"
-    install -m 644 man/jobd.8 "$root/share/man/man8"
+    install -m 644 man/jobd.8 man/jobd-run.8 "$root/share/man/man8"
     install -m 644 completions/bash/jobctl completions/bash/jobd "$root/share/bash-completion/completions"
     install -m 644 completions/fish/jobctl.fish completions/fish/jobd.fish "$root/share/fish/vendor_completions.d"
     install -m 644 completions/zsh/_jobctl completions/zsh/_jobd "$root/share/zsh/site-functions"
@@ -57,7 +57,7 @@ put() {
 remove() {
     rm -f "$root/bin/jobd" "$root/bin/jobctl" "$root/bin/jobctl-reload" "$root/libexec/jobd-run" \
         "$root/share/man/man1/jobctl.1" "$root/share/man/man1/jobctl-reload.1" "$root/share/man/man5/jobd.json.5" \
-        "$root/share/man/man8/jobd.8" "$root/share/bash-completion/completions/jobctl" \
+        "$root/share/man/man8/jobd.8" "$root/share/man/man8/jobd-run.8" "$root/share/bash-completion/completions/jobctl" \
         "$root/share/bash-completion/completions/jobd" "$root/share/fish/vendor_completions.d/jobctl.fish" \
         "$root/share/fish/vendor_completions.d/jobd.fish" "$root/share/zsh/site-functions/_jobctl" \
         "$root/share/zsh/site-functions/_jobd"

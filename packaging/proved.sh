@@ -1,7 +1,8 @@
 #!/bin/sh
 # Prints what stands behind the programs in build/: the commit, the kit's line, what the gate said last, and the promises. The first
-# word is the version of the C library that they ask for. `make build` leaves what it proved in build/proved.txt, `make test` what
-# it passed in build/gate.txt; if these speak of other programs or of another commit, that is said.
+# word is the version of the C library that they ask for, the second the folder that has them without their symbols. `make build`
+# leaves what it proved in build/proved.txt, `make test` what it passed in build/gate.txt; if these speak of other programs or of
+# another commit, that is said.
 set -eu
 
 commit=$(git rev-parse HEAD)
@@ -28,7 +29,9 @@ else
     echo "Gate: not run at this commit on this machine"
 fi
 echo "C library: ${1#GLIBC_} of glibc, or newer"
-echo "Programs:"
+echo "Programs as built:"
 echo "$sums" | sed 's/^/    /'
+echo "The same without their symbols, as shipped:"
+(cd "$2" && sha256sum jobd jobctl) | sed 's/^/    /'
 echo
 sed -n '/^## What is proved, and what is trusted/,/^## /p' README.md | sed '/^## /d' | sed -n '/^1\. /,$p' | sed '/^10\. /,$d'

@@ -1,7 +1,8 @@
 #!/usr/bin/env bash
-# Installs into a scratch DESTDIR and removes again: every file that has to be there is, with its mode; no place of it still
-# says @PREFIX@; what another package put there stays; and nothing else is left. Without built programs, stand-ins are
-# installed from a copy of the tree. It is run by hand.
+# Installs into a scratch DESTDIR and removes again, by `make install` in the tree and by install.sh of the archive: every file that
+# has to be there is, with its mode; no place of it still says @PREFIX@; what another package put there stays; and nothing else is
+# left. The archive is made twice with the same bytes, and its sums agree. Without built programs, stand-ins are installed from
+# a copy of the tree. It is run by hand; of the archive, the part that measures the C library needs real programs.
 set -euo pipefail
 
 cd "$(dirname "$0")/.."
@@ -14,7 +15,8 @@ fail() {
 
 # A copy of what an install reads, so that stand-ins of programs touch no build.
 mkdir -p "$scratch/tree/build"
-cp -r Makefile install.mk man completions contrib docs examples README.md CHANGELOG.md LICENSE-MIT LICENSE-APACHE "$scratch/tree"
+cp -r .gitignore Makefile ./*.mk crates.txt VERSION man completions contrib docs examples packaging README.md CHANGELOG.md LICENSE-MIT LICENSE-APACHE \
+    "$scratch/tree"
 stand_ins=0
 for program in jobd jobctl; do
     if [ -x "build/$program" ]; then
@@ -26,36 +28,48 @@ for program in jobd jobctl; do
     fi
 done
 
-# tries PREFIX: one round.
+# by_make and by_archive WORD PREFIX: install or uninstall.
+by_make() {
+    make -s -C "$scratch/tree" "$1" "PREFIX=$2" "DESTDIR=$scratch/root"
+}
+by_archive() {
+    (cd / && PREFIX=$2 DESTDIR=$scratch/root "$unpacked/install.sh" "$1")
+}
+
+# tries WAY PREFIX: one round.
 tries() {
+    local way=$1
+    shift
     local root="$scratch/root$1" path
     mkdir -p "$root/bin" "$root/share/man/man1"
     touch "$root/bin/other" "$root/share/man/man1/other.1"
     find "$scratch/root" | sort >"$scratch/before"
-    make -s -C "$scratch/tree" install "PREFIX=$1" "DESTDIR=$scratch/root" >"$scratch/log" 2>&1 || fail "$(cat "$scratch/log")"
-    for path in bin/jobd bin/jobctl libexec/jobd-run share/doc/jobd/contrib/jobd.openrc share/doc/jobd/contrib/jobd.runit; do
+    "$way" install "$1" >"$scratch/log" 2>&1 || fail "$(cat "$scratch/log")"
+    for path in bin/jobd bin/jobctl bin/jobctl-reload libexec/jobd-run share/doc/jobd/contrib/split-users share/doc/jobd/contrib/jobd.openrc share/doc/jobd/contrib/jobd.runit; do
         [ -x "$root/$path" ] || fail "$1: no program $path"
     done
-    for path in share/man/man1/jobctl.1 share/man/man5/jobd.json.5 share/man/man8/jobd.8 \
+    for path in share/man/man1/jobctl.1 share/man/man1/jobctl-reload.1 share/man/man5/jobd.json.5 share/man/man8/jobd.8 share/man/man8/jobd-run.8 \
         share/bash-completion/completions/{jobctl,jobd} share/fish/vendor_completions.d/{jobctl,jobd}.fish \
-        share/zsh/site-functions/{_jobctl,_jobd} share/doc/jobd/contrib/jobd.service \
-        share/doc/jobd/{README.md,CHANGELOG.md,LICENSE-MIT,LICENSE-APACHE,USING.md,WHY-NOT-RUNNING.md,DIFFERENCES.md} \
+        share/zsh/site-functions/{_jobctl,_jobd} share/doc/jobd/contrib/{jobd.service,jobd@.service,jobd.logrotate} \
+        share/doc/jobd/{README.md,CHANGELOG.md,LICENSE-MIT,LICENSE-APACHE,USING.md,OPERATING.md,WHY-NOT-RUNNING.md,DIFFERENCES.md} \
         share/doc/jobd/examples/kept_alive.json; do
         [ -f "$root/$path" ] || fail "$1: no file $path"
         [ "$(stat -c %a "$root/$path")" = 644 ] || fail "$1: $path has mode $(stat -c %a "$root/$path")"
     done
     if grep -r '@PREFIX@' "$scratch/root" >&2; then fail "$1: a place is not filled in"; fi
-    grep -q "ExecStart=$1/libexec/jobd-run" "$root/share/doc/jobd/contrib/jobd.service" || fail "$1: the unit starts another program"
-    make -s -C "$scratch/tree" install "PREFIX=$1" "DESTDIR=$scratch/root" >"$scratch/log" 2>&1 || fail "again: $(cat "$scratch/log")"
-    make -s -C "$scratch/tree" uninstall "PREFIX=$1" "DESTDIR=$scratch/root" >"$scratch/log" 2>&1 || fail "$(cat "$scratch/log")"
+    for path in jobd.service jobd@.service; do
+        grep -q "ExecStart=$1/libexec/jobd-run" "$root/share/doc/jobd/contrib/$path" || fail "$1: $path starts another program"
+    done
+    "$way" install "$1" >"$scratch/log" 2>&1 || fail "again: $(cat "$scratch/log")"
+    "$way" uninstall "$1" >"$scratch/log" 2>&1 || fail "$(cat "$scratch/log")"
     find "$scratch/root" | sort >"$scratch/after"
     diff "$scratch/before" "$scratch/after" >&2 || fail "$1: the folder is not as it was before"
-    make -s -C "$scratch/tree" uninstall "PREFIX=$1" "DESTDIR=$scratch/root" >"$scratch/log" 2>&1 || fail "removed twice: $(cat "$scratch/log")"
+    "$way" uninstall "$1" >"$scratch/log" 2>&1 || fail "removed twice: $(cat "$scratch/log")"
     rm -rf "$scratch/root"
 }
 
-tries /usr/local
-tries /opt/jobd
+tries by_make /usr/local
+tries by_make /opt/jobd
 mkdir "$scratch/root"
 make -s -C "$scratch/tree" install "DESTDIR=$scratch/root" >"$scratch/log" 2>&1 || fail "$(cat "$scratch/log")"
 make -s -C "$scratch/tree" uninstall "DESTDIR=$scratch/root" >"$scratch/log" 2>&1 || fail "$(cat "$scratch/log")"
@@ -63,5 +77,34 @@ left=$(find "$scratch/root" -mindepth 1 | grep -vx "$scratch/root/usr\|$scratch/
 [ -z "$left" ] || fail "an empty DESTDIR is not empty again: $left"
 rm "$scratch/tree/build/jobctl"
 if make -s -C "$scratch/tree" install "DESTDIR=$scratch/root" >"$scratch/log" 2>&1; then fail "a program was not there, and the install went on"; fi
-for script in contrib/jobd-run contrib/jobd.runit contrib/jobd.openrc; do sh -n "$script"; done
-echo "install: passed, with $stand_ins stand-ins for programs"
+for script in contrib/jobd-run contrib/jobctl-reload contrib/jobd.runit contrib/jobd.openrc packaging/*.sh packaging/debian/p*; do
+    sh -n "$script"
+done
+
+# The archive, made twice at different times under another mask.
+if [ "$stand_ins" -gt 0 ]; then
+    echo "install: passed, with $stand_ins stand-ins for programs; the archive was not tried"
+    exit
+fi
+cp build/jobctl "$scratch/tree/build"
+git -C "$scratch/tree" init -q
+git -C "$scratch/tree" add -A
+git -C "$scratch/tree" -c user.name=tests -c user.email=tests@localhost commit -qm "The tree of a test"
+make -s -C "$scratch/tree" dist >"$scratch/log" 2>&1 || fail "$(cat "$scratch/log")"
+cat "$scratch/log"
+mkdir "$scratch/unpacked"
+mv "$scratch"/tree/dist/*.tar.gz "$scratch/first.tar.gz"
+find "$scratch/tree" -type f ! -path '*/build/*' -exec touch {} +
+sleep 1
+(umask 077 && make -s -C "$scratch/tree" dist >"$scratch/log" 2>&1) || fail "$(cat "$scratch/log")"
+cmp "$scratch/first.tar.gz" "$scratch"/tree/dist/*.tar.gz || fail "two archives of one tree differ"
+tar -C "$scratch/unpacked" -xzf "$scratch/first.tar.gz"
+unpacked=$(echo "$scratch"/unpacked/kivgrond-*)
+(cd "$unpacked" && sha256sum --quiet -c SHA256SUMS) || fail "a sum differs"
+[ "$(find "$unpacked" -type f ! -name SHA256SUMS | wc -l)" = "$(wc -l <"$unpacked/SHA256SUMS")" ] ||
+    fail "a file has no sum"
+grep -q '^Standing: ' "$unpacked/PROVED.txt" || fail "PROVED.txt does not say how the programs stand"
+[ "$(grep -c '^[1-9]\. ' "$unpacked/PROVED.txt")" = 9 ] || fail "PROVED.txt has not nine promises"
+tries by_archive /usr/local
+tries by_archive /opt/jobd
+echo "install: passed, also from the archive"

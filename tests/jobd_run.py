@@ -571,6 +571,10 @@ def main():
     for program in ("jobd", "jobctl"):
         if not os.access(f"{options.programs}/{program}", os.X_OK):
             sys.exit(f"jobd_run: no program at {options.programs}/{program} (make build)")
+    # What is ignored here would be ignored by the script too.
+    for number in (signal.SIGHUP, signal.SIGQUIT, signal.SIGTERM):
+        signal.signal(number, signal.SIG_DFL)
+    signal.signal(signal.SIGINT, signal.default_int_handler)
     chosen = options.scene or list(scenes)
     failed = passed = 0
     for name in chosen:

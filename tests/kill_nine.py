@@ -115,7 +115,7 @@ def main():
     print(f"seed {given.seed}")
     held, settings, in_midst = {}, 0, 0
     with tempfile.TemporaryDirectory() as folder:
-        os.mkdir(f"{folder}/spool")
+        os.mkdir(f"{folder}/spool", 0o700)
         for _ in range(given.times):
             launcher = Launcher(jobd, folder)
             sent, acknowledged = [], []

@@ -67,7 +67,7 @@ class Soak:
         return dict(kinds[number % len(kinds)], Label=label)
 
     def prepare(self):
-        os.mkdir(self.path("spool"))
+        os.mkdir(self.path("spool"), 0o700)
         for number, label in enumerate(self.labels):
             os.mkdir(self.path(f"{label}.queue"))
             with open(self.path(f"{label}.json"), "w") as out:

@@ -227,7 +227,7 @@ print(
 END
 if command -v mandoc >/dev/null; then
     cd man
-    mandoc -Tlint -W style jobd.8 jobctl.1 jobd.json.5 >&2
+    mandoc -Tlint -W style -- *.[158] >&2
     echo "pages: mandoc's lint is clean"
 else
     echo "pages: mandoc is not here, so its lint was not run"

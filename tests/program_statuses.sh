@@ -84,7 +84,8 @@ run_full --help
 wants 'help that is not taken' 3 '' ''
 
 # places that the launcher can't use, in the order in which they are looked for
-mkdir spool store
+mkdir -m 700 spool
+mkdir store
 head -c 65537 /dev/zero >long
 run serve --socket no/s --store store --spool spool --journal no/j --zone Mars
 wants 'a zone that is none' 7 '' 'jobd: zone Mars: no rule of a zone'

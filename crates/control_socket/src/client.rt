@@ -31,7 +31,7 @@ const STUCK: u64 = 1_000;
 pub(crate) struct Client {
     stream: UnixStream,
     dialogue: Dialogue,
-    // The last round in which it was looked at.
+    // The last round in which it was looked at; 0 if there was none since it came.
     looked: u64,
     // The last round in which it came, sent something, or had a line or a reply under way.
     heard: u64,
@@ -45,7 +45,7 @@ impl Client {
         Client {
             stream,
             dialogue: Dialogue::new(alloc),
-            looked: round,
+            looked: 0,
             heard: round,
             taken: 0,
         }
@@ -53,6 +53,11 @@ impl Client {
 
     pub(crate) fn has_unsent(&self) -> bool {
         !self.dialogue.to_send().is_empty()
+    }
+
+    /// Whether no round looked at it yet.
+    pub(crate) fn is_new(&self) -> bool {
+        self.looked == 0
     }
 
     /// Since which round the client is silent, if the round of this number looked at it and found nothing under way.

@@ -3,10 +3,10 @@
 use crate::client::{Client, Progress};
 use crate::notices::Notices;
 use crate::turn::{Answers, Limit, Turn};
-use own_files::LockFile;
 use history_model::Text;
 use mio::net::{UnixListener, UnixStream};
 use mio::{Interest, Registry, Token};
+use own_files::LockFile;
 use slab::Slab;
 use socket_file::SocketMark;
 use std::alloc::Global;
@@ -54,7 +54,7 @@ enum Place {
     Free,
     /// In the place of the client of this key, which is let go.
     Of(usize),
-    /// That is known only once a round looked at the other clients too.
+    /// That is known only once a round looked at every client.
     Unknown,
     Nowhere,
 }
@@ -161,7 +161,8 @@ impl ControlSocket {
     /// Takes the clients that wait, after a `serve`, which lets go of the clients that are done. Where [`CLIENTS`] are there
     /// already, the one is let go that has been silent for longest: the last `serve` found nothing new of it, no whole line to
     /// answer and nothing to send. If none is silent, one that has taken nothing of its reply for longest, and for a second at
-    /// least. If there is none of these too, the new client gets the reply `too many clients` of code 2, and is closed.
+    /// least. If there is none of these too, the new client waits until a `serve` has looked at every client; if that one was
+    /// the last, it gets the reply `too many clients` of code 2, and is closed.
     ///
     /// Where the system refuses an accept, a descriptor may be missing: the longest silent client is let go, and the accept is
     /// tried again, once. What is refused then is left for the next call.
@@ -248,9 +249,13 @@ impl ControlSocket {
         }
         match self.longest_stuck() {
             Some(key) => Place::Of(key),
-            None if self.is_whole => Place::Nowhere,
+            None if self.is_whole && !self.has_new() => Place::Nowhere,
             None => Place::Unknown,
         }
+    }
+
+    fn has_new(&self) -> bool {
+        self.clients.iter().any(|(_, client)| client.is_new())
     }
 
     fn longest_silent(&self) -> Option<usize> {

@@ -26,7 +26,14 @@ pub(crate) fn journal_at<R: Files<File = File> + Eprint>(
 }
 
 fn refuse_journal(rt: &impl Eprint, plan: &Plan, path: &Text, error: &io::Error) -> u8 {
-    refuse(rt, plan.wishes.level, JOURNAL, "journal", path.as_str(), error)
+    refuse(
+        rt,
+        plan.wishes.level,
+        JOURNAL,
+        "journal",
+        path.as_str(),
+        error,
+    )
 }
 
 /// Empties the journal, whose first line comes next. Status 8 if that is refused.

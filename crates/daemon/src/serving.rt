@@ -3,9 +3,9 @@
 use crate::journal::{begun, journal_at, tell_long_header};
 use crate::places::{bound, no_clock, system_of};
 use crate::plan::{Places, Plan, read_wishes};
-use crate::reporting::{CLOCK_OR_WAITING, Level, NO_MEMORY, STORE, refuse, report};
+use crate::reporting::{CLOCK_OR_WAITING, NO_MEMORY, STORE, refuse, report};
 use crate::spool::hold_spool;
-use crate::standing::tell_standing;
+use crate::standing::{room_of, tell_standing};
 use crate::store::{open_store, settle, stored};
 use crate::zone::zone_of;
 use child_edge::OsEdge;
@@ -68,7 +68,14 @@ pub(crate) fn serve_at<R: System + Wait>(
     let _null_streams = match open_null_streams(rt, alloc) {
         Ok(held) => held,
         Err(error) => {
-            return refuse(rt, wishes.level, CLOCK_OR_WAITING, "null device", null, &error);
+            return refuse(
+                rt,
+                wishes.level,
+                CLOCK_OR_WAITING,
+                "null device",
+                null,
+                &error,
+            );
         }
     };
     let plan = Plan {
@@ -217,13 +224,30 @@ fn started_with<R: System, T: SettingStore + Drop>(
     let Made { launcher, lock } = made;
     let mark = control.mark();
     match Live::new(rt, alloc, launcher, control) {
-        Ok(live) => Ok(Started { live, lock }),
+        Ok(live) => Ok(Started {
+            live: as_wished(plan, live),
+            lock,
+        }),
         Err(fault) => {
             socket_file::remove(rt, plan.places.socket.as_str(), mark);
             let_go(rt, lock);
             Err(report_loop(rt, plan, fault))
         }
     }
+}
+
+fn as_wished<R: System, T: SettingStore>(
+    plan: &Plan,
+    live: Live<R, T, BufWriter<File>>,
+) -> Live<R, T, BufWriter<File>> {
+    let mut live = live;
+    if plan.wishes.level.is_told {
+        live.set_leveled();
+    }
+    if let Some(room) = room_of(&plan.standing) {
+        live.set_room(room);
+    }
+    live
 }
 
 fn report_loop(rt: &impl Eprint, plan: &Plan, fault: ServeFault) -> u8 {

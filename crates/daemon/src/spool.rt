@@ -30,12 +30,7 @@ pub(crate) fn hold_spool<R: System>(
     }
 }
 
-fn held<R: System>(
-    rt: &R,
-    alloc: Global,
-    folder: &str,
-    user: Option<u32>,
-) -> io::Result<LockFile> {
+fn held<R: System>(rt: &R, alloc: Global, folder: &str, user: Option<u32>) -> io::Result<LockFile> {
     check_folder(rt, folder, user)?;
     LockFile::take(rt, format!(in alloc; "{folder}/jobd.lock")?)
 }

@@ -10,14 +10,14 @@ use std::io;
 /// As many descriptors are needed: a dozen that the launcher holds, and what a start, TERM and a client take beside them.
 const FEWEST: u64 = 32;
 
-/// As many connections are held at most, however many descriptors there are.
-const MOST_CONNECTIONS: u64 = 1_024;
+/// As many connections are held, and as many clients heard, at most.
+const MOST: u64 = 256;
 
-/// As many connections are held as take half of the descriptors that are left, each with two of them. None, if the limit is
-/// not known.
+/// As many connections of jobs' sockets are held, each with two descriptors, and as many of their clients are heard at a time:
+/// connections take half of the descriptors that are left, and those clients a quarter. None, if the limit is not known.
 pub(crate) fn room_of(standing: &Standing) -> Option<usize> {
     let left = standing.descriptors?.saturating_sub(FEWEST);
-    let room = (left / 4 + 1).min(MOST_CONNECTIONS);
+    let room = (left / 4 + 1).min(MOST);
     Some(room as usize)
 }
 
@@ -66,7 +66,9 @@ pub(crate) fn tell_standing(rt: &impl Eprint, plan: &Plan) {
     let term = word_if(standing, Signal::Term, " TERM");
     if [hup, int, quit, term].iter().any(|word| !word.is_empty()) {
         let front = level.warning();
-        let _written = eprintln!(rt; "{front}jobd: ignored signals:{hup}{int}{quit}{term}: each job ignores them too");
+        let _written = eprintln!(rt;
+            "{front}jobd: ignored signals:{hup}{int}{quit}{term}: each job ignores them too"
+        );
     }
 }
 

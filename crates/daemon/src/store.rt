@@ -5,9 +5,30 @@ use crate::reporting::{Level, NO_MEMORY, STORE, refuse, report};
 use history_model::Setting;
 use override_store::StoreFault;
 use own_files::make_private;
-use sqlite::{Alter, Connection, Error, ErrorCode, File, FileStore};
+use sqlite::{Alter, Connection, Error, ErrorCode, File, FileStore, Options, Unknown};
+use sqlite_std_file::OpenError;
 use std::alloc::Global;
+use std::hash::{BuildHasher, RandomState};
 use stored_settings::{StoredSettings, opened};
+
+/// As many pages of the store are kept in memory.
+const CACHE_PAGES: usize = 64;
+
+/// The log beside the store is moved into the store once it has so many pages, which is a megabyte.
+const LOG_PAGES: usize = 256;
+
+/// Why a store was not opened.
+#[derive(Clone, Copy)]
+enum OpenFault {
+    Files(OpenError),
+    Database(Error),
+}
+
+impl From<OpenError> for OpenFault {
+    fn from(error: OpenError) -> OpenFault {
+        OpenFault::Files(error)
+    }
+}
 
 /// What the file at the path is. Status 5 if it is no store, or can't be read; it is not written to.
 pub(crate) fn found(
@@ -18,12 +39,27 @@ pub(crate) fn found(
 ) -> Result<Found, u8> {
     match look(rt, alloc, path) {
         Ok(Found::Foreign) => {
-            report(rt, level, "store", path, &"a database, but no store of overrides");
+            report(
+                rt,
+                level,
+                "store",
+                path,
+                &"a database, but no store of overrides",
+            );
             Err(STORE)
         }
         Ok(found) => Ok(found),
         Err(LookFault::System(error)) => Err(refuse(rt, level, STORE, "store", path, &error)),
+        Err(LookFault::Log(error)) => Err(refuse(
+            rt,
+            level,
+            STORE,
+            "log of the store",
+            path,
+            &error,
+        )),
         Err(LookFault::Database(error)) => Err(report_error(rt, level, path, &error)),
+        Err(LookFault::Store(fault)) => Err(report_fault(rt, level, path, fault)),
     }
 }
 
@@ -48,9 +84,39 @@ pub(crate) fn connect(
     level: Level,
     path: &str,
 ) -> Result<Connection<FileStore<File>>, u8> {
-    match Connection::open(rt, path) {
+    match open_files(rt, path) {
         Ok(conn) => Ok(conn),
-        Err(error) => Err(report_error(rt, level, path, &error)),
+        Err(fault) => Err(report_open(rt, level, path, fault)),
+    }
+}
+
+fn open_files(rt: &HostRuntime, path: &str) -> Result<Connection<FileStore<File>>, OpenFault> {
+    let options = Options {
+        cache_pages: CACHE_PAGES,
+        checkpoint_frames: LOG_PAGES,
+        ..Options::new(seed(rt)?)
+    };
+    let files = sqlite_std_file::open(rt, path, Unknown)?;
+    match Connection::open_files(rt.alloc(), files, options) {
+        Ok(conn) => Ok(conn),
+        Err((error, _)) => Err(OpenFault::Database(error)),
+    }
+}
+
+fn seed(rt: &HostRuntime) -> Result<u64, OpenError> {
+    let state = RandomState::new(rt)?;
+    Ok(state.hash_one(&0u8))
+}
+
+fn report_open(rt: &impl Eprint, level: Level, path: &str, fault: OpenFault) -> u8 {
+    match fault {
+        OpenFault::Files(OpenError::OutOfMemory) => NO_MEMORY,
+        OpenFault::Files(OpenError::Io(error)) => refuse(rt, level, STORE, "store", path, &error),
+        OpenFault::Files(error) => {
+            report(rt, level, "store", path, &error);
+            STORE
+        }
+        OpenFault::Database(error) => report_error(rt, level, path, &error),
     }
 }
 
@@ -89,12 +155,14 @@ pub(crate) fn stored<S: Alter + Drop>(
 /// Moves what the log beside the store holds into the store's file, once the launcher has let go of both. A refusal is told,
 /// unless another launcher has the store by then; the log then keeps what it holds.
 pub(crate) fn settle(rt: &HostRuntime, level: Level, path: &str) {
-    let answer = match Connection::open(rt, path) {
-        Ok(conn) => conn.close(),
-        Err(error) => Err(error),
+    let answer = match open_files(rt, path) {
+        Ok(conn) => conn.close().map_err(OpenFault::Database),
+        Err(fault) => Err(fault),
     };
     match answer {
-        Ok(()) | Err(Error::SqliteFailure(ErrorCode::DatabaseBusy)) => {}
-        Err(error) => report(rt, level, "store", path, &error),
+        Ok(()) | Err(OpenFault::Files(OpenError::Busy)) => {}
+        Err(fault) => {
+            let _status = report_open(rt, level, path, fault);
+        }
     }
 }

@@ -64,7 +64,13 @@ fn by_file<R: Files<File = File> + Eprint>(
     }
 }
 
-fn by_bytes(rt: &impl Eprint, alloc: Global, level: Level, path: &str, bytes: Vec<u8>) -> Result<ZoneText, u8> {
+fn by_bytes(
+    rt: &impl Eprint,
+    alloc: Global,
+    level: Level,
+    path: &str,
+    bytes: Vec<u8>,
+) -> Result<ZoneText, u8> {
     match Zone::tzif(alloc, bytes.as_slice()) {
         Ok(_) => Ok(ZoneText::File(ZoneFile::new(bytes))),
         Err(ZoneFault::NoMemory) => Err(NO_MEMORY),

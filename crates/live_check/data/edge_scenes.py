@@ -749,6 +749,21 @@ def a_journal_at_a_fifo(stage):
         check(status == 8 and stage.at(name) in launcher.said(), f"a journal at a {name}: {status}, {launcher.said()!r}")
 
 
+def a_journal_that_may_not_grow(stage):
+    """The system refuses the journal more room: that is told once, and the launcher goes on."""
+    launcher = stage.serve(shell="trap '' XFSZ; ulimit -f 64", journal="journal")
+    with connect(launcher.path) as client:
+        for _ in range(400):
+            launcher.ask_over(client, {"req": "start", "job": "x" * 200})
+    wait_for(lambda: launcher.lines("journal"), "nothing said of the journal")
+    launcher.load(shell_job("beside", f"echo run > {stage.at('beside')}", RunAtLoad=True))
+    wait_for(lambda: text_at(stage.at("beside")), "no job starts beside a journal that was refused")
+    launcher.shut_down()
+    check(len(launcher.lines("journal")) == 1, f"a refused journal is told as {launcher.lines('journal')[:3]}")
+    replayed = stage.replay("journal")
+    check(replayed.stdout, f"what the journal has replays with {replayed.returncode}")
+
+
 def what_is_no_store(stage):
     """`jobd overrides` of a file that is no store of ours does not write to it."""
     files = {"text": b"a text\n" * 100, "noise": bytes(range(256)) * 32, "empty": b""}
@@ -896,8 +911,8 @@ SCENES = [
     a_stream_at_a_fifo, clients_that_never_read, silent_clients_of_one_port, ends_that_cannot_be_seen, a_second_launcher,
     a_start_that_fails, spool_links_and_fifos, a_spool_that_others_may_write, another_ones_socket, many_at_a_stale_socket,
     a_lost_spool_file, closed_standard_streams, pipelined_settings, silent_clients_of_the_control_socket, no_descriptor_left,
-    settings_in_the_log, limits_and_ignored_signals, private_files, a_journal_at_a_fifo, what_is_no_store, long_lines_and_headers,
-    reasons_are_told, run_log,
+    settings_in_the_log, limits_and_ignored_signals, private_files, a_journal_at_a_fifo, a_journal_that_may_not_grow, what_is_no_store,
+    long_lines_and_headers, reasons_are_told, run_log,
 ]
 
 

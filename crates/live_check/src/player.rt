@@ -5,12 +5,13 @@ use crate::calling::{begin, call, call_port, finish, send};
 use crate::files::{comes_to_have, comes_to_hold, is_there};
 use crate::journal::{compare, replay};
 use crate::scenes::{
-    AROUND, CALLERS, CRASHED, DEMANDS, ENDS, FAULTS, FULL, KILLED, REQUESTS, SETTINGS, THERE,
-    TOGETHER,
+    AROUND, CALLERS, CRASHED, DEMANDS, ENDS, FAULTS, KILLED, REQUESTS, SETTINGS, THERE, TOGETHER,
 };
 use crate::serving::{end, kill, serve};
 use crate::stage::Stage;
 use crate::step::Step;
+use std::fs::DirBuilder;
+use std::os::unix::fs::DirBuilderExt;
 use std::{fs, io};
 
 fn make(rt: &HostRuntime, stage: &Stage, name: &str, text: &str) -> io::Result<()> {
@@ -21,7 +22,7 @@ fn make(rt: &HostRuntime, stage: &Stage, name: &str, text: &str) -> io::Result<(
 
 fn make_folder(rt: &HostRuntime, stage: &Stage, name: &str) -> io::Result<()> {
     let path = stage.path(rt.alloc(), name)?;
-    fs::create_dir(rt, path.as_str())
+    DirBuilder::new().mode(0o700).create(rt, path.as_str())
 }
 
 fn tell_wait(rt: &HostRuntime, name: &str, came: bool) -> io::Result<()> {
@@ -115,8 +116,7 @@ fn play_scene(rt: &HostRuntime, name: &str, steps: &[Step]) -> io::Result<()> {
 fn play_requests(rt: &HostRuntime) -> io::Result<()> {
     play_scene(rt, "requests", REQUESTS)?;
     play_scene(rt, "settings", SETTINGS)?;
-    play_scene(rt, "faults", FAULTS)?;
-    play_scene(rt, "full", FULL)
+    play_scene(rt, "faults", FAULTS)
 }
 
 fn play_jobs(rt: &HostRuntime) -> io::Result<()> {

@@ -127,14 +127,6 @@ pub static FAULTS: &[Step] = &[
     End,
 ];
 
-pub static FULL: &[Step] = &[
-    Serve("--journal /dev/full"),
-    Ask("list"),
-    Ask("list"),
-    Ask("shutdown"),
-    End,
-];
-
 pub static TOGETHER: &[Step] = &[
     Make("one.json", ONE),
     Make("two.json", TWO),

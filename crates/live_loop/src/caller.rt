@@ -27,18 +27,25 @@ const PIECES: u32 = 16;
 /// A client of which nothing comes for so many milliseconds is let go.
 const LONGEST_SILENCE: u64 = 60 * SECOND;
 
-/// A client, by the bind that gave the job the socket to which it came. The job's number alone does not tell: another job may
+/// To whose sockets a client came: the job, and the bind that gave it these. The job's number alone does not tell: another job may
 /// have it since.
-#[derive(Drop)]
-pub(crate) struct Caller {
+#[derive(Clone, Copy)]
+pub(crate) struct Origin {
     pub(crate) job: JobNo,
     pub(crate) bind: u64,
+}
+
+#[derive(Drop)]
+pub(crate) struct Caller {
+    pub(crate) origin: Origin,
     pub(crate) client: Client,
     pub(crate) exchange: Exchange,
     // The `up` at which bytes came last, or the client itself.
     pub(crate) heard_at: u64,
     // Something may be there to be read.
     pub(crate) is_ready: bool,
+    // It was not read yet.
+    pub(crate) is_new: bool,
 }
 
 impl Caller {
@@ -56,6 +63,7 @@ impl Caller {
         if !self.is_ready {
             return self.waits(up);
         }
+        self.is_new = false;
         for _ in 0..PIECES {
             match self.read(up) {
                 Gathered::MayGoOn => {}

@@ -1,10 +1,9 @@
 //! The clients of jobs' sockets whose request still comes, as many as there is room for.
 
-use crate::caller::Caller;
+use crate::caller::{Caller, Origin};
 use crate::losses::Loss;
 use crate::silence::{CallerRoom, Heard, Place, place_for};
 use child_edge::Client;
-use history_model::JobNo;
 use mio::{Registry, Token};
 use slab::Slab;
 use socket_demand::Exchange;
@@ -82,19 +81,25 @@ impl Callers {
         for (key, caller) in self.held.iter() {
             let _listed = self.heard.push(Heard {
                 key,
-                bind: caller.bind,
+                bind: caller.origin.bind,
                 at: caller.heard_at,
             });
         }
         place_for(&self.heard, bind, self.room, up)
     }
 
+    /// Whether one that came by this bind was not read yet.
+    pub(crate) fn has_new(&self, bind: u64) -> bool {
+        self.held
+            .iter()
+            .any(|(_, caller)| caller.is_new && caller.origin.bind == bind)
+    }
+
     /// Takes a client in, for which there is a place. After an `Err` it is let go, for this reason.
     pub(crate) fn welcome(
         &mut self,
         registry: &Registry,
-        job: JobNo,
-        bind: u64,
+        origin: Origin,
         client: Client,
         up: u64,
     ) -> Result<(), Loss> {
@@ -102,12 +107,12 @@ impl Callers {
             return Err(Loss::NoMemory);
         };
         let mut caller = Caller {
-            job,
-            bind,
+            origin,
             client,
             exchange,
             heard_at: up,
             is_ready: true,
+            is_new: true,
         };
         let token = Token(self.held.vacant_key().saturating_add(FIRST));
         match caller.register(registry, token) {

@@ -1,6 +1,6 @@
 //! The clients of jobs' sockets, from their coming to the end of their request. Then the edge of the system has them.
 
-use crate::caller::{Caller, Gathered};
+use crate::caller::{Caller, Gathered, Origin};
 use crate::callers::{CALLERS, Callers};
 use crate::losses::{Loss, Losses};
 use crate::round_time::RoundTime;
@@ -110,7 +110,8 @@ impl JobSockets {
         }
     }
 
-    // Takes the clients of one job. If they are many, the others are left for the next round. It says whether one came.
+    // Takes the clients of one job. If they are many, or there is no room for all before the first are read, the others are left
+    // for the next round. It says whether one came.
     fn accept_for<T: SettingStore, R: System, W: Write>(
         &mut self,
         registry: &Registry,
@@ -120,12 +121,17 @@ impl JobSockets {
         let Some(bind) = inputs.host.edge().bind_of(job) else {
             return false;
         };
+        let origin = Origin { job, bind };
         for count in 0..TAKEN {
+            let place = self.callers.place(bind, inputs.at().up);
+            if !matches!(place, Place::Free) && self.callers.has_new(bind) {
+                break;
+            }
             let Some(client) = inputs.host.edge().accept(job) else {
                 return count > 0;
             };
             inputs.stir();
-            self.welcome(registry, inputs, job, bind, client);
+            self.welcome(registry, inputs, origin, client, place);
         }
         self.may_have_come = true;
         true
@@ -135,21 +141,21 @@ impl JobSockets {
         &mut self,
         registry: &Registry,
         inputs: &mut Inputs<T, OsEdge<R>, W>,
-        job: JobNo,
-        bind: u64,
+        origin: Origin,
         client: Client,
+        place: Place,
     ) {
-        let up = inputs.at().up;
-        match self.callers.place(bind, up) {
+        match place {
             Place::Free => {}
             Place::Of(key) => self.let_go(inputs, key, Some(Loss::Displaced)),
             Place::Nowhere => {
-                self.tell(inputs, job, bind, Loss::Crowded);
+                self.tell(inputs, origin, Loss::Crowded);
                 return;
             }
         }
-        if let Err(loss) = self.callers.welcome(registry, job, bind, client, up) {
-            self.tell(inputs, job, bind, loss);
+        let up = inputs.at().up;
+        if let Err(loss) = self.callers.welcome(registry, origin, client, up) {
+            self.tell(inputs, origin, loss);
         }
     }
 
@@ -163,7 +169,7 @@ impl JobSockets {
             return;
         };
         if let Some(loss) = loss {
-            self.tell(inputs, caller.job, caller.bind, loss);
+            self.tell(inputs, caller.origin, loss);
         }
     }
 
@@ -171,13 +177,12 @@ impl JobSockets {
     fn tell<T: SettingStore, R: System, W: Write>(
         &mut self,
         inputs: &mut Inputs<T, OsEdge<R>, W>,
-        job: JobNo,
-        bind: u64,
+        origin: Origin,
         loss: Loss,
     ) {
-        if inputs.host.edge().bind_of(job) == Some(bind) {
-            let label = inputs.host.table().last_step().label(job);
-            self.losses.note(job, bind, label, loss);
+        if has_sockets(inputs, origin) {
+            let label = inputs.host.table().last_step().label(origin.job);
+            self.losses.note(origin, label, loss);
         }
     }
 
@@ -220,7 +225,7 @@ impl JobSockets {
         let Some(caller) = self.callers.get_mut(key) else {
             return Gathered::Waits;
         };
-        if inputs.host.edge().bind_of(caller.job) != Some(caller.bind) {
+        if !has_sockets(inputs, caller.origin) {
             return Gathered::Lost(None);
         }
         let up = inputs.at().up;
@@ -242,12 +247,12 @@ impl JobSockets {
             return;
         };
         let Caller {
-            job,
-            bind,
+            origin,
             client,
             exchange,
             ..
         } = caller;
+        let job = origin.job;
         let conn = self.conn;
         self.conn = conn.saturating_add(1);
         let taken = inputs.host.edge().take(job, conn, client, exchange);
@@ -260,11 +265,19 @@ impl JobSockets {
             Some(refusal) => {
                 inputs.host.edge().close(job, conn);
                 if let Some(loss) = Loss::of_refusal(refusal) {
-                    self.tell(inputs, job, bind, loss);
+                    self.tell(inputs, origin, loss);
                 }
             }
         }
     }
+}
+
+// Whether the job has the same sockets still.
+fn has_sockets<T: SettingStore, R: System, W: Write>(
+    inputs: &mut Inputs<T, OsEdge<R>, W>,
+    origin: Origin,
+) -> bool {
+    inputs.host.edge().bind_of(origin.job) == Some(origin.bind)
 }
 
 fn came<T: SettingStore, R: System, W: Write>(

@@ -1,12 +1,13 @@
 //! The clients of jobs' sockets that were let go, and why: each reason is told once, until a client of its job comes through.
 
+use crate::caller::Origin;
 use history_model::{JobNo, Refusal, Text};
 use socket_demand::MAX_REQUEST;
 use std::alloc::{AllocError, Global};
 use std::collections::{BTreeMap, VecDeque};
 use std::io::{Error, ErrorKind};
 
-/// Why a client was let go before it was handed in, or with its request whole.
+/// Why a client was let go.
 #[derive(Clone, Copy)]
 pub(crate) enum Loss {
     /// The request is longer than a request may be.
@@ -51,7 +52,7 @@ impl Loss {
             Loss::Displaced => {
                 format!(in alloc; "it sent nothing for 5 seconds, and another one came")
             }
-            Loss::Crowded => format!(in alloc; "too many of them send at a time"),
+            Loss::Crowded => format!(in alloc; "too many clients send at a time"),
             Loss::NoMemory => format!(in alloc; "no memory"),
             Loss::QueueFull => format!(in alloc; "too many connections wait"),
             Loss::System(error) => format!(in alloc; "{error}"),
@@ -59,14 +60,14 @@ impl Loss {
     }
 }
 
-/// As many lines wait to be told. Of a job for which there was no room, the next loss is told.
+/// As many lines wait to be told. Where there is no room for one, the next loss of its kind is told.
 const ROOM: usize = 64;
 
-/// What was told last of a job's clients, by the bind that gave it its sockets.
+/// The reasons that were told of a job's clients, by the bind that gave it its sockets.
 #[derive(Drop)]
 struct Told {
     bind: u64,
-    reason: String,
+    reasons: Vec<String>,
 }
 
 /// What is to be told, and what was told of each job.
@@ -91,42 +92,57 @@ impl Losses {
         self.waiting.pop_front()
     }
 
-    /// A client was let go that came by this bind to the job of this label. Want of memory drops the line.
-    pub(crate) fn note(&mut self, job: JobNo, bind: u64, label: &str, loss: Loss) {
+    /// A client was let go that came to these sockets, of the job of this label. Want of memory drops the line.
+    pub(crate) fn note(&mut self, origin: Origin, label: &str, loss: Loss) {
         let Ok(reason) = loss.words(self.alloc) else {
             return;
         };
-        if self.is_told(job, bind, reason.as_str()) {
+        if self.is_told(origin, reason.as_str()) {
             return;
         }
-        let Ok(line) = line_of(self.alloc, label, reason.as_str()) else {
-            return;
-        };
-        if self.push(line) {
-            let _last = self.told.insert(job, Told { bind, reason });
+        if self.add(label, reason.as_str()).is_ok() {
+            self.remember(origin, reason);
         }
     }
 
-    fn is_told(&self, job: JobNo, bind: u64, reason: &str) -> bool {
-        match self.told.get(&job) {
-            None => false,
-            Some(told) => told.bind == bind && told.reason.as_str() == reason,
+    fn is_told(&self, origin: Origin, reason: &str) -> bool {
+        match self.told.get(&origin.job) {
+            Some(told) if told.bind == origin.bind => told
+                .reasons
+                .iter()
+                .any(|known| known.as_str() == reason),
+            _ => false,
         }
     }
 
-    /// A client of the job came through: the next loss is told again.
+    fn add(&mut self, label: &str, reason: &str) -> Result<(), AllocError> {
+        if self.waiting.len() >= ROOM {
+            return Err(AllocError);
+        }
+        let line = format!(in self.alloc; "{label}: a client was let go: {reason}")?;
+        self.waiting.push_back(Text::new(line))?;
+        Ok(())
+    }
+
+    // Want of memory forgets it.
+    fn remember(&mut self, origin: Origin, reason: String) {
+        let Origin { job, bind } = origin;
+        if let Some(told) = self.told.get_mut(&job) {
+            if told.bind == bind {
+                let _kept = told.reasons.push(reason);
+                return;
+            }
+        }
+        let mut reasons = Vec::new(self.alloc);
+        if reasons.push(reason).is_ok() {
+            let _last = self.told.insert(job, Told { bind, reasons });
+        }
+    }
+
+    /// A client of the job came through: each loss is told again.
     pub(crate) fn came_through(&mut self, job: JobNo) {
         if !self.told.is_empty() {
             let _last = self.told.remove(&job);
         }
     }
-
-    // Whether there was room for the line.
-    fn push(&mut self, line: String) -> bool {
-        self.waiting.len() < ROOM && self.waiting.push_back(Text::new(line)).is_ok()
-    }
-}
-
-fn line_of(alloc: Global, label: &str, reason: &str) -> Result<String, AllocError> {
-    format!(in alloc; "{label}: a client was let go: {reason}")
 }

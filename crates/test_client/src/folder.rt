@@ -57,10 +57,12 @@ fn write(rt: &HostRuntime, folder: &str, file: &str, bytes: &[u8]) -> io::Result
     fs::write(rt, path.as_str(), bytes)
 }
 
-// A file that is no UTF-8, and files of 262,144 and 262,145 bytes.
+// A file that is no UTF-8, and files of 262,101, 262,144 and 262,145 bytes.
 fn write_odd(rt: &HostRuntime, folder: &str) -> io::Result<()> {
     write(rt, folder, "latin.json", &[b'"', 0xE9, b'"'])?;
     let mut letters = Vec::new(rt.alloc());
+    letters.resize(262_101, b'n')?;
+    write(rt, folder, "record.json", letters.as_slice())?;
     letters.resize(262_144, b'n')?;
     write(rt, folder, "long.json", letters.as_slice())?;
     letters.push(b'n')?;

@@ -162,18 +162,25 @@ pub static A_MISSING_FILE_LAST: Row = Row {
     ],
 };
 
-/// Files that make no request: no UTF-8, too long for a line, and for `unload` no definition.
+/// Files that make no request: no UTF-8, too long for the journal's line or for a request, and for `unload` no definition.
 pub static FAULTY_FILES: Row = Row {
-    words: &["load", "@/latin.json", "@/long.json", "@/longer.json"],
+    words: &[
+        "load",
+        "@/latin.json",
+        "@/record.json",
+        "@/long.json",
+        "@/longer.json",
+    ],
     variables: &[],
     replies: "",
     status: 65,
     asked: "",
     printed: "",
     told: &[
-        "jobctl: @/latin.json: ",
-        "jobctl: @/long.json: ",
-        "jobctl: @/longer.json: ",
+        "jobctl: @/latin.json: not UTF-8",
+        "jobctl: @/record.json: too long for a line of the journal",
+        "jobctl: @/long.json: too long for a request",
+        "jobctl: @/longer.json: too long for a request",
     ],
 };
 

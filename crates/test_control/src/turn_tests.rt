@@ -97,24 +97,43 @@ fn the_longest_silent_client_gives_way(rt: HostRuntime) -> Result<(), Fail> {
     play_steps(&rt, "silent", THE_LONGEST_SILENT_CLIENT_GIVES_WAY)
 }
 
-/// Of 65 that come at once none is silent yet, so the last is turned away. In the round in which a client leaves, another takes
-/// its place.
-static A_CLIENT_BEHIND_64_IS_TURNED_AWAY: &[Step] = &[
+/// Of 65 that come at once the last waits until a round looked at the others. The first of them is then the longest silent.
+static CLIENTS_THAT_COME_AT_ONCE_GET_IN: &[Step] = &[
     Connect(65),
     Round,
-    Hears(63, ""),
-    HearsLast(64, "{\"code\":2,\"text\":\"too many clients\\n\"}\n"),
-    Leaves(64),
+    Hears(0, ""),
+    Hears(64, ""),
+    Sends(64, "b\n"),
+    Round,
+    IsLetGo(0),
+    Round,
+    Hears(64, "{\"code\":0,\"text\":\"b\"}\n"),
+    Hears(1, ""),
+];
+
+#[test]
+fn clients_that_come_at_once_get_in(rt: HostRuntime) -> Result<(), Fail> {
+    play_steps(&rt, "burst", CLIENTS_THAT_COME_AT_ONCE_GET_IN)
+}
+
+/// In the round in which a client leaves, another takes its place. A further one is turned away if all 64 ask.
+static A_CLIENT_BEHIND_64_IS_TURNED_AWAY: &[Step] = &[
+    Connect(64),
+    Round,
     OthersSend(5, "a\n"),
     Leaves(5),
     Connect(2),
     Round,
+    Hears(64, ""),
     Hears(65, ""),
-    HearsLast(66, "{\"code\":2,\"text\":\"too many clients\\n\"}\n"),
-    Sends(65, "b\n"),
+    OthersSend(65, "b\n"),
     Round,
-    Hears(65, "{\"code\":0,\"text\":\"b\"}\n"),
-    Hears(63, "{\"code\":0,\"text\":\"a\"}\n"),
+    HearsLast(65, "{\"code\":2,\"text\":\"too many clients\\n\"}\n"),
+    Hears(64, "{\"code\":0,\"text\":\"b\"}\n"),
+    Hears(
+        63,
+        "{\"code\":0,\"text\":\"a\"}\n{\"code\":0,\"text\":\"b\"}\n",
+    ),
 ];
 
 #[test]

@@ -1,10 +1,13 @@
 //! The same stream of inputs told to two launchers: to one as the live loop tells it, without the readings and the sights that
 //! may change nothing, and to the other whole. Both have to answer and to order the same. The clock and the paths are handed
-//! in. What is ordered is read off the rules of launchd.plist(5), and off no run of this code. Nothing but tests is here.
+//! in. What is ordered is read off the rules of launchd.plist(5), and off no run of this code. Beside them stand the places of further
+//! clients of jobs' sockets. Nothing but tests is here.
 #![tactic(auto)]
 
 #[cfg(test)]
 mod edge;
+#[cfg(test)]
+mod further_clients;
 #[cfg(test)]
 mod pair;
 #[cfg(test)]
@@ -14,6 +17,7 @@ mod streams;
 
 #[cfg(test)]
 mod tests {
+    use crate::further_clients::all_have_their_place;
     use crate::pair::is_spared;
     use crate::streams::{CALENDAR, INTERVAL, PATH_STATE, QUEUED, THROTTLE, WATCHED};
 
@@ -50,6 +54,12 @@ mod tests {
     #[test]
     fn a_queue_directory_needs_no_equal_sight(rt: HostRuntime) {
         let holds = is_spared(rt.alloc(), &QUEUED) == Ok(true);
+        assert!(rt; holds);
+    }
+
+    #[test]
+    fn the_longest_silent_goes_for_a_further_client(rt: HostRuntime) {
+        let holds = all_have_their_place();
         assert!(rt; holds);
     }
 }
