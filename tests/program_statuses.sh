@@ -96,18 +96,25 @@ wants 'a zone file that is too long' 7 '' 'jobd: zone file long: no zone file of
 run serve --socket no/s --store store --spool spool --journal no/j
 wants 'a control socket in no folder' 6 '' 'jobd: control socket no/s: No such file or directory (os error 2)'
 run serve --socket long --store store --spool spool --journal no/j
-wants 'a control socket in the place of a file' 6 '' 'jobd: control socket long: Address already in use (os error 98)'
+wants 'a control socket in the place of a file' 6 '' 'jobd: control socket long: address in use'
 run serve --socket s --store store --spool spool --journal no/j
 wants 'a journal in no folder' 8 '' 'jobd: journal no/j: No such file or directory (os error 2)'
 run serve --socket s --store store --spool spool
-wants 'a store that is a folder' 5 '' 'jobd: store store: unable to open database file'
+wants 'a store that is a folder' 5 '' 'jobd: store store: it is no plain file'
+run serve --socket s --store o --spool spool --journal store
+wants 'a journal that is a folder' 8 '' 'jobd: journal store: it is no plain file'
+head -c 5000 long >other
+run serve --socket s --store other --spool spool
+wants 'a store that is another file' 5 '' "$(with_line '^jobd: store other: ' err)"
+mkdir -m 770 shared
+run serve --socket s --store o --spool shared
+wants 'a spool that others may write' 10 '' 'jobd: spool shared: others may write in it; chmod 700 mends it'
 if [ -e s ]; then
     echo 'program_statuses: the control socket of a launcher that did not start is left' >&2
     exit 1
 fi
 run overrides --store no
 wants 'overrides of no store' 5 '' 'jobd: store no: No such file or directory (os error 2)'
-head -c 5000 long >other
 run overrides --store other
 wants 'overrides of another file' 5 '' "$(with_line '^jobd: store other: ' err)"
 

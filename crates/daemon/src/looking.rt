@@ -15,7 +15,7 @@ const MOST_BYTES: u64 = 67_108_864;
 const CACHE_PAGES: usize = 8;
 
 /// What a file is that may be a store.
-#[derive(Clone, Copy, PartialEq, Eq)]
+#[derive(Clone, Copy)]
 pub(crate) enum Found {
     /// It is empty, or a database without a table.
     Empty,
@@ -84,7 +84,11 @@ fn look_through<S: Alter + Drop>(alloc: Global, conn: Connection<S>) -> Result<F
     let tables = conn.schema().tables.len();
     let first = has(&mut conn, "SELECT label, disabled FROM overrides")?;
     let second = has(&mut conn, "SELECT label, disabled, changed FROM settings")?;
-    let own = usize::from(first) + usize::from(second);
+    let own = match (first, second) {
+        (true, true) => 2,
+        (false, false) => 0,
+        _ => 1,
+    };
     if own < tables {
         return Ok(Found::Foreign);
     }
