@@ -67,7 +67,7 @@ wants_usage 'the word twice'
 run serve
 wants_usage 'serve without its places'
 run serve --socket s --store o --spool p --zone UTC0 --zone-file /usr/share/zoneinfo/UTC
-wants_usage 'both zone options'
+wants 'both zone options' 64 '' "jobd: --zone and --zone-file can't stand together"
 run overrides
 wants_usage 'overrides without its store'
 run other
@@ -96,11 +96,11 @@ wants 'a zone file that is too long' 7 '' 'jobd: zone file long: no zone file of
 run serve --socket no/s --store store --spool spool --journal no/j
 wants 'a control socket in no folder' 6 '' 'jobd: control socket no/s: No such file or directory (os error 2)'
 run serve --socket long --store store --spool spool --journal no/j
-wants 'a control socket in the place of a file' 6 '' 'jobd: control socket long: Address already in use (os error 98)'
+wants 'a control socket in the place of a file' 6 '' 'jobd: control socket long: address in use'
 run serve --socket s --store store --spool spool --journal no/j
 wants 'a journal in no folder' 8 '' 'jobd: journal no/j: No such file or directory (os error 2)'
 run serve --socket s --store store --spool spool
-wants 'a store that is a folder' 5 '' 'jobd: store store: unable to open database file'
+wants 'a store that is a folder' 5 '' 'jobd: store store: it is no plain file'
 if [ -e s ]; then
     echo 'program_statuses: the control socket of a launcher that did not start is left' >&2
     exit 1
