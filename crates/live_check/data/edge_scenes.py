@@ -837,16 +837,18 @@ def reasons_are_told(stage):
         ("program", {"ProgramArguments": ["/no/such/program"], **keys}, f"run 1: cannot start /no/such/program: {absent}"),
         ("barred", {"ProgramArguments": [stage.at("plain")], **keys}, f"run 1: cannot start {stage.at('plain')}: {barred}"),
         ("folder", shell_job("", ":", WorkingDirectory=stage.at("gone"), **keys), f"{stage.at('gone')}: {absent}"),
-        ("output", shell_job("", ":", StandardOutPath=stage.at("gone/out"), **keys), f"{stage.at('gone/out')}: {absent}"),
-        ("errors", shell_job("", ":", StandardErrorPath=stage.at("gone/err"), **keys), f"{stage.at('gone/err')}: {absent}"),
-        ("input", shell_job("", ":", StandardInPath=stage.at("gone/in"), **keys), f"{stage.at('gone/in')}: {absent}"),
-        ("watch", shell_job("", ":", WatchPaths=[stage.at("loop/x")]), f"{stage.at('loop/x')}: {looping}"),
+        ("output", shell_job("", ":", StandardOutPath=stage.at("gone/out"), **keys), f"{stage.at('gone/out')} for its output: {absent}"),
+        ("errors", shell_job("", ":", StandardErrorPath=stage.at("gone/err"), **keys), f"{stage.at('gone/err')} for its errors: {absent}"),
+        ("input", shell_job("", ":", StandardInPath=stage.at("gone/in"), **keys), f"{stage.at('gone/in')} for its input: {absent}"),
     ]
     for label, definition, _ in jobs:
         launcher.load({**definition, "Label": label})
     launcher.load({**socket_job(stage, "bound", ["/bin/cat"]), "Sockets": {"s": {"SockPathName": stage.at("gone/socket")}}}, 11)
     jobs.append(("bound", None, f"{stage.at('gone/socket')}: {absent}"))
     told = lambda label, text: [line for line in launcher.lines(f"jobd: {label}: ") if line.endswith(text)]
+    launcher.load(shell_job("watch", ":", WatchPaths=[stage.at("loop/x")]))
+    sight = f"jobd: cannot look at {stage.at('loop/x')}: {looping}"
+    wait_for(lambda: launcher.lines(sight), f"no line {sight!r} in {launcher.said()!r}")
     for label, _, text in jobs:
         check(comes(lambda: told(label, text)), f"no line `jobd: {label}: ..{text}` in {launcher.said()!r}")
     launcher.load({"Label": "often", "ProgramArguments": [stage.at("later")], "KeepAlive": True, "ThrottleInterval": 0})

@@ -58,7 +58,7 @@ fn folder_name(alloc: Global, above: &str, id: u32, name: &str) -> Result<String
     format!(in alloc; "{above}/edge-{id}-{name}")
 }
 
-fn new_folder(rt: &HostRuntime, name: &str) -> Result<String, Fail> {
+pub fn new_folder(rt: &HostRuntime, name: &str) -> Result<String, Fail> {
     let above = folder_above(rt)?;
     let folder = folder_name(rt.alloc(), above.as_str(), own_id(rt), name)?;
     fs::create_dir(rt, folder.as_str())?;
@@ -66,7 +66,7 @@ fn new_folder(rt: &HostRuntime, name: &str) -> Result<String, Fail> {
 }
 
 // A port that nobody listens on.
-fn free_port(rt: &HostRuntime) -> Result<String, Fail> {
+pub fn free_port(rt: &HostRuntime) -> Result<String, Fail> {
     let listener = TcpListener::bind(rt, SocketAddr::from((Ipv4Addr::LOCALHOST, 0)))?;
     let port = listener.local_addr()?.port();
     Ok(format!(in rt.alloc(); "{port}")?)
@@ -181,6 +181,11 @@ impl Stage {
         Ok(holds(rt, path.as_str(), text.as_str()))
     }
 
+    fn has_file(&self, rt: &HostRuntime, path: &str) -> Result<bool, Fail> {
+        let path = self.text(rt, path)?;
+        Ok(is_there(rt, path.as_str()))
+    }
+
     fn make(&self, rt: &HostRuntime, path: &str, text: &str) -> Result<bool, Fail> {
         let path = self.text(rt, path)?;
         Ok(fs::write(rt, path.as_str(), text).is_ok())
@@ -248,6 +253,7 @@ fn play(rt: &HostRuntime, stage: &mut Stage, step: Step) -> Result<bool, Fail> {
         Step::Gets(count) => gets(rt, stage, count),
         Step::Hears(text) => hears(rt, stage, text),
         Step::Crowd(first, last) => crowds(rt, stage, first, last),
+        Step::Away(path) => Ok(!stage.has_file(rt, path)?),
         Step::Told(lines) => tells(rt, stage, lines),
         Step::Floods(looks, count, last) => floods(rt, stage, looks, count, last),
         Step::NothingOpen => Ok(open_count(rt)? == stage.opened),

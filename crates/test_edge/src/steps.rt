@@ -31,6 +31,8 @@ pub enum Step {
     Appears(&'static str),
     /// The file comes to be away.
     Goes(&'static str),
+    /// The file is away now. No reply is sent on before that is seen.
+    Away(&'static str),
     /// The file holds the text.
     Holds(&'static str, &'static str),
     /// A file is made that holds the text.

@@ -13,7 +13,7 @@ IsLongest is_rival callers seen (Some one) =
     ((k : ℕ) × (k < length callers) × (get_or callers k one ≡ one))
     × (is_rival one ≡ true)
     × ((k : ℕ) (d : Heard) → k < seen → is_rival (get_or callers k d) ≡ true →
-        one.at ≤ (get_or callers k d).at)
+    one.at ≤ (get_or callers k d).at)
 
 abbrev pub invariant-loop-one : goal.invariant-loop-one
 invariant-loop-one l = IsLongest (is_rival l.of_any l.bind) l.callers l.one-index l.longest
