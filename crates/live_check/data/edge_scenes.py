@@ -903,6 +903,69 @@ def run_log(stage):
     check(len(still.splitlines()) == 1 and len(refusals.splitlines()) == 1, f"without JOBD_LOG it said {still!r}")
 
 
+def a_standard_error_that_nobody_reads(stage):
+    """Standard error is a pipe that is full: the launcher serves on, tells its lines once somebody reads, and ends in any case."""
+    os.mkfifo(stage.at("told"))
+    told = os.open(stage.at("told"), os.O_RDWR | os.O_NONBLOCK)
+    fill(told)
+    launcher = stage.serve(shell=f"exec 2<>{stage.at('told')}", env={"JOBD_LOG": "runs"})
+    launcher.load(shell_job("first", ":", RunAtLoad=True))
+    launcher.tells("first", "last exit = code 0")
+    launcher.answers("with a standard error that nobody reads")
+    lines = b""
+
+    def are_read():
+        nonlocal lines
+        try:
+            lines += os.read(told, 65536)
+        except BlockingIOError:
+            pass
+        return b"first: run 1 ended with code 0" in lines
+
+    wait_for(are_read, "the lines are not told once somebody reads")
+    check(b"jobd: first: run 1 started as " in lines, f"it told {lines[-300:]!r}")
+    fill(told)
+    launcher.load(shell_job("second", ":", RunAtLoad=True))
+    launcher.tells("second", "last exit = code 0")
+    launcher.shut_down()
+    os.close(told)
+
+
+def fill(pipe):
+    """Writes until the pipe takes nothing more."""
+    try:
+        while True:
+            os.write(pipe, b"." * 4096)
+    except BlockingIOError:
+        pass
+
+
+def an_end_beside_one_who_asks_on(stage):
+    """A client of the control socket asks on and on: the launcher ends all the same once a shutdown was accepted."""
+    launcher = stage.serve()
+    greedy = connect(launcher.path)
+
+    def ask_on():
+        try:
+            while True:
+                greedy.sendall(b'{"req":"list"}\n' * 1000)
+        except OSError:
+            return
+
+    def read_on():
+        try:
+            while greedy.recv(65536):
+                pass
+        except OSError:
+            return
+
+    for part in (ask_on, read_on):
+        threading.Thread(target=part, daemon=True).start()
+    launcher.answers("beside one who asks on and on")
+    launcher.shut_down()
+    greedy.close()
+
+
 def end_all(launcher):
     """A shutdown that may wait for a job that heeds no TERM."""
     launcher.ask({"req": "shutdown"})
@@ -914,7 +977,7 @@ SCENES = [
     a_start_that_fails, spool_links_and_fifos, a_spool_that_others_may_write, another_ones_socket, many_at_a_stale_socket,
     a_lost_spool_file, closed_standard_streams, pipelined_settings, silent_clients_of_the_control_socket, no_descriptor_left,
     settings_in_the_log, limits_and_ignored_signals, private_files, a_journal_at_a_fifo, a_journal_that_may_not_grow, what_is_no_store,
-    long_lines_and_headers, reasons_are_told, run_log,
+    long_lines_and_headers, reasons_are_told, run_log, a_standard_error_that_nobody_reads, an_end_beside_one_who_asks_on,
 ]
 
 

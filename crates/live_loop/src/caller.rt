@@ -35,6 +35,7 @@ pub(crate) struct Origin {
     pub(crate) bind: u64,
 }
 
+/// A client, with what came of its request.
 #[derive(Drop)]
 pub(crate) struct Caller {
     pub(crate) origin: Origin,

@@ -16,7 +16,7 @@ pub(crate) const CALLERS: usize = 256;
 const CALLERS_OF_A_JOB: usize = 64;
 
 /// What a client sends and takes wakes the poll under its key and this number.
-const FIRST: usize = 3;
+const FIRST: usize = 2;
 
 #[derive(Drop)]
 pub(crate) struct Callers {

@@ -14,6 +14,7 @@ use mio::{Events, Poll, Token};
 use round_findings::{Inputs, Sights};
 use std::alloc::{AllocError, Global};
 use std::io::Write;
+use std::net::Net;
 
 /// Under this token the control socket and its clients wake the poll.
 const CONTROL: Token = Token(0);
@@ -33,7 +34,7 @@ pub struct Live<R: System, T: SettingStore, W: Write> {
     pub(crate) sockets: JobSockets,
     pub(crate) label: LabelRoom,
     pub(crate) voice: Voice,
-    // What standard error did not take.
+    // What standard error would have had to wait for.
     pub(crate) untold: Option<Notice>,
     // The journal was closed, and this was not told.
     pub(crate) has_journal_closed: bool,
@@ -52,18 +53,21 @@ struct Rooms {
     sights: Sights,
     sockets: JobSockets,
     label: LabelRoom,
+    voice: Voice,
 }
 
-fn make_rooms(alloc: Global) -> Result<Rooms, AllocError> {
+fn make_rooms(net: &impl Net, alloc: Global) -> Result<Rooms, AllocError> {
     let events = Events::with_capacity(alloc, EVENTS)?;
     let sights = Sights::new(alloc)?;
     let sockets = JobSockets::new(alloc)?;
     let label = LabelRoom::new(alloc)?;
+    let voice = Voice::new(net, alloc)?;
     Ok(Rooms {
         events,
         sights,
         sockets,
         label,
+        voice,
     })
 }
 
@@ -90,7 +94,7 @@ impl<R: System, T: SettingStore + Drop, W: Write + Drop> Live<R, T, W> {
     ) -> Result<Live<R, T, W>, ServeFault> {
         let mut control = control;
         let poll = polled(rt, &mut control)?;
-        let Ok(rooms) = make_rooms(alloc) else {
+        let Ok(rooms) = make_rooms(rt, alloc) else {
             return Err(ServeFault::NoMemory);
         };
         let Ok(inputs) = Inputs::new(alloc, host) else {
@@ -101,8 +105,8 @@ impl<R: System, T: SettingStore + Drop, W: Write + Drop> Live<R, T, W> {
             sights,
             sockets,
             label,
+            voice,
         } = rooms;
-        let voice = Voice::new(poll.registry());
         Ok(Live {
             inputs,
             control,

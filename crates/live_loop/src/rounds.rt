@@ -6,7 +6,6 @@ use crate::live::Live;
 use crate::round_time::RoundTime;
 use crate::system::System;
 use crate::telling::tell;
-use crate::voice::TAKING;
 use crate::waiting::{next_pause, round_wait};
 use history_model::SECOND;
 use load_asking::SettingStore;
@@ -34,8 +33,7 @@ pub fn round<R: System, T: SettingStore, W: Write>(
     alloc: Global,
     live: &mut Live<R, T, W>,
 ) -> Result<bool, ServeFault> {
-    let time = Duration::from_millis(next_wait(live));
-    wait(live, time)?;
+    wait(live)?;
     live.inputs.begin(alloc);
     poll_children(alloc, &mut live.inputs, &mut live.label);
     if live.sights.look(alloc, &mut live.inputs) {
@@ -72,31 +70,22 @@ pub fn serve<R: System + Wait, T: SettingStore + Drop, W: Write + Drop>(
 fn close<R: System, T: SettingStore, W: Write>(rt: &R, alloc: Global, live: &mut Live<R, T, W>) {
     live.control.remove(rt);
     live.inputs.host.edge().let_all_go();
-    let _polled = wait(live, Duration::ZERO);
     tell(rt, alloc, live);
 }
 
-// Waits for readiness.
-fn wait<R: System, T: SettingStore, W: Write>(
-    live: &mut Live<R, T, W>,
-    time: Duration,
-) -> Result<(), ServeFault> {
+// Waits for readiness, no longer than until the next moment of the table and the next look.
+fn wait<R: System, T: SettingStore, W: Write>(live: &mut Live<R, T, W>) -> Result<(), ServeFault> {
+    let time = Duration::from_millis(next_wait(live));
     match live.poll.poll(&mut live.events, Some(time)) {
         Ok(()) => {}
         Err(_) => return Err(ServeFault::Poll),
     }
     for event in live.events.iter() {
-        let token = event.token();
-        if token == TAKING {
-            live.voice.wake();
-        } else {
-            live.sockets.wake_by(token);
-        }
+        live.sockets.wake_by(event.token());
     }
     Ok(())
 }
 
-// No longer than until the next moment of the table and the next look.
 fn next_wait<R: System, T: SettingStore, W: Write>(live: &mut Live<R, T, W>) -> u64 {
     if live.is_busy {
         return 0;

@@ -12,7 +12,7 @@ use std::io::Write;
 /// As many lines a round tells at most.
 const LINES: usize = 256;
 
-/// Tells what there is to tell, in a line each. What standard error does not take at once is left for a later round.
+/// Tells what there is to tell, in a line each. Where standard error would wait, the rest is left for a later round.
 pub(crate) fn tell<R: System, T: SettingStore, W: Write>(
     rt: &R,
     alloc: Global,
@@ -20,14 +20,13 @@ pub(crate) fn tell<R: System, T: SettingStore, W: Write>(
 ) {
     for _ in 0..LINES {
         let Some(notice) = next_notice(alloc, live) else {
-            break;
+            return;
         };
-        live.untold = live.voice.tell(rt, notice);
-        if live.untold.is_some() {
-            break;
+        if !live.voice.tell(rt, &notice) {
+            live.untold = Some(notice);
+            return;
         }
     }
-    live.voice.ask(live.poll.registry());
 }
 
 fn next_notice<R: System, T: SettingStore, W: Write>(

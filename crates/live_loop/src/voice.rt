@@ -2,48 +2,69 @@
 
 use child_edge::{Notice, NoticeKind};
 use mio::unix::SourceFd;
-use mio::{Interest, Registry, Token};
+use mio::{Events, Interest, Poll, Token};
+use std::alloc::{AllocError, Global};
+use std::net::Net;
 use std::os::fd::RawFd;
-
-/// Under this token standard error wakes the poll once it takes something.
-pub(crate) const TAKING: Token = Token(2);
+use std::time::Duration;
 
 const STANDARD_ERROR: RawFd = 2;
 
-/// A pipe, a socket or a terminal that takes something takes as many bytes.
-const PIECE: usize = 4_096;
+/// Standard error is all that its poll knows.
+const TAKING: Token = Token(0);
 
-/// As many bytes a line has beside its text at most.
-const BESIDE: usize = 10;
-
-/// What standard error takes without a wait.
-#[derive(Clone, Copy, PartialEq, Eq)]
-enum Taking {
-    /// All: it is a file, or what else the poll does not wait for.
-    All,
-    Bytes(usize),
-    /// Nothing until it wakes the poll.
-    Nothing,
+/// A poll that knows when standard error takes something. A pipe, a socket or a terminal then takes 4,096 bytes without a wait,
+/// and a line has fewer, if its paths are not longer than paths can be.
+#[derive(Drop)]
+struct Watch {
+    poll: Poll,
+    events: Events,
 }
 
 #[derive(Drop)]
 pub(crate) struct Voice {
     is_leveled: bool,
-    taking: Taking,
+    // Absent if standard error is a file, or what else no poll waits for.
+    watch: Option<Watch>,
+}
+
+impl Watch {
+    fn new(net: &impl Net, events: Events) -> Option<Watch> {
+        let poll = Poll::new(net).ok()?;
+        let mut source = SourceFd(&STANDARD_ERROR);
+        match poll
+            .registry()
+            .register(&mut source, TAKING, Interest::WRITABLE)
+        {
+            Ok(()) => Some(Watch { poll, events }),
+            Err(_) => None,
+        }
+    }
+
+    // Whether something is taken now. A new registration is told what is ready already. If the system refuses to say, it is tried.
+    fn is_taking(&mut self) -> bool {
+        let mut source = SourceFd(&STANDARD_ERROR);
+        let registry = self.poll.registry();
+        if registry
+            .reregister(&mut source, TAKING, Interest::WRITABLE)
+            .is_err()
+        {
+            return true;
+        }
+        match self.poll.poll(&mut self.events, Some(Duration::ZERO)) {
+            Ok(()) => self.events.iter().next().is_some(),
+            Err(_) => true,
+        }
+    }
 }
 
 impl Voice {
-    /// Has standard error wake the poll.
-    pub(crate) fn new(registry: &Registry) -> Voice {
-        let mut source = SourceFd(&STANDARD_ERROR);
-        let taking = match registry.register(&mut source, TAKING, Interest::WRITABLE) {
-            Ok(()) => Taking::Nothing,
-            Err(_) => Taking::All,
-        };
-        Voice {
+    pub(crate) fn new(net: &impl Net, alloc: Global) -> Result<Voice, AllocError> {
+        let events = Events::with_capacity(alloc, 1)?;
+        Ok(Voice {
             is_leveled: false,
-            taking,
-        }
+            watch: Watch::new(net, events),
+        })
     }
 
     /// From now on each line begins with its level, as the journal of systemd takes it: 4 for a refusal, 6 for a run.
@@ -51,35 +72,17 @@ impl Voice {
         self.is_leveled = true;
     }
 
-    /// Standard error woke the poll.
-    pub(crate) fn wake(&mut self) {
-        if self.taking == Taking::Nothing {
-            self.taking = Taking::Bytes(PIECE);
+    /// Tells the notice in a line. False: that would have to wait, and nothing was told.
+    pub(crate) fn tell<R: Eprint>(&mut self, rt: &R, notice: &Notice) -> bool {
+        let is_taking = match &mut self.watch {
+            None => true,
+            Some(watch) => watch.is_taking(),
+        };
+        if is_taking {
+            let level = self.level(notice.kind);
+            let _written = eprintln!(rt; "{level}jobd: {}", notice.text.as_str());
         }
-    }
-
-    /// Tells the notice in a line. One that is not taken without a wait is handed back.
-    pub(crate) fn tell<R: Eprint>(&mut self, rt: &R, notice: Notice) -> Option<Notice> {
-        if !self.takes(notice.text.as_str().len()) {
-            return Some(notice);
-        }
-        let level = self.level(notice.kind);
-        let _written = eprintln!(rt; "{level}jobd: {}", notice.text.as_str());
-        None
-    }
-
-    // Whether a line of a text of this length is taken. A longer one than is ever taken at once is written all the same.
-    fn takes(&mut self, text: usize) -> bool {
-        let line = text.saturating_add(BESIDE);
-        match self.taking {
-            Taking::All => true,
-            Taking::Nothing => false,
-            Taking::Bytes(left) if left < line && left < PIECE => false,
-            Taking::Bytes(left) => {
-                self.taking = Taking::Bytes(left.saturating_sub(line));
-                true
-            }
-        }
+        is_taking
     }
 
     fn level(&self, kind: NoticeKind) -> &'static str {
@@ -90,18 +93,5 @@ impl Voice {
             NoticeKind::Refusal => "<4>",
             NoticeKind::Run => "<6>",
         }
-    }
-
-    /// Has standard error wake the poll again, if something was told.
-    pub(crate) fn ask(&mut self, registry: &Registry) {
-        match self.taking {
-            Taking::Bytes(left) if left < PIECE => {}
-            _ => return,
-        }
-        let mut source = SourceFd(&STANDARD_ERROR);
-        self.taking = match registry.reregister(&mut source, TAKING, Interest::WRITABLE) {
-            Ok(()) => Taking::Nothing,
-            Err(_) => Taking::All,
-        };
     }
 }
