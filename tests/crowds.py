@@ -88,12 +88,20 @@ def vanishing(path, text, half_closes=False):
     again(step, 0.01)
 
 
+def send(client, text):
+    """Sends the text as far as it is taken."""
+    try:
+        client.sendall(text)
+    except OSError:
+        pass
+
+
 def pipelining(path, text):
     """A client that sends these lines all at once, and reads each reply."""
 
     def step():
         with connect(path) as client:
-            sender = threading.Thread(target=client.sendall, args=(text,), daemon=True)
+            sender = threading.Thread(target=send, args=(client, text), daemon=True)
             sender.start()
             left = text.count(b"\n")
             while left > 0 and (piece := client.recv(65536)):
@@ -103,21 +111,23 @@ def pipelining(path, text):
     again(step, 0.01)
 
 
-def never_reading(path, text, count, least, most, half_closes=False):
-    """So many clients that send this as long as it is taken, read nothing, and leave after so many seconds."""
+def never_reading(path, text, count, stay, half_closes=False):
+    """So many clients, 20 milliseconds apart, that send this as long as it is taken, or once and half-close; they read nothing, and
+    leave after some seconds, this many on average."""
 
     def step():
-        held = [connect(path) for _ in range(count)]
-        for client in held:
-            client.setblocking(False)
+        held = []
+        for _ in range(count):
+            held.append(connect(path))
+            held[-1].setblocking(False)
             try:
-                while client.send(text) and not half_closes:
+                while held[-1].send(text) and not half_closes:
                     pass
+                held[-1].shutdown(socket.SHUT_WR)
             except OSError:
                 pass
-            if half_closes:
-                client.shutdown(socket.SHUT_WR)
-        time.sleep(random.uniform(least, most))
+            time.sleep(0.02)
+        time.sleep(random.uniform(0.5 * stay, 1.5 * stay))
         for client in held:
             client.close()
 

@@ -212,10 +212,10 @@ def beside(stage, launcher, crowds, honest, goes_on):
 
 def replies_unread(stage, launcher):
     slack = stage.given.slack
-    served = lambda: int(launcher.print("greedy").partition("runs = ")[2].split()[0]) >= 66
-    crowds = [(never_reading, stage.at("greedy"), b"x", 130, 60 * slack, 60 * slack, True)]
+    served = lambda: int(launcher.print("greedy").partition("runs = ")[2].split()[0]) >= 100
+    crowds = [(never_reading, stage.at("greedy"), b"x", 130, 100 * slack, True)]
     honest = {"list": (asks(launcher.path), 0.02), "call": (calls(stage.at("cat")), 0.05)}
-    told = beside(stage, launcher, crowds, honest, lambda: wait_for(served, "66 clients that never read are not served", 50 * slack))
+    told = beside(stage, launcher, crowds, honest, lambda: wait_for(served, "100 clients that never read are not served", 40 * slack))
     wait_for(lambda: len(call(stage.at("greedy"), b"x")) == 400000, "a later client of the same job is not served", 10 * slack)
     return told
 
@@ -284,10 +284,10 @@ def soak_crowds(stage, path):
     return [
         (silent, path, 64), (silent, path, 4, b'{"req":"li'), (vanishing, path, b'{"req":"sh'), (vanishing, path, LIST * 20),
         (vanishing, path, b""), (pipelining, path, (LIST + b'{"req":"print","job":"cat"}\n') * 200), (pipelining, path, settings),
-        (pipelining, path, b"no request\n" * 500), (never_reading, path, LIST * 1000, 2, 1, 4),
+        (pipelining, path, b"no request\n" * 500), (never_reading, path, LIST * 1000, 2, 3),
         (silent, stage.at("cat"), 64), (silent, stage.at("greedy"), 20, b"half"), (vanishing, stage.at("cat"), b"gone", True),
         (vanishing, stage.at("greedy"), b"gone"), (vanishing, stage.at("cat"), b"x" * 65537, True),
-        (never_reading, stage.at("greedy"), b"x", 80, 1, 5, True), (never_reading, stage.at("other"), b"x" * 60000, 5, 1, 5),
+        (never_reading, stage.at("greedy"), b"x", 80, 3, True), (never_reading, stage.at("other"), b"x" * 60000, 5, 3, True),
     ]
 
 

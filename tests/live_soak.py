@@ -10,6 +10,7 @@ the environment makes the choices again.
 import json
 import os
 import random
+import re
 import shutil
 import socket
 import subprocess
@@ -18,6 +19,8 @@ import tempfile
 import time
 
 JOBS = 100
+# What the launcher has to say: that the jobs of one kind have no program.
+REFUSED = re.compile(r"jobd: job\d\d: run \d+: cannot start /no/such/program: No such file or directory \(os error 2\)")
 ANSWERED = {"spawned": "spawn", "spawn_refused": "spawn", "termed": "term", "killed": "kill"}
 REQUESTS = ("load", "unload", "start", "stop", "kickstart", "enable", "disable", "list", "print", "shutdown")
 
@@ -185,8 +188,11 @@ class Soak:
             self.complain(f"the launcher ended with {status}")
         self.said.close()
         with open(self.path("said")) as told:
-            if text := told.read():
-                self.complain(f"standard error: {text[:200]}")
+            lines = told.read().splitlines()
+        self.counts["refusals told"] = len(lines)
+        for line in lines:
+            if not REFUSED.fullmatch(line):
+                self.complain(f"standard error: {line[:200]}")
         left = [pid for pid in children if os.path.exists(f"/proc/{pid}")]
         if left:
             self.complain(f"children are left after the end: {left}")
