@@ -93,7 +93,7 @@ fn serve_by<R: System + Wait>(
     plan: &Plan,
     zone: ZoneWords,
 ) -> u8 {
-    let Started { live, lock } = match started(host, rt, alloc, plan, zone) {
+    let Started { live, lock } = match start(host, rt, alloc, plan, zone) {
         Ok(started) => started,
         Err(status) => return status,
     };
@@ -115,7 +115,7 @@ fn let_go<R: System>(rt: &R, lock: Option<LockFile>) {
     }
 }
 
-fn started<R: System>(
+fn start<R: System>(
     host: &HostRuntime,
     rt: &R,
     alloc: Global,
@@ -130,8 +130,8 @@ fn started<R: System>(
         overrides: Settings::new(Vec::new(alloc)),
     };
     let control = bound(rt, alloc, plan)?;
-    match made(host, rt, alloc, plan, header, edge) {
-        Ok(made) => started_with(rt, alloc, plan, made, control),
+    match make(host, rt, alloc, plan, header, edge) {
+        Ok(made) => start_with(rt, alloc, plan, made, control),
         Err(status) => {
             control.remove(rt);
             Err(status)
@@ -139,7 +139,7 @@ fn started<R: System>(
     }
 }
 
-fn made<R: System>(
+fn make<R: System>(
     host: &HostRuntime,
     rt: &R,
     alloc: Global,
@@ -154,12 +154,12 @@ fn made<R: System>(
         journal,
     };
     let conn = open_store(host, alloc, plan.wishes.level, plan.places.store.as_str())?;
-    made_on(rt, alloc, plan, parts, conn)
+    make_on(rt, alloc, plan, parts, conn)
 }
 
 // What lets a store go is proved for its whole type, so the rest is generic over what the store stands on.
 
-fn made_on<R: System, S: Alter + Drop>(
+fn make_on<R: System, S: Alter + Drop>(
     rt: &R,
     alloc: Global,
     plan: &Plan,
@@ -214,7 +214,7 @@ fn report_host(rt: &impl Eprint, plan: &Plan, fault: HostFault) -> u8 {
     }
 }
 
-fn started_with<R: System, T: SettingStore + Drop>(
+fn start_with<R: System, T: SettingStore + Drop>(
     rt: &R,
     alloc: Global,
     plan: &Plan,
