@@ -751,10 +751,11 @@ def a_journal_at_a_fifo(stage):
 
 def a_journal_that_may_not_grow(stage):
     """The system refuses the journal more room: that is told once, and the launcher goes on."""
-    launcher = stage.serve(shell="trap '' XFSZ; ulimit -f 64", journal="journal")
+    # The limit counts blocks of 512 bytes or of 1,024, by the shell. The store's log takes some 270,000 bytes when it is made.
+    launcher = stage.serve(shell="trap '' XFSZ; ulimit -f 1024", journal="journal")
     with connect(launcher.path) as client:
-        for _ in range(400):
-            launcher.ask_over(client, {"req": "start", "job": "x" * 200})
+        for _ in range(8):
+            launcher.ask_over(client, {"req": "load", "def": "x" * 200000})
     wait_for(lambda: launcher.lines("journal"), "nothing said of the journal")
     launcher.load(shell_job("beside", f"echo run > {stage.at('beside')}", RunAtLoad=True))
     wait_for(lambda: text_at(stage.at("beside")), "no job starts beside a journal that was refused")
