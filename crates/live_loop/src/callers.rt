@@ -27,11 +27,11 @@ pub(crate) struct Callers {
     room: CallerRoom,
 }
 
-// A job may have a quarter of the room, so that one job's clients leave room for those of others.
+// A job may have a third of the room, so that one job's clients leave room for those of others.
 fn room_of(in_all: usize) -> CallerRoom {
     let in_all = in_all.min(CALLERS);
     CallerRoom {
-        of_a_job: (in_all / 4).max(1).min(CALLERS_OF_A_JOB),
+        of_a_job: (in_all / 3).max(1).min(CALLERS_OF_A_JOB),
         in_all,
     }
 }
@@ -48,7 +48,7 @@ impl Callers {
         })
     }
 
-    /// From now on as many are heard at a time, and a quarter of them of one job.
+    /// From now on as many are heard at a time, and a third of them, at most 64, of one job.
     pub(crate) fn set_room(&mut self, in_all: usize) {
         self.room = room_of(in_all);
     }

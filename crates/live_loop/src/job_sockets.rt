@@ -54,7 +54,7 @@ impl JobSockets {
         })
     }
 
-    /// From now on as many clients are heard at a time, and a quarter of them of one job.
+    /// From now on as many clients are heard at a time, and a third of them, at most 64, of one job.
     pub(crate) fn set_room(&mut self, callers: usize) {
         self.callers.set_room(callers);
     }

@@ -133,7 +133,7 @@ impl<R: System, T: SettingStore, W: Write> Live<R, T, W> {
     }
 
     /// From now on as many clients of jobs' sockets are heard at a time, at most 256 (which is the number if this was never
-    /// called), and a quarter of them, at most 64, of one job. Takes no memory.
+    /// called), and a third of them, at most 64, of one job. Takes no memory.
     pub fn set_room(&mut self, callers: usize) {
         self.sockets.set_room(callers);
     }
