@@ -382,14 +382,12 @@ def clients_that_never_read(stage):
         launcher.answers("beside clients that never read")
         launcher.load(shell_job(f"new{number}", f"echo run > {stage.at(f'new{number}')}", RunAtLoad=True, StandardOutPath=stage.at("out")))
         wait_for(lambda: text_at(stage.at(f"new{number}")), "no job starts beside clients that never read")
-    got = call(stage.at("honest"), b"hello")
-    check(got == b"hello", f"another job's client got {got!r}")
+    wait_for(lambda: call(stage.at("honest"), b"hello") == b"hello", "another job's client is not served")
     launcher.ask({"req": "stop", "job": "lasting"})
     launcher.tells("lasting", "last exit = signal 15")
     for client in clients:
         client.close()
-    got = call(stage.at("greedy"), b"x")
-    check(len(got) == 400000, f"a later client of the same job got {len(got)} bytes")
+    wait_for(lambda: len(call(stage.at("greedy"), b"x")) == 400000, "a later client of the same job is not served")
     launcher.shut_down()
 
 
@@ -658,21 +656,29 @@ def silent_clients_of_the_control_socket(stage):
         client.close()
 
 
+def is_open(client):
+    """Whether the launcher has not closed the connection, on which nothing is to be read."""
+    try:
+        return client.recv(1, socket.MSG_DONTWAIT) != b""
+    except BlockingIOError:
+        return True
+
+
 def no_descriptor_left(stage):
     """No descriptor is left: a silent client of the control socket gives way to the next one, and the refusal is told once."""
     launcher = stage.serve()
     told = "jobd: control socket: cannot accept: Too many open files (os error 24)"
     before = descriptors(launcher.pid)
     silent = [connect(launcher.path) for _ in range(8)]
-    wait_for(lambda: descriptors(launcher.pid) >= before + 8, "8 clients are not held")
     limits = resource.prlimit(launcher.pid, resource.RLIMIT_NOFILE)
     for times in (1, 2):
+        wait_for(lambda: descriptors(launcher.pid) == before + sum(map(is_open, silent)), "the silent clients are not held")
         resource.prlimit(launcher.pid, resource.RLIMIT_NOFILE, (first_free(launcher.pid), limits[1]))
-        for _ in range(3):
-            launcher.answers("with no descriptor left")
-        check(launcher.lines("") == [told] * times, f"after {times} such times it said {launcher.said()!r}")
-        resource.prlimit(launcher.pid, resource.RLIMIT_NOFILE, limits)
-        for _ in range(3):
+        with connect(launcher.path) as client:
+            for _ in range(3):
+                check(launcher.ask_over(client, {"req": "list"})["code"] == 0, "with no descriptor left list is refused")
+            check(launcher.lines("") == [told] * times, f"after {times} such times it said {launcher.said()!r}")
+            resource.prlimit(launcher.pid, resource.RLIMIT_NOFILE, limits)
             launcher.answers("with descriptors again")
     launcher.shut_down()
     for client in silent:
