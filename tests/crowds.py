@@ -2,6 +2,7 @@
 import ctypes
 import os
 import random
+import select
 import signal
 import socket
 import statistics
@@ -50,14 +51,11 @@ def again(step, pause):
         time.sleep(random.uniform(0, 2 * pause))
 
 
-def drop(client):
-    """Whether the launcher has closed the connection."""
-    try:
-        return client.recv(4096, socket.MSG_DONTWAIT) == b""
-    except BlockingIOError:
-        return False
-    except OSError:
-        return True
+def is_held(client):
+    """Whether the launcher has not closed its end, whatever waits to be read."""
+    poll = select.poll()
+    poll.register(client, select.POLLRDHUP)
+    return not poll.poll(0)
 
 
 def silent(path, count, text=b""):
@@ -68,7 +66,7 @@ def silent(path, count, text=b""):
 
     def step():
         for at, client in enumerate(held):
-            if drop(client):
+            if not is_held(client):
                 client.close()
                 held[at] = connect(path)
                 held[at].sendall(text)

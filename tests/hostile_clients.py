@@ -43,7 +43,7 @@ import threading
 import time
 
 from crowds import (
-    LIST, Beside, Crowd, Deaf, Descriptors, asks, calls, never_reading, pipelining, resident, settles, silent, vanishing,
+    LIST, Beside, Crowd, Deaf, Descriptors, asks, calls, is_held, never_reading, pipelining, resident, settles, silent, vanishing,
 )
 from edge_scenes import Fault, Stage, begin, call, check, connect, descriptors, socket_job, wait_for
 
@@ -248,7 +248,7 @@ def a_still_minute(stage, launcher):
     def look():
         """The launcher's end of a connection is no more: something of it is there to be read, or its end."""
         for name, client in held.items():
-            if name not in gone and not is_held(launcher, client):
+            if name not in gone and not is_held(client):
                 gone[name] = time.monotonic() - start
         return len(gone) == len(held)
 
@@ -258,13 +258,6 @@ def a_still_minute(stage, launcher):
         client.close()
     check(all(55 <= after for after in gone.values()), f"they were let go after {gone}")
     return "; ".join([told, *(f"{name} let go after {after:.1f} s" for name, after in gone.items())])
-
-
-def is_held(launcher, client):
-    """Whether the launcher has not closed its end: a poll tells it, whatever waits to be read."""
-    poll = select.poll()
-    poll.register(client, select.POLLRDHUP)
-    return not poll.poll(0)
 
 
 def runs_jobctl(stage):

@@ -656,23 +656,14 @@ def silent_clients_of_the_control_socket(stage):
         client.close()
 
 
-def is_open(client):
-    """Whether the launcher has not closed the connection, on which nothing is to be read."""
-    try:
-        return client.recv(1, socket.MSG_DONTWAIT) != b""
-    except BlockingIOError:
-        return True
-
-
 def no_descriptor_left(stage):
     """No descriptor is left: a silent client of the control socket gives way to the next one, and the refusal is told once."""
     launcher = stage.serve()
     told = "jobd: control socket: cannot accept: Too many open files (os error 24)"
-    before = descriptors(launcher.pid)
-    silent = [connect(launcher.path) for _ in range(8)]
-    limits = resource.prlimit(launcher.pid, resource.RLIMIT_NOFILE)
+    before, limits = descriptors(launcher.pid), resource.prlimit(launcher.pid, resource.RLIMIT_NOFILE)
     for times in (1, 2):
-        wait_for(lambda: descriptors(launcher.pid) == before + sum(map(is_open, silent)), "the silent clients are not held")
+        silent = [connect(launcher.path) for _ in range(8)]
+        wait_for(lambda: descriptors(launcher.pid) == before + 8, "8 clients are not held")
         resource.prlimit(launcher.pid, resource.RLIMIT_NOFILE, (first_free(launcher.pid), limits[1]))
         with connect(launcher.path) as client:
             for _ in range(3):
@@ -680,9 +671,10 @@ def no_descriptor_left(stage):
             check(launcher.lines("") == [told] * times, f"after {times} such times it said {launcher.said()!r}")
             resource.prlimit(launcher.pid, resource.RLIMIT_NOFILE, limits)
             launcher.answers("with descriptors again")
+        for client in silent:
+            client.close()
+        wait_for(lambda: descriptors(launcher.pid) == before, "descriptors are left")
     launcher.shut_down()
-    for client in silent:
-        client.close()
 
 
 def settings_in_the_log(stage):
