@@ -43,6 +43,8 @@ mkdir -p "$root/root/try/tests" "$root/root/try/contrib"
 cp "$package" "$root/root/jobd.deb"
 cp README.md "$root/root/try"
 cp tests/readme_job.sh tests/jobd_run.py "$root/root/try/tests"
+# systemd-analyze leaves a file of its own, which is no part of the package.
+inside systemd-analyze verify --man=no /lib/systemd/system/basic.target >/dev/null 2>&1 || true
 files >"$root/root/before"
 
 inside apt-get -qq install -y --no-install-recommends /root/jobd.deb >"$root/root/log" 2>&1 || fail "$(cat "$root/root/log")"
