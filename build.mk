@@ -38,6 +38,6 @@ program_$(1): $(foreach low,$(call stands_on,$(1)_program),library_$(low))
 	@cp crates/$(1)_program/out/$(1)_program build/$(1)
 	@echo "proved and built build/$(1)"
 endef
-$(eval $(call program,jobd,replay < ../../examples/first.jsonl))
+$(eval $(call program,jobd,replay < examples/first.jsonl))
 $(eval $(call program,jobctl,--help))
 endif
