@@ -89,6 +89,7 @@ facts-after (Answered (Spawned run pid)) t lawful loaded =
       living_child = Some (run, pid);
       awaited_act = None;
       has_demand = (facts_of t).has_new_demand;
+      demand = (facts_of t).new_demand;
       spawned_before = true;
       queue = filter (λ c. not (carries c (conn_of o))) (facts_of t).queue;
     }) (sym order.1)

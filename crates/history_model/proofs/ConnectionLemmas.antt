@@ -12,7 +12,8 @@ use Rattle.history_model.specs.Search.{first, latest, in_order}
 use Rattle.history_model.specs.Clock.{definition_of}
 use Rattle.history_model.specs.Runs.{has_spawned, is_removed}
 use Rattle.history_model.specs.Kinds.{is_spawn_order}
-use Rattle.history_model.specs.Demands.{is_same_path, differs, last_seen, fired_since, is_pending, came_in, is_left, carries, is_carrying, waiting}
+use Rattle.history_model.specs.declared.reasons.DemandKind.TheVariants as kinds
+use Rattle.history_model.specs.Demands.{is_same_path, differs, last_seen, fired_since, is_pending, kind_since, latest_demand, came_in, is_left, carries, is_carrying, waiting}
 use Rattle.history_model.specs.Refusals.{unless, is_number_used, refusal_of, IsLawful}
 use Rattle.history_model.specs.Facts.{facts_of}
 use Rattle.history_model.specs.ByFacts.{seen_after, facts_after}
@@ -141,6 +142,8 @@ facts-Saw t path obs up =
     λ i. record (facts_of t) {
       has_demand = fires i || is_pending t;
       has_new_demand = fires i || fired_since is_spawn_order t;
+      demand = cond (fires i) (Some kinds.Path) (latest_demand t);
+      new_demand = cond (fires i) (Some kinds.Path) (kind_since is_spawn_order t);
       seen_watched = seen-more (λ p. p) d.watch_paths t path obs i;
       seen_states = seen-more (λ state. state.0) d.path_state t path obs i;
       seen_queues = seen-more (λ p. p) d.queue_directories t path obs i;

@@ -5,6 +5,8 @@ use Rattle.std.proofs.lemmas.Bool.{eq-eqb, eqb-true, false≢true}
 use Rattle.history_model.specs.declared.Reading.{Reading}
 use Rattle.history_model.specs.declared.Ended.{Ended}
 use Rattle.history_model.specs.declared.Act.{Act}
+use Rattle.history_model.specs.declared.reasons.DemandKind.{DemandKind}
+use Rattle.history_model.specs.declared.reasons.DemandKind.TheVariants as kinds
 use Rattle.history_model.specs.declared.Act.TheVariants.{Spawn, Term, Kill, Close, Gone}
 use Rattle.history_model.specs.declared.Ask.TheVariants.{Start, Stop, Unload, Shutdown, Kickstart}
 use Rattle.history_model.specs.declared.Answer.TheVariants.{Spawned, SpawnRefused, Termed, Killed}
@@ -13,11 +15,11 @@ use Rattle.history_model.specs.Search.{or_else, first, last, latest, since, in_o
 use Rattle.history_model.specs.Clock.{now, crosses_interval, moments}
 use Rattle.history_model.specs.Runs.{runs, child, living, awaited, has_spawned, is_answer_to, has_ended, is_busy}
 use Rattle.history_model.specs.Kinds.{is_order, is_spawn_order, order_in, is_some_spawn, is_spawned_answer, is_stop, is_strike, is_term_order, is_term_answer, is_kill_answer, is_stopping_order, is_stopping_act}
-use Rattle.history_model.specs.Demands.{fires, fired_since, is_spawned_order, is_pending, carries, is_left, is_carrying, came_in}
+use Rattle.history_model.specs.Demands.{fires, fired_since, is_spawned_order, is_pending, kind_in, kind_since, latest_demand, carries, is_left, is_carrying, came_in}
 use Rattle.history_model.specs.Levels.{crash_of, last_end, is_crash_end}
 use Rattle.history_model.specs.Due.{due}
 use Rattle.history_model.specs.Refusals.{IsLawful}
-use Rattle.history_model.specs.ByFacts.{settle}
+use Rattle.history_model.specs.ByFacts.{settle, fired_by}
 use Rattle.history_model.specs.Facts.{facts_of}
 use Rattle.history_model.proofs.BooleanLemmas.{and-false, and-true, or-false, or-second}
 use Rattle.history_model.proofs.SearchLemmas.{filter-less, list_any-implied, moments-none}
@@ -28,7 +30,7 @@ use Rattle.history_model.specs.DueByFacts.{is_busy_by}
 pub facts-Read : (t : History) (at : Reading) (calendar : Bool) →
     let f = facts_of t in
     let fires = calendar || crosses_interval f.definition.start_interval f.load_up (now t).up at.up in
-    facts_of (Read at calendar ∷ t) ≡ record f { has_demand = fires || f.has_demand; has_new_demand = fires || f.has_new_demand }
+    facts_of (Read at calendar ∷ t) ≡ fired_by fires (cond calendar kinds.Calendar kinds.Interval) f
 facts-Read t at calendar = refl
 
 pub facts-WaitRefused : (t : History) (run : ℕ) → facts_of (WaitRefused run ∷ t) ≡ facts_of t
@@ -37,7 +39,7 @@ facts-WaitRefused t run = refl
 pub facts-Start : (t : History) →
     let f = facts_of t in
     let fires = not (is_busy_by f) || f.stops in
-    facts_of (Asked Start ∷ t) ≡ record f { has_demand = fires || f.has_demand; has_new_demand = fires || f.has_new_demand }
+    facts_of (Asked Start ∷ t) ≡ fired_by fires kinds.Start f
 facts-Start t = refl
 
 and-or : (a b c : Bool) → (a && (b || c)) ≡ (a && b || a && c)
@@ -56,10 +58,8 @@ facts-Shutdown t = rw (and-true (is_busy t)) refl
 pub facts-Kickstart : (t : History) (kills_first : Bool) →
     let f = facts_of t in
     let fires = kills_first || (not (is_busy_by f) || f.stops) in
-    facts_of (Asked (Kickstart kills_first) ∷ t) ≡ record f { has_demand = fires || f.has_demand; has_new_demand = fires || f.has_new_demand; strikes = is_busy_by f && kills_first || f.strikes }
-facts-Kickstart t kills_first = λ i. record (facts_of t) {
-  has_demand = fires (Asked (Kickstart kills_first)) t || is_pending t;
-  has_new_demand = fires (Asked (Kickstart kills_first)) t || fired_since is_spawn_order t;
+    facts_of (Asked (Kickstart kills_first) ∷ t) ≡ record (fired_by fires kinds.Kickstart f) { strikes = is_busy_by f && kills_first || f.strikes }
+facts-Kickstart t kills_first = λ i. record (fired_by (fires (Asked (Kickstart kills_first)) t) kinds.Kickstart (facts_of t)) {
   strikes = and-or (is_busy t) kills_first (list_any is_strike (since is_spawn_order t)) i;
 }
 
@@ -72,6 +72,7 @@ pub facts-Spawn : (t : History) → IsLawful t → (run : ℕ) (conn : Option �
       run_count = run;
       awaited_act = Some (Spawn run conn);
       has_new_demand = false;
+      new_demand = None;
       spawn_ordered = Some (now t).up;
       term_ordered = None;
       term_refused = None;
@@ -102,8 +103,10 @@ facts-Spawn t lawful run conn e =
       run_count = next i;
       awaited_act = Some (Spawn run conn);
       has_new_demand = false;
+      new_demand = None;
       spawn_ordered = Some (now t).up;
       has_demand = not (unspawned i) && is_pending t;
+      demand = cond (unspawned i) None (latest_demand t);
       queue = filter (λ c. not (list_any (is_left c) t) && not (unspawned i && carries c conn || list_any (is_carrying t c) t)) (in_order came_in t);
       term_ordered = last (terms i);
       term_refused = first (term_refusals i);
@@ -131,6 +134,21 @@ pending-last u (Left conn' ∷ t) run conn e spawned = pending-last u t run conn
 pending-last u (Answered answer ∷ t) run conn e spawned = pending-last u t run conn e spawned
 pending-last u (RunEnded run' how ∷ t) run conn e spawned = pending-last u t run conn e spawned
 pending-last u (WaitRefused run' ∷ t) run conn e spawned = pending-last u t run conn e spawned
+
+-- and so is what made the demand
+kind-last : (u t : History) (run : ℕ) (conn : Option ℕ) → latest order_in t ≡ Some (Spawn run conn) → has_spawned run u ≡ true →
+    kind_since (is_spawned_order u) t ≡ kind_since is_spawn_order t
+kind-last u [] run conn e spawned = refl
+kind-last u (Ordered act ∷ t) run conn e spawned = let same : act ≡ Spawn run conn = cc in rw (same, spawned) refl
+kind-last u (Loaded d at ∷ t) run conn e spawned = ap (λ o. cond (fires (Loaded d at) t) (kind_in (Loaded d at)) o) (kind-last u t run conn e spawned)
+kind-last u (Read at calendar ∷ t) run conn e spawned = ap (λ o. cond (fires (Read at calendar) t) (kind_in (Read at calendar)) o) (kind-last u t run conn e spawned)
+kind-last u (Saw path obs ∷ t) run conn e spawned = ap (λ o. cond (fires (Saw path obs) t) (kind_in (Saw path obs)) o) (kind-last u t run conn e spawned)
+kind-last u (Asked ask ∷ t) run conn e spawned = ap (λ o. cond (fires (Asked ask) t) (kind_in (Asked ask)) o) (kind-last u t run conn e spawned)
+kind-last u (Came conn' ∷ t) run conn e spawned = kind-last u t run conn e spawned
+kind-last u (Left conn' ∷ t) run conn e spawned = kind-last u t run conn e spawned
+kind-last u (Answered answer ∷ t) run conn e spawned = kind-last u t run conn e spawned
+kind-last u (RunEnded run' how ∷ t) run conn e spawned = kind-last u t run conn e spawned
+kind-last u (WaitRefused run' ∷ t) run conn e spawned = kind-last u t run conn e spawned
 
 -- an order of another run carries what it carried
 carrying-older : (run pid c : ℕ) (t s : History) → list_any (names_run run) s ≡ false →
@@ -192,6 +210,7 @@ pub facts-Spawned : (t : History) → IsLawful t → (run pid : ℕ) (conn : Opt
       living_child = Some (run, pid);
       awaited_act = None;
       has_demand = f.has_new_demand;
+      demand = f.new_demand;
       spawned_before = true;
       queue = filter (λ c. not (carries c conn)) f.queue;
     }
@@ -203,6 +222,7 @@ facts-Spawned t lawful run pid conn order fact =
     let settled = answered-settles t (Spawned run pid) fact in
     let spawned : has_spawned run (x ∷ t) ≡ true = rw (eqb-self run) refl in
     let pending = pending-last (x ∷ t) t run conn ordered spawned in
+    let demand = kind-last (x ∷ t) t run conn ordered spawned in
     let queue = filter-less (λ c. list_any (is_left c) t) (λ c. carries c conn) (λ c. list_any (is_carrying t c) t) (λ c. list_any (is_carrying (x ∷ t) c) t) (λ c. carrying-last run pid c conn t t lawful ordered fresh.1) (in_order came_in t) in
     let busy_now : is_busy (x ∷ t) ≡ true = ap (λ l. is_some (first l) || is_some_spawn (awaited (x ∷ t))) one in
     let busy_before : is_busy t ≡ true = or-second (is_some (child t)) (is_some_spawn (awaited t)) (ap is_some_spawn order) in
@@ -211,6 +231,7 @@ facts-Spawned t lawful run pid conn order fact =
       living_child = first (one i);
       awaited_act = settled i;
       has_demand = pending i;
+      demand = demand i;
       spawned_before = true;
       queue = queue i;
       stops = busy i && asked_to_stop t;

@@ -1,16 +1,22 @@
 -- Worked examples of why a job has no spawn due (launchd.plist(5): RunAtLoad, KeepAlive, ThrottleInterval, LaunchOnlyOnce;
 -- launchctl(1): unload, kickstart). Each is a theorem that computes.
-use Rattle.std.specs.Prelude.{◌≡◌, ℕ, Bool, true, false, List, [], ◌∷◌, Option, Some, None, refl}
+use Rattle.std.specs.Prelude.{◌≡◌, ℕ, pos, Bool, true, false, List, [], ◌∷◌, map, Option, Some, None, refl}
 use Rattle.history_model.specs.declared.Ended.TheVariants.{Code}
 use Rattle.history_model.specs.declared.Act.TheVariants.{Spawn, Term}
+use Rattle.history_model.specs.declared.Obs.{Obs}
+use Rattle.history_model.specs.declared.CivilMinute.{CivilMinute}
 use Rattle.history_model.specs.declared.Answer.TheVariants.{Spawned, SpawnRefused}
 use Rattle.history_model.specs.declared.Ask.TheVariants.{Start, Unload, Kickstart}
 use Rattle.history_model.specs.declared.reasons.Wants.{Wants}
 use Rattle.history_model.specs.declared.reasons.Reasons.{Reasons}
-use Rattle.history_model.specs.Items.{Definition, Item, Loaded, Read, Asked, Came, Answered, RunEnded, History}
+use Rattle.history_model.specs.Items.{Definition, Item, Loaded, Read, Saw, Asked, Came, Answered, RunEnded, History}
+use Rattle.history_model.specs.declared.reasons.DemandKind.{DemandKind}
+use Rattle.history_model.specs.declared.reasons.DemandKind.TheVariants as kinds
+use Rattle.history_model.specs.Demands.{latest_demand}
+use Rattle.history_model.specs.NextRun.{spawns_after}
 use Rattle.history_model.specs.Clock.{no_definition}
 use Rattle.history_model.specs.Refusals.{refusal_of}
-use Rattle.history_model.specs.Reasons.{reasons_of, some_reason, waits_alone, standing_child}
+use Rattle.history_model.specs.Reasons.{reasons_of, some_reason, waits_alone, standing_child, path_that_holds}
 use Rattle.history_model.proofs.ExampleWords.{read_at, at_load}
 use Rattle.history_model.proofs.ThrottleExamples.{behind}
 
@@ -100,3 +106,95 @@ pub wants : (why (
     )).wants
     ≡ record no_wants { connections = 2; successful_exit = true }
 wants = refl
+
+-- ---- what made the demand
+
+-- the kind of the pending demand after these events
+abbrev pub demand : List Item → Option DemandKind
+demand xs = latest_demand (past_by xs [])
+
+-- a load, whose spawn succeeds: then none is pending
+pub by_load : demand (Loaded at_load (read_at 0) ∷ []) ≡ Some kinds.Load
+by_load = refl
+
+pub followed : demand (Loaded at_load (read_at 0) ∷ Answered (Spawned 1 7) ∷ []) ≡ None
+followed = refl
+
+-- a refused spawn leaves the demand, and the newest demand is told
+pub refused_keeps : demand (Loaded at_load (read_at 0) ∷ Answered (SpawnRefused 1) ∷ []) ≡ Some kinds.Load
+refused_keeps = refl
+
+pub newest : demand (Loaded at_load (read_at 0) ∷ Answered (SpawnRefused 1) ∷ Asked Start ∷ []) ≡ Some kinds.Start
+newest = refl
+
+-- a start of a job that runs makes none; a kickstart -k does, and so does a calendar entry while it runs
+pub while_running : demand (Loaded at_load (read_at 0) ∷ Answered (Spawned 1 7) ∷ Asked Start ∷ []) ≡ None
+while_running = refl
+
+pub struck : demand (Loaded at_load (read_at 0) ∷ Answered (Spawned 1 7) ∷ Asked (Kickstart true) ∷ []) ≡ Some kinds.Kickstart
+struck = refl
+
+pub by_calendar : demand (Loaded at_load (read_at 0) ∷ Answered (Spawned 1 7) ∷ Read (read_at 4000) true ∷ []) ≡ Some kinds.Calendar
+by_calendar = refl
+
+-- an interval of 5 seconds is crossed; with a calendar entry at the same reading the calendar is told
+pub by_interval : demand (Loaded (record at_load { start_interval = Some 5 }) (read_at 0) ∷ Answered (Spawned 1 7) ∷ Read (read_at 6000) false ∷ []) ≡ Some kinds.Interval
+by_interval = refl
+
+pub by_both : demand (Loaded (record at_load { start_interval = Some 5 }) (read_at 0) ∷ Answered (Spawned 1 7) ∷ Read (read_at 6000) true ∷ []) ≡ Some kinds.Calendar
+by_both = refl
+
+-- a demand that came between the order of a spawn and its answer stays, and the one before it goes
+pub after_the_order : demand (Loaded at_load (read_at 0) ∷ Read (read_at 4000) true ∷ Answered (Spawned 1 7) ∷ []) ≡ Some kinds.Calendar
+after_the_order = refl
+
+-- the second look at a watched path differs in its stamp
+pub by_path : demand (
+    Loaded (record no_definition { watch_paths = (47 ∷ []) ∷ [] }) (read_at 0) ∷ Asked Start ∷ Answered (Spawned 1 7)
+    ∷ Saw (47 ∷ []) (record { present = true; nonempty_dir = false; stamp = 1 }) ∷ Saw (47 ∷ []) (record { present = true; nonempty_dir = false; stamp = 2 }) ∷ []
+    )
+    ≡ Some kinds.Path
+by_path = refl
+
+-- ---- which path holds it wanted
+
+-- two paths of PathState, the first to be absent and the second to be there, and a queue directory
+abbrev pub of_paths : Definition
+of_paths = record no_definition { path_state = (97 ∷ [], false) ∷ (98 ∷ [], true) ∷ []; queue_directories = (99 ∷ []) ∷ [] }
+
+-- something is there, and it is not empty
+abbrev pub full : Obs
+full = record { present = true; nonempty_dir = true; stamp = 1 }
+
+-- the path that holds it after these looks
+abbrev pub holds_after : List (List ℕ) → Option (List ℕ)
+holds_after looks = path_that_holds (past_by (Loaded of_paths (read_at 0) ∷ map (λ path. Saw path full) looks) [])
+
+-- before any look none holds; the first is there, and so does not hold
+pub none_seen : holds_after [] ≡ None
+none_seen = refl
+
+pub wrongly_there : holds_after ((97 ∷ []) ∷ []) ≡ None
+wrongly_there = refl
+
+-- a queue directory; and a path of PathState before it, though it was seen later
+pub by_queue : holds_after ((97 ∷ []) ∷ (99 ∷ []) ∷ []) ≡ Some (99 ∷ [])
+by_queue = refl
+
+pub state_first : holds_after ((99 ∷ []) ∷ (98 ∷ []) ∷ []) ≡ Some (98 ∷ [])
+state_first = refl
+
+-- ---- how many seconds until it runs
+
+-- a job whose throttle ends 10 seconds after its spawn is wanted again at second 4: it runs 6 seconds later
+abbrev pub any_minute : CivilMinute
+any_minute = record { year = pos 2023; month = 11; day = 14; hour = 22; minute = 13; weekday = 2 }
+
+abbrev pub soon : History
+soon = past_by (Loaded kept_alive (read_at 0) ∷ Answered (Spawned 1 812) ∷ Read (read_at 4000) false ∷ RunEnded 1 (Code 0) ∷ []) []
+
+pub too_soon : spawns_after (λ second. any_minute) soon 5 ≡ false
+too_soon = refl
+
+pub in_time : spawns_after (λ second. any_minute) soon 6 ≡ true
+in_time = refl

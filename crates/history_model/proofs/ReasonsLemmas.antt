@@ -1,6 +1,6 @@
 -- A spawn is due exactly if no reason holds; and the reasons by the facts are those of the past.
 use Rattle.std.proofs.Common.{◌≡◌, ℕ, ◌+◌, ◌-◌, ◌*◌, ◌/◌, ◌^◌, ◌<◌, ◌≤◌, max, Bool, true, false, not, ◌||◌, ◌&&◌, cond, Option, Some, None, is_some, List, [], ◌∷◌, ◌++◌, length, refl, sym, ap, ◌∙◌, subst, nat_lt, nat_le, arith}
-use Rattle.std.specs.List.{list_any}
+use Rattle.std.specs.List.{filter, list_any}
 use Rattle.std.specs.Option.{option_map}
 use Rattle.std.proofs.lemmas.Bool.Decides.{nat_tests}
 use Rattle.std.proofs.Math.Nat.{le-div_iff_mul-le}
@@ -10,25 +10,27 @@ use Rattle.history_model.specs.declared.Reading.{Reading}
 use Rattle.history_model.specs.declared.Ended.{Ended}
 use Rattle.history_model.specs.declared.Act.{Act}
 use Rattle.history_model.specs.declared.Act.TheVariants.{Spawn, Term, Kill}
-use Rattle.history_model.specs.Items.{Definition, Read, History}
-use Rattle.history_model.specs.Search.{first}
+use Rattle.history_model.specs.declared.Ask.TheVariants.{Start, Stop, Unload, Shutdown, Kickstart}
+use Rattle.history_model.specs.declared.reasons.DemandKind.{DemandKind}
+use Rattle.history_model.specs.Items.{Definition, Item, Loaded, Saw, Asked, Read, History}
+use Rattle.history_model.specs.Search.{first, or_else}
 use Rattle.history_model.specs.Clock.{now, load_of, definition_of, moments, periods, crosses_interval}
 use Rattle.history_model.specs.Kinds.{is_some_spawn, is_spawn_order, is_spawn_refusal, is_stopping_act}
 use Rattle.history_model.specs.Runs.{runs, child, awaited, is_removed, is_stopped, is_struck}
-use Rattle.history_model.specs.Demands.{is_pending, waiting, last_seen, interval_fires}
+use Rattle.history_model.specs.Demands.{fires, kind_in, kind_since, fired_since, is_spawned_order, latest_demand, is_pending, waiting, last_seen, interval_fires}
 use Rattle.history_model.specs.Levels.{last_end, crash_of, end_holds, presence_holds, queue_holds, level_holds}
 use Rattle.history_model.specs.Due.{is_within, is_throttled_at, is_throttled, is_wanted, has_ever_spawned, may_kill, may_term, due, due_beside}
 use Rattle.history_model.specs.Refusals.{IsLawful}
 use Rattle.history_model.specs.Moments.{later_by, next_period, HasPeriod}
 use Rattle.history_model.specs.Facts.{Facts, facts_of}
 use Rattle.history_model.specs.DueByFacts.{is_newest_within, is_throttled_by, is_wanted_by}
-use Rattle.history_model.specs.Reasons.{exit_wants, crash_wants, wants_of, some_want, greatest, free_from, throttled_until, standing_child, reasons_of, some_reason, waits_alone, needs_event, is_none_or_stops, IsFirstFree, not_before, wanted_from, spawns_from}
-use Rattle.history_model.specs.ReasonsByFacts.{wants_by, end_after, free_by, reasons_by, needs_by, wanted_from_by, spawns_from_by}
+use Rattle.history_model.specs.Reasons.{state_that_holds, queue_that_holds, path_that_holds, exit_wants, crash_wants, wants_of, some_want, greatest, free_from, throttled_until, standing_child, reasons_of, some_reason, waits_alone, needs_event, is_none_or_stops, IsFirstFree, not_before, wanted_from, spawns_from}
+use Rattle.history_model.specs.ReasonsByFacts.{path_by, wants_by, end_after, free_by, reasons_by, needs_by, wanted_from_by, spawns_from_by}
 use Rattle.history_model.specs.Coming.{is_from, coming_period}
 use Rattle.history_model.proofs.BooleanLemmas.{and-right, not-true, or-true, or-false-right}
 use Rattle.history_model.proofs.ClockLemmas.{any-within}
 use Rattle.history_model.proofs.ByFactsLemmas.{throttled-by, level-by}
-use Rattle.history_model.proofs.SeenLemmas.{any-seen}
+use Rattle.history_model.proofs.SeenLemmas.{any-seen, first-seen, first-any}
 
 -- ---- the throttle's end
 
@@ -384,3 +386,49 @@ wanted-by t = ap (λ l. is_pending t || is_some (first (waiting t)) || l) (level
 pub spawns-by : (t : History) → IsLawful t → spawns_from t ≡ spawns_from_by (facts_of t) (now t).up
 spawns-by t lawful = λ i. cond (needs-is t i) None (not_before (free-by t lawful i)
     (cond (wanted-by t i) (Some 0) (first (next_period (definition_of t).start_interval (load_of t).1.up (now t).up))))
+
+-- ---- which path, and which demand
+
+pub path-by : (t : History) → path_that_holds t ≡ path_by (facts_of t)
+path-by t = λ i. or_else
+    (option_map (λ state. state.0) (first-seen (λ (state : List ℕ × Bool). presence_holds state.1) (λ state. last_seen state.0 t) (definition_of t).path_state i))
+    (first-seen (λ (path : List ℕ). queue_holds) (λ path. last_seen path t) (definition_of t).queue_directories i)
+
+is_some-or : {A : Type 0} (a b : Option A) → is_some (or_else a b) ≡ (is_some a || is_some b)
+is_some-or None b = refl
+is_some-or (Some x) b = refl
+
+some-path : {A B : Type 0} (f : A → B) (o : Option A) → is_some (option_map f o) ≡ is_some o
+some-path f None = refl
+some-path f (Some x) = refl
+
+-- there is such a path exactly if a condition on a path, or a queue directory, wants the job
+pub path-told : (t : History) → is_some (path_that_holds t) ≡ ((reasons_of t).wants.path_state || (reasons_of t).wants.queue_directories)
+path-told t = is_some-or (state_that_holds t) (queue_that_holds t)
+    ∙ (λ i. (some-path (λ (state : List ℕ × Bool). state.0) (first (filter (λ (state : List ℕ × Bool). presence_holds state.1 (last_seen state.0 t)) (definition_of t).path_state))
+    ∙ first-any (λ (state : List ℕ × Bool). presence_holds state.1 (last_seen state.0 t)) (definition_of t).path_state) i
+    || first-any (λ path. queue_holds (last_seen path t)) (definition_of t).queue_directories i)
+
+-- an item that is a demand is of some kind
+fires-kind : (x : Item) (t : History) → fires x t ≡ true → is_some (kind_in x) ≡ true
+fires-kind (Loaded d at) t e = refl
+fires-kind (Read at calendar) t e = refl
+fires-kind (Saw path obs) t e = refl
+fires-kind (Asked Start) t e = refl
+fires-kind (Asked (Kickstart kills_first)) t e = refl
+fires-kind (Asked Stop) t e = cc
+fires-kind (Asked Unload) t e = cc
+fires-kind (Asked Shutdown) t e = cc
+fires-kind _ t e = cc
+
+kind-told : (passes : Item → Bool) (t : History) → is_some (kind_since passes t) ≡ fired_since passes t
+kind-told passes [] = refl
+kind-told passes (x ∷ t) = go (passes x) (fires x t) refl (kind-told passes t) where
+  go : (p f : Bool) → fires x t ≡ f → is_some (kind_since passes t) ≡ fired_since passes t → is_some (cond p None (cond f (kind_in x) (kind_since passes t))) ≡ (not p && (f || fired_since passes t))
+  go true f e rest = refl
+  go false true e rest = fires-kind x t e
+  go false false e rest = rest
+
+-- a demand is pending exactly if its kind is told
+pub demand-told : (t : History) → is_some (latest_demand t) ≡ (reasons_of t).wants.demand
+demand-told t = kind-told (is_spawned_order t) t

@@ -9,6 +9,7 @@ use Rattle.history_model.specs.Moments.{next_moment}
 use Rattle.history_model.specs.Refusals.{IsLawful}
 use Rattle.history_model.specs.Facts.{Facts, facts_of}
 use Rattle.history_model.specs.DueByFacts.{due_by}
+use Rattle.history_model.specs.declared.reasons.DemandKind.TheVariants as kinds
 use Rattle.history_model.specs.ByFacts.{fired_by, facts_after}
 use Rattle.history_model.specs.Keeps.{Keeps}
 use Rattle.history_model.specs.Coming.{next_by}
@@ -37,7 +38,7 @@ module _ (at : Reading) (t : History) (lawful : IsLawful (Read at false ∷ t)) 
     -- no interval is crossed, so no demand comes
     by-facts : f ≡ facts_of (Read at false ∷ t)
     by-facts =
-        sym (ap (λ crosses. fired_by (false || crosses) f) (crosses-none (now t).up at.up order f later))
+        sym (ap (λ crosses. fired_by (false || crosses) kinds.Interval f) (crosses-none (now t).up at.up order f later))
         ∙ ap (facts_after (Read at false) (now t).up) same ∙ sym (facts-after (Read at false) t lawful lawful.0.0)
 
   module _ (later : ForSome (next_moment t) (λ m. at.up < m)) where

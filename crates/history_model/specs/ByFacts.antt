@@ -7,6 +7,8 @@ use Rattle.std.specs.List.{filter}
 use Rattle.history_model.specs.declared.Reading.{Reading}
 use Rattle.history_model.specs.declared.Obs.{Obs}
 use Rattle.history_model.specs.declared.Act.{Act}
+use Rattle.history_model.specs.declared.reasons.DemandKind.{DemandKind}
+use Rattle.history_model.specs.declared.reasons.DemandKind.TheVariants as kinds
 use Rattle.history_model.specs.declared.Act.TheVariants.{Spawn, Term, Kill, Close, Gone}
 use Rattle.history_model.specs.declared.Ask.TheVariants.{Start, Stop, Unload, Shutdown, Kickstart}
 use Rattle.history_model.specs.declared.Answer.TheVariants.{Spawned, SpawnRefused, Termed, Killed}
@@ -46,26 +48,33 @@ watch_fires_by path obs f =
     any_seen (λ watched before. is_same_path watched path && differs obs before)
     f.definition.watch_paths f.seen_watched
 
--- the facts after a demand, if there is one
-abbrev pub fired_by : Bool → Facts → Facts
-fired_by fires f =
-    record f { has_demand = fires || f.has_demand; has_new_demand = fires || f.has_new_demand }
+-- the facts after a demand of this kind, if there is one
+abbrev pub fired_by : Bool → DemandKind → Facts → Facts
+fired_by fires kind f =
+    record f {
+      has_demand = fires || f.has_demand;
+      has_new_demand = fires || f.has_new_demand;
+      demand = cond fires (Some kind) f.demand;
+      new_demand = cond fires (Some kind) f.new_demand;
+    }
 
 -- `facts_of` the past with one more item, at the present milliseconds
 abbrev pub facts_after : Item → ℕ → Facts → Facts
 facts_after (Read at calendar) up f =
-    fired_by (calendar || crosses_interval f.definition.start_interval f.load_up up at.up) f
-facts_after (Asked Start) up f = fired_by (not (is_busy_by f) || f.stops) f
+    fired_by (calendar || crosses_interval f.definition.start_interval f.load_up up at.up)
+    (cond calendar kinds.Calendar kinds.Interval) f
+facts_after (Asked Start) up f = fired_by (not (is_busy_by f) || f.stops) kinds.Start f
 facts_after (Asked Stop) up f = record f { stops = is_busy_by f }
 facts_after (Asked Unload) up f = record f { stops = is_busy_by f; removes = true }
 facts_after (Asked Shutdown) up f = record f { stops = is_busy_by f; removes = true }
 facts_after (Asked (Kickstart kills_first)) up f =
-    record (fired_by (kills_first || (not (is_busy_by f) || f.stops)) f)
+    record (fired_by (kills_first || (not (is_busy_by f) || f.stops)) kinds.Kickstart f)
     { strikes = is_busy_by f && kills_first || f.strikes }
 facts_after (Ordered (Spawn run conn)) up f = record f {
   run_count = run;
   awaited_act = Some (Spawn run conn);
   has_new_demand = false;
+  new_demand = None;
   spawn_ordered = Some up;
   term_ordered = None;
   term_refused = None;
@@ -90,6 +99,7 @@ facts_after (Answered (Spawned run pid)) up f = record f {
   living_child = Some (run, pid);
   awaited_act = None;
   has_demand = f.has_new_demand;
+  demand = f.new_demand;
   spawned_before = true;
   queue = filter (λ c. not (carries c (conn_of f.awaited_act))) f.queue;
 }
@@ -118,7 +128,7 @@ facts_after (RunEnded run how) up f = record f {
 facts_after (WaitRefused run) up f = f
 facts_after (Loaded d at) up f = f
 facts_after (Saw path obs) up f =
-    record (fired_by (watch_fires_by path obs f) f) {
+    record (fired_by (watch_fires_by path obs f) kinds.Path f) {
       seen_watched = seen_after (λ p. p) f.definition.watch_paths path obs f.seen_watched;
       seen_states = seen_after (λ state. state.0) f.definition.path_state path obs f.seen_states;
       seen_queues = seen_after (λ p. p) f.definition.queue_directories path obs f.seen_queues;

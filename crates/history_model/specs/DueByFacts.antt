@@ -43,6 +43,14 @@ any_seen holds [] seen = false
 any_seen holds (x ∷ xs) [] = false
 any_seen holds (x ∷ xs) (obs ∷ seen) = holds x obs || any_seen holds xs seen
 
+-- the first of the conditions that holds of what was seen last of its path
+abbrev pub first_seen : {A : Type 0} → (A → Option Obs → Bool) → List A → List (Option Obs) →
+    Option A
+first_seen holds [] seen = None
+first_seen holds (x ∷ xs) [] = None
+first_seen holds (x ∷ xs) (obs ∷ seen) =
+    if holds x obs then Some x else first_seen holds xs seen
+
 -- `end_holds`: a condition of the definition holds of the last end
 abbrev pub end_holds_by : Definition → Bool → Option (ℕ × Ended) → Bool
 end_holds_by d has_crashed end = end_holds_of d.successful_exit d.crashed has_crashed end

@@ -2,7 +2,7 @@
 -- launchctl(1): unload, stop, kickstart -k). All that holds is told, not the first alone. That a
 -- spawn is due exactly if nothing of it holds is proved by `laws::every_wait_is_explained`.
 use Rattle.std.specs.Prelude.{◌≡◌, ℕ, ◌<◌, ◌^◌, max, Bool, true, false, not, ◌&&◌, ◌||◌, nat_lt, List, [], ◌∷◌, length, Option, Some, None, is_some, if◌then◌else◌}
-use Rattle.std.specs.List.{list_any}
+use Rattle.std.specs.List.{filter, list_any}
 use Rattle.std.specs.Option.{option_map}
 use Rattle.history_model.specs.declared.Ended.{Ended}
 use Rattle.history_model.specs.declared.Act.{Act}
@@ -10,7 +10,7 @@ use Rattle.history_model.specs.declared.reasons.Wants.{Wants}
 use Rattle.history_model.specs.declared.reasons.StandingChild.{StandingChild}
 use Rattle.history_model.specs.declared.reasons.Reasons.{Reasons}
 use Rattle.history_model.specs.Items.{History}
-use Rattle.history_model.specs.Search.{first}
+use Rattle.history_model.specs.Search.{first, or_else}
 use Rattle.history_model.specs.Clock.{now, load_of, definition_of}
 use Rattle.history_model.specs.Kinds.{is_stopping_act}
 use Rattle.history_model.specs.Runs.{runs, child, awaited, is_stopped, is_struck, is_removed}
@@ -50,6 +50,22 @@ abbrev pub some_want : Wants → Bool
 some_want w =
     w.demand || nat_lt 0 w.connections || w.keep_alive || w.successful_exit || w.crashed
     || w.path_state || w.queue_directories
+
+-- the first path of PathState, in the definition's order, that was last seen as its condition wants it
+abbrev pub state_that_holds : History → Option (List ℕ)
+state_that_holds t =
+    option_map (λ state. state.0)
+    (first (filter (λ state. presence_holds state.1 (last_seen state.0 t))
+    (definition_of t).path_state))
+
+-- the first queue directory that was last seen non-empty
+abbrev pub queue_that_holds : History → Option (List ℕ)
+queue_that_holds t =
+    first (filter (λ path. queue_holds (last_seen path t)) (definition_of t).queue_directories)
+
+-- the path that holds the job wanted: the first of PathState, or else the first queue directory
+abbrev pub path_that_holds : History → Option (List ℕ)
+path_that_holds t = or_else (state_that_holds t) (queue_that_holds t)
 
 -- ---- the throttle
 

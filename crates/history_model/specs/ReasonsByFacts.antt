@@ -1,13 +1,14 @@
 -- No definition but a tie: what specs/Reasons searches out of a past, computed from its facts
 -- alone. On every lawful past the two agree (proofs/ReasonsLemmas).
-use Rattle.std.specs.Prelude.{ℕ, ◌+◌, ◌*◌, ◌^◌, max, Bool, not, ◌&&◌, ◌||◌, nat_lt, length, Option, Some, None, is_some, if◌then◌else◌}
+use Rattle.std.specs.Prelude.{List, ℕ, ◌+◌, ◌*◌, ◌^◌, max, Bool, not, ◌&&◌, ◌||◌, nat_lt, length, Option, Some, None, is_some, if◌then◌else◌}
 use Rattle.std.specs.Option.{option_map}
 use Rattle.history_model.specs.declared.TheConstants.{SECOND}
 use Rattle.history_model.specs.declared.reasons.Wants.{Wants}
 use Rattle.history_model.specs.declared.reasons.Reasons.{Reasons}
 use Rattle.history_model.specs.Levels.{presence_holds, queue_holds}
 use Rattle.history_model.specs.Facts.{Facts}
-use Rattle.history_model.specs.DueByFacts.{is_wanted_by, is_throttled_by, any_seen}
+use Rattle.history_model.specs.DueByFacts.{is_wanted_by, is_throttled_by, any_seen, first_seen}
+use Rattle.history_model.specs.Search.{or_else}
 use Rattle.history_model.specs.Coming.{coming_period}
 use Rattle.history_model.specs.Reasons.{exit_wants, crash_wants, standing_child, not_before}
 
@@ -22,6 +23,13 @@ wants_by f = record {
   path_state = any_seen (λ state. presence_holds state.1) f.definition.path_state f.seen_states;
   queue_directories = any_seen (λ path. queue_holds) f.definition.queue_directories f.seen_queues;
 }
+
+-- `path_that_holds`
+abbrev pub path_by : Facts → Option (List ℕ)
+path_by f =
+    or_else (option_map (λ state. state.0)
+    (first_seen (λ state. presence_holds state.1) f.definition.path_state f.seen_states))
+    (first_seen (λ path. queue_holds) f.definition.queue_directories f.seen_queues)
 
 -- so many milliseconds after the moment, 0 if there is none
 abbrev pub end_after : ℕ → Option ℕ → ℕ

@@ -11,7 +11,7 @@ mod reasons;
 mod text;
 
 pub use event::{Event, Setting};
-pub use reasons::{Reasons, StandingChild, Wants};
+pub use reasons::{DemandKind, Reasons, StandingChild, Wants};
 pub use text::Text;
 
 /// A reading of the clocks. `up` counts milliseconds and never falls (at most `MAX_UP`); `wall` counts seconds of Unix time

@@ -2,6 +2,23 @@
 
 use crate::Act;
 
+/// Which kind of event made a one-shot demand.
+#[derive(Clone, Copy)]
+pub enum DemandKind {
+    /// The load: `RunAtLoad`, or the condition `SuccessfulExit`, which implies it (launchd.plist(5)).
+    Load,
+    /// `start` of launchctl(1).
+    Start,
+    /// `kickstart` of launchctl(1), with `-k` or without.
+    Kickstart,
+    /// A reading that crossed `StartInterval`, and at which no calendar entry fired.
+    Interval,
+    /// A reading at which an entry of `StartCalendarInterval` fired.
+    Calendar,
+    /// A look at a path of `WatchPaths` that had changed.
+    Path,
+}
+
 /// What wants a job, each way for itself (launchd.plist(5)). A job that nothing wants has no spawn due.
 #[derive(Clone, Copy)]
 pub struct Wants {

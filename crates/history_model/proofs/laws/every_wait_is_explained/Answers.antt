@@ -4,7 +4,7 @@ use Rattle.history_model.specs.Machine.{Job, opened}
 use Rattle.history_model.specs.Step.{run}
 use Rattle.history_model.specs.Reasons.{reasons_of, some_reason}
 use Rattle.history_model.proofs.StepLemmas.{Rests, all-implied, resting}
-use Rattle.history_model.proofs.ReasonsLemmas.{spawn-due, spawn-is, stop-due, idle-reason, wanted}
+use Rattle.history_model.proofs.ReasonsLemmas.{spawn-due, spawn-is, stop-due, idle-reason, wanted, demand-told, path-told}
 use Rattle.history_model.proofs.laws.every_wait_is_explained.Goals as goal
 
 pub returns-clause-due : goal.returns-clause-due
@@ -22,3 +22,9 @@ returns-clause-explained c = λ h es range.
 
 pub returns-clause-wants : goal.returns-clause-wants
 returns-clause-wants c = wanted
+
+pub returns-clause-demand : goal.returns-clause-demand
+returns-clause-demand c = demand-told
+
+pub returns-clause-path : goal.returns-clause-path
+returns-clause-path c = path-told

@@ -37,3 +37,6 @@ returns-clause-in_turn c = λ h es range.
 pub returns-clause-numbered : goal.returns-clause-numbered
 returns-clause-numbered c = λ h es range.
     lifted (λ t. IsFalling (filter_map came_in t)) numbers (run es (opened h)).reading (run es (opened h)).jobs (resting h es range)
+
+pub returns-clause-lawful : goal.returns-clause-lawful
+returns-clause-lawful c = numbers
