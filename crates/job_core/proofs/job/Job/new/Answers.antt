@@ -10,7 +10,7 @@ pub returns : goal.returns
 returns c =
     let run = c.args.def.now.run_at_load in
     let exit = is_some c.args.def.now.successful_exit in
-    let fires : c.fires_at_load-fires.result ≡ ((run || exit) || false) = c.fires_at_load-fires.ensures ∙ sym (or-false-right (run || exit)) in
+    let fires = c.demand_at_load-demand.ensures in
     λ i. facts (record {
       run_at_load = c.run_at_load.ensures i;
       launch_only_once = c.launch_only_once.ensures i;
@@ -29,8 +29,8 @@ returns c =
       runs = 0;
       child = None;
       awaited = None;
-      has_demand = fires i;
-      has_new_demand = fires i;
+      demand = fires i;
+      new_demand = fires i;
       spawned_before = false;
       stops = false;
       removes = false;
