@@ -1,6 +1,6 @@
 # make run    builds the replay of a journal without a proof and runs the first example: a look, in about a minute
 # make test   the gate: every proof, the wrong bodies, the tests, the programs; what an earlier run on this machine passed over the
-#             same files is not proved or tried again
+#             same files is not proved or tried again. It leaves the programs in build/ too
 # make times  the gate with nothing kept from earlier runs, and then what each crate cost it, in processor seconds
 # make build  proves, and leaves the programs as build/jobd and build/jobctl
 # make dist   the archive of the programs in build/, with what belongs to them; make deb, the Debian package of it
@@ -16,13 +16,18 @@ run: need_rt
 	@cd crates/replay_look && { rt try < ../../examples/first.jsonl 2> ../../build/run.log || { cat ../../build/run.log >&2; exit 1; }; }
 	@echo "make run: nothing was proved for this look; make build proves the programs and leaves them as build/jobd and build/jobctl" >&2
 
-# What the gate said last is kept for `make dist`.
+# What the gate said last is kept for `make dist`, and so are the programs that it proved and ran.
 test: need_rt
 	@mkdir -p build
 	@rm -f build/gate.txt
 	@{ RT_JOBS=$(RT_JOBS) rt ci; echo $$? > build/gate.status; } 2>&1 | tee build/gate.log
 	@[ "$$(cat build/gate.status)" -eq 0 ] || exit 1; \
 	    { echo "Commit: $$(git rev-parse HEAD)"; echo "Gate: $$(tail -n 1 build/gate.log)"; } > build/gate.txt
+	@rm -f build/proved.txt; \
+	    for it in $(PROGRAMS); do \
+	        install -m 755 crates/$$it/out/$$it build/$${it%_program} || exit 0; \
+	    done; \
+	    $(say_proved)
 
 times: need_rt
 	@RT_JOBS=$(RT_JOBS) python3 bench/times.py

@@ -3,6 +3,9 @@
 # The rules are made from crates.txt: one for each crate, with the crates that its line names before it.
 PROGRAMS := jobd_program jobctl_program
 BUILD_JOBS ?= $(shell nproc)
+# Which commit and which kit stand behind the programs of build/.
+say_proved = { echo "Commit: $$(git rev-parse HEAD)"; echo "Kit: $$(rt version)"; \
+    echo "Programs: $$(cd build && sha256sum jobd jobctl | tr '\n' ' ')"; } > build/proved.txt
 CRATES := $(shell sed -nE 's/^([a-z0-9_]+)[^:]*:.*/\1/p' crates.txt)
 stands_on = $(filter $(CRATES),$(shell sed -nE 's/^$(1)( [^:]*)?:(.*)/\2/p' crates.txt))
 # The crates below the named ones, each once.
@@ -13,8 +16,7 @@ build: need_rt
 	@mkdir -p build/log
 	@rm -f build/proved.txt
 	@$(MAKE) --no-print-directory -j$(BUILD_JOBS) built_programs
-	@{ echo "Commit: $$(git rev-parse HEAD)"; echo "Kit: $$(rt version)"; \
-	    echo "Programs: $$(cd build && sha256sum jobd jobctl | tr '\n' ' ')"; } > build/proved.txt
+	@$(say_proved)
 
 ifneq ($(filter built_programs library_%,$(MAKECMDGOALS)),)
 LIBRARIES := $(filter-out $(PROGRAMS),$(call closure,$(PROGRAMS)))

@@ -1,8 +1,8 @@
 #!/bin/sh
 # Prints what stands behind the programs in build/: the commit, the kit's line, what the gate said last, and the promises. The first
-# word is the version of the C library that they ask for, the second the folder that has them without their symbols. `make build`
-# leaves what it proved in build/proved.txt, `make test` what it passed in build/gate.txt; if these speak of other programs or of
-# another commit, that is said.
+# word is the version of the C library that they ask for, the second the folder that has them without their symbols. `make build` and
+# `make test` leave what they proved in build/proved.txt, `make test` also what it passed in build/gate.txt. If these speak of other
+# programs or of another commit, that is said.
 set -eu
 
 commit=$(git rev-parse HEAD)
@@ -17,10 +17,10 @@ echo "Kivgrond $(cat VERSION)"
 echo
 echo "Commit: $commit${changed:+, with changes that are not committed}"
 if [ -z "$changed" ] && [ "$(line Commit proved.txt)" = "$commit" ] && [ "$(line Programs proved.txt)" = "$row" ]; then
-    echo "Standing: proved, by make build at this commit"
+    echo "Standing: proved at this commit"
     echo "Kit: $(line Kit proved.txt)"
 else
-    echo "Standing: NOT PROVED; these programs were not built by make build at this commit, so nothing below is said of them"
+    echo "Standing: NOT PROVED; these programs were not built by make build or make test at this commit, so nothing below is said of them"
     echo "Kit: none"
 fi
 if [ -z "$changed" ] && [ "$(line Commit gate.txt)" = "$commit" ]; then

@@ -3,11 +3,19 @@
 
     tests/names.py
 
-The documents are README.md, CHANGELOG.md, docs/, the README.md of each crate and contrib/, and bench/RESULTS.md.
-A name is a word of small letters with an underscore, as `no_order_remains`; it has to stand in a source, a definition, a
-proof, an edit, a script or a path, or below in OUTSIDE. Of `File.name`, as `Due.is_throttled`, a file of that name has to be there
-and to hold the name. Each wrong body has to be named in a document, or the edit that it is a part of. They stand in
-crates/CRATE/must-fail/ and in wrong_bodies/CRATE/. Where a comment names specs/NAME or proofs/NAME, its crate has to have that file.
+The documents are README.md, CHANGELOG.md, CONTRIBUTING.md, SECURITY.md, docs/, the README.md of each crate and contrib/, and
+bench/RESULTS.md. What is looked for:
+
+- A word of small letters with an underscore, as no_order_remains, and in a code span a word in CamelCase, as `JobTable`, has to stand
+  in a source, a definition, a proof, an edit, a script or a path, or below in OUTSIDE.
+- Of `File.name`, as `Due.is_throttled`, a file of that name has to be there and to hold the name.
+- Of `Type::call` or `call` with clauses behind it, as `Throttle::free_at` (`past`), some function of that name has to have a clause of
+  each of these names; in the README of a crate, some function of this crate, if it has one of that name.
+- A file that a code span names by its ending, as `due.rt`, has to be there.
+- Each wrong body has to be named in a document, or the edit that it is a part of. They stand in crates/CRATE/must-fail/ and in
+  wrong_bodies/CRATE/.
+- Where a comment names specs/NAME or proofs/NAME, its crate has to have that file.
+
 One line a fault; the status is 1 if there is one.
 """
 import os
@@ -17,8 +25,18 @@ import sys
 TOP = os.path.dirname(os.path.dirname(os.path.abspath(__file__)))
 WORD = re.compile(r"[A-Za-z0-9_]+")
 
-# Names of the standard library, of ported crates, of the kernel and of processors.
-OUTSIDE = {"include_str", "get_flag", "tcp_wmem", "x86_64"}
+# Names of the standard library, of ported crates, of the kernel, of processors and of systemd, and keys of launchd.plist(5).
+OUTSIDE = {"include_str", "get_flag", "tcp_wmem", "x86_64"} | set(
+    "IfNone TasksMax MemoryMax OnCalendar OtherJobEnabled AfterInitialDemand SockPathOwner MulticastGroup MachServices"
+    " StartOnMount ProcessType LimitLoadToHosts AbandonProcessGroup TimeOut".split()
+)
+
+# A word in CamelCase, a call with its clauses, and the ending of a file, in documents.
+CAMEL = re.compile(r"\b[A-Z][a-z0-9]+(?:[A-Z][a-z0-9]*)+\b")
+CLAUSES = re.compile(r"`(?:\w+::)*(\w+)`\s+\(((?:`\w+`(?:,?\s+(?:and\s+)?)?)+)\)")
+FILE = re.compile(r"(?<![\w*<>{/.-])((?:[\w-]+/)*[\w-]+\.(?:rt|antt|py|sh|md|mk|edit))\b")
+FUNCTION = re.compile(r"\bfn (\w+)")
+CLAUSE = re.compile(r"^\s*(?:ensures|requires)\*?\s+(\w+)\s*\{", re.M)
 
 # Words before a dot that name no file: keys of a definition, as in `KeepAlive.NetworkState`, words that stand for any name, and what
 # `make dist` writes.
@@ -38,7 +56,8 @@ def text_of(path):
 
 
 def documents():
-    yield from (f"{TOP}/{name}" for name in ("README.md", "CHANGELOG.md", "bench/RESULTS.md"))
+    tops = ("README.md", "CHANGELOG.md", "CONTRIBUTING.md", "SECURITY.md", "bench/RESULTS.md")
+    yield from (f"{TOP}/{name}" for name in tops)
     yield from (it for it in files_below("docs") if it.endswith(".md"))
     yield from (it for it in files_below("crates", "contrib") if os.path.basename(it) == "README.md")
 
@@ -59,19 +78,66 @@ def wrong_bodies():
                 yield name, edit, os.path.relpath(path, TOP)
 
 
+def clauses_of():
+    """The names of the clauses of each function, by crate and function; those of functions of one name are joined."""
+    found = {}
+    for path in files_below("crates"):
+        if not path.endswith(".rt"):
+            continue
+        crate, text = path[len(TOP) :].split("/")[2], text_of(path)
+        starts = [*FUNCTION.finditer(text)]
+        for it, after in zip(starts, [*(one.start() for one in starts[1:]), len(text)]):
+            names = set(CLAUSE.findall(text[it.end() : after]))
+            for key in ((crate, it[1]), (None, it[1])):
+                found.setdefault(key, set()).update(names)
+    return found
+
+
+def faults_in_clauses(path, text, clauses, crates):
+    """A document names a clause that no function of that name has."""
+    parts = os.path.relpath(path, TOP).split("/")
+    crate = parts[1] if parts[0] == "crates" else None
+    for it in CLAUSES.finditer(text):
+        has = clauses.get((crate, it[1])) or clauses.get((None, it[1]))
+        line = text.count("\n", 0, it.start()) + 1
+        for name in re.findall(r"\w+", it[2]):
+            if has is not None and name not in has and name not in crates:
+                yield f"{os.path.relpath(path, TOP)}:{line}: {it[1]} has no clause {name}"
+
+
+def faults_in_spans(path, text, known, files):
+    """A document names in a code span a type that is nowhere, or a file that is not there."""
+    short = os.path.relpath(path, TOP)
+    for number, line in enumerate(text.splitlines(), 1):
+        for span in re.findall(r"`([^`]+)`", line):
+            for word in CAMEL.findall(span):
+                if word not in known and word not in OUTSIDE:
+                    yield f"{short}:{number}: {word} stands nowhere in the repository"
+            for name in FILE.findall(span):
+                if NO_FILES & set(re.split(r"[/.]", name)):
+                    continue
+                beside = os.path.normpath(os.path.join(os.path.dirname(short), name))
+                if beside not in files and not any(it == name or it.endswith(f"/{name}") for it in files):
+                    yield f"{short}:{number}: there is no file {name}"
+
+
 def main():
     known, holders = set(), {}
+    clauses, files = clauses_of(), {os.path.relpath(it, TOP) for it in files_below("")}
+    crates = set(os.listdir(f"{TOP}/crates"))
     for path in sources():
         words = set(WORD.findall(text_of(path))) | set(WORD.findall(os.path.relpath(path, TOP)))
         known |= words
         if path.endswith((".antt", ".rt")):
             holders.setdefault(os.path.basename(path).rsplit(".", 1)[0], []).append(words)
-    for name in ("crates.txt", "Makefile", "install.mk"):
+    for name in ("crates.txt", "Makefile", "install.mk", "build_crate.py"):
+        known |= {name.partition(".")[0]}
         known |= set(WORD.findall(text_of(f"{TOP}/{name}")))
     faults, named = [], set()
     for path in documents():
-        short = os.path.relpath(path, TOP)
-        for number, line in enumerate(text_of(path).splitlines(), 1):
+        short, text = os.path.relpath(path, TOP), text_of(path)
+        faults += [*faults_in_clauses(path, text, clauses, crates), *faults_in_spans(path, text, known, files)]
+        for number, line in enumerate(text.splitlines(), 1):
             words = set(WORD.findall(line))
             named |= words
             for word in sorted(words - known):
