@@ -3,7 +3,7 @@ use Rattle.std.proofs.Common.{◌≡◌, ℕ, ◌+◌, ◌-◌, ◌<◌, ◌≤�
 use Rattle.std.proofs.Math.Seq.{take-append_seam, take-length, drop-append_seam, take-append-add}
 use Rattle.std.proofs.lemmas.Bool.{lt-leb, le-leb, eqb-true}
 use Rattle.std.specs.List.{position_from, flat_map, list_all, take_while}
-use Rattle.std.proofs.lemmas.List.{take_more, drop_more, take-append-drop, take-append-le, take-take, length-take-le}
+use Rattle.std.proofs.lemmas.List.{take_more, drop_more, take-append-drop, take-append-le, take-take, length-take-le, nil_from_length}
 use Rattle.std.proofs.lemmas.List.Folds.{list_all-append}
 use Rattle.std.proofs.lemmas.List.Sums.{take_while-cons}
 use Rattle.line_feed.specs.Lines.{lines_after, rest_after, lines_of, rest_of, is_short, fits, stream_of}
@@ -132,6 +132,13 @@ front_stands bytes =
     let k : length bytes - length (rest_of bytes) ≡ length p.front = omega (arith, ap length p.whole ∙ length-append p.front (rest_of bytes)) in
     let e : take (length bytes - length (rest_of bytes)) bytes ≡ p.front = ap (λ n. take n bytes) k ∙ ap (take (length p.front)) p.whole ∙ take-append_seam p.front (rest_of bytes) in
     (p, ap lines_of e ∙ p.lines_is, ap rest_of e ∙ p.rest_is)
+
+-- where the rest is all, there is no line
+pub rest_alone : (bytes : List ℕ) → length (rest_of bytes) ≡ length bytes → lines_of bytes ≡ []
+rest_alone bytes all =
+    let p = parts bytes in
+    let none : length p.front ≡ 0 = omega (arith, all, ap length p.whole ∙ length-append p.front (rest_of bytes)) in
+    sym p.lines_is ∙ ap lines_of (nil_from_length p.front none) ∙ lines_none []
 
 -- ---- going over a piece
 

@@ -101,6 +101,10 @@ impl LineFeed {
         ensures err { OnErr result (self.new ≡ self.old) }
         ensures only { IsOkUnless result LineFault.NoMemory }
     {
+        // What has come of a line is not gone over again at each of its pieces.
+        if self.rest_len == self.buffer.len() {
+            return Ok(None);
+        }
         Ok(take_line(&mut self.buffer)?)
     }
 
