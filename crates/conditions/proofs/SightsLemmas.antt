@@ -10,12 +10,13 @@ use Rattle.job_defs.specs.Definitions.{path_wish}
 use Rattle.history_model.specs.Clock.{definition_of}
 use Rattle.history_model.specs.Demands.{is_same_path, last_seen}
 use Rattle.history_model.specs.Levels.{presence_holds}
+use Rattle.history_model.specs.Reasons.{state_that_holds}
 use Rattle.history_model.specs.ByFacts.{seen_after}
 use Rattle.history_model.specs.DueByFacts.{any_seen, first_seen}
-use Rattle.history_model.proofs.SeenLemmas.{any-seen}
+use Rattle.history_model.proofs.SeenLemmas.{any-seen, first-seen}
 use Rattle.history_model.proofs.WrittenLemmas.{newer}
 use Rattle.history_model.proofs.ConnectionLemmas.{seen-more}
-use Rattle.conditions.specs.Kept.{kept_of, conditions_hold, holds_by}
+use Rattle.conditions.specs.Kept.{Kept, kept_of, conditions_hold, holds_by}
 use Rattle.conditions.specs.States.{wanted_of, sight_of, after_sight}
 use Rattle.conditions.specs.declared.levels.State.{State}
 
@@ -50,9 +51,17 @@ first-state [] = refl
 first-state (s ∷ ss) = go (presence_holds s.present s.last) (first-state ss) where
   found : Option (List ℕ)
   found = option_map (λ (s : State). s.path) (find (λ (s : State). presence_holds s.present s.last) ss)
+
   go : (b : Bool) → option_map (λ (s : State). s.path) (find (λ (s : State). presence_holds s.present s.last) ss)
       ≡ option_map (λ (state : List ℕ × Bool). state.0) (first_seen (λ (state : List ℕ × Bool). presence_holds state.1) (map wanted_of ss) (map sight_of ss)) →
       option_map (λ (s : State). s.path) (cond b (Some s) (find (λ (s : State). presence_holds s.present s.last) ss))
       ≡ option_map (λ (state : List ℕ × Bool). state.0) (cond b (Some (wanted_of s)) (first_seen (λ (state : List ℕ × Bool). presence_holds state.1) (map wanted_of ss) (map sight_of ss)))
   go true rest = refl
   go false rest = rest
+
+-- the first path that holds, of what is kept, and of a past
+abbrev pub path_in : Kept → Option (List ℕ)
+path_in k = option_map (λ (state : List ℕ × Bool). state.0) (first_seen (λ (state : List ℕ × Bool). presence_holds state.1) k.path_state k.seen)
+
+pub kept-path : (past : History) → state_that_holds past ≡ path_in (kept_of past)
+kept-path past = ap (option_map (λ (state : List ℕ × Bool). state.0)) (first-seen (λ (state : List ℕ × Bool). presence_holds state.1) (λ state. last_seen state.0 past) (definition_of past).path_state)

@@ -156,7 +156,10 @@ impl Conditions {
         ensures past { (past : History) → self.now ≡ kept_of past →
             option_map (λ path. path.now) result ≡ state_that_holds past }
     {
-        first_that_holds(self.states.as_slice())
+        match first_that_holds(self.states.as_slice()) {
+            Some(state) => Some(state.path.as_str()),
+            None => None,
+        }
     }
 
     /// The last end, with its run.
@@ -241,15 +244,10 @@ fn is_as_wanted(state: &State) -> bool
     state.last.is_some_and(|obs| obs.present == state.present)
 }
 
-/// The first path that was last seen as its condition wants it.
-fn first_that_holds(states: &[State]) -> Option<&str>
-    ensures { option_map (λ path. path.now) result
-        ≡ option_map (λ s. s.path) (find (λ s. presence_holds s.present s.last) states.now) }
+/// The first state whose path was last seen as its condition wants it.
+fn first_that_holds(states: &[State]) -> Option<&State>
+    ensures { option_map (λ state. state.now) result
+        ≡ find (λ s. presence_holds s.present s.last) states.now }
 {
-    for state in states {
-        if is_as_wanted(state) {
-            return Some(state.path.as_str());
-        }
-    }
-    None
+    states.iter().find(|state| is_as_wanted(state))
 }
