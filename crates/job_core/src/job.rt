@@ -16,7 +16,8 @@ use crate::calendar::Calendar;
 use crate::paths::{Queues, Watches};
 use conditions::Conditions;
 use history_model::{
-    Act, Answer, Ask, DemandKind, Ended, JobState, MAX_UP, MAX_WALL, Obs, Reading, Refusal, ShownJob,
+    Act, Answer, Ask, DemandKind, Ended, JobState, MAX_UP, MAX_WALL, Obs, Reading, Refusal,
+    ShownJob,
 };
 use job_defs::Def;
 use pace::{Ending, Interval, Signal, Throttle};

@@ -20,7 +20,9 @@ mod calendar;
 mod job;
 mod paths;
 
-use history_model::{Act, Answer, Ask, DemandKind, Ended, MAX_UP, Obs, Reading, Reasons, Refusal, ShownJob};
+use history_model::{
+    Act, Answer, Ask, DemandKind, Ended, MAX_UP, Obs, Reading, Reasons, Refusal, ShownJob,
+};
 use job::Job;
 use job_defs::Def;
 use std::alloc::{AllocError, Global};
