@@ -1,6 +1,7 @@
 -- Paths with what was seen there last, and what a past says of them.
-use Rattle.std.proofs.Common.{◌≡◌, ℕ, Bool, ◌||◌, None, List, [], ◌∷◌, map, refl, ap}
-use Rattle.std.specs.List.{list_any}
+use Rattle.std.proofs.Common.{◌≡◌, ℕ, Bool, true, false, ◌||◌, cond, Option, Some, None, List, [], ◌∷◌, map, refl, ap}
+use Rattle.std.specs.List.{find, list_any}
+use Rattle.std.specs.Option.{option_map}
 use Rattle.history_model.specs.declared.Obs.{Obs}
 use Rattle.history_model.specs.declared.Reading.{Reading}
 use Rattle.history_model.specs.Items.{Definition, History, Loaded, Saw}
@@ -9,12 +10,13 @@ use Rattle.job_defs.specs.Definitions.{path_wish}
 use Rattle.history_model.specs.Clock.{definition_of}
 use Rattle.history_model.specs.Demands.{is_same_path, last_seen}
 use Rattle.history_model.specs.Levels.{presence_holds}
+use Rattle.history_model.specs.Reasons.{state_that_holds}
 use Rattle.history_model.specs.ByFacts.{seen_after}
-use Rattle.history_model.specs.DueByFacts.{any_seen}
-use Rattle.history_model.proofs.SeenLemmas.{any-seen}
+use Rattle.history_model.specs.DueByFacts.{any_seen, first_seen}
+use Rattle.history_model.proofs.SeenLemmas.{any-seen, first-seen}
 use Rattle.history_model.proofs.WrittenLemmas.{newer}
 use Rattle.history_model.proofs.ConnectionLemmas.{seen-more}
-use Rattle.conditions.specs.Kept.{kept_of, conditions_hold, holds_by}
+use Rattle.conditions.specs.Kept.{Kept, kept_of, conditions_hold, holds_by}
 use Rattle.conditions.specs.States.{wanted_of, sight_of, after_sight}
 use Rattle.conditions.specs.declared.levels.State.{State}
 
@@ -42,3 +44,24 @@ kept-Saw t path obs = λ i. record (kept_of t) { seen = seen-more (λ (state : L
 pub unseen : (d : Definition) (at : Reading) (ps : List PathState) → map (λ _. None) ps ≡ map (λ (state : List ℕ × Bool). last_seen state.0 (Loaded d at ∷ [])) (map path_wish ps)
 unseen d at [] = refl
 unseen d at (p ∷ ps) = ap (λ l. None ∷ l) (unseen d at ps)
+
+pub first-state : (ss : List State) → option_map (λ (s : State). s.path) (find (λ (s : State). presence_holds s.present s.last) ss)
+    ≡ option_map (λ (state : List ℕ × Bool). state.0) (first_seen (λ (state : List ℕ × Bool). presence_holds state.1) (map wanted_of ss) (map sight_of ss))
+first-state [] = refl
+first-state (s ∷ ss) = go (presence_holds s.present s.last) (first-state ss) where
+  found : Option (List ℕ)
+  found = option_map (λ (s : State). s.path) (find (λ (s : State). presence_holds s.present s.last) ss)
+
+  go : (b : Bool) → option_map (λ (s : State). s.path) (find (λ (s : State). presence_holds s.present s.last) ss)
+      ≡ option_map (λ (state : List ℕ × Bool). state.0) (first_seen (λ (state : List ℕ × Bool). presence_holds state.1) (map wanted_of ss) (map sight_of ss)) →
+      option_map (λ (s : State). s.path) (cond b (Some s) (find (λ (s : State). presence_holds s.present s.last) ss))
+      ≡ option_map (λ (state : List ℕ × Bool). state.0) (cond b (Some (wanted_of s)) (first_seen (λ (state : List ℕ × Bool). presence_holds state.1) (map wanted_of ss) (map sight_of ss)))
+  go true rest = refl
+  go false rest = rest
+
+-- the first path that holds, of what is kept, and of a past
+abbrev pub path_in : Kept → Option (List ℕ)
+path_in k = option_map (λ (state : List ℕ × Bool). state.0) (first_seen (λ (state : List ℕ × Bool). presence_holds state.1) k.path_state k.seen)
+
+pub kept-path : (past : History) → state_that_holds past ≡ path_in (kept_of past)
+kept-path past = ap (option_map (λ (state : List ℕ × Bool). state.0)) (first-seen (λ (state : List ℕ × Bool). presence_holds state.1) (λ state. last_seen state.0 past) (definition_of past).path_state)

@@ -1,13 +1,14 @@
 //! `KeepAlive` of launchd.plist(5): true, or its conditions `SuccessfulExit`, `Crashed` and `PathState`.
 
 ghost use Rattle.std.specs.Prelude.{◌≡◌, ◌==◌, [], ◌∷◌, map, ◌++◌, Some, None, IfOk};
-ghost use Rattle.std.specs.List.{list_any};
+ghost use Rattle.std.specs.List.{find, list_any};
+ghost use Rattle.std.specs.Option.{option_map};
 ghost use Rattle.history_model.specs.Items.{History, Loaded, Saw, RunEnded};
 ghost use Rattle.history_model.specs.Kinds.{is_stopping_order};
 ghost use Rattle.history_model.specs.Levels.{is_success, is_crash_end, agrees, presence_holds, end_holds_of};
 ghost use Rattle.history_model.specs.ByFacts.{seen_after};
-ghost use Rattle.history_model.specs.Reasons.{exit_wants, crash_wants};
-ghost use Rattle.history_model.specs.DueByFacts.{any_seen};
+ghost use Rattle.history_model.specs.Reasons.{exit_wants, crash_wants, state_that_holds};
+ghost use Rattle.history_model.specs.DueByFacts.{any_seen, first_seen};
 ghost use Rattle.conditions.specs.States.{wanted_of, sight_of, after_sight};
 ghost use Rattle.job_defs.specs.Definitions.{definition, path_wish};
 
@@ -147,6 +148,20 @@ impl Conditions {
         any_holds(self.states.as_slice())
     }
 
+    /// The first path, in the order of the definition, that was last seen as its condition wants it.
+    pub fn path_that_holds(&self) -> Option<&str>
+        ensures step { option_map (λ path. path.now) result
+            ≡ option_map (λ state. state.0)
+            (first_seen (λ state. presence_holds state.1) self.now.path_state self.now.seen) }
+        ensures past { (past : History) → self.now ≡ kept_of past →
+            option_map (λ path. path.now) result ≡ state_that_holds past }
+    {
+        match first_that_holds(self.states.as_slice()) {
+            Some(state) => Some(state.path.as_str()),
+            None => None,
+        }
+    }
+
     /// The last end, with its run.
     pub fn last_end(&self) -> Option<(u64, Ended)>
         ensures { result ≡ self.now.ended }
@@ -220,4 +235,19 @@ fn any_holds(states: &[State]) -> bool
     states
         .iter()
         .any(|s| s.last.is_some_and(|obs| obs.present == s.present))
+}
+
+/// Whether the path was last seen as its condition wants it.
+fn is_as_wanted(state: &State) -> bool
+    ensures { result ≡ presence_holds state.now.present state.now.last }
+{
+    state.last.is_some_and(|obs| obs.present == state.present)
+}
+
+/// The first state whose path was last seen as its condition wants it.
+fn first_that_holds(states: &[State]) -> Option<&State>
+    ensures { option_map (λ state. state.now) result
+        ≡ find (λ s. presence_holds s.present s.last) states.now }
+{
+    states.iter().find(|state| is_as_wanted(state))
 }

@@ -1,12 +1,13 @@
 -- The watched paths and queue directories of a job, with what was seen there last: searches and sights.
-use Rattle.std.proofs.Common.{◌≡◌, ℕ, ◌+◌, ◌<◌, Bool, true, ◌||◌, ◌&&◌, Option, List, [], ◌∷◌, ◌++◌, map, take, get_or, length, refl, ap, ◌∙◌}
-use Rattle.std.specs.List.{list_any, filter}
+use Rattle.std.proofs.Common.{◌≡◌, ℕ, ◌+◌, ◌<◌, Bool, true, false, ◌||◌, ◌&&◌, cond, Option, Some, List, [], ◌∷◌, ◌++◌, map, take, get_or, length, refl, ap, ◌∙◌}
+use Rattle.std.specs.List.{find, list_any, filter}
+use Rattle.std.specs.Option.{option_map}
 use Rattle.std.proofs.lemmas.List.{take_more}
 use Rattle.history_model.specs.declared.Obs.{Obs}
 use Rattle.history_model.specs.Demands.{is_same_path, differs}
 use Rattle.history_model.specs.Levels.{queue_holds}
 use Rattle.history_model.specs.ByFacts.{seen_after}
-use Rattle.history_model.specs.DueByFacts.{any_seen}
+use Rattle.history_model.specs.DueByFacts.{any_seen, first_seen}
 use Rattle.history_model.proofs.WrittenLemmas.{newer}
 use Rattle.job_core.specs.declared.paths.Watched.{Watched}
 use Rattle.job_core.specs.declared.paths.QueueDirectory.{QueueDirectory}
@@ -43,6 +44,17 @@ queue-paths path obs (q ∷ qs) = ap (λ l. queue_path q ∷ l) (queue-paths pat
 pub any-queues : (qs : List QueueDirectory) → list_any (λ (q : QueueDirectory). queue_holds q.queue) qs ≡ any_seen (λ (path : List ℕ). queue_holds) (map queue_path qs) (map queue_sight qs)
 any-queues [] = refl
 any-queues (q ∷ qs) = ap (λ b. queue_holds q.queue || b) (any-queues qs)
+
+pub first-queue : (qs : List QueueDirectory) → option_map queue_path (find (λ (q : QueueDirectory). queue_holds q.queue) qs)
+    ≡ first_seen (λ (path : List ℕ). queue_holds) (map queue_path qs) (map queue_sight qs)
+first-queue [] = refl
+first-queue (q ∷ qs) = go (queue_holds q.queue) (first-queue qs)
+  where
+    go : (b : Bool) → option_map queue_path (find (λ (q : QueueDirectory). queue_holds q.queue) qs) ≡ first_seen (λ (path : List ℕ). queue_holds) (map queue_path qs) (map queue_sight qs) →
+        option_map queue_path (cond b (Some q) (find (λ (q : QueueDirectory). queue_holds q.queue) qs))
+        ≡ cond b (Some (queue_path q)) (first_seen (λ (path : List ℕ). queue_holds) (map queue_path qs) (map queue_sight qs))
+    go true rest = refl
+    go false rest = rest
 
 pub filter-all : (xs : List ℕ) → xs ≡ filter (λ _. true) xs
 filter-all [] = refl

@@ -1,5 +1,5 @@
 -- The facts of a past, as the fields and the parts of a job's core keep them.
-use Rattle.std.specs.Prelude.{ℕ, ◌==◌, Bool, false, Option, Some}
+use Rattle.std.specs.Prelude.{ℕ, ◌==◌, Bool, false, Option, Some, is_some}
 use Rattle.history_model.specs.declared.Act.{Act}
 use Rattle.history_model.specs.declared.Act.TheVariants.{Spawn}
 use Rattle.history_model.specs.Facts.{Facts}
@@ -33,8 +33,10 @@ facts c = record {
   run_count = c.runs;
   living_child = c.child;
   awaited_act = c.awaited;
-  has_demand = c.has_demand;
-  has_new_demand = c.has_new_demand;
+  has_demand = is_some c.demand;
+  has_new_demand = is_some c.new_demand;
+  demand = c.demand;
+  new_demand = c.new_demand;
   queue = c.waiting;
   last_number = c.last_number;
   ended = c.conditions.ended;

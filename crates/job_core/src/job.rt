@@ -1,8 +1,9 @@
 //! The facts that one job keeps of its past, and what they decide.
 
-ghost use Rattle.std.specs.Prelude.{None, is_some, slice_get, ◌&&◌, ◌||◌, not, ◌*◌, ◌≡◌, false, ◌+◌, ◌%◌, ◌^◌, ◌≤◌, [], ◌∷◌, IfOk, OnErr, ◌<◌};
+ghost use Rattle.std.specs.Prelude.{Some, None, cond, is_some, slice_get, ◌&&◌, ◌||◌, not, ◌*◌, ◌≡◌, false, ◌+◌, ◌%◌, ◌^◌, ◌≤◌, [], ◌∷◌, IfOk, OnErr, ◌<◌};
 ghost use Rattle.history_model.specs.declared.TheConstants.{MAX_CONNECTIONS};
 ghost use Rattle.history_model.specs.Items.{Loaded, Read, Saw, Asked, Came, Left, Answered, WaitRefused};
+ghost use Rattle.history_model.specs.declared.reasons.DemandKind.TheVariants as kinds;
 ghost use Rattle.history_model.specs.ByFacts.{Follows};
 ghost use Rattle.history_model.specs.DueByFacts.{is_busy_by};
 
@@ -15,7 +16,8 @@ use crate::calendar::Calendar;
 use crate::paths::{Queues, Watches};
 use conditions::Conditions;
 use history_model::{
-    Act, Answer, Ask, Ended, JobState, MAX_UP, MAX_WALL, Obs, Reading, Refusal, ShownJob,
+    Act, Answer, Ask, DemandKind, Ended, JobState, MAX_UP, MAX_WALL, Obs, Reading, Refusal,
+    ShownJob,
 };
 use job_defs::Def;
 use pace::{Ending, Interval, Signal, Throttle};
@@ -42,8 +44,8 @@ pub struct Job {
     runs: u64,
     child: Option<(u64, u32)>,
     awaited: Option<Act>,
-    has_demand: bool,
-    has_new_demand: bool,
+    demand: Option<DemandKind>,
+    new_demand: Option<DemandKind>,
     spawned_before: bool,
     stops: bool,
     removes: bool,
@@ -61,7 +63,7 @@ impl Job {
         requires { at.up ≤ MAX_UP }
         ensures { IfOk result (λ job. facts job ≡ facts_of (Loaded (definition def.now) at ∷ [])) }
     {
-        let fires = fires_at_load(def);
+        let demand = demand_at_load(def);
         let calendar = Calendar::new(alloc, def.calendar())?;
         let conditions = Conditions::new(alloc, def)?;
         let watches = Watches::new(alloc, def.watch_paths())?;
@@ -88,8 +90,8 @@ impl Job {
             runs: 0,
             child: None,
             awaited: None,
-            has_demand: fires,
-            has_new_demand: fires,
+            demand,
+            new_demand: demand,
             spawned_before: false,
             stops: false,
             removes: false,
@@ -134,7 +136,7 @@ impl Job {
             pid: self.child.map(|c| c.1),
             runs: self.runs,
             last_end: self.conditions.last_end().map(|e| e.1),
-            demand: self.has_demand,
+            demand: self.demand.is_some(),
             connections: self.waiting.len(),
         }
     }
@@ -179,9 +181,14 @@ impl Job {
     }
 }
 
-/// Whether the load itself is a demand: by `RunAtLoad`, or by the condition `SuccessfulExit`, which implies it.
-fn fires_at_load(def: &Def) -> bool
-    ensures { result ≡ (def.now.run_at_load || is_some def.now.successful_exit) }
+/// What the load demands: it is a demand by `RunAtLoad`, or by the condition `SuccessfulExit`, which implies it.
+fn demand_at_load(def: &Def) -> Option<DemandKind>
+    ensures { result
+        ≡ cond (def.now.run_at_load || is_some def.now.successful_exit) (Some kinds.Load) None }
 {
-    def.run_at_load() || def.successful_exit().is_some()
+    if def.run_at_load() || def.successful_exit().is_some() {
+        Some(DemandKind::Load)
+    } else {
+        None
+    }
 }

@@ -3,23 +3,26 @@
 #![tactic(auto)]
 
 ghost use Rattle.std.specs.Prelude.{◌≡◌, ◌+◌, ◌%◌, ◌^◌, ◌≤◌, [], ◌∷◌, IfOk, OnOk, OnErr, None, slice_get};
+ghost use Rattle.std.specs.Option.{option_map};
 ghost use Rattle.history_model.specs.declared.TheConstants.{MAX_CONNECTIONS};
 ghost use Rattle.history_model.specs.Items.{History, Loaded};
 ghost use Rattle.history_model.specs.Clock as clock;
 ghost use Rattle.history_model.specs.Runs as runs;
-ghost use Rattle.history_model.specs.Demands.{waiting};
+ghost use Rattle.history_model.specs.Demands.{waiting, latest_demand};
 ghost use Rattle.history_model.specs.Refusals.{refusal_of};
 ghost use Rattle.history_model.specs.Keeps.{Keeps, reply, ordered};
 ghost use Rattle.history_model.specs.Due.{due};
 ghost use Rattle.history_model.specs.Moments as moments;
 ghost use Rattle.history_model.specs.Coming.{next_by};
-ghost use Rattle.history_model.specs.Reasons.{reasons_of, spawns_from};
+ghost use Rattle.history_model.specs.Reasons.{reasons_of, spawns_from, path_that_holds};
 
 mod calendar;
 mod job;
 mod paths;
 
-use history_model::{Act, Answer, Ask, Ended, MAX_UP, Obs, Reading, Reasons, Refusal, ShownJob};
+use history_model::{
+    Act, Answer, Ask, DemandKind, Ended, MAX_UP, Obs, Reading, Reasons, Refusal, ShownJob,
+};
 use job::Job;
 use job_defs::Def;
 use std::alloc::{AllocError, Global};
@@ -162,6 +165,24 @@ impl JobCore {
             result ≡ spawns_from past }
     {
         self.job.spawns_from(now.up)
+    }
+
+    /// What made the pending demand: the newest event that is a demand and that no successful spawn followed; none if no demand
+    /// is pending. It takes no memory, and changes nothing.
+    pub fn latest_demand(&self) -> Option<DemandKind>
+        ensures { (past : History) → Keeps self.now.facts past → result ≡ latest_demand past }
+    {
+        self.job.latest_demand()
+    }
+
+    /// The path that holds the job wanted: the first of `PathState`, in the order of the definition, that was last seen as its
+    /// condition wants it, or else the first of `QueueDirectories` that was last seen with something in it. None if none of them
+    /// holds. It takes no memory, and changes nothing.
+    pub fn path_that_holds(&self) -> Option<&str>
+        ensures { (past : History) → Keeps self.now.facts past →
+            option_map (λ path. path.now) result ≡ path_that_holds past }
+    {
+        self.job.path_that_holds()
     }
 
     /// What is shown of the job.

@@ -1,11 +1,12 @@
 //! The paths that a job lists in `WatchPaths` and `QueueDirectories`, each with what was last seen there.
 
 ghost use Rattle.std.specs.Prelude.{◌≡◌, [], ◌∷◌, map, ◌++◌, ◌&&◌, None, IfOk};
-ghost use Rattle.std.specs.List.{list_any};
+ghost use Rattle.std.specs.List.{find, list_any};
+ghost use Rattle.std.specs.Option.{option_map};
 ghost use Rattle.history_model.specs.Demands.{is_same_path, differs};
 ghost use Rattle.history_model.specs.Levels.{queue_holds};
 ghost use Rattle.history_model.specs.ByFacts.{seen_after};
-ghost use Rattle.history_model.specs.DueByFacts.{any_seen};
+ghost use Rattle.history_model.specs.DueByFacts.{any_seen, first_seen};
 ghost use Rattle.job_core.specs.Listed.{watched_path, watched_sight, after_sight, queue_path, queue_sight, queue_after};
 
 use conditions::{Queue, Watch};
@@ -137,6 +138,17 @@ impl Queues {
     {
         any_holds(self.listed.as_slice())
     }
+
+    /// The first directory, in the order of the definition, that was last seen with something in it.
+    pub fn path_that_holds(&self) -> Option<&str>
+        ensures { option_map (λ path. path.now) result
+            ≡ first_seen (λ path. queue_holds) self.now.paths self.now.seen }
+    {
+        match first_that_holds(self.listed.as_slice()) {
+            Some(directory) => Some(directory.path.as_str()),
+            None => None,
+        }
+    }
 }
 
 fn queues_of(alloc: Global, paths: &[Text]) -> Result<Vec<QueueDirectory>, AllocError>
@@ -167,4 +179,10 @@ fn any_holds(listed: &[QueueDirectory]) -> bool
     ensures { result ≡ list_any (λ q. queue_holds q.queue) listed.now }
 {
     listed.iter().any(|q| q.queue.holds())
+}
+
+fn first_that_holds(listed: &[QueueDirectory]) -> Option<&QueueDirectory>
+    ensures { option_map (λ q. q.now) result ≡ find (λ q. queue_holds q.queue) listed.now }
+{
+    listed.iter().find(|q| q.queue.holds())
 }

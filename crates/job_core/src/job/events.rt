@@ -1,6 +1,6 @@
 //! The events of one job: when each is refused, and what it changes.
 
-ghost use Rattle.std.specs.Prelude.{not, ◌||◌, ◌≡◌, ◌≤◌, filter, OnErr};
+ghost use Rattle.std.specs.Prelude.{true, not, ◌||◌, ◌≡◌, ◌≤◌, filter, OnErr};
 ghost use Rattle.history_model.specs.Items.{Read, Saw, Asked, Came, Left, Answered, RunEnded, WaitRefused};
 ghost use Rattle.history_model.specs.declared.Answer.TheVariants.{Spawned as SpawnOk, SpawnRefused as SpawnNo, Termed as TermAnswer, Killed as KillAnswer};
 ghost use Rattle.history_model.specs.Demands.{carries};
@@ -9,7 +9,7 @@ ghost use Rattle.history_model.specs.ByFacts.{fired_by, conn_of, Follows};
 ghost use Rattle.history_model.specs.DueByFacts.{is_busy_by};
 
 use super::Job;
-use history_model::{Act, Ask, Ended, MAX_UP, MAX_WALL, Obs, Reading, Refusal};
+use history_model::{Act, Ask, DemandKind, Ended, MAX_UP, MAX_WALL, Obs, Reading, Refusal};
 use pace::Signal;
 use socket_demand::Waiting;
 
@@ -23,9 +23,10 @@ impl Job {
         if at.up < now.up || at.up > MAX_UP || at.wall > MAX_WALL {
             return Err(Refusal::ClockRefused);
         }
-        if calendar || self.interval.crossed(now.up, at.up) {
-            self.has_demand = true;
-            self.has_new_demand = true;
+        if calendar {
+            self.fired(DemandKind::Calendar);
+        } else if self.interval.crossed(now.up, at.up) {
+            self.fired(DemandKind::Interval);
         }
         Ok(())
     }
@@ -38,8 +39,7 @@ impl Job {
         self.conditions.saw(path, obs);
         self.queues.saw(path, obs);
         if fires {
-            self.has_demand = true;
-            self.has_new_demand = true;
+            self.fired(DemandKind::Path);
         }
         Ok(())
     }
@@ -90,9 +90,9 @@ impl Job {
             return Err(Refusal::Removing);
         }
         match ask {
-            Ask::Start => self.started(false),
+            Ask::Start => self.started(false, DemandKind::Start),
             Ask::Kickstart(kills_first) => {
-                self.started(kills_first);
+                self.started(kills_first, DemandKind::Kickstart);
                 if kills_first && self.is_busy() {
                     self.ending.struck();
                 }
@@ -112,15 +112,22 @@ impl Job {
     }
 
     /// A start was asked. It makes a demand, unless a run that nobody stops stands already; with the flag then too.
-    fn started(&mut self, again: bool)
+    fn started(&mut self, again: bool, kind: DemandKind)
         ensures { facts self.new
             ≡ fired_by (again || (not (is_busy_by (facts self.old)) || (facts self.old).stops))
-            (facts self.old) }
+            kind (facts self.old) }
     {
         if again || !self.is_busy() || self.stops {
-            self.has_demand = true;
-            self.has_new_demand = true;
+            self.fired(kind);
         }
+    }
+
+    /// A demand of this kind came.
+    fn fired(&mut self, kind: DemandKind)
+        ensures { facts self.new ≡ fired_by true kind (facts self.old) }
+    {
+        self.demand = Some(kind);
+        self.new_demand = Some(kind);
     }
 
     pub(super) fn termed(&mut self, run: u64, ok: bool, now: Reading) -> Result<(), Refusal>
@@ -202,7 +209,7 @@ impl Job {
         take_out(&mut self.waiting, conn);
         self.child = Some((run, pid));
         self.awaited = None;
-        self.has_demand = self.has_new_demand;
+        self.demand = self.new_demand;
         self.spawned_before = true;
         Ok(())
     }

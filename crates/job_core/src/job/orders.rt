@@ -34,7 +34,7 @@ impl Job {
     pub fn is_wanted(&self) -> bool
         ensures { result ≡ is_wanted_by (facts self.now) }
     {
-        self.has_demand || self.waiting.first().is_some() || self.level_holds()
+        self.demand.is_some() || self.waiting.first().is_some() || self.level_holds()
     }
 
     fn may_spawn(&self, up: u64) -> bool
@@ -84,7 +84,7 @@ impl Job {
         match act {
             Act::Spawn { run, .. } => {
                 self.runs = run;
-                self.has_new_demand = false;
+                self.new_demand = None;
                 self.throttle.ordered(up);
                 self.ending.next_run();
                 self.is_ordered_to_end = false;

@@ -3,11 +3,11 @@
 ghost use Rattle.std.specs.Prelude.{◌≡◌, ◌≤◌};
 ghost use Rattle.std.specs.Option.{option_map};
 ghost use Rattle.history_model.specs.Reasons.{standing_child};
-ghost use Rattle.history_model.specs.ReasonsByFacts.{wants_by, throttled_until_by, reasons_by, needs_by, spawns_from_by};
+ghost use Rattle.history_model.specs.ReasonsByFacts.{path_by, wants_by, throttled_until_by, reasons_by, needs_by, spawns_from_by};
 
 use super::Job;
 use super::orders::MAX_RUNS;
-use history_model::{MAX_UP, Reasons, StandingChild, Wants};
+use history_model::{DemandKind, MAX_UP, Reasons, StandingChild, Wants};
 
 impl Job {
     ghost use Rattle.job_core.specs.Fields.{facts};
@@ -17,13 +17,30 @@ impl Job {
         ensures { result ≡ wants_by (facts self.now) }
     {
         Wants {
-            demand: self.has_demand,
+            demand: self.demand.is_some(),
             connections: self.waiting.len(),
             keep_alive: self.conditions.is_kept_alive(),
             successful_exit: self.conditions.exit_wants(),
             crashed: self.conditions.crash_wants(),
             path_state: self.conditions.path_holds(),
             queue_directories: self.queues.holds(),
+        }
+    }
+
+    /// What made the pending demand.
+    pub fn latest_demand(&self) -> Option<DemandKind>
+        ensures { result ≡ (facts self.now).demand }
+    {
+        self.demand
+    }
+
+    /// The path that holds the job wanted: of `PathState`, or else a queue directory.
+    pub fn path_that_holds(&self) -> Option<&str>
+        ensures { option_map (λ path. path.now) result ≡ path_by (facts self.now) }
+    {
+        match self.conditions.path_that_holds() {
+            Some(path) => Some(path),
+            None => self.queues.path_that_holds(),
         }
     }
 

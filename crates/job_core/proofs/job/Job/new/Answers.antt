@@ -1,17 +1,26 @@
 -- Each part begins as the definition says.
-use Rattle.std.proofs.Common.{◌≡◌, ◌∙◌, ap, sym, false, ◌||◌, None, is_some}
+use Rattle.std.proofs.Common.{◌≡◌, ◌∙◌, ap, refl, Bool, true, false, ◌||◌, cond, Some, None, [], ◌∷◌, is_some}
+use Rattle.history_model.specs.Items.{Loaded}
+use Rattle.history_model.specs.Facts.{facts_of}
+use Rattle.job_defs.specs.Definitions.{definition}
 use Rattle.job_core.specs.Sights.{unseen}
 use Rattle.job_core.specs.Fields.{facts}
-use Rattle.history_model.proofs.BooleanLemmas.{or-false-right}
+use Rattle.history_model.specs.declared.reasons.DemandKind.TheVariants as kinds
 use Rattle.pace.specs.Paces.{no_ends}
 use Rattle.job_core.proofs.job.Job.new.Goals as goal
+
+-- a demand is there exactly if the load is one
+is-load : (b : Bool) → is_some (cond b (Some kinds.Load) None) ≡ (b || false)
+is-load true = refl
+is-load false = refl
 
 pub returns : goal.returns
 returns c =
     let run = c.args.def.now.run_at_load in
     let exit = is_some c.args.def.now.successful_exit in
-    let fires : c.fires_at_load-fires.result ≡ ((run || exit) || false) = c.fires_at_load-fires.ensures ∙ sym (or-false-right (run || exit)) in
-    λ i. facts (record {
+    let fires = c.demand_at_load-demand.ensures in
+    let whole = facts_of (Loaded (definition c.args.def.now) c.args.at ∷ []) in
+    (λ i. facts (record {
       run_at_load = c.run_at_load.ensures i;
       launch_only_once = c.launch_only_once.ensures i;
       has_sockets = c.has_sockets.ensures i;
@@ -29,9 +38,9 @@ returns c =
       runs = 0;
       child = None;
       awaited = None;
-      has_demand = fires i;
-      has_new_demand = fires i;
+      demand = fires i;
+      new_demand = fires i;
       spawned_before = false;
       stops = false;
       removes = false;
-    })
+    })) ∙ (λ i. record whole { has_demand = is-load (run || exit) i; has_new_demand = is-load (run || exit) i })
