@@ -170,6 +170,7 @@ uncalled table a t k n before is = record {
 module _ {A : Type 0} (bytes : A → List ℕ) (table : Table) (a : Option (List Entry)) (t : Option (List StoreCall)) (k n : Kept) (before : List Setting → Type 0) (words : List ℕ) where
   pub listed : (answer : Result A Refusal) → IfOk answer (λ x. IsReplyText ListJobs table (bytes x)) → IfErr answer (λ r. r ≡ NoMemory) → OnOk answer (Grows k n (event_line journaled.List)) → OnErr answer (n ≡ k) →
       IsNumbered table → IfOk answer (λ x. words ≡ bytes x) → Hears (Some journaled.List) (refused_with answer) words (standing table a t k) (standing table a t n) before before
+  unfolding question
   listed (Ok x) text memory noted silent numbered is = λ s led keeps. record {
     outside = record { bind = true; store = true };
     job = 0;
@@ -204,6 +205,7 @@ module _ {A : Type 0} (bytes : A → List ℕ) (table : Table) (a : Option (List
   pub printed : (label : Label) (answer : Result A Refusal) → IfOk answer (λ x. IsReplyText (PrintJob label) table (bytes x)) →
       IfErr answer (λ r. Means r ((s : State) → KeepsState table s → refusal_in s (PrintJob label) ≡ Some r)) → UnlessMemory answer (Grows k n (event_line (journaled.Print label))) → (answer ≡ Err NoMemory → n ≡ k) →
       IsNumbered table → IfOk answer (λ x. words ≡ bytes x) → Hears (Some (journaled.Print label)) (refused_with answer) words (standing table a t k) (standing table a t n) before before
+  unfolding question
   printed label (Ok x) text refused noted silent numbered is = λ s led keeps. record {
     outside = record { bind = true; store = true };
     job = 0;

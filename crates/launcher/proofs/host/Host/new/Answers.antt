@@ -1,5 +1,5 @@
 -- The parts, put together.
-use Rattle.std.proofs.Common.{subst, sym, ap, refl}
+use Rattle.std.proofs.Common.{subst, sym, ap}
 use Rattle.std.specs.Prelude.{is_some, Ok, Err}
 use Rattle.ctl_protocol.specs.declared.header.Header.{Header}
 use Rattle.ctl_protocol.specs.HeaderLines.{header_line}
@@ -27,7 +27,7 @@ returns-in-Ok-make_inside-clause-comes g c =
     let new = made_new c.args.header c.in-Ok.settings.items made.table (g.E.Edge.told c.args.edge) (g.T.SettingStore.told c.args.store) (g.T.SettingStore.told c.all.new.self) first made.journal
     (g.T.SettingStore.holds c.args.store) (g.T.SettingStore.holds c.all.new.self) opened c.in-Ok.ensures.told
     (subst (λ (h : Header). Grows first made.journal (header_line h)) c.with_settings.ensures c.in-Ok-make_inside.ensures.noted) c.in-Ok.ensures.gives in
-    (Ok c.in-Ok.settings.items, (c.in-Ok.ensures.answers, (opened, (new, refl))))
+    (Ok c.in-Ok.settings.items, (c.in-Ok.ensures.answers, (opened, new)))
 
 pub returns-in-Err-clause-comes : goal.returns-in-Err-clause-comes
 returns-in-Err-clause-comes g c = (Err c.in-Err.fault, (c.in-Err.ensures.answers, ap Err c.store_fault.ensures))
