@@ -6,16 +6,21 @@ use Rattle.std.proofs.KnownBytes.{Appends-nil, Appends-trans}
 use Rattle.replay_loop.specs.Writing.{AppendsFront}
 use Rattle.event_journal.specs.declared.journal.Phase.{Phase}
 use Rattle.event_journal.specs.declared.journal.Phase.TheVariants.{Open, Closed, Reported}
-use Rattle.event_journal.specs.Journals.{Kept, Grows, GrowsIn, held, is_writing}
+use Rattle.event_journal.specs.Journals.{Kept, Grows, GrowsIn, CausedIn, Poured, poured_bytes, poured_cause, is_writing}
 
 unchanged_in : (phase : Phase) (kept : Kept) → GrowsIn phase phase kept kept []
 unchanged_in Open kept = Appends-nil kept.bytes
 unchanged_in Closed kept = refl
 unchanged_in Reported kept = refl
 
+same_cause : (phase : Phase) (kept : Kept) → CausedIn phase phase kept kept
+same_cause Open kept = refl
+same_cause Closed kept = refl
+same_cause Reported kept = refl
+
 -- no line was written
 pub grows_nothing : (kept : Kept) → Grows kept kept []
-grows_nothing kept = record { has_writer = refl; grew = unchanged_in kept.phase kept }
+grows_nothing kept = record { has_writer = refl; grew = unchanged_in kept.phase kept; cause = same_cause kept.phase kept }
 
 -- a front of the first text is one of both
 pub front_first : (old new : Option (List ℕ)) (s t : List ℕ) → AppendsFront old new s → AppendsFront old new (s ++ t)
@@ -49,20 +54,43 @@ both_in Reported Reported Open a b c s t first second = absurd second
 both_in Reported Reported Closed a b c s t first second = absurd second
 both_in Reported Reported Reported a b c s t first second = second ∙ first
 
+-- what closed it then
+both_causes : (p q r : Phase) (a b c : Kept) (s t : List ℕ) → b.has_writer ≡ a.has_writer → GrowsIn p q a b s → GrowsIn q r b c t → CausedIn p q a b → CausedIn q r b c → CausedIn p r a c
+both_causes Open Open Open a b c s t same grew grows first second = second ∙ first
+both_causes Open Open Closed a b c s t same grew grows first second = (sym same ∙ second.0, sym first ∙ second.1, second.2)
+both_causes Open Open Reported a b c s t same grew grows first second = absurd second
+both_causes Open Closed Open a b c s t same grew grows first second = absurd grows
+both_causes Open Closed Closed a b c s t same grew grows first second = (first.0, first.1, ap is_some second ∙ first.2)
+both_causes Open Closed Reported a b c s t same grew grows first second = absurd grows
+both_causes Open Reported r a b c s t same grew grows first second = absurd grew
+both_causes Closed q r a b c s t same grew grows first second = later q r grew grows second ∙ first where
+  later : (q r : Phase) → GrowsIn Closed q a b s → GrowsIn q r b c t → CausedIn q r b c → c.cause ≡ b.cause
+  later Open r grew grows second = absurd grew
+  later Closed r grew grows second = second
+  later Reported r grew grows second = second
+both_causes Reported q r a b c s t same grew grows first second = later q r grew grows second ∙ first where
+  later : (q r : Phase) → GrowsIn Reported q a b s → GrowsIn q r b c t → CausedIn q r b c → c.cause ≡ b.cause
+  later Open r grew grows second = absurd grew
+  later Closed r grew grows second = second
+  later Reported r grew grows second = second
+
 -- one text after another
 pub grows_append : (a b c : Kept) (s t : List ℕ) → Grows a b s → Grows b c t → Grows a c (s ++ t)
 grows_append a b c s t first second = record {
   has_writer = second.has_writer ∙ first.has_writer;
   grew = both_in a.phase b.phase c.phase a b c s t first.grew second.grew;
+  cause = both_causes a.phase b.phase c.phase a b c s t first.has_writer first.grew second.grew first.cause second.cause;
 }
 
 -- ---- a journal by its parts
 
-module _ {W : Type 0} (contents : W → Option (List ℕ)) where
-  -- if no line is written, none is missed
-  pub shut_grows : (writer : Option W) (phase : Phase) (text : List ℕ) → is_writing (record { has_writer = is_some writer; bytes = held contents writer; phase = phase }) ≡ false →
-      Grows (record { has_writer = is_some writer; bytes = held contents writer; phase = phase }) (record { has_writer = is_some writer; bytes = held contents writer; phase = phase }) text
-  shut_grows None Open text shut = record { has_writer = refl; grew = tt }
-  shut_grows (Some writer) Open text shut = cc
-  shut_grows writer Closed text shut = record { has_writer = refl; grew = refl }
-  shut_grows writer Reported text shut = record { has_writer = refl; grew = refl }
+-- as contracts see it
+abbrev by_parts : Option Poured → Phase → Kept
+by_parts writer phase = record { has_writer = is_some writer; bytes = poured_bytes writer; cause = poured_cause writer; phase = phase }
+
+-- if no line is written, none is missed
+pub shut_grows : (writer : Option Poured) (phase : Phase) (text : List ℕ) → is_writing (by_parts writer phase) ≡ false → Grows (by_parts writer phase) (by_parts writer phase) text
+shut_grows None Open text shut = record { has_writer = refl; grew = tt; cause = refl }
+shut_grows (Some writer) Open text shut = cc
+shut_grows writer Closed text shut = record { has_writer = refl; grew = refl; cause = refl }
+shut_grows writer Reported text shut = record { has_writer = refl; grew = refl; cause = refl }

@@ -1,19 +1,50 @@
 -- A journal as contracts see it, and how it grows.
-use Rattle.std.specs.Prelude.{◌≡◌, ℕ, Bool, false, List, Option, Some, None}
+use Rattle.std.specs.Prelude.{◌≡◌, ℕ, Bool, true, false, List, Option, Some, None, is_some}
 use Rattle.std.specs.Io.KnownBytes.{Appends}
 use Rattle.replay_loop.specs.Writing.{AppendsFront}
 use Rattle.event_journal.specs.declared.journal.Phase.{Phase}
 use Rattle.event_journal.specs.declared.journal.Phase.TheVariants.{Open, Closed, Reported}
+use Rattle.event_journal.specs.declared.writer.Cause.{Cause}
 
--- whether there is a writer, the bytes that it holds if they are known, and how the journal stands
+-- what contracts see of a journal's writer: the bytes that it holds if they are known, and what was
+-- refused to the journal, if anything was
+pub record Poured : Type 0 where
+  pub bytes : Option (List ℕ)
+  pub cause : Option Cause
+
+-- a call that was refused leaves its cause, and another one the cause that was there
+abbrev pub cause_after : Bool → Cause → Option Cause → Option Cause
+cause_after true cause before = before
+cause_after false cause before = Some cause
+
+-- the bytes that a writer holds, if there is one
+abbrev pub poured_bytes : Option Poured → Option (List ℕ)
+poured_bytes None = None
+poured_bytes (Some writer) = writer.bytes
+
+-- what was refused; nothing is where there is no writer
+abbrev pub poured_cause : Option Poured → Option Cause
+poured_cause None = None
+poured_cause (Some writer) = writer.cause
+
+-- whether there is a writer, the bytes that it holds if they are known, what was refused to the
+-- journal, if anything was, and how the journal stands
 pub record Kept : Type 0 where
   pub has_writer : Bool
   pub bytes : Option (List ℕ)
+  pub cause : Option Cause
   pub phase : Phase
+
+-- an open journal is one to which nothing was refused
+abbrev pub IsSound : Phase → Option Cause → Type 0
+IsSound Open cause = cause ≡ None
+IsSound Closed cause = is_some cause ≡ true
+IsSound Reported cause = is_some cause ≡ true
 
 -- an open journal over a writer with these bytes, or over none
 abbrev pub fresh : Option (List ℕ) → Bool → Kept
-fresh bytes has_writer = record { has_writer = has_writer; bytes = bytes; phase = Open }
+fresh bytes has_writer =
+    record { has_writer = has_writer; bytes = bytes; cause = None; phase = Open }
 
 -- the bytes that a writer holds, if there is one
 abbrev pub held : {W : Type 0} → (W → Option (List ℕ)) → Option W → Option (List ℕ)
@@ -43,10 +74,21 @@ GrowsIn Reported Open old new text = ⊥
 GrowsIn Reported Closed old new text = ⊥
 GrowsIn Reported Reported old new text = new ≡ old
 
--- a journal over the same writer that grew so
+-- A journal that was open is closed only if it has a writer, nothing was refused to it before, and
+-- now a write or a flush was, or memory for a line. Else what was refused to it is as it was.
+abbrev pub CausedIn : Phase → Phase → Kept → Kept → Type 0
+CausedIn Open Open old new = new.cause ≡ old.cause
+CausedIn Open Closed old new =
+    (old.has_writer ≡ true) × (old.cause ≡ None) × (is_some new.cause ≡ true)
+CausedIn Open Reported old new = ⊥
+CausedIn Closed phase old new = new.cause ≡ old.cause
+CausedIn Reported phase old new = new.cause ≡ old.cause
+
+-- a journal over the same writer that grew so, and was closed only for a cause
 pub record Grows (old new : Kept) (text : List ℕ) : Type 0 where
   pub has_writer : new.has_writer ≡ old.has_writer
   pub grew : GrowsIn old.phase new.phase old new text
+  pub cause : CausedIn old.phase new.phase old new
 
 -- how it stands after its closing was reported
 abbrev reported_phase : Phase → Phase
@@ -57,4 +99,9 @@ reported_phase Reported = Reported
 -- the journal after its closing was reported
 abbrev pub reported : Kept → Kept
 reported kept =
-    record { has_writer = kept.has_writer; bytes = kept.bytes; phase = reported_phase kept.phase }
+    record {
+      has_writer = kept.has_writer;
+      bytes = kept.bytes;
+      cause = kept.cause;
+      phase = reported_phase kept.phase;
+    }

@@ -5,9 +5,9 @@ ghost use Rattle.ctl_protocol.specs.EventWriter as events;
 ghost use Rattle.ctl_protocol.specs.HeaderLines as headers;
 ghost use Rattle.event_journal.specs.Journals.{Grows, fresh, reported, held, is_writing};
 
+use crate::writer::{Cause, JournalWriter};
 use ctl_protocol::{Header, event_line, header_line};
 use history_model::Event;
-use replay_loop::write_text;
 use std::alloc::{AllocError, Global};
 use std::io::Write;
 use std::marker::Model;
@@ -24,24 +24,27 @@ pub enum Phase {
 }
 
 /// The journal of a launcher, over its writer. To a contract it is whether there is a writer, the bytes that this holds
-/// if they are known, and how it stands.
+/// if they are known, what was refused to it, and how it stands. It is open exactly if nothing was refused to it.
 #[derive(Drop)]
 pub struct Journal<W: Write> {
-    writer: Option<W>,
+    writer: Option<JournalWriter<W>>,
     phase: Phase,
 }
 
 impl<W: Write> Model for Journal<W> {
-    ghost use Rattle.event_journal.specs.Journals.{Kept, held};
+    ghost use Rattle.event_journal.specs.Journals.{Kept, IsSound, poured_bytes, poured_cause};
     ghost use Rattle.std.specs.Prelude.{is_some};
 
     ghost Value = { Kept };
 
     ghost view = { λ j. record {
       has_writer = is_some j.writer;
-      bytes = held W.contents j.writer;
+      bytes = poured_bytes j.writer;
+      cause = poured_cause j.writer;
       phase = j.phase;
     } };
+
+    ghost invariant = { λ j. IsSound j.phase (poured_cause j.writer) };
 }
 
 impl<W: Write> Journal<W> {
@@ -60,12 +63,12 @@ impl<W: Write> Journal<W> {
         ensures { Grows (fresh (W.contents writer) true) result (headers.header_line header.now) }
     {
         let mut journal = Journal {
-            writer: Some(writer),
+            writer: Some(JournalWriter::new(writer)),
             phase: Phase::Open,
         };
         match header_line(alloc, header) {
             Ok(line) => journal.append(line.as_slice()),
-            Err(_) => journal.close(),
+            Err(want) => journal.close(want),
         }
         journal
     }
@@ -90,22 +93,28 @@ impl<W: Write> Journal<W> {
         if !self.is_writing() {
             return;
         }
-        let written = match &mut self.writer {
-            Some(writer) => write_text(writer, text),
+        let is_written = match &mut self.writer {
+            Some(writer) => writer.write(text),
             None => true,
         };
-        if !written {
+        if !is_written {
             self.phase = Phase::Closed;
         }
     }
 
-    /// Closes the journal, for want of memory for its next line. A journal that is closed, and no journal, stay as they are.
-    pub fn close(&mut self)
+    /// Closes the journal, for this want of memory for its next line. A journal that is closed, and no journal, stay as they
+    /// are.
+    fn close(&mut self, want: AllocError)
         ensures { (text : List ℕ) → Grows self.old self.new text }
     {
-        if self.is_writing() {
-            self.phase = Phase::Closed;
+        if !self.is_writing() {
+            return;
         }
+        match &mut self.writer {
+            Some(writer) => writer.miss(want),
+            None => return,
+        }
+        self.phase = Phase::Closed;
     }
 
     /// Writes the event's line.
@@ -117,7 +126,7 @@ impl<W: Write> Journal<W> {
         }
         match event_line(alloc, event) {
             Ok(line) => self.append(line.as_slice()),
-            Err(_) => self.close(),
+            Err(want) => self.close(want),
         }
     }
 
@@ -128,7 +137,7 @@ impl<W: Write> Journal<W> {
     {
         match made {
             Ok(event) => self.note(alloc, &event),
-            Err(_) => self.close(),
+            Err(want) => self.close(want),
         }
     }
 
@@ -139,12 +148,22 @@ impl<W: Write> Journal<W> {
         if !self.is_writing() {
             return;
         }
-        let flushed = match &mut self.writer {
-            Some(writer) => writer.flush().is_ok(),
+        let is_flushed = match &mut self.writer {
+            Some(writer) => writer.flush(),
             None => true,
         };
-        if !flushed {
+        if !is_flushed {
             self.phase = Phase::Closed;
+        }
+    }
+
+    /// What was refused to it and closed it, if anything was.
+    pub fn cause(&self) -> Option<Cause>
+        ensures { result ≡ self.now.cause }
+    {
+        match &self.writer {
+            Some(writer) => writer.cause(),
+            None => None,
         }
     }
 
@@ -172,7 +191,10 @@ impl<W: Write + Drop> Journal<W> {
     {
         let Journal { writer, phase } = self;
         match phase {
-            Phase::Open => writer,
+            Phase::Open => match writer {
+                Some(writer) => Some(writer.into_inner()),
+                None => None,
+            },
             Phase::Closed => None,
             Phase::Reported => None,
         }

@@ -3,5 +3,7 @@
 #![tactic(auto)]
 
 mod journal;
+mod writer;
 
 pub use journal::{Journal, Phase};
+pub use writer::Cause;

@@ -1,5 +1,5 @@
 -- The turn of what a client asks: a load, a setting, a question.
-use Rattle.std.proofs.Common.{◌≡◌, ℕ, Bool, true, false, List, [], Option, Some, None, refl, sym, ap, subst, ◌∙◌}
+use Rattle.std.proofs.Common.{◌≡◌, ℕ, Bool, true, false, List, [], Option, Some, None, refl, sym, ap, subst, ◌∙◌, arith}
 use Rattle.std.specs.Prelude.{Result, Ok, Err, IfOk, IfErr, OnOk, OnErr}
 use Rattle.std.proofs.lemmas.List.{append-nil}
 use Rattle.history_model.specs.declared.Refusal.{Refusal}
@@ -24,6 +24,7 @@ use Rattle.event_journal.specs.Journals.{Kept, Grows}
 use Rattle.event_journal.proofs.JournalsLemmas.{grows_nothing}
 use Rattle.ctl_protocol.specs.EventWriter.{event_line}
 use Rattle.launcher_turn.specs.Turns.{IsLed, TurnsOf, trace}
+use Rattle.launcher_turn.proofs.NumbersLemmas.{same-numbers}
 use Rattle.launcher_load.specs.Lines.{journaled_set}
 use Rattle.launcher_load.specs.LoadTurns.{LoadTurnOf, SetTurnOf, IsUntouched, Standing, is_memory, load_request, set_request, settings_after, standing}
 use Rattle.launcher_load.proofs.LoadTurnsLemmas.{nothing_done}
@@ -42,11 +43,14 @@ pub loaded : (bytes : List ℕ) (writes_setting force : Bool) (outside : Outside
     Hears (Some (journaled.Load bytes writes_setting force true true)) refusal words old new before after
 loaded bytes writes_setting force outside refusal words old new before after untouched silent turned stored text =
     hears (journaled.Load bytes writes_setting force true true) refusal words old new before after
-    (λ memory. record {
-      untouched = untouched memory;
-      silent = subst (λ (x : Kept). Grows old.journal x []) (sym (silent memory)) (grows_nothing old.journal);
-      stored = λ s keeps holds. unsettled after refusal s (load_of bytes writes_setting force outside.bind outside.store) memory (stored s keeps holds);
-    })
+    (λ memory. (
+      record {
+        untouched = untouched memory;
+        silent = subst (λ (x : Kept). Grows old.journal x []) (sym (silent memory)) (grows_nothing old.journal);
+        stored = λ s keeps holds. unsettled after refusal s (load_of bytes writes_setting force outside.bind outside.store) memory (stored s keeps holds);
+      },
+      silent memory,
+    ))
     (λ other s led keeps.
     let turn = turned other s led keeps in
     record {
@@ -56,6 +60,8 @@ loaded bytes writes_setting force outside refusal words old new before after unt
       asks = turn.asks;
       turn = turn.turn;
       own = turn.own;
+      numbers = turn.numbers;
+      stays = turn.stays;
       text = λ none. text none s keeps;
       stored = λ holds. settled after refusal s (load_of bytes writes_setting force outside.bind outside.store) other (stored s keeps holds);
     })
@@ -71,6 +77,8 @@ set_turn s label true true kept refusal old new before after turn stored = recor
   asks = (refl, refl, turn.asks);
   turn = turn.turn;
   own = λ none. tt;
+  numbers = turn.numbers;
+  stays = turn.stays;
   text = λ none. wordless s (set_of label true true kept) (λ t. refl) (turn.turn.replies ∙ none);
   stored = stored;
 }
@@ -81,6 +89,8 @@ set_turn s label true false kept refusal old new before after turn stored = reco
   asks = (refl, refl, turn.asks);
   turn = turn.turn;
   own = λ none. tt;
+  numbers = turn.numbers;
+  stays = turn.stays;
   text = λ none. wordless s (set_of label true false kept) (λ t. refl) (turn.turn.replies ∙ none);
   stored = stored;
 }
@@ -91,6 +101,8 @@ set_turn s label false true kept refusal old new before after turn stored = reco
   asks = (refl, refl, turn.asks);
   turn = turn.turn;
   own = λ none. tt;
+  numbers = turn.numbers;
+  stays = turn.stays;
   text = λ none. wordless s (set_of label false true kept) (λ t. refl) (turn.turn.replies ∙ none);
   stored = stored;
 }
@@ -101,6 +113,8 @@ set_turn s label false false kept refusal old new before after turn stored = rec
   asks = (refl, refl, turn.asks);
   turn = turn.turn;
   own = λ none. tt;
+  numbers = turn.numbers;
+  stays = turn.stays;
   text = λ none. wordless s (set_of label false false kept) (λ t. refl) (turn.turn.replies ∙ none);
   stored = stored;
 }
@@ -112,11 +126,14 @@ pub changed : (label : Label) (disabled unload kept : Bool) (refusal : Option Re
     Hears (Some (journaled_set label disabled unload true)) refusal [] old new before after
 changed label disabled unload kept refusal old new before after untouched silent turned stored =
     hears (journaled_set label disabled unload true) refusal [] old new before after
-    (λ memory. record {
-      untouched = untouched memory;
-      silent = subst (λ (x : Kept). Grows old.journal x []) (sym (silent memory)) (grows_nothing old.journal);
-      stored = λ s keeps holds. unsettled after refusal s (set_of label disabled unload kept) memory (stored s keeps holds);
-    })
+    (λ memory. (
+      record {
+        untouched = untouched memory;
+        silent = subst (λ (x : Kept). Grows old.journal x []) (sym (silent memory)) (grows_nothing old.journal);
+        stored = λ s keeps holds. unsettled after refusal s (set_of label disabled unload kept) memory (stored s keeps holds);
+      },
+      silent memory,
+    ))
     (λ other s led keeps. set_turn s label disabled unload kept refusal old new before after (turned other s led keeps)
     (λ holds. settled after refusal s (set_of label disabled unload kept) other (stored s keeps holds)))
 
@@ -137,6 +154,7 @@ question s e line text table a k n (is, same) numbered noted keeps led = record 
   };
   led = subst IsLed (sym same) led;
   replies = ap (λ (o : Outcome). o.refusal) is;
+  few = omega arith;
   numbers = λ none. record { once = numbered.once; named = numbered.named };
   noted = subst (Grows k n) (sym (append-nil line)) noted;
 }
@@ -144,7 +162,7 @@ question s e line text table a k n (is, same) numbered noted keeps led = record 
 -- no memory, and no line
 uncalled : (table : Table) (a : Option (List Entry)) (t : Option (List StoreCall)) (k n : Kept) (before : List Setting → Type 0) → n ≡ k → IsSpared (standing table a t k) (standing table a t n) before before
 uncalled table a t k n before is = record {
-  untouched = record { same = λ s keeps. keeps; tells = tells_nothing a; stores = told_nothing t };
+  untouched = record { same = λ s keeps. keeps; rows = refl; tells = tells_nothing a; stores = told_nothing t };
   silent = subst (λ (x : Kept). Grows k x []) (sym is) (grows_nothing k);
   stored = λ s keeps holds. holds;
 }
@@ -152,6 +170,7 @@ uncalled table a t k n before is = record {
 module _ {A : Type 0} (bytes : A → List ℕ) (table : Table) (a : Option (List Entry)) (t : Option (List StoreCall)) (k n : Kept) (before : List Setting → Type 0) (words : List ℕ) where
   pub listed : (answer : Result A Refusal) → IfOk answer (λ x. IsReplyText ListJobs table (bytes x)) → IfErr answer (λ r. r ≡ NoMemory) → OnOk answer (Grows k n (event_line journaled.List)) → OnErr answer (n ≡ k) →
       IsNumbered table → IfOk answer (λ x. words ≡ bytes x) → Hears (Some journaled.List) (refused_with answer) words (standing table a t k) (standing table a t n) before before
+  unfolding question
   listed (Ok x) text memory noted silent numbered is = λ s led keeps. record {
     outside = record { bind = true; store = true };
     job = 0;
@@ -159,10 +178,12 @@ module _ {A : Type 0} (bytes : A → List ℕ) (table : Table) (a : Option (List
     asks = record { bind = refl; store = refl; tells = tells_nothing a; stores = told_nothing t };
     turn = question s ListJobs (event_line journaled.List) (bytes x) table a k n (text s keeps) numbered noted keeps led;
     own = λ none. tt;
+    numbers = λ none. record { once = numbered.once; named = numbered.named };
+    stays = same-numbers table table refl;
     text = λ none. ap (λ (o : Outcome). o.text) (text s keeps).0 ∙ sym is;
     stored = subst before (sym (ap (λ (u : State). u.settings) (text s keeps).1));
   }
-  listed (Err NoMemory) text memory noted silent numbered is = uncalled table a t k n before silent
+  listed (Err NoMemory) text memory noted silent numbered is = (uncalled table a t k n before silent, silent)
   listed (Err _) text memory noted silent numbered is = cc
 
   -- a refusal of the machine is a turn with no order
@@ -175,6 +196,8 @@ module _ {A : Type 0} (bytes : A → List ℕ) (table : Table) (a : Option (List
     asks = record { bind = refl; store = refl; tells = tells_nothing a; stores = told_nothing t };
     turn = nothing_done s (PrintJob label) (event_line (journaled.Print label)) table r a k n (is s keeps) noted keeps led;
     own = λ none. tt;
+    numbers = λ none. cc;
+    stays = same-numbers table table refl;
     text = λ none. cc;
     stored = subst before (sym (ap (λ (o : Option Refusal). (step_by o s (PrintJob label)).settings) (is s keeps)));
   }
@@ -182,6 +205,7 @@ module _ {A : Type 0} (bytes : A → List ℕ) (table : Table) (a : Option (List
   pub printed : (label : Label) (answer : Result A Refusal) → IfOk answer (λ x. IsReplyText (PrintJob label) table (bytes x)) →
       IfErr answer (λ r. Means r ((s : State) → KeepsState table s → refusal_in s (PrintJob label) ≡ Some r)) → UnlessMemory answer (Grows k n (event_line (journaled.Print label))) → (answer ≡ Err NoMemory → n ≡ k) →
       IsNumbered table → IfOk answer (λ x. words ≡ bytes x) → Hears (Some (journaled.Print label)) (refused_with answer) words (standing table a t k) (standing table a t n) before before
+  unfolding question
   printed label (Ok x) text refused noted silent numbered is = λ s led keeps. record {
     outside = record { bind = true; store = true };
     job = 0;
@@ -189,10 +213,12 @@ module _ {A : Type 0} (bytes : A → List ℕ) (table : Table) (a : Option (List
     asks = record { bind = refl; store = refl; tells = tells_nothing a; stores = told_nothing t };
     turn = question s (PrintJob label) (event_line (journaled.Print label)) (bytes x) table a k n (text s keeps) numbered noted keeps led;
     own = λ none. tt;
+    numbers = λ none. record { once = numbered.once; named = numbered.named };
+    stays = same-numbers table table refl;
     text = λ none. ap (λ (o : Outcome). o.text) (text s keeps).0 ∙ sym is;
     stored = subst before (sym (ap (λ (u : State). u.settings) (text s keeps).1));
   }
-  printed label (Err NoMemory) text refused noted silent numbered is = uncalled table a t k n before (silent refl)
+  printed label (Err NoMemory) text refused noted silent numbered is = (uncalled table a t k n before (silent refl), silent refl)
   printed label (Err _) text refused noted silent numbered is = refused_print label _ refused noted
 
 -- the words of a load that was made

@@ -1,5 +1,5 @@
 -- The turn of what happens, if the outside is first asked nothing.
-use Rattle.std.proofs.Common.{◌≡◌, true, false, List, [], Option, Some, None, refl, sym, ap, subst, ◌∙◌}
+use Rattle.std.proofs.Common.{◌≡◌, ℕ, true, false, List, [], Option, Some, None, refl, sym, ap, subst, ◌∙◌}
 use Rattle.std.specs.Prelude.{Result, Ok, Err}
 use Rattle.history_model.specs.declared.Answer.{Answer}
 use Rattle.history_model.specs.declared.Answer.TheVariants as answers
@@ -28,7 +28,7 @@ use Rattle.launcher_turn.specs.declared.happening.News.TheVariants as news
 use Rattle.launcher_turn.specs.Events as turns
 use Rattle.launcher_turn.specs.Events.{is_clock, item_heard}
 use Rattle.launcher_turn.specs.Lines.{journaled_by, journaled_of, journaled_answer}
-use Rattle.launcher_turn.specs.Turns.{TurnsOf, Turns, IsUntouched, trace}
+use Rattle.launcher_turn.specs.Turns.{AreNumbered, TurnsOf, Turns, IsUntouched, Trace, trace}
 use Rattle.job_table.specs.Loads.{refused_with}
 use Rattle.launcher_load.specs.LoadTurns.{is_memory, standing}
 use Rattle.table_opening.specs.Events.{event_of}
@@ -164,6 +164,10 @@ unless P (Ok done) holds other = holds
 unless P (Err NoMemory) holds other = cc
 unless P (Err _) holds other = holds
 
+-- a turn that knows the jobs that were loaded before it under their numbers
+abbrev Counted : State → Event → List ℕ → Option Refusal → Table → Table → Trace → Trace → Type 0
+Counted s e line reply old new before after = (turn : TurnsOf s e line reply new before after) × (reply ≡ None → AreNumbered turn.names old)
+
 pub happened : (what : Happening) (answer : Result (Unit {0}) Refusal) (old new : Table) (a c : Option (List Entry)) (t : Option (List StoreCall)) (k n : Kept) (before : List Setting → Type 0) →
     UnlessMemory answer (Turns (turns.event_of what) (event_line (journaled_by what)) (refused_with answer) old new (trace a k) (trace c n)) →
     (answer ≡ Err NoMemory → (is_clock what ≡ true) × IsUntouched old new a c × (n ≡ k)) →
@@ -171,24 +175,29 @@ pub happened : (what : Happening) (answer : Result (Unit {0}) Refusal) (old new 
 happened what answer old new a c t k n before turned none =
     hears (journaled_by what) (refused_with answer) [] (standing old a t k) (standing new c t n) before before
     (λ memory.
-    let left = none (is_want answer memory) in
-    record {
-      untouched = record { same = left.1.same; tells = left.1.tells; stores = told_nothing t };
-      silent = subst (λ (x : Kept). Grows k x []) (sym left.2) (grows_nothing k);
-      stored = λ s keeps holds. holds;
-    })
+    let left = none (is_want answer memory) in (
+      record {
+        untouched = record { same = left.1.same; rows = left.1.rows; tells = left.1.tells; stores = told_nothing t };
+        silent = subst (λ (x : Kept). Grows k x []) (sym left.2) (grows_nothing k);
+        stored = λ s keeps holds. holds;
+      },
+      left.2,
+    ))
     (λ other s led keeps.
-    let turn = (unless (Turns (turns.event_of what) (event_line (journaled_by what)) (refused_with answer) old new (trace a k) (trace c n)) answer turned other s led keeps).0 in
+    let whole = unless (Turns (turns.event_of what) (event_line (journaled_by what)) (refused_with answer) old new (trace a k) (trace c n)) answer turned other s led keeps in
+    let turn = whole.0 in
     let event : event_of (answered well (journaled_by what)) ≡ turns.event_of what = ap event_of (same_line what) ∙ same_event what in
-    let told = subst (λ (e : Event). TurnsOf s e (event_line (answered well (journaled_by what))) (refused_with answer) new (trace a k) (trace c n)) (sym event)
-    (subst (λ (l : journal.Event). TurnsOf s (turns.event_of what) (event_line l) (refused_with answer) new (trace a k) (trace c n)) (sym (same_line what)) turn) in
+    let told = subst (λ (e : Event). Counted s e (event_line (answered well (journaled_by what))) (refused_with answer) old new (trace a k) (trace c n)) (sym event)
+    (subst (λ (l : journal.Event). Counted s (turns.event_of what) (event_line l) (refused_with answer) old new (trace a k) (trace c n)) (sym (same_line what)) (whole.0, whole.1)) in
     record {
       outside = well;
       job = 0;
       mid = a;
       asks = asks_none s a t what;
-      turn = told;
-      own = λ accepted. own_none what told.names;
+      turn = told.0;
+      own = λ accepted. own_none what told.0.names;
+      numbers = told.1;
+      stays = whole.2;
       text = λ accepted. ap (λ (e : Event). (outcome s e).text) event ∙ wordless s (turns.event_of what) (quiet what) (turn.replies ∙ accepted);
       stored = subst before (sym (ap (λ (e : Event). (step s e).settings) event ∙ unset s what));
     })

@@ -30,7 +30,7 @@ use Rattle.launcher.specs.Hosts.{HostTurnOf, IsSpared, HearsBy, Hears}
 -- nothing changed at all
 pub spared : (old : Standing) (before : List Setting → Type 0) → IsSpared old old before before
 spared old before = record {
-  untouched = record { same = λ s keeps. keeps; tells = tells_nothing old.calls; stores = told_nothing old.stores };
+  untouched = record { same = λ s keeps. keeps; rows = refl; tells = tells_nothing old.calls; stores = told_nothing old.stores };
   silent = grows_nothing old.journal;
   stored = λ s keeps holds. holds;
 }
@@ -38,7 +38,7 @@ spared old before = record {
 -- ---- by whether memory ran out
 
 pub hears : (event : journal.Event) (refusal : Option Refusal) (words : List ℕ) (old new : Standing) (before after : List Setting → Type 0) →
-    (is_memory refusal ≡ true → IsSpared old new before after) →
+    (is_memory refusal ≡ true → IsSpared old new before after × (new.journal ≡ old.journal)) →
     (is_memory refusal ≡ false → (s : State) → IsLed s → KeepsState old.table s → HostTurnOf s event refusal words old new before after) →
     Hears (Some event) refusal words old new before after
 hears event refusal words old new before after memory other = go (is_memory refusal) refl where
@@ -61,7 +61,7 @@ unheard event refusal words old before is none =
 
 -- a line that found no memory
 pub unread : (event : Option journal.Event) (refusal : Option Refusal) (words : List ℕ) (old : Standing) (before : List Setting → Type 0) → refusal ≡ Some NoMemory → Hears event refusal words old old before before
-unread event refusal words old before is = subst (λ (r : Option Refusal). Hears event r words old old before before) (sym is) (spared old before)
+unread event refusal words old before is = subst (λ (r : Option Refusal). Hears event r words old old before before) (sym is) (spared old before, refl)
 
 -- ---- the flush
 
@@ -76,13 +76,13 @@ spared_flushed old table calls stores m n before after none grew = record {
   stored = none.stored;
 }
 
-pub flushed : (event : Option journal.Event) (refusal : Option Refusal) (words : List ℕ) (old : Standing) (table : Table) (calls : Option (List Entry)) (stores : Option (List StoreCall)) (m n : Kept) (before after : List Setting → Type 0) →
+pub flushed : (event : Option journal.Event) (refusal : Option Refusal) (words : List ℕ) (old : Standing) (table : Table) (calls : Option (List Entry)) (stores : Option (List StoreCall)) (m n : Kept) (before after : List Setting → Type 0) → is_memory refusal ≡ false →
     Hears event refusal words old (standing table calls stores m) before after → Grows m n [] → Hears event refusal words old (standing table calls stores n) before after
-flushed event refusal words old table calls stores m n before after heard grew = go (is_memory refusal) event heard where
-  go : (b : Bool) (e : Option journal.Event) → HearsBy b e refusal words old (standing table calls stores m) before after → HearsBy b e refusal words old (standing table calls stores n) before after
-  go true e none = spared_flushed old table calls stores m n before after none grew
-  go false None (is, none) = (is, spared_flushed old table calls stores m n before after none grew)
-  go false (Some e) turned = λ s led keeps.
+flushed event refusal words old table calls stores m n before after other heard grew = go (is_memory refusal) event other heard where
+  go : (b : Bool) (e : Option journal.Event) → b ≡ false → HearsBy b e refusal words old (standing table calls stores m) before after → HearsBy b e refusal words old (standing table calls stores n) before after
+  go true e other none = cc
+  go false None other (is, none) = (is, spared_flushed old table calls stores m n before after none grew)
+  go false (Some e) other turned = λ s led keeps.
       let turn = turned s led keeps in
       record {
         outside = turn.outside;
@@ -96,10 +96,13 @@ flushed event refusal words old table calls stores m n before after heard grew =
           turn = turn.turn.turn;
           led = turn.turn.led;
           replies = turn.turn.replies;
+          few = turn.turn.few;
           numbers = turn.turn.numbers;
           noted = line_flushed old.journal m n (event_line (answered turn.outside e) ++ answer_texts turn.turn.names (answers_in turn.turn.entries)) turn.turn.noted grew;
         };
         own = turn.own;
+        numbers = turn.numbers;
+        stays = turn.stays;
         text = turn.text;
         stored = turn.stored;
       }

@@ -25,7 +25,7 @@ use Rattle.table_opening.specs.Openings.{OpensBy, StandsOpened}
 use Rattle.launcher.specs.declared.host.HostFault.{HostFault}
 use Rattle.launcher.specs.declared.host.HostFault.TheVariants as faults
 use Rattle.launcher.specs.Faults.{IsFaultOf, fault_of_store}
-use Rattle.launcher.specs.Hosts.{with_settings, IsNew}
+use Rattle.launcher.specs.Hosts.{with_settings, IsNewWith}
 use Rattle.child_edge.specs.Calls.{Entry}
 use Rattle.launcher_load.specs.LoadTurns.{standing}
 
@@ -47,18 +47,21 @@ led_first header s opens admitted = subst IsLed (sym opens.state) (led_opened (r
 
 pub made_new : (header : Header) (settings : List Setting) (table : Table) (calls : Option (List Entry)) (stores stores' : Option (List StoreCall)) (first noted : Kept) (before after : List Setting → Type 0) →
     StandsOpened (with_settings header settings) table → AreTold stores [] stores' → Grows first noted (header_line (with_settings header settings)) → ((list : List Setting) → before list → after (reverse settings)) →
-    IsNew header calls stores first (standing table calls stores' noted) before after
-made_new header settings table calls stores stores' first noted before after stands uncalled grew holds = record {
-  settings = settings;
-  machine = stands.machine;
-  opens = stands.opens;
-  led = led_first (with_settings header settings) stands.machine stands.opens stands.admitted;
-  kept = stands.kept;
-  none = refl;
-  uncalled = uncalled;
-  noted = grew;
-  stored = λ list held. subst after (sym (ap (λ (s : State). s.settings) stands.opens.state)) (holds list held);
-}
+    IsNewWith settings header calls stores first (standing table calls stores' noted) before after
+made_new header settings table calls stores stores' first noted before after stands uncalled grew holds = (
+  record {
+    settings = settings;
+    machine = stands.machine;
+    opens = stands.opens;
+    led = led_first (with_settings header settings) stands.machine stands.opens stands.admitted;
+    kept = stands.kept;
+    none = refl;
+    uncalled = uncalled;
+    noted = grew;
+    stored = λ list held. subst after (sym (ap (λ (s : State). s.settings) stands.opens.state)) (holds list held);
+  },
+  refl,
+)
 
 -- ---- faults
 

@@ -43,10 +43,11 @@ IsFaultWith header faults.Store =
 IsFaultWith header faults.Header = IsBadHeader header
 
 -- The fault of the store is the launcher's. With the settings that it gave, oldest first, the
--- header opens the launcher's table, or there is such a fault.
-abbrev pub ComesOf : {A : Type 0} → (A → Table) → Header → Result (List Setting) StoreFault →
-    Result A HostFault → Type 0
-ComesOf table header (Err fault) result = result ≡ Err (fault_of_store fault)
-ComesOf table header (Ok settings) (Ok made) =
-    StandsOpened (with_settings header settings) (table made)
-ComesOf table header (Ok settings) (Err fault) = IsFaultWith (with_settings header settings) fault
+-- header opens the launcher's table, and the launcher is new with them, or there is such a fault.
+abbrev pub ComesOf : {A : Type 0} → (A → Table) → (List Setting → A → Type 0) → Header →
+    Result (List Setting) StoreFault → Result A HostFault → Type 0
+ComesOf table is_new header (Err fault) result = result ≡ Err (fault_of_store fault)
+ComesOf table is_new header (Ok settings) (Ok made) =
+    StandsOpened (with_settings header settings) (table made) × is_new settings made
+ComesOf table is_new header (Ok settings) (Err fault) =
+    IsFaultWith (with_settings header settings) fault

@@ -21,7 +21,7 @@ use Rattle.load_asking.specs.declared.asking.Outside.{Outside}
 use Rattle.load_asking.specs.Asking.{Told, told_of}
 use Rattle.load_asking.specs.Stores.{StoreCall, AreTold, set_call}
 use Rattle.event_journal.specs.Journals.{Kept, Grows}
-use Rattle.launcher_turn.specs.Turns.{IsLed, TurnsOf, trace}
+use Rattle.launcher_turn.specs.Turns.{AreNumbered, IsLed, KeepsNumbers, TurnsOf, trace}
 use Rattle.launcher_load.specs.LoadTurns.{AsksFor, AsksNothing, AsksStore, IsUntouched, SetRequest, Standing, event_of_set, is_memory, set_request, standing}
 use Rattle.table_opening.specs.Events.{event_of}
 use Rattle.table_opening.specs.Openings.{OpensBy}
@@ -67,8 +67,9 @@ IsOwn _ names job = Unit {0}
 
 -- A turn of this event, for the machine s: first the outside was asked, and then tells the calls
 -- `mid`; the event with its answers, and then the answers to the orders, are a turn of the machine,
--- with these calls and these lines. The reply, a refusal or words, is the event's. If the store
--- held the settings of the machine, it holds them afterwards.
+-- with these calls and these lines. The numbers in the calls are those of the jobs that were loaded
+-- before it, and a job that stays loaded keeps its number. The reply, a refusal or words, is the
+-- event's. If the store held the settings of the machine, it holds them afterwards.
 pub record HostTurnOf (s : State) (event : journal.Event) (refusal : Option Refusal)
     (words : List ℕ) (old new : Standing) (before after : List Setting → Type 0) : Type 0 where
   pub outside : Outside
@@ -80,6 +81,8 @@ pub record HostTurnOf (s : State) (event : journal.Event) (refusal : Option Refu
       (event_line (answered outside event)) refusal new.table
       (trace mid old.journal) (trace new.calls new.journal)
   pub own : refusal ≡ None → IsOwn event turn.names job
+  pub numbers : refusal ≡ None → AreNumbered turn.names old.table
+  pub stays : KeepsNumbers old.table new.table
   pub text : refusal ≡ None → (outcome s (event_of (answered outside event))).text ≡ words
   pub stored : before s.settings → after (step s (event_of (answered outside event))).settings
 
@@ -91,10 +94,12 @@ pub record IsSpared (old new : Standing) (before after : List Setting → Type 0
   pub silent : Grows old.journal new.journal []
   pub stored : (s : State) → KeepsState old.table s → before s.settings → after s.settings
 
--- what a call that heard an event leaves; whether memory was wanting comes first
+-- what a call that heard an event leaves; whether memory was wanting comes first, and then the
+-- journal is as it was, open or closed
 abbrev pub HearsBy : Bool → Option journal.Event → Option Refusal → List ℕ → Standing → Standing →
     (List Setting → Type 0) → (List Setting → Type 0) → Type 0
-HearsBy true event refusal words old new before after = IsSpared old new before after
+HearsBy true event refusal words old new before after =
+    IsSpared old new before after × (new.journal ≡ old.journal)
 HearsBy false None refusal words old new before after =
     (refusal ≡ Some BadRequest) × IsSpared old new before after
 HearsBy false (Some event) refusal words old new before after =
@@ -138,3 +143,9 @@ pub record IsNew (header : Header) (calls : Option (List Entry)) (stores : Optio
   pub uncalled : AreTold stores [] new.stores
   pub noted : Grows journal new.journal (header_line (with_settings header settings))
   pub stored : (list : List Setting) → before list → after machine.settings
+
+-- and these are the settings that the store gave
+abbrev pub IsNewWith : List Setting → Header → Option (List Entry) → Option (List StoreCall) →
+    Kept → Standing → (List Setting → Type 0) → (List Setting → Type 0) → Type 0
+IsNewWith settings header calls stores journal new before after =
+    (made : IsNew header calls stores journal new before after) × (made.settings ≡ settings)

@@ -1,6 +1,6 @@
 //! What a control client's line asks.
 
-ghost use Rattle.std.specs.Prelude.{Some, true, option_and_then};
+ghost use Rattle.std.specs.Prelude.{◌≡◌, Some, [], is_some, true, option_and_then};
 ghost use Rattle.history_model.specs.declared.event.Event.TheVariants as events;
 ghost use Rattle.event_reader.specs.EventLines.{request_at};
 ghost use Rattle.job_table.specs.Numbers.{IsNumbered};
@@ -31,8 +31,9 @@ impl<T: SettingStore, E: ChildEdge + SocketEdge, W: Write> Host<T, E, W> {
     /// A client's line, the newline left out.
     #[tactic(auto, using(crate::proofs::HostsLemmas::unheard, crate::proofs::HostsLemmas::unread))]
     pub(crate) fn line(&mut self, alloc: Global, line: &[u8]) -> Reply
-        ensures { HostHears E.told T.told T.holds (option_and_then asked_in (request_at line.now))
+        ensures hears { HostHears E.told T.told T.holds (option_and_then asked_in (request_at line.now))
             result.refusal result.text self.old self.new }
+        ensures quiet { is_some result.refusal ≡ true → result.text ≡ [] }
     {
         match self.reader.request(alloc, line) {
             Ok(outside) => self.ask(alloc, outside),
@@ -44,8 +45,9 @@ impl<T: SettingStore, E: ChildEdge + SocketEdge, W: Write> Host<T, E, W> {
     /// What a client asks. The outside's answers are asked of the outside, whatever stands in the event.
     #[tactic(auto, using(crate::proofs::HostsLemmas::unheard))]
     fn ask(&mut self, alloc: Global, outside: Event) -> Reply
-        ensures { HostHears E.told T.told T.holds (asked_in outside)
+        ensures hears { HostHears E.told T.told T.holds (asked_in outside)
             result.refusal result.text self.old self.new }
+        ensures quiet { is_some result.refusal ≡ true → result.text ≡ [] }
     {
         match outside {
             Event::Load {
@@ -80,9 +82,10 @@ impl<T: SettingStore, E: ChildEdge + SocketEdge, W: Write> Host<T, E, W> {
 
     /// A load.
     fn load(&mut self, alloc: Global, def: &str, writes_setting: bool, force: bool) -> Reply
-        ensures { HostHears E.told T.told T.holds
+        ensures hears { HostHears E.told T.told T.holds
             (Some (events.Load def.now writes_setting force true true))
             result.refusal result.text self.old self.new }
+        ensures quiet { is_some result.refusal ≡ true → result.text ≡ [] }
     {
         let loaded = load(
             &mut self.table,
@@ -100,9 +103,10 @@ impl<T: SettingStore, E: ChildEdge + SocketEdge, W: Write> Host<T, E, W> {
 
     /// A setting; with `unload` also an unload.
     fn set(&mut self, alloc: Global, job: &str, disabled: bool, unload: bool) -> Reply
-        ensures { HostHears E.told T.told T.holds
+        ensures hears { HostHears E.told T.told T.holds
             (Some (journaled_set job.now disabled unload true))
             result.refusal result.text self.old self.new }
+        ensures quiet { is_some result.refusal ≡ true → result.text ≡ [] }
     {
         let changed = set(
             &mut self.table,
@@ -120,8 +124,9 @@ impl<T: SettingStore, E: ChildEdge + SocketEdge, W: Write> Host<T, E, W> {
 
     /// An unload; with `writes_setting` the label is disabled too.
     fn unload(&mut self, alloc: Global, job: &str, writes_setting: bool) -> Reply
-        ensures { HostHears E.told T.told T.holds (Some (events.Unload job.now writes_setting true))
+        ensures hears { HostHears E.told T.told T.holds (Some (events.Unload job.now writes_setting true))
             result.refusal result.text self.old self.new }
+        ensures quiet { is_some result.refusal ≡ true → result.text ≡ [] }
     {
         if writes_setting {
             self.set(alloc, job, true, true)
@@ -132,8 +137,9 @@ impl<T: SettingStore, E: ChildEdge + SocketEdge, W: Write> Host<T, E, W> {
 
     /// The list of the loaded jobs.
     fn list(&mut self, alloc: Global) -> Reply
-        ensures { HostHears E.told T.told T.holds (Some events.List)
+        ensures hears { HostHears E.told T.told T.holds (Some events.List)
             result.refusal result.text self.old self.new }
+        ensures quiet { is_some result.refusal ≡ true → result.text ≡ [] }
     {
         lend_numbers(&self.table);
         let text = list(&self.table, &mut self.journal, alloc);
@@ -142,8 +148,9 @@ impl<T: SettingStore, E: ChildEdge + SocketEdge, W: Write> Host<T, E, W> {
 
     /// What is known of one job.
     fn print(&mut self, alloc: Global, job: &str) -> Reply
-        ensures { HostHears E.told T.told T.holds (Some (events.Print job.now))
+        ensures hears { HostHears E.told T.told T.holds (Some (events.Print job.now))
             result.refusal result.text self.old self.new }
+        ensures quiet { is_some result.refusal ≡ true → result.text ≡ [] }
     {
         lend_numbers(&self.table);
         let text = print(&self.table, &mut self.journal, alloc, job);

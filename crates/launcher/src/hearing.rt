@@ -1,6 +1,6 @@
 //! A turn of the launcher, by what comes to it.
 
-ghost use Rattle.std.specs.Prelude.{◌≡◌, Some, true};
+ghost use Rattle.std.specs.Prelude.{◌≡◌, Some, [], is_some, true};
 ghost use Rattle.launcher_load.specs.LoadTurns.{is_memory};
 ghost use Rattle.launcher_turn.specs.Events.{is_clock};
 ghost use Rattle.launcher_turn.specs.Lines.{journaled_by, journaled_of};
@@ -9,7 +9,7 @@ ghost use Rattle.launcher.specs.Inputs.{input_event, if_label, wants_memory};
 
 use crate::host::Host;
 use crate::input::Input;
-use crate::replies::{done, refused};
+use crate::replies::{done, is_want, refused};
 use child_edge::{ChildEdge, SocketEdge};
 use history_model::{Refusal, Reply};
 use job_defs::is_label;
@@ -21,16 +21,21 @@ use std::io::Write;
 impl<T: SettingStore, E: ChildEdge + SocketEdge, W: Write> Host<T, E, W> {
     /// One turn: the input is made an event, what it orders is carried out, and each answer of the outside is made the next
     /// event, first in first out, until none remains. The journal gets the line of each event, and is flushed at the end. The
-    /// reply is that of the input.
+    /// reply is that of the input; a refusal has no text.
     ///
     /// A line that is no request, or what happened under a name that is no label, is answered by BadRequest, and is no event.
-    /// NoMemory comes only to a line or a reading of the clocks, before anything was carried out; it is no event either.
+    /// NoMemory comes only to a line or a reading of the clocks, before anything was carried out; it is no event either, and the journal
+    /// is then as it was, not even flushed.
     pub fn turn(&mut self, alloc: Global, input: Input<'_>) -> Reply
         ensures hears { HostHears E.told T.told T.holds (input_event input.entry)
             result.refusal result.text self.old self.new }
         ensures memory { is_memory result.refusal ≡ true → wants_memory input.entry ≡ true }
+        ensures quiet { is_some result.refusal ≡ true → result.text ≡ [] }
     {
         let reply = self.hear(alloc, input);
+        if is_want(reply.refusal) {
+            return reply;
+        }
         self.journal.flush();
         reply
     }
@@ -40,6 +45,7 @@ impl<T: SettingStore, E: ChildEdge + SocketEdge, W: Write> Host<T, E, W> {
         ensures hears { HostHears E.told T.told T.holds (input_event input.entry)
             result.refusal result.text self.old self.new }
         ensures memory { is_memory result.refusal ≡ true → wants_memory input.entry ≡ true }
+        ensures quiet { is_some result.refusal ≡ true → result.text ≡ [] }
     {
         match input {
             Input::Line(line) => self.line(alloc, line),
@@ -58,6 +64,7 @@ impl<T: SettingStore, E: ChildEdge + SocketEdge, W: Write> Host<T, E, W> {
             (if_label job.now (journaled_of job.now what))
             result.refusal result.text self.old self.new }
         ensures memory { is_memory result.refusal ≡ true → ⊥ }
+        ensures quiet { is_some result.refusal ≡ true → result.text ≡ [] }
     {
         if is_label(job) {
             self.happen(alloc, Happening::ToJob(job, what))
@@ -71,6 +78,7 @@ impl<T: SettingStore, E: ChildEdge + SocketEdge, W: Write> Host<T, E, W> {
         ensures hears { HostHears E.told T.told T.holds (Some (journaled_by what.entry))
             result.refusal result.text self.old self.new }
         ensures memory { is_memory result.refusal ≡ true → is_clock what.entry ≡ true }
+        ensures quiet { is_some result.refusal ≡ true → result.text ≡ [] }
     {
         let answer = turn(
             &mut self.table,

@@ -1,11 +1,11 @@
 //! The launcher: how it is made, and what it lends.
 
-ghost use Rattle.std.specs.Prelude.{◌≡◌, ◌↔◌, IfOk, IsTrue, List, Result, is_some, true};
+ghost use Rattle.std.specs.Prelude.{◌≡◌, ◌↔◌, IsTrue, List, Result, is_some, true};
 ghost use Rattle.std.specs.Borrow.{sem};
 ghost use Rattle.history_model.specs.declared.event.Setting.{Setting};
 ghost use Rattle.load_asking.specs.declared.store.StoreFault.{StoreFault};
 ghost use Rattle.event_journal.specs.Journals.{fresh, held, reported, is_writing};
-ghost use Rattle.launcher.specs.Hosts.{IsNew, stands};
+ghost use Rattle.launcher.specs.Hosts.{IsNewWith, stands};
 ghost use Rattle.launcher.specs.Faults.{ComesOf, FaultOf};
 ghost use Rattle.launcher.specs.Lends.{lends_edge};
 
@@ -52,12 +52,13 @@ impl<T: SettingStore + Drop, E: ChildEdge + SocketEdge + Drop, W: Write + Drop> 
         edge: E,
         journal: Option<W>,
     ) -> Result<Host<T, E, W>, HostFault>
-        ensures new { IfOk result (λ host. IsNew header (E.told edge) (T.told store)
-            (fresh (held W.contents journal) (is_some journal))
-            (stands E.told T.told host) (T.holds store) (T.holds host.store)) }
         ensures faults { FaultOf header result }
         ensures comes { (answer : Result (List Setting) StoreFault)
-            × (T.may_give store answer × ComesOf (λ host. host.table) header answer result) }
+            × (T.may_give store answer × ComesOf (λ host. host.table)
+            (λ settings host. IsNewWith settings header (E.told edge) (T.told store)
+            (fresh (held W.contents journal) (is_some journal))
+            (stands E.told T.told host) (T.holds store) (T.holds host.store))
+            header answer result) }
     {
         let mut store = store;
         let settings = match store.all(alloc) {

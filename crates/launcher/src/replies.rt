@@ -1,15 +1,27 @@
 //! What a launcher replies to an input.
 
-ghost use Rattle.std.specs.Prelude.{◌≡◌, IfOk, Some, []};
+ghost use Rattle.std.specs.Prelude.{◌≡◌, IfOk, Some, [], is_some, true};
 ghost use Rattle.std.specs.String.{string_bytes};
 ghost use Rattle.job_table.specs.Loads.{refused_with};
+ghost use Rattle.launcher_load.specs.LoadTurns.{is_memory};
 
 use history_model::{Refusal, Reply, Text};
 use std::alloc::Global;
 
-/// The reply that tells a refusal. Its text is the refusal's own, which the writers of lines put in.
+/// Whether a reply tells of want of memory.
+pub(crate) fn is_want(refusal: Option<Refusal>) -> bool
+    ensures { result ≡ is_memory refusal }
+{
+    match refusal {
+        Some(Refusal::NoMemory) => true,
+        _ => false,
+    }
+}
+
+/// The reply that tells a refusal. It has no text: the writers of lines put in the refusal's own.
 pub(crate) fn refused(alloc: Global, refusal: Refusal) -> Reply
     ensures refusal { result.refusal ≡ Some refusal }
+    ensures quiet { is_some result.refusal ≡ true → result.text ≡ [] }
 {
     Reply {
         refusal: Some(refusal),
@@ -21,6 +33,7 @@ pub(crate) fn refused(alloc: Global, refusal: Refusal) -> Reply
 pub(crate) fn done(alloc: Global, answer: Result<(), Refusal>) -> Reply
     ensures refusal { result.refusal ≡ refused_with answer }
     ensures text { result.text ≡ [] }
+    ensures quiet { is_some result.refusal ≡ true → result.text ≡ [] }
 {
     let refusal = match answer {
         Ok(()) => None,
@@ -36,6 +49,7 @@ pub(crate) fn done(alloc: Global, answer: Result<(), Refusal>) -> Reply
 pub(crate) fn told(alloc: Global, answer: Result<String, Refusal>) -> Reply
     ensures refusal { result.refusal ≡ refused_with answer }
     ensures text { IfOk answer (λ text. result.text ≡ string_bytes text) }
+    ensures quiet { is_some result.refusal ≡ true → result.text ≡ [] }
 {
     match answer {
         Ok(text) => Reply {

@@ -13,7 +13,7 @@ use Rattle.history_model.specs.Step.{outcome, outcome_by, step, step_by, set_if}
 use Rattle.job_defs.specs.Described.{Described}
 use Rattle.job_defs.specs.Definitions.{given, has_sockets}
 use Rattle.job_defs.specs.Keys.{def_of}
-use Rattle.job_table.specs.Tables.{Table}
+use Rattle.job_table.specs.Tables.{Table, Row, Name, IsOnce}
 use Rattle.job_table.specs.Kept.{KeepsState}
 use Rattle.job_table.specs.Loads.{IsAdmitted, load_of, given_in, refusal_outside, described_in, number_in, setting_in}
 use Rattle.job_table.specs.Outcomes.{IsSameFor, Means}
@@ -25,7 +25,9 @@ use Rattle.load_asking.specs.Asking.{Asks, told_of}
 use Rattle.load_asking.specs.Stores.{StoreCall}
 use Rattle.load_asking.proofs.AskLemmas.{told_nothing}
 use Rattle.event_journal.specs.Journals.{Kept, Grows}
-use Rattle.launcher_turn.specs.Turns.{IsLed, TurnsOf, trace}
+use Rattle.launcher_turn.specs.Turns.{AreNumbered, IsLed, TurnsOf, trace}
+use Rattle.launcher_turn.proofs.NumbersLemmas.{AreNamed, rows-named, keeps-numbers, same-numbers}
+use Rattle.job_table.specs.Numbers.{names_of}
 use Rattle.launcher_turn.proofs.StoredSettingsLemmas.{load_settings}
 use Rattle.launcher_load.specs.Lines.{load_line}
 use Rattle.launcher_load.specs.LoadTurns.{AsksFor, EndsLoad, LoadTurnOf, Makes, is_memory, load_request, settings_after, standing}
@@ -81,25 +83,36 @@ nothing_done s e line new r a k n is noted keeps led = record {
   };
   led = subst (λ o. IsLed (step_by o s e)) (sym is) led;
   replies = ap (λ o. (outcome_by o s e).refusal) is;
+  few = omega arith;
   numbers = λ none. let no : Some r ≡ None = none in cc;
   noted = subst (Grows k n) (sym (append-nil line)) noted;
 }
 
+-- names that are those of the rows stand for their jobs
+pub named-before : (old : Table) (names : List Name) → IsOnce names → names ≡ names_of old.rows → AreNumbered names old
+named-before old names once same = record { once = once; named = subst (λ (x : List Name). AreNamed x old.rows) (sym same) (rows-named old.rows (subst IsOnce same once)) }
+
+-- the same jobs are named by the same names
+pub named-alike : (old mid : Table) (names : List Name) → mid.rows ≡ old.rows → AreNumbered names mid → AreNumbered names old
+named-alike old mid names same numbers = record { once = numbers.once; named = subst (λ (rows : List Row). AreNamed names rows) same numbers.named }
+
 -- a load that was refused before the outside was asked
-pub never_called : (s : State) (bytes : List ℕ) (writes_setting force : Bool) (r : Refusal) (old new : Table) (a : Option (List Entry)) (t : Option (List StoreCall)) (k n : Kept) →
+pub never_called : (s : State) (bytes : List ℕ) (writes_setting force : Bool) (r : Refusal) (old new : Table) (a : Option (List Entry)) (t : Option (List StoreCall)) (k n : Kept) → new.rows ≡ old.rows →
     ((bind store : Bool) → refusal_in s (load_of bytes writes_setting force bind store) ≡ Some r) → Grows k n (load_line bytes writes_setting force (record { bind = true; store = true })) → KeepsState new s → IsLed s →
     LoadTurnOf s (load_request bytes writes_setting force) (record { bind = true; store = true }) (Some r) (standing old a t k) (standing new a t n)
-never_called s bytes writes_setting force r old new a t k n is noted keeps led = record {
+never_called s bytes writes_setting force r old new a t k n same is noted keeps led = record {
   job = 0;
   mid = a;
   asks = subst (λ o. AsksFor o (def_of bytes) 0 writes_setting s.reading.wall (record { bind = true; store = true }) (told_of a t) (told_of a t)) (sym (is true true))
       (record { bind = refl; store = refl; tells = tells_nothing a; stores = told_nothing t });
   turn = nothing_done s (load_of bytes writes_setting force true true) (load_line bytes writes_setting force (record { bind = true; store = true })) new r a k n (is true true) noted keeps led;
   own = λ none. let no : Some r ≡ None = none in cc;
+  numbers = λ none. let no : Some r ≡ None = none in cc;
+  stays = same-numbers old new same;
 }
 
 module _ (s : State) (bytes : List ℕ) (writes_setting force : Bool) (outside : Outside) (old mid new : Table) (ready : Ready) (a c : Option (List Entry)) (t u : Option (List StoreCall)) (k n : Kept)
-    (admitted : IsAdmitted old bytes writes_setting force (described_in ready)) (setting : is_some (setting_in ready) ≡ writes_setting) (same : IsSameFor old mid) (led : IsLed s) (keeps : KeepsState old s) where
+    (admitted : IsAdmitted old bytes writes_setting force (described_in ready)) (setting : is_some (setting_in ready) ≡ writes_setting) (same : IsSameFor old mid) (rows : mid.rows ≡ old.rows) (led : IsLed s) (keeps : KeepsState old s) where
   as_read : Load (Ok (given (described_in ready))) (is_some (setting_in ready)) force outside.bind outside.store ≡ load_of bytes writes_setting force outside.bind outside.store
   as_read = λ i. Load (given_in (sym admitted.read i)) (setting i) force outside.bind outside.store
 
@@ -116,13 +129,16 @@ module _ (s : State) (bytes : List ℕ) (writes_setting force : Bool) (outside :
   load_ended None ends =
       let none : refusal_in s (load_of bytes writes_setting force outside.bind outside.store) ≡ None = admitted.remains s outside.bind outside.store keeps ∙ sym ends.answer in
       let first = ends.made refl s force outside.bind outside.store led (same s keeps) (ap (refusal_in s) as_read ∙ none) in
-      let made = subst (λ (x : Event). Makes s x (load_line bytes writes_setting force outside) ready new (trace ends.mid k) (trace c n)) as_read first in
+      let made = subst (λ (x : Event). Makes s x (load_line bytes writes_setting force outside) ready mid new (trace ends.mid k) (trace c n)) as_read first in
+      let before_it : AreNumbered made.turn.names old = named-alike old mid made.turn.names rows made.numbers in
       record {
         job = number_in ready;
         mid = ends.mid;
         asks = asks_for ends.mid ends.asks;
         turn = made.turn;
         own = λ is d read. let both : Ok (described_in ready) ≡ Ok d = sym admitted.read ∙ read in made.own ∙ (cc);
+        numbers = λ none. before_it;
+        stays = keeps-numbers made.turn.names old new before_it (made.turn.numbers refl);
       }
   load_ended (Some r) ends =
       let refused : refusal_in s (load_of bytes writes_setting force outside.bind outside.store) ≡ Some r = admitted.remains s outside.bind outside.store keeps ∙ sym ends.answer in
@@ -134,6 +150,8 @@ module _ (s : State) (bytes : List ℕ) (writes_setting force : Bool) (outside :
         turn = subst (λ x. TurnsOf s (load_of bytes writes_setting force outside.bind outside.store) (load_line bytes writes_setting force outside) (Some r) new (trace ends.mid k) (trace x n)) (sym remains.1)
             (nothing_done s (load_of bytes writes_setting force outside.bind outside.store) (load_line bytes writes_setting force outside) new r ends.mid k n refused remains.2 (subst (λ x. KeepsState x s) (sym remains.0) (same s keeps)) led);
         own = λ none. let no : Some r ≡ None = none in cc;
+        numbers = λ none. let no : Some r ≡ None = none in cc;
+        stays = same-numbers old new (ap (λ (x : Table). x.rows) remains.0 ∙ rows);
       }
 
 -- what the machine then sets is what was stored

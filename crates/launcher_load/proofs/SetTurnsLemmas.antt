@@ -15,6 +15,7 @@ use Rattle.load_asking.specs.Stores.{StoreCall, AreTold, set_call}
 use Rattle.load_asking.proofs.AskLemmas.{told_nothing}
 use Rattle.event_journal.specs.Journals.{Kept, Grows}
 use Rattle.launcher_turn.specs.Turns.{IsLed, IsShort}
+use Rattle.launcher_turn.proofs.NumbersLemmas.{same-numbers}
 use Rattle.launcher_load.specs.Lines.{set_line}
 use Rattle.launcher_load.specs.LoadTurns.{AsksStore, SetTurnOf, set_request, standing}
 use Rattle.launcher_load.proofs.LoadTurnsLemmas.{nothing_done}
@@ -36,12 +37,14 @@ bad_label s label disabled true store is = ap (λ b. refused_if (not b) BadReque
 bad_label s label disabled false store is = ap (λ b. refused_if (not b) BadRequest (refusal_stored true store)) is
 
 -- a setting that was refused before the store was asked
-pub never_set : (s : State) (label : Label) (disabled unload : Bool) (r : Refusal) (old new : Table) (a : Option (List Entry)) (t : Option (List StoreCall)) (k n : Kept) →
+pub never_set : (s : State) (label : Label) (disabled unload : Bool) (r : Refusal) (old new : Table) (a : Option (List Entry)) (t : Option (List StoreCall)) (k n : Kept) → new.rows ≡ old.rows →
     ((store : Bool) → refusal_in s (set_of label disabled unload store) ≡ Some r) → Grows k n (set_line label disabled unload true) → KeepsState new s → IsLed s →
     SetTurnOf s (set_request label disabled unload) true (Some r) (standing old a t k) (standing new a t n)
-never_set s label disabled unload r old new a t k n is noted keeps led = record {
+never_set s label disabled unload r old new a t k n same is noted keeps led = record {
   asks = subst (λ o. AsksStore o (set_call label (disabled || unload) s.reading.wall true) t t) (sym (is true)) (refl, told_nothing t);
   turn = nothing_done s (set_of label disabled unload true) (set_line label disabled unload true) new r a k n (is true) noted keeps led;
+  numbers = λ none. let no : Some r ≡ None = none in cc;
+  stays = same-numbers old new same;
 }
 
 -- the store was asked once, in the reading's second

@@ -21,7 +21,7 @@ use Rattle.load_asking.specs.declared.asking.Outside.{Outside}
 use Rattle.load_asking.specs.Asking.{Asks, Told, told_of}
 use Rattle.load_asking.specs.Stores.{StoreCall, AreTold, set_call}
 use Rattle.event_journal.specs.Journals.{Kept, Grows}
-use Rattle.launcher_turn.specs.Turns.{IsLed, TurnsOf, Trace, trace}
+use Rattle.launcher_turn.specs.Turns.{AreNumbered, IsLed, KeepsNumbers, TurnsOf, Trace, trace}
 use Rattle.launcher_load.specs.Lines.{load_line, set_line}
 
 -- want of memory is the answer
@@ -35,9 +35,11 @@ settings_after reply s e = if is_memory reply then s.settings else (step s e).se
 
 -- ---- what was asked
 
--- neither the edge nor the store was asked, and the table stands for the states that it stood for
+-- neither the edge nor the store was asked, and the table stands for the states that it stood for,
+-- with the same jobs under the same numbers
 pub record IsUntouched (old new : Table) (before after : Told) : Type 0 where
   pub same : IsSameFor old new
+  pub rows : new.rows ≡ old.rows
   pub tells : Tells before.calls [] after.calls
   pub stores : AreTold before.stores [] after.stores
 
@@ -114,7 +116,8 @@ event_of_set request kept = set_of request.label request.disabled request.unload
 
 -- The turn of a load: first it asked the outside, in the reading's second, for the job with the
 -- number that it then has; the load with these answers, and the answers to what it orders, are a
--- turn of the machine, whose first line tells these answers.
+-- turn of the machine, whose first line tells these answers. The numbers in its calls are those of
+-- the jobs that were loaded before it, and of the new one; a job that stays loaded keeps its number.
 pub record LoadTurnOf (s : State) (request : LoadRequest) (outside : Outside)
     (reply : Option Refusal) (before after : Standing) : Type 0 where
   pub job : ℕ
@@ -128,9 +131,12 @@ pub record LoadTurnOf (s : State) (request : LoadRequest) (outside : Outside)
       (trace mid before.journal) (trace after.calls after.journal)
   pub own : reply ≡ None → (d : Described) → def_of request.bytes ≡ Ok d →
       definition_of_number turn.names job ≡ Some d
+  pub numbers : reply ≡ None → AreNumbered turn.names before.table
+  pub stays : KeepsNumbers before.table after.table
 
 -- The turn of a setting: first the store was asked; the setting with its answer, and the answers to
--- what it orders, are a turn of the machine, whose first line tells this answer.
+-- what it orders, are a turn of the machine, whose first line tells this answer. The numbers in its
+-- calls are those of the jobs that were loaded before it; a job that stays loaded keeps its number.
 pub record SetTurnOf (s : State) (request : SetRequest) (kept : Bool)
     (reply : Option Refusal) (before after : Standing) : Type 0 where
   pub asks : AsksStore (refusal_in s (event_of_set request true))
@@ -139,6 +145,8 @@ pub record SetTurnOf (s : State) (request : SetRequest) (kept : Bool)
   pub turn : TurnsOf s (event_of_set request kept)
       (set_line request.label request.disabled request.unload kept) reply after.table
       (trace before.calls before.journal) (trace after.calls after.journal)
+  pub numbers : reply ≡ None → AreNumbered turn.names before.table
+  pub stays : KeepsNumbers before.table after.table
 
 -- ---- on the way
 
@@ -160,11 +168,20 @@ abbrev pub ready_load : Ready → Bool → Bool → Bool → Event
 ready_load ready force bind store =
     Load (Ok (given (described_in ready))) (is_some (setting_in ready)) force bind store
 
--- a load that was accepted is the first event of a turn, which knows the new job under its number
-pub record Makes (s : State) (e : Event) (line : List ℕ) (ready : Ready) (new : Table)
+-- a load that was accepted is the first event of a turn, which knows the new job, and those that
+-- were loaded, under their numbers
+pub record Makes (s : State) (e : Event) (line : List ℕ) (ready : Ready) (old new : Table)
     (before after : Trace) : Type 0 where
   pub turn : TurnsOf s e line None new before after
   pub own : definition_of_number turn.names (number_in ready) ≡ Some (described_in ready)
+  pub numbers : AreNumbered turn.names old
+
+-- a setting that was accepted is the first event of a turn, which knows the jobs that were loaded
+-- under their numbers
+pub record Sets (s : State) (e : Event) (line : List ℕ) (old new : Table) (before after : Trace) :
+    Type 0 where
+  pub turn : TurnsOf s e line None new before after
+  pub numbers : AreNumbered turn.names old
 
 -- the outside was asked about a load that was made ready, and its line was written; if the
 -- outside refused, nothing more happened, and else the load was made
@@ -180,5 +197,5 @@ pub record EndsLoad (ready : Ready) (writes_setting : Bool) (wall : ℕ) (outsid
       × Grows before.journal after.journal line
   pub made : refusal ≡ None → (s : State) (force bind store : Bool) → IsLed s →
       KeepsState before.table s → refusal_in s (ready_load ready force bind store) ≡ None
-      → Makes s (ready_load ready force bind store) line ready after.table
+      → Makes s (ready_load ready force bind store) line ready before.table after.table
       (trace mid before.journal) (trace after.calls after.journal)

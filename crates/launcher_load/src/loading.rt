@@ -76,7 +76,7 @@ fn make<E: ChildEdge + SocketEdge, W: Write>(
     ensures { (s : State) (force bind store : Bool) (line : List ℕ) (written : Kept) →
         Grows written journal.old line → IsLed s → KeepsState table.old s
         → refusal_in s (ready_load ready force bind store) ≡ None
-        → Makes s (ready_load ready force bind store) line ready table.new
+        → Makes s (ready_load ready force bind store) line ready table.old table.new
         (trace (E.told edge.old) written) (trace (E.told edge.new) journal.new) }
 {
     table.commit_load(ready);

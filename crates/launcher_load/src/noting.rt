@@ -55,7 +55,8 @@ fn set_event(
     Ok(Event::Enable { job, store })
 }
 
-/// Writes the line of a load with these answers. Want of memory for it closes the journal.
+/// Writes the line of a load with these answers. If no line is written, its event is not even made; want of memory for it closes
+/// the journal.
 pub(crate) fn note_load<W: Write>(
     journal: &mut Journal<W>,
     alloc: Global,
@@ -66,13 +67,17 @@ pub(crate) fn note_load<W: Write>(
 )
     ensures { Grows journal.old journal.new (load_line def.now writes_setting force outside) }
 {
+    if !journal.is_writing() {
+        return;
+    }
     journal.note_made(
         alloc,
         load_event(alloc, def, writes_setting, force, outside),
     );
 }
 
-/// Writes the line of a setting with this answer. Want of memory for it closes the journal.
+/// Writes the line of a setting with this answer. If no line is written, its event is not even made; want of memory for it closes
+/// the journal.
 pub(crate) fn note_set<W: Write>(
     journal: &mut Journal<W>,
     alloc: Global,
@@ -83,6 +88,9 @@ pub(crate) fn note_set<W: Write>(
 )
     ensures { Grows journal.old journal.new (set_line label.now disabled unload store) }
 {
+    if !journal.is_writing() {
+        return;
+    }
     journal.note_made(alloc, set_event(alloc, label, disabled, unload, store));
 }
 

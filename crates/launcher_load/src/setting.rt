@@ -8,9 +8,9 @@ ghost use Rattle.job_table.specs.Changes.{set_of, IsReadySet};
 ghost use Rattle.job_table.specs.Kept.{KeepsState};
 ghost use Rattle.event_journal.specs.Journals.{Kept, Grows};
 ghost use Rattle.load_asking.specs.Asking.{told_of};
-ghost use Rattle.launcher_turn.specs.Turns.{IsLed, TurnsOf, trace};
+ghost use Rattle.launcher_turn.specs.Turns.{IsLed, trace};
 ghost use Rattle.job_table.specs.Loads.{refused_with};
-ghost use Rattle.launcher_load.specs.LoadTurns.{SetTurnOf, IsUntouched, is_memory, set_request, settings_after, standing};
+ghost use Rattle.launcher_load.specs.LoadTurns.{SetTurnOf, Sets, IsUntouched, is_memory, set_request, settings_after, standing};
 
 use crate::finishing::finish;
 use crate::noting::{note_set, note_set_refused};
@@ -50,8 +50,9 @@ fn make<E: ChildEdge + SocketEdge, W: Write>(
     ensures { (s : State) (store : Bool) (line : List ℕ) (written : Kept) →
         Grows written journal.old line → IsLed s → KeepsState table.old s
         → refusal_in s (set_of ready.setting.label ready.setting.disabled ready.unload store) ≡ None
-        → TurnsOf s (set_of ready.setting.label ready.setting.disabled ready.unload store) line None
-        table.new (trace (E.told edge.old) written) (trace (E.told edge.new) journal.new) }
+        → Sets s (set_of ready.setting.label ready.setting.disabled ready.unload store) line
+        table.old table.new
+        (trace (E.told edge.old) written) (trace (E.told edge.new) journal.new) }
 {
     table.commit_set(ready);
     finish(table, edge, journal, alloc, room);

@@ -14,7 +14,7 @@ use Rattle.history_model.specs.Labels.{Label, is_same}
 use Rattle.history_model.specs.Machine.{Job, is_of, past_in}
 use Rattle.history_model.specs.WholeLaws.{labels_of}
 use Rattle.job_defs.specs.Described.{Described}
-use Rattle.job_table.specs.Tables.{Row, Name, IsOther, IsOnce, is_known, label_of, definition_of_number}
+use Rattle.job_table.specs.Tables.{Table, Row, Name, IsOther, IsOnce, is_known, label_of, definition_of_number}
 use Rattle.job_table.specs.Kept.{KeepsJobs, labelled}
 use Rattle.job_table.specs.Numbers.{name_of, names_of}
 use Rattle.child_edge.specs.declared.plain.Scripted.{Scripted}
@@ -24,7 +24,7 @@ use Rattle.order_edge.specs.declared.pending.Pending.{Pending}
 use Rattle.order_edge.specs.Calls.{call_by, call_of, calls_in, answers_in, spawn_answer}
 use Rattle.history_model.specs.Turns.{JobOrder, wanting}
 use Rattle.history_model.proofs.LabelOrderLemmas.{same_self}
-use Rattle.launcher_turn.specs.Turns.{AreTheirs}
+use Rattle.launcher_turn.specs.Turns.{AreNumbered, AreTheirs, KeepsNumbers, number_of}
 use Rattle.history_model.proofs.BooleanLemmas.{and-both}
 use Rattle.history_model.proofs.LawfulLemmas.{eqb-self}
 
@@ -135,6 +135,30 @@ loaded at names table label t (row ∷ rows) (job ∷ jobs) keeps here there sho
           let same : label ≡ job.label = same_text label job.label (sym found) in
           record { row = row; here = here.0; there = there.0; named = keeps.0.label ∙ sym same; short = subst (λ (l : Label). length l ≤ 255) (sym same) short.0 }
       go false found rest is = rest is
+
+-- ---- numbers that stay
+
+-- the number of a loaded label stands for a definition with that label
+number-named : (names : List Name) (rows : List Row) (label : Label) (n : ℕ) → AreNamed names rows → number_of label rows ≡ Some n →
+    (d : Described) × (definition_of_number names n ≡ Some d) × (label ≡ d.label)
+number-named names [] label n named is = cc
+number-named names (row ∷ rows) label n named is = go (is_same label row.described.label) refl (number-named names rows label n named.1) is where
+  go : (b : Bool) → is_same label row.described.label ≡ b → (number_of label rows ≡ Some n → (d : Described) × (definition_of_number names n ≡ Some d) × (label ≡ d.label)) →
+      cond b (Some row.number) (number_of label rows) ≡ Some n → (d : Described) × (definition_of_number names n ≡ Some d) × (label ≡ d.label)
+  go true same rest is = let number : row.number ≡ n = cc in (row.described, ap (definition_of_number names) (sym number) ∙ named.0, same_text label row.described.label (sym same))
+  go false same rest is = rest is
+
+-- names that stand for the jobs of both tables
+pub keeps-numbers : (names : List Name) (old new : Table) → AreNumbered names old → AreNumbered names new → KeepsNumbers old new
+keeps-numbers names old new first last = λ label before after was is.
+    let (d, known, named) = number-named names old.rows label before first.named was in
+    let (e, known', named') = number-named names new.rows label after last.named is in
+    once-number names first.once after before e d known' known (sym named' ∙ named)
+
+-- the same jobs have the same numbers
+pub same-numbers : (old new : Table) → new.rows ≡ old.rows → KeepsNumbers old new
+same-numbers old new same = λ label before after was is.
+    let both : Some after ≡ Some before = sym is ∙ ap (number_of label) same ∙ was in cc
 
 -- ---- answers to orders
 

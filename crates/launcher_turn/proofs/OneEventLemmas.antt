@@ -25,14 +25,14 @@ use Rattle.order_edge.specs.Calls.{answers_in}
 use Rattle.history_model.specs.Turns.{JobOrder, wanting, is_answer}
 use Rattle.history_model.proofs.TurnsLemmas.{IsTurning, turning-step}
 use Rattle.history_model.proofs.LabelOrderLemmas.{heard_one-labels, same_self, order-run, all-stays}
-use Rattle.launcher_turn.specs.Turns.{Carried, orders_lent, IsUntouched, event_in, AreTheirs, IsOrderly, IsWaiting, HappensTo, Happens, Handled, trace}
+use Rattle.launcher_turn.specs.Turns.{AreNumbered, Carried, orders_lent, IsUntouched, event_in, AreTheirs, IsOrderly, IsWaiting, HappensTo, Happens, Handled, trace}
 use Rattle.job_table.specs.Loads.{refused_with}
 use Rattle.job_core.specs.Memory.{NeedsNoMemory}
 use Rattle.ctl_protocol.specs.EventWriter.{event_line}
 use Rattle.event_journal.specs.Journals.{Kept, Grows}
 use Rattle.launcher_turn.specs.Lines.{journaled_answer}
 use Rattle.launcher_turn.proofs.CarryLemmas.{none-called}
-use Rattle.launcher_turn.proofs.NumbersLemmas.{AreNamed, rows-named, label-is, named-next, orders-known, once-number, loaded, theirs-append, made-theirs}
+use Rattle.launcher_turn.proofs.NumbersLemmas.{AreNamed, rows-named, label-is, named-next, orders-known, once-number, loaded, keeps-numbers, same-numbers, theirs-append, made-theirs}
 use Rattle.child_edge.specs.Calls.{Entry}
 use Rattle.job_table.proofs.OutcomesLemmas.{resting}
 
@@ -51,6 +51,8 @@ happens e old new (Ok lent) before after told told' answer known ends carried = 
     let all : list_all (is_known (names_of old.rows)) lent.orders.now ≡ true = subst (λ ns. list_all (is_known ns) lent.orders.now ≡ true) names known in
     let orders : labelled (names_of old.rows) lent.orders.now ≡ (outcome s e).orders =
     ap (λ ns. labelled ns lent.orders.now) (sym names) ∙ sym (ap (λ o. o.orders) (answer s keeps)) in
+    let before_it : AreNumbered new.names old =
+    record { once = numbers.0.once; named = subst (λ (x : List Name). AreNamed x old.rows) (sym numbers.1) (rows-named old.rows (subst IsOnce numbers.1 numbers.0.once)) } in
     record {
       begins = record {
         orders = lent.orders.now;
@@ -61,7 +63,8 @@ happens e old new (Ok lent) before after told told' answer known ends carried = 
         labels = ap (λ ns. labelled ns lent.orders.now) (sym numbers.2) ∙ sym (ap (λ o. o.orders) (answer s keeps));
         known = subst (λ ns. list_all (is_known ns) lent.orders.now ≡ true) numbers.2 known;
       };
-      loaded = λ none. record { once = numbers.0.once; named = subst (λ (x : List Name). AreNamed x old.rows) (sym numbers.1) (rows-named old.rows (subst IsOnce numbers.1 numbers.0.once)) };
+      loaded = λ none. before_it;
+      stays = keeps-numbers new.names old new before_it (record { once = numbers.0.once; named = numbers.0.named });
       by_label = λ ns numbered.
           let orders_known = orders-known ns old.rows numbered.named lent.orders.now all in (
             record { once = numbered.once; named = named-next ns old.rows new.rows numbered.named (subst (λ (x : List Name). AreNamed x new.rows) numbers.1 numbers.0.named) },
@@ -80,6 +83,7 @@ happens e old new (Err refusal) before after told told' answer known ends carrie
     known = refl;
   };
   loaded = λ none. cc;
+  stays = same-numbers old new ends.1.0;
   by_label = λ ns numbered. (
     record { once = numbered.once; named = subst (AreNamed ns) (sym ends.1.0) numbered.named },
     sym (ap (λ o. o.orders) (answer s keeps)),
@@ -125,12 +129,12 @@ taken-in (Err _) holds memory = holds
 
 -- a reading that found no memory was not taken in
 pub not-read : (e : Event) (old new : Table) (lent : Result Step Refusal) (result : Result (Unit {0}) Refusal) (before after : List Pending) (told told' : Option (List Entry)) →
-    refused_with result ≡ refused_with lent → IsNextUnless lent e old new → Carried (orders_lent lent) before after told told' → result ≡ Err NoMemory → IsUntouched old new told told'
-not-read e old new (Ok lent) result before after told told' same next carried is = let none : Some NoMemory ≡ None = ap refused_with (sym is) ∙ same in cc
-not-read e old new (Err refusal) result before after told told' same next carried is =
+    refused_with result ≡ refused_with lent → IsNextUnless lent e old new → Visits lent old new → Carried (orders_lent lent) before after told told' → result ≡ Err NoMemory → IsUntouched old new told told'
+not-read e old new (Ok lent) result before after told told' same next visits carried is = let none : Some NoMemory ≡ None = ap refused_with (sym is) ∙ same in cc
+not-read e old new (Err refusal) result before after told told' same next visits carried is =
     let none : Some NoMemory ≡ Some refusal = ap refused_with (sym is) ∙ same in
     let memory : refusal ≡ NoMemory = cc in
-    record { same = subst (λ r. IsNextUnless {A = Step} (Err r) e old new) memory next; tells = none-called [] before after told told' refl carried }
+    record { same = subst (λ r. IsNextUnless {A = Step} (Err r) e old new) memory next; rows = visits.0; tells = none-called [] before after told told' refl carried }
 
 -- ---- what the machine is in the midst of a turn
 

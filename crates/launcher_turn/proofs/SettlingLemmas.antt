@@ -81,6 +81,7 @@ so-far-end s names first answers k table told told' written written' far all =
       calls = far.calls;
       by_label = far.by_label ∙ ap (λ ps. orders_in (map (event_in names) ps) s) whole;
       kept = subst (λ ps. KeepsState table (run (map (event_in names) ps) s)) whole far.waiting.keeps;
+      few = omega (arith, all, far.fits);
       noted = subst (λ ps. Grows written written' (answer_texts names ps)) whole far.noted;
       numbers = far.waiting.numbers;
     }

@@ -2,7 +2,7 @@
 use Rattle.std.proofs.Common.{◌≡◌, ℕ, ◌*◌, ◌≤◌, List, [], ◌∷◌, ◌++◌, map, length, Option, Some, None, refl, sym, ap, subst, ◌∙◌, arith}
 use Rattle.std.specs.Prelude.{Result, Ok, Err}
 use Rattle.std.specs.List.{AllByRecursion}
-use Rattle.std.proofs.lemmas.List.{append-nil, map-append}
+use Rattle.std.proofs.lemmas.List.{append-nil, length-map, map-append}
 use Rattle.std.proofs.lemmas.List.Elements.{filter_map-append}
 use Rattle.history_model.specs.declared.Order.{Order}
 use Rattle.history_model.specs.declared.Refusal.{Refusal}
@@ -36,7 +36,7 @@ use Rattle.launcher_turn.specs.Lines.{journaled_by, answer_texts}
 use Rattle.launcher_turn.specs.declared.happening.Happening.{Happening}
 use Rattle.launcher_turn.specs.declared.happening.Happening.TheVariants as happenings
 use Rattle.launcher_turn.proofs.CarryLemmas.{none-called}
-use Rattle.launcher_turn.proofs.NumbersLemmas.{made-theirs}
+use Rattle.launcher_turn.proofs.NumbersLemmas.{keeps-numbers, made-theirs}
 use Rattle.launcher_turn.proofs.OneEventLemmas.{good, orderly-next}
 use Rattle.launcher_turn.proofs.SettlingLemmas.{same-length}
 use Rattle.history_model.specs.declared.TheConstants.{MAX_JOBS}
@@ -142,6 +142,7 @@ turned-at s e line old mid new first after a b c k m n is led keeps did noted se
       };
       led = subst (λ es. IsLed (run es (step s e))) (sym events) (led-answers mid.names after (step s e) (led-step old s e keeps led is));
       replies = did.replies;
+      few = subst (λ (es : List Event). length es ≤ 3 * MAX_JOBS) (sym events) (subst (λ (n : ℕ). n ≤ 3 * MAX_JOBS) (sym (length-map after (event_in mid.names))) done.few);
       numbers = λ none. done.numbers;
       noted = subst (λ ps. Grows k n (line ++ answer_texts mid.names ps)) (sym all) (grows_append k m n line (answer_texts mid.names after) noted done.noted);
     }
@@ -150,7 +151,8 @@ turned-at s e line old mid new first after a b c k m n is led keeps did noted se
 pub refused-turn : (e : Event) (line : List ℕ) (refusal : Refusal) (old new : Table) (first : List Pending) (a b : Option (List Entry)) (k n : Kept) → IsShort e → Grows k n line →
     Happens e (Some refusal) old new [] first a b → Turns e line (Some refusal) old new (trace a k) (trace b n)
 refused-turn e line refusal old new first a b k n is noted happened = λ s led keeps.
-    let did = (happened s keeps).begins in
+    let happens = happened s keeps in
+    let did = happens.begins in
     let none : (outcome s e).orders ≡ [] = refused-orders s e refusal did.replies in (
       record {
         names = [];
@@ -164,10 +166,12 @@ refused-turn e line refusal old new first a b k n is noted happened = λ s led k
         };
         led = led-step old s e keeps led is;
         replies = did.replies;
+        few = omega arith;
         numbers = λ none. cc;
         noted = subst (Grows k n) (sym (append-nil line)) noted;
       },
       λ none. cc,
+      happens.stays,
     )
 
 -- ---- as the functions have it
@@ -186,9 +190,12 @@ pub turned-from : (what : Happening) (result : Result (Unit {0}) Refusal) (old m
 unfolding turned-at
 turned-from what (Err refusal) old mid new before first after a b c k m n ok empty happened noted settles = cc
 turned-from what (Ok done) old mid new before first after a b c k m n ok empty happened noted settles = λ s led keeps.
-    let did = happened s keeps in (
-      turned-at s (event_of what) (event_line (journaled_by what)) old mid new first after a b c k m n (short-event what) led keeps (subst (λ ps. Begins s (event_of what) None mid ps first a b) empty did.begins) noted settles,
+    let did = happened s keeps in
+    let turn : TurnsOf s (event_of what) (event_line (journaled_by what)) None new (trace a k) (trace c n) =
+    turned-at s (event_of what) (event_line (journaled_by what)) old mid new first after a b c k m n (short-event what) led keeps (subst (λ ps. Begins s (event_of what) None mid ps first a b) empty did.begins) noted settles in (
+      turn,
       did.loaded,
+      keeps-numbers turn.names old new (did.loaded refl) (turn.numbers refl),
     )
 
 -- what follows unless memory ran out

@@ -1,17 +1,18 @@
 -- A turn: one event, whose orders are carried out on the outside, and then each answer as the next
 -- event, first in first out.
-use Rattle.std.specs.Prelude.{◌≡◌, ℕ, ◌+◌, ◌*◌, ◌≤◌, ◌<◌, true, List, [], ◌∷◌, ◌++◌, map, length, Option, Some, None, Result, Ok, Err}
+use Rattle.std.specs.Prelude.{◌≡◌, ℕ, ◌+◌, ◌*◌, ◌≤◌, ◌<◌, true, cond, List, [], ◌∷◌, ◌++◌, map, length, Option, Some, None, Result, Ok, Err}
 use Rattle.std.specs.List.{list_all, AllByRecursion}
 use Rattle.history_model.specs.declared.Order.{Order}
 use Rattle.history_model.specs.declared.Refusal.{Refusal}
 use Rattle.history_model.specs.declared.TheConstants.{MAX_JOBS, MAX_UP}
 use Rattle.history_model.specs.Items.{Answered}
 use Rattle.history_model.specs.Runs.{is_answer_to}
+use Rattle.history_model.specs.Labels.{Label, is_same}
 use Rattle.history_model.specs.Machine.{State, Event, Load, OfJob}
 use Rattle.history_model.specs.Step.{outcome, step, run, orders_in}
 use Rattle.history_model.specs.WholeLaws.{AreInOrder, labels_of}
 use Rattle.job_defs.specs.Described.{Described}
-use Rattle.job_table.specs.Tables.{Table, Name, IsOnce, is_known, label_of, definition_of_number}
+use Rattle.job_table.specs.Tables.{Table, Row, Name, IsOnce, is_known, label_of, definition_of_number}
 use Rattle.job_table.specs.Kept.{KeepsState, labelled}
 use Rattle.job_table.specs.Outcomes.{IsSameFor}
 use Rattle.job_table.specs.Ends.{AreKnown}
@@ -92,6 +93,17 @@ pub record AreNumbered (names : List Name) (table : Table) : Type 0 where
   pub named : AllByRecursion (λ row. definition_of_number names row.number ≡ Some row.described)
       table.rows
 
+-- the number of the job with the label, if it is loaded
+abbrev pub number_of : Label → List Row → Option ℕ
+number_of label [] = None
+number_of label (row ∷ rows) =
+    cond (is_same label row.described.label) (Some row.number) (number_of label rows)
+
+-- a job that stays loaded keeps its number
+abbrev pub KeepsNumbers : Table → Table → Type 0
+KeepsNumbers old new = (label : Label) (before after : ℕ) →
+    number_of label old.rows ≡ Some before → number_of label new.rows ≡ Some after → after ≡ before
+
 -- the machine as events lead to it
 pub record IsOrderly (s : State) : Type 0 where
   pub range : s.reading.up ≤ MAX_UP
@@ -127,6 +139,7 @@ pub record HappensTo (s : State) (e : Event) (reply : Option Refusal) (old new :
     (before after : List Pending) (told told' : Option (List Entry)) : Type 0 where
   pub begins : Begins s e reply new before after told told'
   pub loaded : reply ≡ None → AreNumbered new.names old
+  pub stays : KeepsNumbers old new
   pub by_label : (names : List Name) → AreNumbered names old →
       AreNumbered names new × (labelled names begins.orders ≡ (outcome s e).orders)
       × (list_all (is_known names) begins.orders ≡ true)
@@ -161,6 +174,7 @@ pub record Settled (s : State) (names : List Name) (waited settled : List Pendin
   pub calls : calls_in made ≡ map call_of orders
   pub by_label : labelled names orders ≡ orders_in (map (event_in names) settled) s
   pub kept : KeepsState new (run (map (event_in names) settled) s)
+  pub few : length settled ≤ 3 * MAX_JOBS
   pub numbers : AreNumbered names new
   pub noted : Grows before.journal after.journal (answer_texts names settled)
 
@@ -178,8 +192,9 @@ IsShort _ = Unit {0}
 
 -- For each machine that the table stood for: the edge was called as a turn of it says, and if it
 -- tells, it tells just these calls; the table then stands for the machine after it, and the answer
--- is the machine's to the input. The journal grew by the lines of these events. The numbers in the
--- calls are those of the jobs that are loaded.
+-- is the machine's to the input. The journal grew by the lines of these events, which are at most
+-- three answers for each job that may be loaded, and the input. The numbers in the calls are those
+-- of the jobs that are loaded.
 pub record TurnsOf (s : State) (input : Event) (line : List ℕ) (reply : Option Refusal)
     (new : Table) (before after : Trace) : Type 0 where
   pub names : List Name
@@ -188,18 +203,22 @@ pub record TurnsOf (s : State) (input : Event) (line : List ℕ) (reply : Option
   pub turn : IsTurn s input names entries new
   pub led : IsLed (run (input ∷ events_in names entries) s)
   pub replies : (outcome s input).refusal ≡ reply
+  pub few : length (events_in names entries) ≤ 3 * MAX_JOBS
   pub numbers : reply ≡ None → AreNumbered names new
   pub noted : Grows before.journal after.journal (line ++ answer_texts names (answers_in entries))
 
--- and they are those under which the jobs were loaded before it
+-- and they are those under which the jobs were loaded before it; a job that stays loaded keeps its
+-- number
 abbrev pub Turns :
     Event → List ℕ → Option Refusal → Table → Table → Trace → Trace → Type 0
 Turns input line reply old new before after =
     (s : State) → IsLed s → KeepsState old s →
     (turn : TurnsOf s input line reply new before after)
-    × (reply ≡ None → AreNumbered turn.names old)
+    × (reply ≡ None → AreNumbered turn.names old) × KeepsNumbers old new
 
--- nothing happened: the table stands for what it stood for, and no call was made
+-- nothing happened: the table stands for what it stood for, with the same jobs under the same
+-- numbers, and no call was made
 pub record IsUntouched (old new : Table) (told told' : Option (List Entry)) : Type 0 where
   pub same : IsSameFor old new
+  pub rows : new.rows ≡ old.rows
   pub tells : Tells told [] told'

@@ -1,11 +1,15 @@
 //! What happens to the launcher, as the event that its journal has.
 
 ghost use Rattle.std.specs.Prelude.{◌≡◌, IfOk};
+ghost use Rattle.ctl_protocol.specs.EventWriter.{event_line};
+ghost use Rattle.event_journal.specs.Journals.{Grows};
 ghost use Rattle.launcher_turn.specs.Lines.{journaled_by, journaled_of, journaled_answer};
 
 use crate::happening::{Happening, News};
+use event_journal::Journal;
 use history_model::{Answer, Event, Text};
 use std::alloc::{AllocError, Global};
+use std::io::Write;
 
 /// The event of the journal that says the answer to an order.
 fn answer_line(job: Text, answer: Answer) -> Event
@@ -36,7 +40,7 @@ fn job_line(job: Text, news: News) -> Event
 }
 
 /// The event of the journal that says what happens. `AllocError` if memory for a copy of its label or path was refused.
-pub(crate) fn event_made(alloc: Global, what: Happening<'_>) -> Result<Event, AllocError>
+fn event_made(alloc: Global, what: Happening<'_>) -> Result<Event, AllocError>
     ensures { IfOk result (λ event. event ≡ journaled_by what.entry) }
 {
     match what {
@@ -59,4 +63,14 @@ pub(crate) fn event_made(alloc: Global, what: Happening<'_>) -> Result<Event, Al
         }
         Happening::Shutdown => Ok(Event::Shutdown),
     }
+}
+
+/// Writes the line of what happens. If no line is written, its event is not even made; want of memory for it closes the journal.
+pub(crate) fn note<W: Write>(journal: &mut Journal<W>, alloc: Global, what: Happening<'_>)
+    ensures { Grows journal.old journal.new (event_line (journaled_by what.entry)) }
+{
+    if !journal.is_writing() {
+        return;
+    }
+    journal.note_made(alloc, event_made(alloc, what));
 }

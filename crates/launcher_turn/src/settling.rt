@@ -11,7 +11,7 @@ ghost use Rattle.launcher_turn.specs.Turns.{IsWaiting, Handled, Settled, trace};
 
 use crate::happening::{Happening, News};
 use crate::hearing::hear;
-use crate::lines::event_made;
+use crate::lines::note;
 use crate::room::Room;
 use child_edge::{ChildEdge, SocketEdge};
 use event_journal::Journal;
@@ -38,7 +38,7 @@ fn handle<E: ChildEdge + SocketEdge, W: Write>(
     room.label.copy(table.last_step().label(pending.job));
     let told = Happening::ToJob(room.label.as_str(), News::Answered(pending.answer));
     let _accepted = hear(table, edge, alloc, told, &mut room.answers);
-    journal.note_made(alloc, event_made(alloc, told));
+    note(journal, alloc, told);
 }
 
 /// Tells the table each answer of the queue, carries out what it orders, puts those answers behind the others, and writes the

@@ -11,7 +11,7 @@ ghost use Rattle.job_table.specs.Loads.{refused_with};
 
 use crate::happening::Happening;
 use crate::hearing::hear;
-use crate::lines::event_made;
+use crate::lines::note;
 use crate::room::Room;
 use crate::settling::settle;
 use child_edge::{ChildEdge, SocketEdge};
@@ -45,13 +45,13 @@ pub fn turn<E: ChildEdge + SocketEdge, W: Write>(
     room.answers.clear();
     match hear(table, edge, alloc, what, &mut room.answers) {
         Ok(()) => {
-            journal.note_made(alloc, event_made(alloc, what));
+            note(journal, alloc, what);
             settle(table, edge, journal, alloc, room);
             Ok(())
         }
         Err(Refusal::NoMemory) => Err(Refusal::NoMemory),
         Err(refusal) => {
-            journal.note_made(alloc, event_made(alloc, what));
+            note(journal, alloc, what);
             Err(refusal)
         }
     }

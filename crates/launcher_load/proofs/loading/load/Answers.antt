@@ -28,7 +28,7 @@ returns-in-Ok-loaded-clause-turn g c = λ other s led keeps.
     let written = c.args.journal.now in
     let written' = c.ask_and_make-ended.new.journal in
     let done = load_ended s c.args.def.now c.args.writes_setting c.args.force outside c.args.table.now c.prepare_load.new.self new c.in-Ok.ready told told' stored stored' written written'
-    admitted c.in-Ok.ensures.writes_setting c.in-Ok.ensures.same led keeps c.ask_and_make-ended.result.refusal c.ask_and_make-ended.ensures.ends in
+    admitted c.in-Ok.ensures.writes_setting c.in-Ok.ensures.same c.in-Ok.ensures.rows led keeps c.ask_and_make-ended.result.refusal c.ask_and_make-ended.ensures.ends in
     let request = load_request c.args.def.now c.args.writes_setting c.args.force in
     let before = standing c.args.table.now told stored written in
     let after = standing new told' stored' written' in
@@ -59,7 +59,7 @@ returns-in-Err-clause-turn g c = λ other s led keeps.
     let before = standing c.args.table.now told stored c.args.journal.now in
     let after = standing new told stored c.note_load_refused.new.journal in
     subst (λ (l : Loaded). LoadTurnOf s (load_request c.args.def.now c.args.writes_setting c.args.force) l.outside (refused_with l.reply) before after) (sym is)
-    (never_called s c.args.def.now c.args.writes_setting c.args.force c.in-Err.refusal c.args.table.now new told stored c.args.journal.now c.note_load_refused.new.journal
+    (never_called s c.args.def.now c.args.writes_setting c.args.force c.in-Err.refusal c.args.table.now new told stored c.args.journal.now c.note_load_refused.new.journal c.in-Err.ensures.rows
     (λ bind store. subst (λ b. refusal_in s (load_of b c.args.writes_setting c.args.force bind store) ≡ Some c.in-Err.refusal) c.as_bytes.ensures.value (refused s bind store keeps))
     (c.note_load_refused.ensures.noted memory) (c.in-Err.ensures.same s keeps) led)
 

@@ -40,7 +40,7 @@ returns-in-Shutdown-clause-happens g c =
 pub returns-in-Clock-clause-memory : goal.returns-in-Clock-clause-memory
 returns-in-Clock-clause-memory g c = λ none. (
   ap is_clock c.in-Clock.is,
-  not-read (Tick c.in-Clock.at) c.args.table.now c.clock.follows.lender-at-none c.clock.result c.carry_step.result _ _ _ _ c.carry_step.ensures.answer c.clock.follows.holds-at-none.0 c.carry_step.ensures.carried none,
+  not-read (Tick c.in-Clock.at) c.args.table.now c.clock.follows.lender-at-none c.clock.result c.carry_step.result _ _ _ _ c.carry_step.ensures.answer c.clock.follows.holds-at-none.0 c.clock.follows.holds-at-none.1 c.carry_step.ensures.carried none,
 )
 
 pub returns-in-Saw-clause-memory : goal.returns-in-Saw-clause-memory

@@ -10,8 +10,8 @@ use Rattle.launcher.proofs.AskingLemmas.{loaded, load_words}
 use Rattle.launcher.proofs.host.Host.load.Goals as goal
 use Rattle.launcher_load.specs.LoadTurns.{standing}
 
-pub returns : goal.returns
-returns g c =
+pub returns-clause-hears : goal.returns-clause-hears
+returns-clause-hears g c =
     let old = standing c.args.self.now.table (g.E.Edge.told c.args.self.now.edge) (g.T.SettingStore.told c.args.self.now.store) c.args.self.now.journal in
     let did = c.load-loaded.result in
     let new = standing c.load-loaded.new.table (g.E.Edge.told c.load-loaded.new.edge) (g.T.SettingStore.told c.load-loaded.new.store) c.load-loaded.new.journal in

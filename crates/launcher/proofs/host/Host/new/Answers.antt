@@ -9,15 +9,6 @@ use Rattle.launcher.specs.Faults.{IsFaultOf, IsFaultWith, IsBadHeader}
 use Rattle.launcher.proofs.MakingLemmas.{made_new, stores_fault, same_fault}
 use Rattle.launcher.proofs.host.Host.new.Goals as goal
 
-pub returns-in-Ok-make_inside-clause-new : goal.returns-in-Ok-make_inside-clause-new
-returns-in-Ok-make_inside-clause-new g c =
-    let made = c.in-Ok-make_inside.field-0 in
-    let first = fresh (held g.W.Write.contents c.args.journal) (is_some c.args.journal) in
-    made_new c.args.header c.in-Ok.settings.items made.table (g.E.Edge.told c.args.edge) (g.T.SettingStore.told c.args.store) (g.T.SettingStore.told c.all.new.self) first made.journal
-    (g.T.SettingStore.holds c.args.store) (g.T.SettingStore.holds c.all.new.self)
-    (subst (λ (h : Header). StandsOpened h made.table) c.with_settings.ensures c.in-Ok-make_inside.ensures.opened) c.in-Ok.ensures.told
-    (subst (λ (h : Header). Grows first made.journal (header_line h)) c.with_settings.ensures c.in-Ok-make_inside.ensures.noted) c.in-Ok.ensures.gives
-
 pub returns-in-Ok-make_inside-clause-faults : goal.returns-in-Ok-make_inside-clause-faults
 returns-in-Ok-make_inside-clause-faults g c = subst (λ (h : Header). IsBadHeader h → ⊥) c.with_settings.ensures c.in-Ok-make_inside.ensures.faults
 
@@ -30,7 +21,13 @@ returns-in-Err-make_inside-clause-faults g c =
 
 pub returns-in-Ok-make_inside-clause-comes : goal.returns-in-Ok-make_inside-clause-comes
 returns-in-Ok-make_inside-clause-comes g c =
-    (Ok c.in-Ok.settings.items, (c.in-Ok.ensures.answers, subst (λ (h : Header). StandsOpened h c.in-Ok-make_inside.field-0.table) c.with_settings.ensures c.in-Ok-make_inside.ensures.opened))
+    let made = c.in-Ok-make_inside.field-0 in
+    let first = fresh (held g.W.Write.contents c.args.journal) (is_some c.args.journal) in
+    let opened = subst (λ (h : Header). StandsOpened h made.table) c.with_settings.ensures c.in-Ok-make_inside.ensures.opened in
+    let new = made_new c.args.header c.in-Ok.settings.items made.table (g.E.Edge.told c.args.edge) (g.T.SettingStore.told c.args.store) (g.T.SettingStore.told c.all.new.self) first made.journal
+    (g.T.SettingStore.holds c.args.store) (g.T.SettingStore.holds c.all.new.self) opened c.in-Ok.ensures.told
+    (subst (λ (h : Header). Grows first made.journal (header_line h)) c.with_settings.ensures c.in-Ok-make_inside.ensures.noted) c.in-Ok.ensures.gives in
+    (Ok c.in-Ok.settings.items, (c.in-Ok.ensures.answers, (opened, new)))
 
 pub returns-in-Err-clause-comes : goal.returns-in-Err-clause-comes
 returns-in-Err-clause-comes g c = (Err c.in-Err.fault, (c.in-Err.ensures.answers, ap Err c.store_fault.ensures))

@@ -8,8 +8,8 @@ use Rattle.launcher.proofs.AskingLemmas.{printed}
 use Rattle.launcher.proofs.host.Host.print.Goals as goal
 use Rattle.launcher_load.specs.LoadTurns.{standing}
 
-pub returns : goal.returns
-returns g c =
+pub returns-clause-hears : goal.returns-clause-hears
+returns-clause-hears g c =
     let old = standing c.args.self.now.table (g.E.Edge.told c.args.self.now.edge) (g.T.SettingStore.told c.args.self.now.store) c.args.self.now.journal in
     let new = standing old.table old.calls old.stores c.print-text.new.journal in
     let held = g.T.SettingStore.holds c.args.self.now.store in

@@ -7,8 +7,8 @@ use Rattle.launcher.proofs.HostsLemmas.{as_replied}
 use Rattle.launcher.proofs.AskingLemmas.{changed}
 use Rattle.launcher.proofs.host.Host.set.Goals as goal
 
-pub returns : goal.returns
-returns g c =
+pub returns-clause-hears : goal.returns-clause-hears
+returns-clause-hears g c =
     let old = standing c.args.self.now.table (g.E.Edge.told c.args.self.now.edge) (g.T.SettingStore.told c.args.self.now.store) c.args.self.now.journal in
     let did = c.set-changed.result in
     let new = standing c.set-changed.new.table (g.E.Edge.told c.set-changed.new.edge) (g.T.SettingStore.told c.set-changed.new.store) c.set-changed.new.journal in

@@ -1,4 +1,5 @@
 -- The flush at the end.
+use Rattle.std.proofs.Common.{sym, ◌∙◌}
 use Rattle.launcher.specs.Inputs.{input_event}
 use Rattle.launcher.proofs.HostsLemmas.{flushed}
 use Rattle.launcher.proofs.host.Host.turn.Goals as goal
@@ -9,4 +10,4 @@ returns-clause-hears g c =
     let old = standing c.args.self.now.table (g.E.Edge.told c.args.self.now.edge) (g.T.SettingStore.told c.args.self.now.store) c.args.self.now.journal in
     let mid = c.hear-reply.new.self in
     flushed (input_event c.args.input) c.hear-reply.result.refusal c.hear-reply.result.text old mid.table (g.E.Edge.told mid.edge) (g.T.SettingStore.told mid.store) mid.journal c.flush.new.self
-    (g.T.SettingStore.holds c.args.self.now.store) (g.T.SettingStore.holds mid.store) c.hear-reply.ensures.hears c.flush.ensures
+    (g.T.SettingStore.holds c.args.self.now.store) (g.T.SettingStore.holds mid.store) (sym c.is_want.ensures ∙ c.if-is_want.false) c.hear-reply.ensures.hears c.flush.ensures
