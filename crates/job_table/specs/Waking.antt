@@ -1,9 +1,12 @@
--- When time alone may next make an order of one job due (launchd.plist(5): StartInterval,
--- ThrottleInterval, ExitTimeOut).
-use Rattle.std.specs.Prelude.{ℕ, Option, Some, None}
+-- When time alone may next make an order of one job due, what made its demand, and which path holds
+-- it wanted (launchd.plist(5): StartInterval, ThrottleInterval, ExitTimeOut, KeepAlive,
+-- QueueDirectories).
+use Rattle.std.specs.Prelude.{ℕ, List, Option, Some, None}
+use Rattle.history_model.specs.declared.reasons.DemandKind.{DemandKind}
 use Rattle.history_model.specs.Items.{History}
 use Rattle.history_model.specs.Moments.{next_moment}
-use Rattle.history_model.specs.Reasons.{spawns_from}
+use Rattle.history_model.specs.Demands.{latest_demand}
+use Rattle.history_model.specs.Reasons.{spawns_from, path_that_holds}
 
 -- the next moment of the job with this past, if it is loaded
 abbrev pub waking : Option History → Option ℕ
@@ -15,3 +18,13 @@ waking (Some past) = next_moment past
 abbrev pub spawning : Option History → Option ℕ
 spawning None = None
 spawning (Some past) = spawns_from past
+
+-- what made its pending demand
+abbrev pub demanding : Option History → Option DemandKind
+demanding None = None
+demanding (Some past) = latest_demand past
+
+-- the path that holds it wanted
+abbrev pub holding : Option History → Option (List ℕ)
+holding None = None
+holding (Some past) = path_that_holds past

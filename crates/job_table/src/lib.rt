@@ -39,7 +39,9 @@ mod why;
 
 use calendar_due::Zone;
 pub use changing::NewSetting;
-use history_model::{Answer, Ask, Ended, JobNo, Obs, Order, Reading, Reasons, Refusal, Setting};
+use history_model::{
+    Answer, Ask, DemandKind, Ended, JobNo, Obs, Order, Reading, Reasons, Refusal, Setting,
+};
 pub use job_core::JobEvent;
 use job_defs::Def;
 use jobs::Jobs;
@@ -108,7 +110,7 @@ impl JobTable {
     ghost use Rattle.job_table.specs.Opening.{opening_refusal};
     ghost use Rattle.job_table.specs.Minutes.{has_calendars};
     ghost use Rattle.job_table.specs.Numbers.{IsNumbered};
-    ghost use Rattle.job_table.specs.Waking.{waking, spawning};
+    ghost use Rattle.job_table.specs.Waking.{waking, spawning, demanding, holding};
     ghost use Rattle.job_table.specs.Triggers.{listed_in};
     ghost use Rattle.history_model.specs.Clock.{reading_in};
     ghost use Rattle.job_core.specs.Events.{item_of};
@@ -413,6 +415,24 @@ impl JobTable {
         ensures { (s : State) → KeepsState self.now s → result ≡ spawning (past_of s label.now) }
     {
         self.jobs.spawns_from(label)
+    }
+
+    /// What made the pending demand of the job with this label: the newest event that is a demand and that no successful spawn followed. None
+    /// if no demand is pending, and if no such job is loaded. It takes no memory, and changes nothing.
+    pub fn latest_demand(&self, label: &str) -> Option<DemandKind>
+        ensures { (s : State) → KeepsState self.now s → result ≡ demanding (past_of s label.now) }
+    {
+        self.jobs.latest_demand(label)
+    }
+
+    /// The path that holds the job with this label wanted: the first of `PathState`, in the order of the definition, that was last seen
+    /// as its condition wants it, or else the first of `QueueDirectories` that was last seen with something in it. None if none of them
+    /// holds, and if no such job is loaded. It takes no memory, and changes nothing.
+    pub fn path_that_holds(&self, label: &str) -> Option<&str>
+        ensures { (s : State) → KeepsState self.now s →
+            option_map (λ path. path.now) result ≡ holding (past_of s label.now) }
+    {
+        self.jobs.path_that_holds(label)
     }
 
     /// Whether no job is loaded.

@@ -5,11 +5,11 @@ ghost use Rattle.std.specs.Option.{option_map};
 ghost use Rattle.history_model.specs.Machine.{State, past_of};
 ghost use Rattle.history_model.specs.Reasons.{reasons_of};
 ghost use Rattle.job_table.specs.Kept.{KeepsState};
-ghost use Rattle.job_table.specs.Waking.{waking, spawning};
+ghost use Rattle.job_table.specs.Waking.{waking, spawning, demanding, holding};
 
 use crate::find::place_here;
 use crate::jobs::Jobs;
-use history_model::Reasons;
+use history_model::{DemandKind, Reasons};
 
 impl Jobs {
     ghost use Rattle.job_table.specs.Sound.{seen, IsSound};
@@ -47,6 +47,29 @@ impl Jobs {
         match place_here(&self.entries, label) {
             None => None,
             Some(place) => self.entries[place].core.spawns_from(self.reading),
+        }
+    }
+    /// What made the job's pending demand.
+    pub fn latest_demand(&self, label: &str) -> Option<DemandKind>
+        requires { IsSound self.now }
+        ensures { (s : State) → KeepsState (seen self.now) s →
+            result ≡ demanding (past_of s label.now) }
+    {
+        match place_here(&self.entries, label) {
+            None => None,
+            Some(place) => self.entries[place].core.latest_demand(),
+        }
+    }
+
+    /// The path that holds the job wanted.
+    pub fn path_that_holds(&self, label: &str) -> Option<&str>
+        requires { IsSound self.now }
+        ensures { (s : State) → KeepsState (seen self.now) s →
+            option_map (λ path. path.now) result ≡ holding (past_of s label.now) }
+    {
+        match place_here(&self.entries, label) {
+            None => None,
+            Some(place) => self.entries[place].core.path_that_holds(),
         }
     }
 }
