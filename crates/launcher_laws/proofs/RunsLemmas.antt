@@ -19,6 +19,7 @@ use Rattle.order_edge.specs.declared.pending.Pending.{Pending}
 use Rattle.order_edge.specs.Calls.{answers_in}
 use Rattle.ctl_protocol.specs.EventWriter.{event_line}
 use Rattle.event_journal.specs.declared.journal.Phase.{Phase}
+use Rattle.event_journal.specs.declared.writer.Cause.{Cause}
 use Rattle.event_journal.specs.declared.journal.Phase.TheVariants.{Open, Closed, Reported}
 use Rattle.event_journal.specs.Journals.{Kept, Grows, GrowsIn, reported}
 use Rattle.launcher_turn.specs.Lines.{journaled_answer, answer_texts}
@@ -125,7 +126,7 @@ module _ {T : Type 0} (holds : T → List Setting → Type 0) (s : State) (turn 
   was led keeps heard = go (is_memory turn.refusal) turn.event refl refl heard where
     go : (b : Bool) (event : Option journal.Event) → is_memory turn.refusal ≡ b → turn.event ≡ event →
         HearsBy b event turn.refusal turn.words turn.before.stands turn.after.stands (holds turn.before.store) (holds turn.after.store) → Was holds s turn
-    go true event memory is heard = spared_was led keeps (inl (inl memory, refl, refl)) heard
+    go true event memory is heard = spared_was led keeps (inl (inl memory, refl, refl)) heard.0
     go false None memory is heard = spared_was led keeps (inl (inr (is, heard.0), refl, refl)) heard.1
     go false (Some event) memory is heard = turned_was event is (heard s led keeps)
 
@@ -150,10 +151,10 @@ grown_in Reported Reported old new text was still grew = cc
 pub grown : (old new : Kept) (text : List ℕ) → Grows old new text → new.phase ≡ Open → IsOpenBy old new text
 grown old new text grows still = grown_in old.phase new.phase old new text refl still grows.grew
 
-unreported : (has : Bool) (bytes : Option (List ℕ)) (p : Phase) → (reported (record { has_writer = has; bytes = bytes; phase = p })).phase ≡ Open → p ≡ Open
-unreported has bytes Open is = refl
-unreported has bytes Closed is = cc
-unreported has bytes Reported is = cc
+unreported : (has : Bool) (bytes : Option (List ℕ)) (cause : Option Cause) (p : Phase) → (reported (record { has_writer = has; bytes = bytes; cause = cause; phase = p })).phase ≡ Open → p ≡ Open
+unreported has bytes cause Open is = refl
+unreported has bytes cause Closed is = cc
+unreported has bytes cause Reported is = cc
 
 between : {T : Type 0} (old new : Moment T) → IsBetween old new → new.stands.journal.phase ≡ Open → IsOpenBy old.stands.journal new.stands.journal []
 between old new left still = elim left.journal [
@@ -162,7 +163,7 @@ between old new left still = elim left.journal [
     grew = subst (λ b. Appends old.stands.journal.bytes b []) (sym (ap (λ (k : Kept). k.bytes) same)) (Appends-nil old.stands.journal.bytes);
   }
   | inr same ↦ record {
-    was = unreported old.stands.journal.has_writer old.stands.journal.bytes old.stands.journal.phase (sym (ap (λ (k : Kept). k.phase) same) ∙ still);
+    was = unreported old.stands.journal.has_writer old.stands.journal.bytes old.stands.journal.cause old.stands.journal.phase (sym (ap (λ (k : Kept). k.phase) same) ∙ still);
     grew = subst (λ b. Appends old.stands.journal.bytes b []) (sym (ap (λ (k : Kept). k.bytes) same)) (Appends-nil old.stands.journal.bytes);
   }
 ]

@@ -1,6 +1,5 @@
 -- What any turns of a launcher, one after another, come to.
 use Rattle.std.specs.Prelude.{◌≡◌, List, map}
-use Rattle.history_model.specs.declared.event.Event as journal
 use Rattle.history_model.specs.declared.event.Setting.{Setting}
 use Rattle.history_model.specs.Machine.{State}
 use Rattle.history_model.specs.Step.{run, outcomes}
