@@ -1,15 +1,17 @@
 //! The children that were started and not yet waited for, by job and run.
 
-ghost use Rattle.std.specs.Prelude.{◌<◌, IfOk};
+ghost use Rattle.std.specs.Prelude.{◌<◌, IfOk, length};
+ghost use Rattle.std.specs.List.Sorted.{IsSearchInRange};
 
+use crate::shell::KeptShell;
 use history_model::{Ended, JobNo, Text};
 use slab::Slab;
 use std::alloc::Global;
-use std::collections::BTreeMap;
 use std::io;
 use std::io::ErrorKind;
+use std::net::Net;
 use std::os::unix::process::ExitStatusExt;
-use std::process::{Child, Command, ExitStatus, OpenProcess, Processes, Stdio};
+use std::process::{Child, Command, ExitStatus, OpenProcess, Processes};
 use std::time::Instant;
 
 /// What is kept of a run beside its child: the connection that it serves, its job's label if there was memory for it, and its
@@ -25,8 +27,14 @@ pub(crate) struct Kept {
 struct Started<P: OpenProcess + Drop> {
     child: Child<P>,
     kept: Kept,
-    // The system refused to wait for it: its process id may be another's.
-    is_lost: bool,
+}
+
+/// A run that has a child, and the child's number.
+#[derive(Clone, Copy)]
+struct Numbered {
+    job: JobNo,
+    run: u64,
+    number: usize,
 }
 
 /// A run's end, and what was kept of it.
@@ -36,21 +44,21 @@ pub(crate) struct End {
     pub(crate) kept: Kept,
 }
 
-/// Children, each under a number of its own, and the number of each run that has one. A child that was not waited for
-/// keeps its process id, so no signal can reach another process.
+/// Children, each under a number of its own, and the runs that have one, by job and run. A child that was not waited for keeps
+/// its process id, so no signal can reach another process.
 #[derive(Drop)]
 pub(crate) struct Children<P: OpenProcess + Drop> {
-    alloc: Global,
     started: Slab<Started<P>>,
-    numbers: BTreeMap<(JobNo, u64), usize>,
+    runs: Vec<Numbered>,
+    shell: KeptShell<P>,
 }
 
 impl<P: OpenProcess + Drop> Children<P> {
     pub(crate) fn new(alloc: Global) -> Children<P> {
         Children {
-            alloc,
             started: Slab::new(alloc),
-            numbers: BTreeMap::new(alloc),
+            runs: Vec::new(alloc),
+            shell: KeptShell::new(alloc),
         }
     }
 
@@ -66,30 +74,38 @@ impl<P: OpenProcess + Drop> Children<P> {
     ) -> io::Result<u32>
         ensures { IfOk result (λ pid. 0 < pid) }
     {
-        if self.numbers.contains_key(&(job, run)) {
+        let Err(place) = self.place(job, run) else {
             return Err(io::Error::from(ErrorKind::AlreadyExists));
-        }
+        };
         self.started.reserve(1)?;
         let number = self.started.vacant_key();
-        self.numbers.insert((job, run), number)?;
+        self.runs.insert(place, Numbered { job, run, number })?;
         match spawn(rt, command) {
             Ok((pid, child)) => {
-                self.started.insert_reserved(Started {
-                    child,
-                    kept,
-                    is_lost: false,
-                });
+                self.started.insert_reserved(Started { child, kept });
                 Ok(pid)
             }
             Err(error) => {
-                self.numbers.remove(&(job, run));
+                self.runs.remove(place);
                 Err(error)
             }
         }
     }
 
+    // Where the run stands, or belongs.
+    fn place(&self, job: JobNo, run: u64) -> Result<usize, usize>
+        ensures { IsSearchInRange result (length self.now.runs.items) }
+    {
+        self.runs
+            .binary_search_by(|one| (one.job, one.run).cmp(&(job, run)))
+    }
+
+    // The number of the run's child; if it has none, one that no child has.
     fn number(&self, job: JobNo, run: u64) -> usize {
-        self.numbers.get(&(job, run)).copied().unwrap_or(usize::MAX)
+        match self.place(job, run) {
+            Ok(place) => self.runs.get(place).map_or(usize::MAX, |one| one.number),
+            Err(_) => usize::MAX,
+        }
     }
 
     fn started(&mut self, job: JobNo, run: u64) -> io::Result<&mut Started<P>> {
@@ -107,32 +123,31 @@ impl<P: OpenProcess + Drop> Children<P> {
         Some(label.as_str())
     }
 
-    /// Gives the run's child TERM, by running `sh`. It is refused for a child that the system refused to wait for, as its
-    /// process id may be another's.
-    pub(crate) fn term<R: Processes<Started = P>>(
+    /// Gives the run's child TERM, by `kill` of `/bin/sh`. It is asked for its end first: one that has ended gets no signal, as
+    /// its number is free, and for one that the system refuses to wait for TERM is refused, as its number may be another's.
+    pub(crate) fn term<R: Net + Processes<Started = P>>(
         &mut self,
         rt: &R,
         job: JobNo,
         run: u64,
     ) -> io::Result<()> {
-        let alloc = self.alloc;
-        let started = self.started(job, run)?;
-        if started.is_lost {
-            return Err(io::Error::other("it can't be waited for, so its number may be another's"));
+        let child = &mut self.started(job, run)?.child;
+        match child.try_wait() {
+            Ok(None) => {}
+            Ok(Some(_)) => return Ok(()),
+            Err(_) => {
+                return Err(io::Error::other(
+                    "it can't be waited for, so its number may be another's",
+                ));
+            }
         }
-        let pid = started.child.id();
-        let text = format!(in alloc; "kill -s TERM {pid}")?;
-        let mut command = Command::new(alloc, "/bin/sh")?;
-        command.arg("-c")?;
-        command.arg(text.as_str())?;
-        command.stdin(Stdio::null());
-        command.stdout(Stdio::null());
-        command.stderr(Stdio::null());
-        if command.status(rt)?.success() {
-            Ok(())
-        } else {
-            Err(io::Error::other("kill of /bin/sh was refused"))
-        }
+        let pid = child.id();
+        self.shell.term(rt, pid)
+    }
+
+    /// Ends the shell that is kept for TERM. One more TERM starts another.
+    pub(crate) fn end_shell(&mut self) {
+        self.shell.end();
     }
 
     /// Gives the run's child KILL.
@@ -143,9 +158,10 @@ impl<P: OpenProcess + Drop> Children<P> {
     /// The first child, from the job of this number on, that has ended or whose wait the system refuses: its job and run. It
     /// stays until it is polled.
     pub(crate) fn over_from(&mut self, job: JobNo) -> Option<(JobNo, u64)> {
-        for (run, number) in self.numbers.range((job, 0)..) {
-            if is_over(&mut self.started, *number) {
-                return Some(*run);
+        let from = self.runs.partition_point(|one| one.job < job);
+        for one in self.runs.iter().skip(from) {
+            if is_over(&mut self.started, one.number) {
+                return Some((one.job, one.run));
             }
         }
         None
@@ -153,11 +169,14 @@ impl<P: OpenProcess + Drop> Children<P> {
 
     /// How the run's child ended, if it did. It is then waited for, and gone.
     pub(crate) fn poll(&mut self, job: JobNo, run: u64) -> io::Result<Option<End>> {
-        let Some(status) = try_wait(self.started(job, run)?)? else {
+        let Some(status) = self.started(job, run)?.child.try_wait()? else {
             return Ok(None);
         };
-        let number = self.numbers.remove(&(job, run)).unwrap_or(usize::MAX);
-        match self.started.try_remove(number) {
+        let Ok(place) = self.place(job, run) else {
+            return Err(io::Error::from(ErrorKind::NotFound));
+        };
+        let gone = self.runs.remove(place);
+        match self.started.try_remove(gone.number) {
             Some(gone) => Ok(Some(End {
                 ended: end_of(status),
                 kept: gone.kept,
@@ -170,16 +189,9 @@ impl<P: OpenProcess + Drop> Children<P> {
 // Whether a poll of the child would tell more than that it runs.
 fn is_over<P: OpenProcess + Drop>(started: &mut Slab<Started<P>>, number: usize) -> bool {
     match started.get_mut(number) {
-        Some(started) => !matches!(try_wait(started), Ok(None)),
+        Some(started) => !matches!(started.child.try_wait(), Ok(None)),
         None => true,
     }
-}
-
-// How the child ended, if it did. It notes whether the system refused to tell.
-fn try_wait<P: OpenProcess + Drop>(started: &mut Started<P>) -> io::Result<Option<ExitStatus>> {
-    let answer = started.child.try_wait();
-    started.is_lost = answer.is_err();
-    answer
 }
 
 fn spawn<R: Processes>(rt: &R, command: &mut Command) -> io::Result<(u32, Child<R::Started>)>

@@ -1,10 +1,13 @@
 //! One connection of a job's socket, from the end of its request to the end of its reply.
 
+ghost use Rattle.std.specs.Prelude.{◌≡◌, ◌≤◌, drop, false, length, []};
+ghost use Rattle.socket_demand.specs.declared.exchange.TheConstants.{MAX_UNSENT};
+
 use crate::Client;
 use crate::notices::LetGo;
 use crate::spool::Spooled;
 use history_model::Text;
-use socket_demand::Exchange;
+use socket_demand::{Exchange, MAX_UNSENT};
 use std::fs::File;
 use std::io;
 use std::io::{ErrorKind, Read};
@@ -23,7 +26,7 @@ pub(crate) enum Progress {
     Lost(LetGo),
 }
 
-/// As many pieces of a reply are sent at a time.
+/// As many pieces of a reply are sent at a time, each of them as long as what of a reply may wait.
 const PIECES: u32 = 16;
 
 /// A client that takes nothing of its reply for as many seconds is let go.
@@ -52,24 +55,64 @@ impl Connection {
     /// Sends the client what its run has written since, as much as it takes at once.
     pub(crate) fn forward(&mut self, now: Instant) -> Progress {
         for _ in 0..PIECES {
-            if self.exchange.to_send().is_empty() {
-                match self.refill() {
-                    Ok(true) => {}
-                    Ok(false) => return self.rest(now),
-                    Err(error) => return Progress::Lost(LetGo::Read(error)),
-                }
-            }
-            match self.client.write(self.exchange.to_send()) {
-                Ok(count) => {
-                    self.moved = now;
-                    self.exchange.sent(count);
-                }
-                Err(error) if error.kind() == ErrorKind::WouldBlock => return self.wait(now),
-                Err(error) if error.kind() == ErrorKind::Interrupted => {}
-                Err(error) => return Progress::Lost(LetGo::Write(error)),
+            let stop = if self.exchange.to_send().is_empty() {
+                self.pass_on(now)
+            } else {
+                self.send_rest(now)
+            };
+            if let Some(progress) = stop {
+                return progress;
             }
         }
         Progress::MayGoOn
+    }
+
+    // Sends the next piece of the reply, if there is one, and keeps what the client does not take. None: it may go on.
+    fn pass_on(&mut self, now: Instant) -> Option<Progress> {
+        let mut piece = [0u8; MAX_UNSENT];
+        match self.reply.read(&mut piece) {
+            Ok(0) => Some(self.end(now)),
+            Ok(count) => self.send_piece(&piece[..count], now),
+            Err(error) if error.kind() == ErrorKind::Interrupted => None,
+            Err(error) => Some(Progress::Lost(LetGo::Read(error))),
+        }
+    }
+
+    fn send_piece(&mut self, piece: &[u8], now: Instant) -> Option<Progress> {
+        let sent = match self.client.write(piece) {
+            Ok(count) => {
+                self.moved = now;
+                count
+            }
+            Err(error) => match error.kind() {
+                ErrorKind::WouldBlock | ErrorKind::Interrupted => 0,
+                _ => return Some(Progress::Lost(LetGo::Write(error))),
+            },
+        };
+        keep_rest(&mut self.exchange, piece, sent);
+        None
+    }
+
+    // Sends what was kept of the last piece.
+    fn send_rest(&mut self, now: Instant) -> Option<Progress> {
+        match self.client.write(self.exchange.to_send()) {
+            Ok(count) => {
+                self.moved = now;
+                self.exchange.sent(count);
+                None
+            }
+            Err(error) if error.kind() == ErrorKind::WouldBlock => Some(self.wait(now)),
+            Err(error) if error.kind() == ErrorKind::Interrupted => None,
+            Err(error) => Some(Progress::Lost(LetGo::Write(error))),
+        }
+    }
+
+    // The run has written no more yet, or nothing more comes.
+    fn end(&mut self, now: Instant) -> Progress {
+        if self.is_over {
+            self.exchange.reply_end();
+        }
+        self.rest(now)
     }
 
     // There is nothing to send now.
@@ -89,20 +132,15 @@ impl Connection {
             Progress::Waits
         }
     }
+}
 
-    // Takes up the next piece of the reply, if there is one. At the reply's end that is told.
-    fn refill(&mut self) -> io::Result<bool> {
-        let mut piece = [0u8; 4096];
-        match self.reply.read(&mut piece) {
-            Ok(0) => {
-                if self.is_over {
-                    self.exchange.reply_end();
-                }
-                Ok(false)
-            }
-            Ok(count) => Ok(self.exchange.reply(&piece[..count]) > 0),
-            Err(error) if error.kind() == ErrorKind::Interrupted => Ok(false),
-            Err(error) => Err(error),
-        }
+// So many of the piece's bytes were sent, and nothing waited before it: the others wait now, in their order.
+fn keep_rest(exchange: &mut Exchange, piece: &[u8], sent: usize)
+    ensures { exchange.old.unsent ≡ [] → exchange.old.is_reply_whole ≡ false →
+        length piece.now ≤ MAX_UNSENT →
+        exchange.new ≡ record exchange.old { unsent = drop sent piece.now } }
+{
+    if let Some(rest) = piece.get(sent..) {
+        let _all = exchange.reply(rest);
     }
 }

@@ -18,7 +18,7 @@ use std::fs::{File, Files};
 use std::io;
 use std::io::ErrorKind;
 use std::rt::Clock;
-use std::time::Instant;
+use std::time::{Duration, Instant};
 
 /// A connection's job and its number.
 type Key = (JobNo, u64);
@@ -29,6 +29,9 @@ const OVER: usize = 64;
 /// As many are held of all jobs together, if nothing else was said.
 const ROOM: usize = 256;
 
+/// As many milliseconds replies are forwarded at a time. Then those of the other connections are left for the next time.
+const LONGEST: u64 = 5;
+
 #[derive(Drop)]
 pub(crate) struct Connections {
     alloc: Global,
@@ -38,6 +41,8 @@ pub(crate) struct Connections {
     room: usize,
     // The clock, as it was read last.
     now: Instant,
+    // The next time begins with the reply of this connection, or of the next above it.
+    first: Key,
 }
 
 impl Connections {
@@ -48,6 +53,7 @@ impl Connections {
             held: BTreeMap::new(alloc),
             room: ROOM,
             now,
+            first: (0, 0),
         }
     }
 
@@ -220,20 +226,54 @@ impl Connections {
     }
 
     /// Sends each client what its run has written since, and lets those go that have it all, and those that can't be sent it.
-    /// It says whether one may go on at once. Where none is held no call of the system is made.
+    /// Once 5 milliseconds are over, those of the other connections are left for the next time, which begins with them. It says
+    /// whether one may go on at once. Where none is held no call of the system is made.
     pub(crate) fn forward<R: Clock + Files>(&mut self, rt: &R, notices: &mut Notices) -> bool {
         if self.held.is_empty() {
             return false;
         }
         self.read_clock(rt);
-        let now = self.now;
+        let begun = self.now;
         let mut is_busy = false;
-        self.held.retain(|key, connection| {
-            let progress = connection.forward(now);
-            is_busy = is_busy || matches!(progress, Progress::MayGoOn);
-            stays(rt, notices, key.0, connection, progress)
-        });
+        let mut next = self.first;
+        for _ in 0..self.held.len() {
+            let Some(key) = self.next_from(next) else {
+                return is_busy;
+            };
+            next = (key.0, key.1.saturating_add(1));
+            if !self.forward_one(rt, notices, key) {
+                continue;
+            }
+            is_busy = true;
+            self.read_clock(rt);
+            if self.now.saturating_duration_since(begun) >= Duration::from_millis(LONGEST) {
+                self.first = next;
+                return true;
+            }
+        }
         is_busy
+    }
+
+    // The first from this one on, or the first of all.
+    fn next_from(&self, from: Key) -> Option<Key> {
+        let (key, _) = match self.held.range(from..).next() {
+            Some(found) => found,
+            None => self.held.iter().next()?,
+        };
+        Some(*key)
+    }
+
+    // It says whether this connection may go on at once.
+    fn forward_one<R: Files>(&mut self, rt: &R, notices: &mut Notices, key: Key) -> bool {
+        let now = self.now;
+        let Some(connection) = self.held.get_mut(&key) else {
+            return false;
+        };
+        let progress = connection.forward(now);
+        if !stays(rt, notices, key.0, connection, progress) {
+            let _gone = self.held.remove(&key);
+        }
+        matches!(progress, Progress::MayGoOn)
     }
 }
 

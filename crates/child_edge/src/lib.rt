@@ -18,6 +18,7 @@ mod notices;
 mod os;
 mod paths;
 mod plain;
+mod shell;
 mod sockets;
 mod spool;
 mod streams;

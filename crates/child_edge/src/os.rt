@@ -186,11 +186,12 @@ impl<R: Clock + Files<File = File> + Processes> OsEdge<R> {
     }
 
     /// Lets each connection go that is held, and removes its files from the spool: at the end, so that nothing is left there of
-    /// clients that took no reply. Takes no memory.
+    /// clients that took no reply. Ends the shell that is kept for TERM, even if it was stopped. Takes no memory.
     pub fn let_all_go(&mut self)
         ensures { self.new ≡ self.old }
     {
         self.connections.close_all(&self.rt);
+        self.children.end_shell();
     }
 
     // A run that serves a connection reads its request and writes its reply. If one of these files is lost, the client is let
@@ -320,7 +321,7 @@ impl<R: Processes> Edge for OsEdge<R> {
     ghost failures = { λ failures. failures };
 }
 
-impl<R: Clock + Files<File = File> + Processes> ChildEdge for OsEdge<R> {
+impl<R: Clock + Files<File = File> + Net + Processes> ChildEdge for OsEdge<R> {
     fn start(
         &mut self,
         job: JobNo,

@@ -1,5 +1,5 @@
 -- How long a round of the live loop waits, in milliseconds.
-use Rattle.std.specs.Prelude.{ℕ, ◌+◌, ◌^◌, ◌≤◌, Bool, true, false, List, [], ◌∷◌, Option, min, max}
+use Rattle.std.specs.Prelude.{ℕ, ◌+◌, ◌-◌, ◌^◌, ◌≤◌, Bool, true, false, List, [], ◌∷◌, Option, min, max}
 use Rattle.std.specs.Option.{ForSome}
 
 -- How many quiet rounds there were since one in which something happened. The rounds stand newest
@@ -13,6 +13,13 @@ quiet_rounds (false ∷ rounds) = quiet_rounds rounds + 1
 -- a second
 abbrev pub pause_after : List Bool → ℕ
 pause_after rounds = min (2 ^ quiet_rounds rounds) 100
+
+-- How many of the next rounds are quick: four after a round in which a client's request came whole, and each round takes one
+-- of them away. The rounds stand newest first, each as whether a request came whole in it.
+abbrev pub quick_after : List Bool → ℕ
+quick_after [] = 0
+quick_after (true ∷ rounds) = 4
+quick_after (false ∷ rounds) = quick_after rounds - 1
 
 -- a wait from up on does not go past the moment, if there is one
 abbrev pub IsNotPast : ℕ → Option ℕ → ℕ → Type 0

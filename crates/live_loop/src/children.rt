@@ -1,7 +1,9 @@
-//! The children, each asked about once a round.
+//! The children, each asked about once a round, as long as there is time.
 
+use crate::round_time::RoundTime;
 use crate::system::System;
 use child_edge::{ChildEdge, OsEdge};
+use control_socket::Limit;
 use history_model::{JobNo, MAX_JOBS};
 use launcher::Input;
 use launcher_turn::LabelRoom;
@@ -10,20 +12,28 @@ use round_findings::Inputs;
 use std::alloc::Global;
 use std::io::Write;
 
-/// Polls each child that is over, by rising numbers of their jobs. An end is handed in, and so is a refusal to wait.
+/// Polls each child that is over, by rising numbers of their jobs from this one on. An end is handed in, and so is a refusal to
+/// wait. Where there is no time left, the others are left for the next round. It answers with which number that begins: 0 unless
+/// some were left.
 pub(crate) fn poll_children<T: SettingStore, R: System, W: Write>(
     alloc: Global,
     inputs: &mut Inputs<T, OsEdge<R>, W>,
     label: &mut LabelRoom,
-) {
-    let mut next = 0;
+    first: JobNo,
+    time: &mut RoundTime<'_, R>,
+) -> JobNo {
+    let mut next = first;
     for _ in 0..MAX_JOBS {
         let Some((job, run)) = inputs.host.edge().over_from(next) else {
-            return;
+            return 0;
         };
         poll_child(alloc, inputs, label, job, run);
         next = job.saturating_add(1);
+        if !time.has_time() {
+            return next;
+        }
     }
+    0
 }
 
 // The table can't lend the label while the child is polled.

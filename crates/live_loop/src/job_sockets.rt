@@ -37,6 +37,8 @@ pub(crate) struct JobSockets {
     first_job: JobNo,
     // The next round hears the client of this key first, or the next above it.
     first_key: usize,
+    // A request came whole since this was asked last.
+    is_whole: bool,
 }
 
 impl JobSockets {
@@ -51,6 +53,7 @@ impl JobSockets {
             may_have_come: true,
             first_job: 0,
             first_key: 0,
+            is_whole: false,
         })
     }
 
@@ -62,6 +65,13 @@ impl JobSockets {
     /// The next line on a client that was let go, without a newline.
     pub(crate) fn next_notice(&mut self) -> Option<Text> {
         self.losses.next()
+    }
+
+    /// Whether a request came whole since this was asked last.
+    pub(crate) fn take_whole(&mut self) -> bool {
+        let is_whole = self.is_whole;
+        self.is_whole = false;
+        is_whole
     }
 
     /// The sockets are to be tried in this round.
@@ -252,6 +262,7 @@ impl JobSockets {
             exchange,
             ..
         } = caller;
+        self.is_whole = true;
         let job = origin.job;
         let conn = self.conn;
         self.conn = conn.saturating_add(1);

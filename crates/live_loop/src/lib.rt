@@ -23,4 +23,4 @@ pub use live::Live;
 pub use rounds::{round, serve};
 pub use silence::{CallerRoom, Heard, Place, place_for};
 pub use system::System;
-pub use waiting::{next_pause, round_wait};
+pub use waiting::{next_pause, quick_rounds, round_wait};

@@ -7,6 +7,7 @@ use crate::voice::Voice;
 use crate::waiting::SHORTEST;
 use child_edge::{Notice, OsEdge};
 use control_socket::ControlSocket;
+use history_model::JobNo;
 use launcher::Host;
 use launcher_turn::LabelRoom;
 use load_asking::SettingStore;
@@ -40,7 +41,11 @@ pub struct Live<R: System, T: SettingStore, W: Write> {
     pub(crate) has_journal_closed: bool,
     // The longest wait of the next round, in milliseconds.
     pub(crate) pause: u64,
-    // A client may go on at once.
+    // As many of the next rounds are quick.
+    pub(crate) quick: u32,
+    // The next round asks about the child of this job first, or of the next above it.
+    pub(crate) next_child: JobNo,
+    // A client may go on at once, or a child was left.
     pub(crate) is_busy: bool,
     // The reading's `up` at which no job was left after a shutdown.
     pub(crate) ended_at: Option<u64>,
@@ -119,6 +124,8 @@ impl<R: System, T: SettingStore + Drop, W: Write + Drop> Live<R, T, W> {
             untold: None,
             has_journal_closed: false,
             pause: SHORTEST,
+            quick: 0,
+            next_child: 0,
             is_busy: false,
             ended_at: None,
         })

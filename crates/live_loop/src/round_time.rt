@@ -1,13 +1,13 @@
-//! How long clients are served in a round.
+//! How long children are polled and clients are served in a round.
 
 use control_socket::Limit;
 use std::rt::Clock;
 use std::time::{Duration, Instant};
 
-/// As many milliseconds a round serves clients of one kind. Then the clock is read, and done what it orders.
-const LONGEST: u64 = 20;
+/// As many milliseconds a round polls children, and serves clients of one kind. Then the clock is read, and done what it orders.
+const LONGEST: u64 = 10;
 
-/// The time since clients are served.
+/// The time since children are polled, or clients are served.
 #[derive(Drop)]
 pub(crate) struct RoundTime<'a, R> {
     rt: &'a R,

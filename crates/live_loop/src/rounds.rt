@@ -6,25 +6,30 @@ use crate::live::Live;
 use crate::round_time::RoundTime;
 use crate::system::System;
 use crate::telling::tell;
-use crate::waiting::{next_pause, round_wait};
+use crate::waiting::{next_pause, quick_rounds, round_wait};
 use history_model::SECOND;
 use load_asking::SettingStore;
 use std::alloc::Global;
 use std::io::Write;
 use std::sync::Wait;
+use std::thread;
 use std::time::Duration;
 
 /// As many milliseconds of `up` a launcher with no job left waits for clients that don't take their reply, or ask on and on, and
 /// for a standard error that takes nothing.
 const PATIENCE: u64 = SECOND;
 
-/// One round. It waits at most a tenth of a second, reads the clock, asks about each child, looks at the listed paths once in
+/// As many microseconds a quick round waits.
+const QUICK_WAIT: u64 = 200;
+
+/// One round. It waits at most a tenth of a second, or 200 microseconds if it is one of the four behind a round in which a client's
+/// request came whole, reads the clock, asks about each child, looks at the listed paths once in
 /// 1,000 milliseconds of `up`, serves the control clients and takes new ones, and does the same for the clients of jobs'
 /// sockets. What it finds is handed to the launcher, one by one. In the end it tells what was refused, and what became of runs,
 /// in a line each on standard error.
 ///
-/// Control clients are served for 20 milliseconds at most, and a line longer; then clients of jobs' sockets for as long. What is
-/// left is for the next round, which does not wait.
+/// Children are polled for 10 milliseconds at most, and one child longer; control clients are served for as long, and a line
+/// longer; then clients of jobs' sockets. What is left is for the next round, which does not wait.
 ///
 /// True: a shutdown was accepted, no job is left, and the control clients have their replies, or a second has passed since.
 /// Poll, if the system refuses to wait; nothing was done then.
@@ -33,15 +38,22 @@ pub fn round<R: System, T: SettingStore, W: Write>(
     alloc: Global,
     live: &mut Live<R, T, W>,
 ) -> Result<bool, ServeFault> {
-    wait(live)?;
+    wait(rt, live)?;
     live.inputs.begin(alloc);
-    poll_children(alloc, &mut live.inputs, &mut live.label);
+    let mut time = RoundTime::begin(rt, live.inputs.at().up);
+    live.next_child = poll_children(
+        alloc,
+        &mut live.inputs,
+        &mut live.label,
+        live.next_child,
+        &mut time,
+    );
     if live.sights.look(alloc, &mut live.inputs) {
         live.sockets.wake();
     }
     serve_clients(rt, alloc, live);
     tell(rt, alloc, live);
-    live.pause = next_pause(live.inputs.is_active(), live.pause);
+    pace(live);
     Ok(is_over(live))
 }
 
@@ -73,10 +85,28 @@ fn close<R: System, T: SettingStore, W: Write>(rt: &R, alloc: Global, live: &mut
     tell(rt, alloc, live);
 }
 
-// Waits for readiness, no longer than until the next moment of the table and the next look.
-fn wait<R: System, T: SettingStore, W: Write>(live: &mut Live<R, T, W>) -> Result<(), ServeFault> {
-    let time = Duration::from_millis(next_wait(live));
-    match live.poll.poll(&mut live.events, Some(time)) {
+// How the next rounds wait. A quick round is none that is quiet: the pauses begin behind it.
+fn pace<R: System, T: SettingStore, W: Write>(live: &mut Live<R, T, W>) {
+    let is_active = live.inputs.is_active() || live.quick > 0;
+    live.pause = next_pause(is_active, live.pause);
+    live.quick = quick_rounds(live.sockets.take_whole(), live.quick);
+}
+
+// Waits for readiness, no longer than until the next moment of the table and the next look. The poll knows whole milliseconds alone,
+// so a quick round sleeps before it.
+fn wait<R: System, T: SettingStore, W: Write>(
+    rt: &R,
+    live: &mut Live<R, T, W>,
+) -> Result<(), ServeFault> {
+    let mut wait = next_wait(live);
+    if live.quick > 0 && wait > 0 {
+        thread::sleep(rt, Duration::from_micros(QUICK_WAIT));
+        wait = 0;
+    }
+    match live
+        .poll
+        .poll(&mut live.events, Some(Duration::from_millis(wait)))
+    {
         Ok(()) => {}
         Err(_) => return Err(ServeFault::Poll),
     }
@@ -109,7 +139,7 @@ fn serve_clients<R: System, T: SettingStore, W: Write>(
         .accept(live.poll.registry(), &mut live.inputs, &mut time);
     let is_sending = live.sockets.gather(alloc, &mut live.inputs, &mut time);
     let is_taking = live.inputs.host.edge().forward();
-    live.is_busy = is_asking || is_sending || is_taking;
+    live.is_busy = is_asking || is_sending || is_taking || live.next_child > 0;
 }
 
 fn is_over<R: System, T: SettingStore, W: Write>(live: &mut Live<R, T, W>) -> bool {

@@ -1,7 +1,7 @@
 //! How long a round of the live loop waits, in milliseconds.
 
 ghost use Rattle.std.specs.Prelude.{◌≡◌, ◌≤◌, ◌∷◌, ℕ, Bool, List};
-ghost use Rattle.live_loop.specs.Waiting.{pause_after, IsNotPast, IsLongestWait};
+ghost use Rattle.live_loop.specs.Waiting.{pause_after, quick_after, IsNotPast, IsLongestWait};
 
 /// The longest pause.
 const LONGEST: u64 = 100;
@@ -19,6 +19,23 @@ pub fn next_pause(is_active: bool, pause: u64) -> u64
         SHORTEST
     } else {
         pause.saturating_mul(2).min(LONGEST)
+    }
+}
+
+/// As many rounds are quick after one in which a client's request came whole.
+const QUICK: u32 = 4;
+
+/// How many of the next rounds are quick, after one round more, of how many there were after those before it: four after a round
+/// in which a client's request came whole, since most runs that answer one end soon, and no end wakes a round. A quick round waits
+/// 200 microseconds if nothing is there.
+pub fn quick_rounds(is_whole: bool, quick: u32) -> u32
+    ensures { (rounds : List Bool) → quick ≡ quick_after rounds →
+        result ≡ quick_after (is_whole ∷ rounds) }
+{
+    if is_whole {
+        QUICK
+    } else {
+        quick.saturating_sub(1)
     }
 }
 
