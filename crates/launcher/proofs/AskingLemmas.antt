@@ -139,6 +139,7 @@ question s e line text table a k n (is, same) numbered noted keeps led = record 
   replies = ap (λ (o : Outcome). o.refusal) is;
   numbers = λ none. record { once = numbered.once; named = numbered.named };
   noted = subst (Grows k n) (sym (append-nil line)) noted;
+  tellable = tt;
 }
 
 -- no memory, and no line

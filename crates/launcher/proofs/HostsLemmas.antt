@@ -98,6 +98,7 @@ flushed event refusal words old table calls stores m n before after heard grew =
           replies = turn.turn.replies;
           numbers = turn.turn.numbers;
           noted = line_flushed old.journal m n (event_line (answered turn.outside e) ++ answer_texts turn.turn.names (answers_in turn.turn.entries)) turn.turn.noted grew;
+          tellable = turn.turn.tellable;
         };
         own = turn.own;
         text = turn.text;

@@ -83,6 +83,7 @@ nothing_done s e line new r a k n is noted keeps led = record {
   replies = ap (λ o. (outcome_by o s e).refusal) is;
   numbers = λ none. let no : Some r ≡ None = none in cc;
   noted = subst (Grows k n) (sym (append-nil line)) noted;
+  tellable = tt;
 }
 
 -- a load that was refused before the outside was asked

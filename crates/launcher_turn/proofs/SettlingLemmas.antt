@@ -1,5 +1,6 @@
 -- What holds in the middle of a launcher's turn, with some answers still to be made events.
 use Rattle.std.proofs.Common.{◌≡◌, ℕ, suc, ◌+◌, ◌*◌, ◌<◌, ◌≤◌, List, [], ◌∷◌, ◌++◌, map, take, drop, length, get_or, Option, refl, sym, ap, subst, ◌∙◌, append_assoc, arith, add-one, length-append, length-drop, drop-cons}
+use Rattle.std.specs.List.{AllByRecursion}
 use Rattle.std.proofs.lemmas.List.{append-nil, map-append, take_more, take_all, take-append-le, drop-append-le}
 use Rattle.history_model.specs.declared.Order.{Order}
 use Rattle.history_model.specs.Machine.{State, Event}
@@ -9,7 +10,7 @@ use Rattle.job_table.specs.Kept.{KeepsState, labelled}
 use Rattle.child_edge.specs.Calls.{Tells, Entry}
 use Rattle.child_edge.proofs.CallsLemmas.{tells_append, tells_nothing}
 use Rattle.order_edge.specs.declared.pending.Pending.{Pending}
-use Rattle.order_edge.specs.Calls.{call_of, calls_in, answer_in, answers_in}
+use Rattle.order_edge.specs.Calls.{call_of, calls_in, answer_in, answers_in, IsTellablePending}
 use Rattle.std.proofs.lemmas.List.Elements.{filter_map-append}
 use Rattle.std.proofs.lemmas.Grind.{flat_map-append}
 use Rattle.history_model.specs.Turns.{JobOrder, wanting}
@@ -70,8 +71,8 @@ so-far-start s names waits first table told written waiting fits = record {
 }
 
 pub so-far-end : (s : State) (names : List Name) (first answers : List Pending) (k : ℕ) (table : Table) (told told' : Option (List Entry)) (written written' : Kept) →
-    IsSoFar s names first answers k table told told' written written' → length answers ≤ k → Settled s names first answers table (trace told written) (trace told' written')
-so-far-end s names first answers k table told told' written written' far all =
+    IsSoFar s names first answers k table told told' written written' → length answers ≤ k → AllByRecursion IsTellablePending answers → Settled s names first answers table (trace told written) (trace told' written')
+so-far-end s names first answers k table told told' written written' far all tellable =
     let whole : take k answers ≡ answers = take_all k answers all in
     record {
       made = far.made;
@@ -83,6 +84,7 @@ so-far-end s names first answers k table told told' written written' far all =
       kept = subst (λ ps. KeepsState table (run (map (event_in names) ps) s)) whole far.waiting.keeps;
       noted = subst (λ ps. Grows written written' (answer_texts names ps)) whole far.noted;
       numbers = far.waiting.numbers;
+      tellable = tellable;
     }
 
 -- one more answer

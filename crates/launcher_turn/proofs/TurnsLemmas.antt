@@ -21,7 +21,7 @@ use Rattle.job_table.specs.Kept.{KeepsState, labelled}
 use Rattle.job_table.specs.Outcomes.{UnlessMemory}
 use Rattle.history_model.specs.declared.Refusal.TheVariants.{NoMemory}
 use Rattle.order_edge.specs.declared.pending.Pending.{Pending}
-use Rattle.order_edge.specs.Calls.{call_of, answer_in, answers_in}
+use Rattle.order_edge.specs.Calls.{call_of, answer_in, answers_in, IsTellablePending}
 use Rattle.history_model.specs.Turns.{JobOrder, wanting}
 use Rattle.history_model.specs.Waits.{weigh_orders}
 use Rattle.history_model.proofs.LabelOrderLemmas.{heard-labels, heard_one-labels, order-run, all-stays, all-with}
@@ -144,6 +144,7 @@ turned-at s e line old mid new first after a b c k m n is led keeps did noted se
       replies = did.replies;
       numbers = λ none. done.numbers;
       noted = subst (λ ps. Grows k n (line ++ answer_texts mid.names ps)) (sym all) (grows_append k m n line (answer_texts mid.names after) noted done.noted);
+      tellable = subst (AllByRecursion IsTellablePending) (sym all) done.tellable;
     }
 
 -- a refused event is the whole turn
@@ -166,6 +167,7 @@ refused-turn e line refusal old new first a b k n is noted happened = λ s led k
         replies = did.replies;
         numbers = λ none. cc;
         noted = subst (Grows k n) (sym (append-nil line)) noted;
+        tellable = tt;
       },
       λ none. cc,
     )

@@ -20,7 +20,7 @@ use Rattle.child_edge.specs.Calls.{Tells, Entry}
 use Rattle.order_edge.specs.declared.pending.Pending.{Pending}
 use Rattle.event_journal.specs.Journals.{Kept, Grows}
 use Rattle.launcher_turn.specs.Lines.{answer_text, answer_texts}
-use Rattle.order_edge.specs.Calls.{call_of, calls_in, answers_in}
+use Rattle.order_edge.specs.Calls.{call_of, calls_in, answers_in, IsTellablePending}
 use Rattle.history_model.specs.Turns.{JobOrder, wanting}
 use Rattle.history_model.specs.Waits.{AreFresh, weight, weigh_orders}
 
@@ -163,6 +163,7 @@ pub record Settled (s : State) (names : List Name) (waited settled : List Pendin
   pub kept : KeepsState new (run (map (event_in names) settled) s)
   pub numbers : AreNumbered names new
   pub noted : Grows before.journal after.journal (answer_texts names settled)
+  pub tellable : AllByRecursion IsTellablePending settled
 
 -- ---- a turn
 
@@ -178,8 +179,8 @@ IsShort _ = Unit {0}
 
 -- For each machine that the table stood for: the edge was called as a turn of it says, and if it
 -- tells, it tells just these calls; the table then stands for the machine after it, and the answer
--- is the machine's to the input. The journal grew by the lines of these events. The numbers in the
--- calls are those of the jobs that are loaded.
+-- is the machine's to the input. The journal grew by the lines of these events, and a line can say
+-- each answer. The numbers in the calls are those of the jobs that are loaded.
 pub record TurnsOf (s : State) (input : Event) (line : List ℕ) (reply : Option Refusal)
     (new : Table) (before after : Trace) : Type 0 where
   pub names : List Name
@@ -190,6 +191,7 @@ pub record TurnsOf (s : State) (input : Event) (line : List ℕ) (reply : Option
   pub replies : (outcome s input).refusal ≡ reply
   pub numbers : reply ≡ None → AreNumbered names new
   pub noted : Grows before.journal after.journal (line ++ answer_texts names (answers_in entries))
+  pub tellable : AllByRecursion IsTellablePending (answers_in entries)
 
 -- and they are those under which the jobs were loaded before it
 abbrev pub Turns :
