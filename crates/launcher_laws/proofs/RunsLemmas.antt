@@ -28,7 +28,7 @@ use Rattle.launcher_load.specs.LoadTurns.{is_memory}
 use Rattle.table_opening.specs.Events.{event_of}
 use Rattle.launcher.specs.Inputs.{answered}
 use Rattle.launcher.specs.Hosts.{HostTurnOf, IsSpared, HearsBy}
-use Rattle.launcher_laws.specs.Runs.{Moment, Turn, IsBetween, WasHeard, AreTurns, IsPartOf, AreParts, Part, outcomes_in, events_in as parts_events}
+use Rattle.launcher_laws.specs.Runs.{answer_told, Moment, Turn, IsBetween, WasHeard, AreTurns, IsPartOf, AreParts, Part, outcomes_in, events_in as parts_events}
 
 -- ---- runs in two parts
 
@@ -41,9 +41,6 @@ outcomes_append [] ys s = refl
 outcomes_append (x ∷ xs) ys s = ap (λ l. outcome s x ∷ l) (outcomes_append xs ys (step s x))
 
 -- ---- the events of a turn, as the journal has them
-
-abbrev answer_told : List Name → Pending → journal.Event
-answer_told names pending = journaled_answer (label_of names pending.job) pending.answer
 
 answer_is : (job : Label) (answer : Answer) → event_of (journaled_answer job answer) ≡ OfJob job (Answered answer)
 answer_is job (answers.Spawned run pid) = refl
@@ -113,6 +110,8 @@ module _ {T : Type 0} (holds : T → List Setting → Type 0) (s : State) (turn 
           entries = t.turn.entries;
           tells = t.turn.tells;
           calls = t.turn.turn.calls;
+          told = refl;
+          tellable = t.turn.tellable;
         });
         all = ap (λ es. outcomes es s) same;
         led = subst (λ es. IsLed (run es s)) same t.turn.led;

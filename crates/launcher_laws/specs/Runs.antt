@@ -1,17 +1,19 @@
 -- What a launcher goes through: its turns, one after another.
 use Rattle.std.specs.Prelude.{◌≡◌, ◌⊎◌, ℕ, true, List, [], ◌∷◌, map, Option, Some, None}
-use Rattle.std.specs.List.{flat_map, AllZip}
+use Rattle.std.specs.List.{flat_map, AllZip, AllByRecursion}
 use Rattle.history_model.specs.declared.Refusal.{Refusal}
 use Rattle.history_model.specs.declared.Refusal.TheVariants.{BadRequest}
 use Rattle.history_model.specs.declared.Order.{Order}
 use Rattle.history_model.specs.declared.event.Event as journal
 use Rattle.history_model.specs.declared.event.Setting.{Setting}
 use Rattle.history_model.specs.Step.{Outcome}
-use Rattle.job_table.specs.Tables.{Name}
+use Rattle.job_table.specs.Tables.{Name, label_of}
 use Rattle.job_table.specs.Kept.{labelled}
 use Rattle.child_edge.specs.Calls.{Tells, Entry}
-use Rattle.order_edge.specs.Calls.{call_of, calls_in}
+use Rattle.order_edge.specs.declared.pending.Pending.{Pending}
+use Rattle.order_edge.specs.Calls.{call_of, calls_in, answers_in, IsTellablePending}
 use Rattle.event_journal.specs.Journals.{reported}
+use Rattle.launcher_turn.specs.Lines.{journaled_answer}
 use Rattle.load_asking.specs.declared.asking.Outside.{Outside}
 use Rattle.launcher_load.specs.LoadTurns.{is_memory, Standing}
 use Rattle.launcher.specs.Inputs.{answered}
@@ -60,10 +62,15 @@ abbrev pub IsNoEvent : {T : Type 0} → Turn T → Type 0
 IsNoEvent turn =
     (is_memory turn.refusal ≡ true) ⊎ ((turn.event ≡ None) × (turn.refusal ≡ Some BadRequest))
 
+-- the journal's event of an answer; a number stands for its job's label
+abbrev pub answer_told : List Name → Pending → journal.Event
+answer_told names pending = journaled_answer (label_of names pending.job) pending.answer
+
 -- The events of a turn, as the journal has them, and their outcomes. The first event is the one
 -- that came, with what the outside answered to it, and its outcome is the reply; the others are the
--- answers to the orders. The orders in all outcomes are the calls that were made, in order, each
--- once, after what a load asks of its sockets.
+-- answers that the calls gave, in order. The orders in all outcomes are the calls that were made,
+-- in order, each once, after what a load asks of its sockets. A line can say the numbers of each
+-- answer.
 pub record AreOutcomesOf {T : Type 0} (turn : Turn T) (events : List journal.Event)
     (outs : List Outcome) : Type 0 where
   pub event : journal.Event
@@ -83,6 +90,8 @@ pub record AreOutcomesOf {T : Type 0} (turn : Turn T) (events : List journal.Eve
   pub entries : List Entry
   pub tells : Tells mid entries turn.after.stands.calls
   pub calls : calls_in entries ≡ map call_of orders
+  pub told : answers ≡ map (answer_told names) (answers_in entries)
+  pub tellable : AllByRecursion IsTellablePending (answers_in entries)
 
 -- what a turn adds to a run of the machine: its events, and their outcomes
 abbrev pub Part : Type 0
