@@ -11,7 +11,7 @@ ghost use Rattle.job_table.specs.Kept.{KeepsState};
 ghost use Rattle.job_table.specs.Loads.{refusal_outside, IsReady, described_in, refused_with};
 ghost use Rattle.event_journal.specs.Journals.{Kept, Grows};
 ghost use Rattle.load_asking.specs.Asking.{told_of};
-ghost use Rattle.load_asking.specs.Stores.{HoldsAfter};
+ghost use Rattle.load_asking.specs.Stores.{HoldsAfter, stamp_if};
 ghost use Rattle.launcher_turn.specs.Turns.{IsLed, trace};
 ghost use Rattle.launcher_load.specs.Lines.{load_line};
 ghost use Rattle.launcher_load.specs.LoadTurns.{LoadTurnOf, IsUntouched, Makes, EndsLoad, event_of_load, is_memory, load_request, ready_load, settings_after, standing};
@@ -107,6 +107,10 @@ fn ask_and_make<E: ChildEdge + SocketEdge, T: SettingStore, W: Write>(
     ensures stored { HoldsAfter T.holds
         (set_if (writes_setting && (result.outside.bind && result.outside.store))
         (described_in ready).label false)
+        store.old store.new }
+    ensures stamped { HoldsAfter T.stamped
+        (stamp_if (writes_setting && (result.outside.bind && result.outside.store))
+        (described_in ready).label table.old.reading.wall)
         store.old store.new }
 {
     let changed = table.reading().wall;

@@ -8,6 +8,7 @@ ghost use Rattle.job_table.specs.Changes.{set_of, IsReadySet};
 ghost use Rattle.job_table.specs.Kept.{KeepsState};
 ghost use Rattle.event_journal.specs.Journals.{Kept, Grows};
 ghost use Rattle.load_asking.specs.Asking.{told_of};
+ghost use Rattle.load_asking.specs.Stores.{StampsBy};
 ghost use Rattle.launcher_turn.specs.Turns.{IsLed, TurnsOf, trace};
 ghost use Rattle.job_table.specs.Loads.{refused_with};
 ghost use Rattle.launcher_load.specs.LoadTurns.{SetTurnOf, IsUntouched, is_memory, set_request, settings_after, standing};
@@ -89,6 +90,7 @@ pub fn set<E: ChildEdge + SocketEdge, T: SettingStore, W: Write>(
     ensures stored { (s : State) → KeepsState table.old s → T.holds store.old s.settings
         → T.holds store.new (settings_after (refused_with result.reply) s
         (set_of label.now disabled unload result.stored)) }
+    ensures stamped { StampsBy T.stamped table.old.reading.wall store.old store.new }
 {
     if !is_label(label) {
         note_set(journal, alloc, label, disabled, unload, true);
