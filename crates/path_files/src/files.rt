@@ -8,7 +8,7 @@ use std::{fs, io};
 
 /// What stands at a path.
 #[derive(Clone, Copy, Drop)]
-pub(crate) enum Kind {
+pub enum Kind {
     /// A file that may be a definition.
     File,
     /// A folder that can't be listed, with the reason.
@@ -19,15 +19,15 @@ pub(crate) enum Kind {
 
 /// A file that a path stands for, or a folder that stands for none.
 #[derive(Drop)]
-pub(crate) struct Found {
-    pub(crate) path: String,
-    pub(crate) kind: Kind,
+pub struct Found {
+    pub path: String,
+    pub kind: Kind,
 }
 
 /// The files that the paths stand for, in their order. A folder stands for its files whose names end in `.plist` or `.json`,
 /// in byte order of names, and not for its folders; behind them stands what of it can't be listed, or the folder if it has
 /// none of them. Any other path stands for itself. `AllocError` if memory ran out.
-pub(crate) fn files_at<R: Files + AllocGlobal + Clone + Drop>(
+pub fn files_at<R: Files + AllocGlobal + Clone + Drop>(
     rt: &R,
     paths: &[Text],
 ) -> Result<Vec<Found>, AllocError> {
