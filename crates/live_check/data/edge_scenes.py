@@ -930,6 +930,74 @@ def a_standard_error_that_nobody_reads(stage):
     os.close(told)
 
 
+def shells_below(pid):
+    """The shells that a launcher keeps for TERM: children whose words hold its `kill`."""
+    return [child for child in children_of(pid) if "while read p; do kill" in text_at(f"/proc/{child}/cmdline")]
+
+
+def state_of(pid):
+    return text_at(f"/proc/{pid}/stat").rpartition(")")[2].split()[:1]
+
+
+def kept_shell(stage):
+    """One shell gives all TERMs. Killed or stopped, it stops no TERM; none is left after an end, or once the launcher is killed."""
+    launcher = stage.serve()
+    check(not shells_below(launcher.pid), "a shell is kept before the first TERM")
+    count = 8
+    for number in range(count):
+        launcher.load(shell_job(f"j{number}", "exec sleep 60", RunAtLoad=True))
+    before = descriptors(launcher.pid)
+
+    def stop(number):
+        launcher.ask({"req": "stop", "job": f"j{number}"})
+        launcher.tells(f"j{number}", "last exit = signal 15")
+
+    stop(0)
+    (first,) = shells_below(launcher.pid)
+    stop(1)
+    check(shells_below(launcher.pid) == [first], "a second TERM is given by another shell")
+    check(descriptors(launcher.pid) <= before + 1, "a kept shell holds more than one descriptor")
+    below = f"/proc/{first}/fd"
+    check(len({os.readlink(f"{below}/{end}") for end in ("0", "1")}) == 1, "the shell's input and output differ")
+    check(os.readlink(f"{below}/2") == "/dev/null", "the shell's errors are not the null device")
+    ours = {os.readlink(f"/proc/{launcher.pid}/fd/{end}") for end in os.listdir(f"/proc/{launcher.pid}/fd")}
+    for child in children_of(launcher.pid):
+        if child != first:
+            held = {os.readlink(f"/proc/{child}/fd/{end}") for end in os.listdir(f"/proc/{child}/fd")}
+            check(not [end for end in held & ours if end.startswith("socket:")], "a job holds a socket of the launcher")
+    os.kill(first, signal.SIGKILL)
+    wait_for(lambda: state_of(first) in ([], ["Z"]), "the shell does not end")
+    stop(2)
+    (second,) = shells_below(launcher.pid)
+    check(second != first and state_of(first) == [], "a shell that was killed is not replaced, or not waited for")
+    os.kill(second, signal.SIGSTOP)
+    wait_for(lambda: state_of(second) == ["T"], "the shell does not stop")
+    start = time.monotonic()
+    stop(3)
+    check(time.monotonic() - start < BOUND, "a stopped shell holds the launcher up")
+    stop(4)
+    wait_for(lambda: state_of(second) == [], "a shell that was stopped is left")
+    (third,) = shells_below(launcher.pid)
+    os.kill(third, signal.SIGSTOP)
+    launcher.shut_down()
+    wait_for(lambda: state_of(third) in ([], ["Z"]), "the shell outlives an end in order")
+
+
+def kept_shell_of_a_killed_launcher(stage):
+    """200 jobs get their TERM at a shutdown; and the shell ends if the launcher is killed."""
+    launcher = stage.serve()
+    for number in range(200):
+        launcher.load(shell_job(f"j{number}", "exec sleep 60", RunAtLoad=True))
+    launcher.shut_down()
+    launcher = stage.serve()
+    launcher.load(shell_job("a", "exec sleep 60", RunAtLoad=True))
+    launcher.ask({"req": "stop", "job": "a"})
+    launcher.tells("a", "last exit = signal 15")
+    (shell,) = shells_below(launcher.pid)
+    os.kill(launcher.pid, signal.SIGKILL)
+    wait_for(lambda: state_of(shell) in ([], ["Z"]), "the shell outlives a launcher that was killed")
+
+
 def fill(pipe):
     """Writes until the pipe takes nothing more."""
     try:
@@ -977,6 +1045,7 @@ SCENES = [
     a_lost_spool_file, closed_standard_streams, pipelined_settings, silent_clients_of_the_control_socket, no_descriptor_left,
     settings_in_the_log, limits_and_ignored_signals, private_files, a_journal_at_a_fifo, a_journal_that_may_not_grow, what_is_no_store,
     long_lines_and_headers, reasons_are_told, run_log, a_standard_error_that_nobody_reads, an_end_beside_one_who_asks_on,
+    kept_shell, kept_shell_of_a_killed_launcher,
 ]
 
 
