@@ -2,7 +2,7 @@
 # make test   the gate: every proof, the wrong bodies, the tests, the programs; what an earlier run on this machine passed over the
 #             same files is not proved or tried again. It leaves the programs in build/ too
 # make times  the gate with nothing kept from earlier runs, and then what each crate cost it, in processor seconds
-# make build  proves, and leaves the programs as build/jobd and build/jobctl
+# make build  proves, and leaves the programs as build/jobd, build/jobctl and build/jobscope
 # make dist   the archive of the programs in build/, with what belongs to them; make deb, the Debian package of it
 # make bench  times build/jobd, the calendar and the live launcher, and counts the instructions of a line; BASELINE=PROGRAM takes turns
 #             with another program
@@ -39,7 +39,7 @@ bench: build
 	@python3 bench/instructions.py
 
 need_rt:
-	@command -v rt > /dev/null 2>&1 || { echo "rt is not on the PATH: install the Rattle kit (README, What you need)" >&2; exit 127; }
+	@command -v rt > /dev/null 2>&1 || { echo "rt is not on the PATH: install the Rattle kit (README, From source)" >&2; exit 127; }
 
 # make install, make uninstall: the programs of build/, manual pages, completions, documents and licences, below PREFIX
 # (/usr/local), each path behind DESTDIR

@@ -1,11 +1,11 @@
-# make build: proves both programs and all that they stand on, and leaves them as build/jobd and build/jobctl. A crate begins as soon as
+# make build: proves the programs and all that they stand on, and leaves them as build/jobd, build/jobctl and build/jobscope. A crate begins as soon as
 # those that it stands on are proved, as many side by side as there are processors; what did not change since is taken as it stands.
 # The rules are made from crates.txt: one for each crate, with the crates that its line names before it.
-PROGRAMS := jobd_program jobctl_program
+PROGRAMS := jobd_program jobctl_program jobscope_program
 BUILD_JOBS ?= $(shell nproc)
 # Which commit and which kit stand behind the programs of build/.
 say_proved = { echo "Commit: $$(git rev-parse HEAD)"; echo "Kit: $$(rt version)"; \
-    echo "Programs: $$(cd build && sha256sum jobd jobctl | tr '\n' ' ')"; } > build/proved.txt
+    echo "Programs: $$(cd build && sha256sum jobd jobctl jobscope | tr '\n' ' ')"; } > build/proved.txt
 CRATES := $(shell sed -nE 's/^([a-z0-9_]+)[^:]*:.*/\1/p' crates.txt)
 stands_on = $(filter $(CRATES),$(shell sed -nE 's/^$(1)( [^:]*)?:(.*)/\2/p' crates.txt))
 # The crates below the named ones, each once.
@@ -22,7 +22,7 @@ ifneq ($(filter built_programs library_%,$(MAKECMDGOALS)),)
 LIBRARIES := $(filter-out $(PROGRAMS),$(call closure,$(PROGRAMS)))
 LAST := $(words $(LIBRARIES) $(PROGRAMS))
 
-built_programs: program_jobd program_jobctl
+built_programs: program_jobd program_jobctl program_jobscope
 
 # Each line is written once the crate is proved: how many of all are, and its name. What a failed proof said is printed, and is kept in build/log/.
 define library
@@ -42,4 +42,5 @@ program_$(1): $(foreach low,$(call stands_on,$(1)_program),library_$(low))
 endef
 $(eval $(call program,jobd,replay < examples/first.jsonl))
 $(eval $(call program,jobctl,--help))
+$(eval $(call program,jobscope,--help))
 endif

@@ -27,6 +27,11 @@ LINES = [
     ("a reading, a start and its two answers (mean)", "starts", (1, 1000), (200, 1200), None),
     ("a sight", "looks", (1, 1000), (200, 1200), None),
     ("a load or an unload (mean)", "loads", (1, 1000), (200, 1200), None),
+    ("a reading that crosses a minute of every job, and nothing is ordered", "calendars", (1, 1000), (9, 59), None),
+    ("a sight of a path that every job watches, and nothing is ordered", "watched", (1, 1000), (40, 240), None),
+    ("a setting of a label that has one", "known", (1, 1000), (200, 1200), 1.1),
+    ("a setting of a label that has none", "fresh", (1, 1000), (200, 400), 1.3),
+    ("a shutdown's TERM or end (mean)", "shutdown", (1, 1000), (0, 1), None),
 ]
 BUSY = ("interval", 1000, (2_000, 12_000), 1.5)
 

@@ -45,6 +45,14 @@ def now():
     return time.monotonic() * 1000
 
 
+def name_of(pid):
+    try:
+        with open(f"/proc/{pid}/comm") as told:
+            return told.read().strip()
+    except OSError:
+        return "sh"
+
+
 @dataclass
 class Figure:
     what: str
@@ -96,8 +104,9 @@ class Launcher:
         return subprocess.run([self.jobctl, "--socket", self.path("socket"), *words], capture_output=True, text=True)
 
     def children(self):
+        """How many jobs run: the shell that gives TERM is a child too, and no job here is a shell."""
         with open(f"/proc/{self.process.pid}/task/{self.process.pid}/children") as told:
-            return len(told.read().split())
+            return sum(name_of(pid) != "sh" for pid in told.read().split())
 
     def await_children(self, wanted, seconds=60):
         until = now() + 1000 * seconds
@@ -135,13 +144,14 @@ class Launcher:
 
 
 def restarts(launcher, times):
-    """From the end of a job's child to the first line of the next one, which a shell writes to a pipe."""
+    """From the end of a job's child to the first line of the next one, which a shell writes to a pipe. It opens the pipe itself: the
+    launcher opens plain files alone."""
     os.mkfifo(launcher.path("told"))
     pipe = os.open(launcher.path("told"), os.O_RDWR)
     lines = os.fdopen(pipe)
     launcher.ask("load", launcher.define(
-        "restarted", ProgramArguments=["/bin/sh", "-c", "echo $$; exec sleep 100000"], KeepAlive=True, ThrottleInterval=0,
-        StandardOutPath=launcher.path("told")))
+        "restarted", ProgramArguments=["/bin/sh", "-c", 'echo $$ > "$0"; exec sleep 100000', launcher.path("told")], KeepAlive=True,
+        ThrottleInterval=0))
     pid, took = int(lines.readline()), []
     for _ in range(times):
         time.sleep(0.3)

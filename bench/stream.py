@@ -11,6 +11,13 @@ JOBS jobs are loaded first. Then come about LINES lines of one KIND:
   loads     a job is loaded and unloaded again, beside the others
   asks      one job after another, which ran once and is throttled, is asked to start
   minutes   each reading crosses a minute, and no job has an entry for it (at most 59 lines)
+  calendars each reading crosses a minute that every job has an entry for, and every job runs, so that nothing is ordered
+  watched   one path that every job watches is looked at, and changes at each fourth look; every job is throttled
+  known     the setting of one label after another is turned, beside JOBS labels that have one
+  fresh     a label that had no setting is disabled, beside JOBS labels that have one
+  shutdown  every job runs; if LINES is not 0 the launcher is shut down, and each job takes TERM and ends
+  jump      every job has 64 entries that never match; the clock comes back LINES days later, in one line
+  keys      JOBS definitions are loaded, each with LINES keys that nothing acts on
 The stream is the same for the same words.
 """
 import json
@@ -106,7 +113,61 @@ def minutes(jobs, lines):
         yield clock(60 * crossed)
 
 
-KINDS = {kind.__name__: kind for kind in (ticks, starts, interval, looks, loads, asks, minutes)}
+def calendars(jobs, lines):
+    for number in range(jobs):
+        yield load(label(number), StartCalendarInterval={}, RunAtLoad=True)
+        yield line({"ev": "spawned", "job": label(number), "pid": 2000 + number, "run": 1})
+    for crossed in range(1, lines + 1):
+        yield clock(60 * crossed)
+
+
+def watched(jobs, lines):
+    for number in range(jobs):
+        yield load(label(number), WatchPaths=["/watched"], RunAtLoad=True, ThrottleInterval=86_400)
+        yield from answered(label(number), 1)
+    for turn in range(lines):
+        yield line({"ev": "saw", "exists": True, "nonempty": False, "path": "/watched", "stamp": turn // 4})
+
+
+def known(jobs, lines):
+    for number in range(jobs):
+        yield line({"ev": "disable", "job": label(number)})
+    for turn in range(lines):
+        yield line({"ev": ("enable", "disable")[turn // jobs % 2], "job": label(turn % jobs)})
+
+
+def fresh(jobs, lines):
+    for number in range(jobs):
+        yield line({"ev": "disable", "job": label(number)})
+    for turn in range(lines):
+        yield line({"ev": "disable", "job": f"guest.{turn * 7919 % 99_991:05d}"})
+
+
+def shutdown(jobs, lines):
+    for number in range(jobs):
+        yield load(label(number), RunAtLoad=True)
+        yield line({"ev": "spawned", "job": label(number), "pid": 2000 + number, "run": 1})
+    if lines == 0:
+        return
+    yield line({"ev": "shutdown"})
+    for number in range(jobs):
+        yield line({"ev": "termed", "job": label(number), "ok": True, "run": 1})
+        yield line({"code": 0, "ev": "ended", "job": label(number), "run": 1})
+
+
+def jump(jobs, lines):
+    never = [{"Month": 2, "Day": 30, "Hour": number % 24, "Minute": number % 60} for number in range(64)]
+    for number in range(jobs):
+        yield load(label(number), StartCalendarInterval=never)
+    yield clock(86_400 * lines)
+
+
+def keys(jobs, lines):
+    for number in range(jobs):
+        yield load(label(number), **{f"k{key:05d}": 0 for key in range(lines)})
+
+
+KINDS = {kind.__name__: kind for kind in (ticks, starts, interval, looks, loads, asks, minutes, calendars, watched, known, fresh, shutdown, jump, keys)}
 
 
 def main():

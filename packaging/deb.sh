@@ -20,7 +20,7 @@ export SOURCE_DATE_EPOCH
 
 # The packages of the libraries that the programs ask for.
 depends="libc6 (>= $(sed -n 's/^C library: \([0-9.]*\) .*/\1/p' "$source/PROVED.txt"))"
-for library in $(objdump -p "$source/bin/jobd" "$source/bin/jobctl" | sed -n 's/^ *NEEDED *//p' | sort -u); do
+for library in $(objdump -p "$source/bin/jobd" "$source/bin/jobctl" "$source/bin/jobscope" | sed -n 's/^ *NEEDED *//p' | sort -u); do
     case $library in
     libc.so.6 | libm.so.6 | libdl.so.2 | libpthread.so.0 | librt.so.1 | ld-linux-x86-64.so.2) ;;
     libgcc_s.so.1) depends="$depends, libgcc-s1" ;;

@@ -14,7 +14,7 @@ fail() {
     echo "dist: $*" >&2
     exit 1
 }
-for program in jobd jobctl; do
+for program in jobd jobctl jobscope; do
     [ -x "build/$program" ] || fail "build/$program is not there: make build first"
     grep -aqF "Kivgrond $version" "build/$program" || fail "build/$program is not of version $version"
 done
@@ -23,8 +23,8 @@ SOURCE_DATE_EPOCH=${SOURCE_DATE_EPOCH:-$(git log -1 --format=%ct)}
 stage=dist/$name
 rm -rf "$stage" "dist/$name.tar.gz"
 mkdir -p "$stage/bin" "$stage/man" "$stage/contrib" "$stage/docs" "$stage/examples/jobs"
-install -m 755 build/jobd build/jobctl "$stage/bin"
-strip "$stage/bin/jobd" "$stage/bin/jobctl"
+install -m 755 build/jobd build/jobctl build/jobscope "$stage/bin"
+strip "$stage/bin/jobd" "$stage/bin/jobctl" "$stage/bin/jobscope"
 install -m 644 man/*.[158] "$stage/man"
 cp -r completions "$stage"
 install -m 644 contrib/jobd.service contrib/jobd@.service contrib/jobd.logrotate "$stage/contrib"
@@ -35,7 +35,7 @@ install -m 644 README.md CHANGELOG.md LICENSE-MIT LICENSE-APACHE VERSION "$stage
 install -m 755 packaging/install.sh "$stage"
 
 # The newest version of the C library that a program asks for.
-libc=$(objdump -T build/jobd build/jobctl | grep -o 'GLIBC_[0-9.]*' | sort -V | tail -n 1)
+libc=$(objdump -T build/jobd build/jobctl build/jobscope | grep -o 'GLIBC_[0-9.]*' | sort -V | tail -n 1)
 [ -n "$libc" ] || fail "no program asks for a version of the C library"
 packaging/proved.sh "$libc" "$stage/bin" >"$stage/PROVED.txt"
 

@@ -10,7 +10,7 @@ changed=$(git status --porcelain --untracked-files=no)
 line() {
     sed -n "s/^$1: //p" "build/$2" 2>/dev/null || true
 }
-sums=$(cd build && sha256sum jobd jobctl)
+sums=$(cd build && sha256sum jobd jobctl jobscope)
 row=$(echo "$sums" | tr '\n' ' ')
 
 echo "Kivgrond $(cat VERSION)"
@@ -32,6 +32,6 @@ echo "C library: ${1#GLIBC_} of glibc, or newer"
 echo "Programs as built:"
 echo "$sums" | sed 's/^/    /'
 echo "The same without their symbols, as shipped:"
-(cd "$2" && sha256sum jobd jobctl) | sed 's/^/    /'
+(cd "$2" && sha256sum jobd jobctl jobscope) | sed 's/^/    /'
 echo
 sed -n '/^## What is proved, and what is trusted/,/^## /p' README.md | sed '/^## /d' | sed -n '/^1\. /,$p' | sed '/^10\. /,$d'

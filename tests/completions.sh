@@ -1,7 +1,7 @@
 #!/usr/bin/env bash
 # The completions, asked in real shells: bash and zsh through a terminal, fish by its own call. Two launchers run, whose jobs are to
 # be offered: completions.sh [JOBD JOBCTL], or build/jobd and build/jobctl. If these are not there, a stand-in for jobctl answers
-# `list`, and a line says so. A shell that is not here is skipped, with a line that says so. It is run by hand.
+# `list`, and a line says so. A stand-in for jobscope tells the labels of a journal. A shell that is not here is skipped, with a line that says so. It is run by hand.
 set -euo pipefail
 
 cd "$(dirname "$0")/.."
@@ -26,6 +26,12 @@ case $socket in
 other.sock) printf -- '-\\t0\\tfar.away\\n' ;;
 *) printf -- '-\\t0\\t%s\\n' org.example.web org.example.backup local.poll com:colon:x 'my label' at@home=x -dash.job ;;
 esac
+"""
+# Stands for jobscope: the labels of one journal.
+JOBSCOPE = """#!/bin/sh
+[ "$*" = "runs --journal night.jsonl" ] || exit 64
+printf 'label\\tstarts\\n'
+printf '%s\\t1\\n' org.example.backup org.example.web local.poll
 """
 # Stands before jobctl: writes down the words of each call but a list.
 RECORDER = """#!/bin/sh
@@ -67,6 +73,12 @@ CASES = [
     ("jobd ", ["serve", "replay", "overrides"], []),
     ("jobd serve --", ["--socket", "--store", "--spool", "--journal", "--zone", "--zone-file"], []),
     ("jobd overrides --s", ["--store"], ["--spool"]),
+    ("jobscope ", ["check", "next", "why", "log", "runs", "picture", "cron"], []),
+    ("jobscope check ", ["web.json", "old.plist", "jobs.d"], []),
+    ("jobscope check --", ["--strict", "--zone", "--zone-file"], ["--from"]),
+    ("jobscope next --f", ["--from"], ["--strict"]),
+    ("jobscope log --", ["--since", "--journal", "--utc"], ["--strict"]),
+    ("jobscope why --journal night.jsonl org.example.", ["org.example.web", "org.example.backup"], ["local.poll"]),
 ]
 faults = []
 
@@ -143,13 +155,13 @@ def run_by(program, words, setup, line, folder, environment):
 SHELLS = {
     "bash": (
         ["--norc", "--noprofile", "-i"],
-        f"source {FOLDER}/bash/jobctl; source {FOLDER}/bash/jobd; bind 'set page-completions off'; bind 'set completion-query-items 0'",
+        f"source {FOLDER}/bash/jobctl; source {FOLDER}/bash/jobd; source {FOLDER}/bash/jobscope; bind 'set page-completions off'; bind 'set completion-query-items 0'",
     ),
     "zsh": (
         ["-f", "-i"],
         f"PS1='> '; fpath=({FOLDER}/zsh $fpath); autoload -Uz compinit; compinit -u -D; zstyle ':completion:*' list-prompt ''; LISTMAX=0",
     ),
-    "fish": (["--no-config", "-i"], f"source {FOLDER}/fish/jobctl.fish; source {FOLDER}/fish/jobd.fish"),
+    "fish": (["--no-config", "-i"], f"source {FOLDER}/fish/jobctl.fish; source {FOLDER}/fish/jobd.fish; source {FOLDER}/fish/jobscope.fish"),
 }
 
 
@@ -206,6 +218,7 @@ def try_shell(name):
         os.mkdir(f"{folder}/bin")
         launchers = give_programs(folder)
         os.mkdir(f"{folder}/jobs.d")
+        write_program(f"{folder}/bin/jobscope", JOBSCOPE)
         for file in ("web.json", "old.plist"):
             open(f"{folder}/{file}", "w").close()
         environment = dict(os.environ, PATH=f"{folder}/bin:" + os.environ["PATH"], HOME=folder, TERM="dumb", LC_ALL="C.UTF-8")

@@ -1,5 +1,6 @@
 """Crowds of clients that misbehave, each in a process of its own, and what is measured beside them. hostile_clients.py plays them."""
 import ctypes
+import json
 import os
 import random
 import select
@@ -16,6 +17,8 @@ sys.path.insert(0, os.path.join(os.path.dirname(os.path.abspath(__file__)), ".."
 from edge_scenes import comes, connect, descriptors, read_all, read_line, shell_job  # noqa: E402
 
 LIST = b'{"req":"list"}\n'
+# Of what took as many milliseconds the moment is told too.
+SLOW = 50
 
 
 class Crowd:
@@ -134,28 +137,54 @@ def never_reading(path, text, count, stay, half_closes=False):
 
 # ---- what is seen beside them
 
-class Beside(threading.Thread):
-    """Does the step again and again beside a crowd, and keeps how long each took. A step that fails says why."""
+class Beside:
+    """Does the step again and again beside a crowd, in a process of its own, and keeps how long each took. A step that fails says why."""
 
     def __init__(self, step, pause):
-        super().__init__(daemon=True)
-        self.step, self.pause, self.goes_on, self.took, self.faults = step, pause, True, [], []
+        self.step, self.pause, self.took, self.faults, self.slow = step, pause, [], [], []
 
-    def run(self):
-        while self.goes_on:
+    def start(self):
+        """To be called before any thread is started: a fork takes no thread along."""
+        self.begun = time.monotonic()
+        self.until, stop = os.pipe()
+        found, told = os.pipe()
+        self.pid = os.fork()
+        if self.pid == 0:
+            try:
+                ctypes.CDLL(None).prctl(1, signal.SIGKILL, 0, 0, 0)
+                os.close(stop)
+                os.close(found)
+                self.go_on()
+                with open(told, "w", encoding="utf-8") as file:
+                    json.dump([self.took, self.faults, self.slow], file)
+                os._exit(0)
+            except BaseException:
+                traceback.print_exc()
+            finally:
+                os._exit(1)
+        os.close(told)
+        os.close(self.until)
+        self.stop, self.found = stop, found
+
+    def go_on(self):
+        while not select.select([self.until], [], [], self.pause)[0]:
             start = time.monotonic()
             try:
                 fault = self.step()
             except Exception as error:
                 fault = f"{type(error).__name__}: {error}"
             self.took.append(1000 * (time.monotonic() - start))
+            if self.took[-1] > SLOW:
+                self.slow.append([start, self.took[-1]])
             if fault:
                 self.faults.append(f"{fault} after {self.took[-1]:.0f} ms")
-            time.sleep(self.pause)
 
     def end(self):
-        self.goes_on = False
-        self.join()
+        os.write(self.stop, b"!")
+        os.close(self.stop)
+        with open(self.found, encoding="utf-8") as file:
+            self.took, self.faults, self.slow = json.load(file)
+        os.waitpid(self.pid, 0)
 
     def median(self):
         return statistics.median(self.took)
@@ -164,7 +193,8 @@ class Beside(threading.Thread):
         return max(self.took)
 
     def told(self):
-        return f"{len(self.took)} times, median {self.median():.1f} ms, most {self.most():.1f} ms"
+        slow = ", ".join(f"{took:.0f} ms in second {at - self.begun:.1f}" for at, took in self.slow[:4])
+        return f"{len(self.took)} times, median {self.median():.1f} ms, most {self.most():.1f} ms" + (f" ({slow})" if slow else "")
 
 
 def asks(path, line=LIST):

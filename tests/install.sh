@@ -18,7 +18,7 @@ mkdir -p "$scratch/tree/build"
 cp -r .gitignore Makefile ./*.mk crates.txt VERSION man completions contrib docs examples packaging README.md CHANGELOG.md LICENSE-MIT LICENSE-APACHE \
     "$scratch/tree"
 stand_ins=0
-for program in jobd jobctl; do
+for program in jobd jobctl jobscope; do
     if [ -x "build/$program" ]; then
         cp "build/$program" "$scratch/tree/build"
     else
@@ -45,12 +45,12 @@ tries() {
     touch "$root/bin/other" "$root/share/man/man1/other.1"
     find "$scratch/root" | sort >"$scratch/before"
     "$way" install "$1" >"$scratch/log" 2>&1 || fail "$(cat "$scratch/log")"
-    for path in bin/jobd bin/jobctl bin/jobctl-reload libexec/jobd-run share/doc/jobd/contrib/split-users share/doc/jobd/contrib/jobd.openrc share/doc/jobd/contrib/jobd.runit; do
+    for path in bin/jobd bin/jobctl bin/jobscope bin/jobctl-reload libexec/jobd-run share/doc/jobd/contrib/split-users share/doc/jobd/contrib/jobd.openrc share/doc/jobd/contrib/jobd.runit; do
         [ -x "$root/$path" ] || fail "$1: no program $path"
     done
-    for path in share/man/man1/jobctl.1 share/man/man1/jobctl-reload.1 share/man/man5/jobd.json.5 share/man/man8/jobd.8 share/man/man8/jobd-run.8 \
-        share/bash-completion/completions/{jobctl,jobd} share/fish/vendor_completions.d/{jobctl,jobd}.fish \
-        share/zsh/site-functions/{_jobctl,_jobd} share/doc/jobd/contrib/{jobd.service,jobd@.service,jobd.logrotate} \
+    for path in share/man/man1/jobctl.1 share/man/man1/jobctl-reload.1 share/man/man1/jobscope.1 share/man/man5/jobd.json.5 share/man/man8/jobd.8 share/man/man8/jobd-run.8 \
+        share/bash-completion/completions/{jobctl,jobd,jobscope} share/fish/vendor_completions.d/{jobctl,jobd,jobscope}.fish \
+        share/zsh/site-functions/{_jobctl,_jobd,_jobscope} share/doc/jobd/contrib/{jobd.service,jobd@.service,jobd.logrotate} \
         share/doc/jobd/{README.md,CHANGELOG.md,LICENSE-MIT,LICENSE-APACHE,USING.md,OPERATING.md,WHY-NOT-RUNNING.md,DIFFERENCES.md} \
         share/doc/jobd/examples/kept_alive.json; do
         [ -f "$root/$path" ] || fail "$1: no file $path"

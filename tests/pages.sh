@@ -2,7 +2,7 @@
 # The manual pages beside the programs: each subcommand and option of the programs' words stands in their page, and the
 # other way round; so does each key that the reader of definitions knows, with its numbers. docs/USING.md has all of them too.
 # VERSION, the programs' source and the pages name one version.
-# If build/jobd and build/jobctl are there, their help is asked too. If mandoc is there, the pages are clean under its lint. It
+# If build/jobd, build/jobctl and build/jobscope are there, their help is asked too. If mandoc is there, the pages are clean under its lint. It
 # is run by hand.
 set -euo pipefail
 
@@ -32,9 +32,10 @@ WORDS = "crates/launchctl_words/src/"
 
 def words_in(source, flags_of):
     """The subcommands and options that the source gives to the reader of words."""
-    names = set(re.findall(r'(?:bare|label_words|target_words)\(\s*alloc,\s*"([a-z]+)"', source))
-    options = {"--" + name for name in re.findall(r'option\(\s*alloc,\s*"([a-z-]+)"', source)}
+    names = set(re.findall(r'(?:bare|label_words|target_words|journal_words|timed_words)\(\s*alloc,\s*"([a-z]+)"', source))
+    options = {"--" + name for name in re.findall(r'(?:option|switch)\(\s*alloc,\s*"([a-z-]+)"', source)}
     flags = {"-" + letter for letter in re.findall(r"""flag\(\s*alloc,\s*"[a-z]+",\s*'(\w)'""", flags_of)}
+    flags |= {"-" + letter for letter in re.findall(r"""\.short\('(\w)'\)""", source)}
     return names, options | flags
 
 
@@ -97,6 +98,7 @@ def check_program(program, page_path, source, flags_of, own_name):
 control = read(WORDS + "control_words.rt")
 check_program("build/jobctl", "man/jobctl.1", control, control, "jobctl")
 check_program("build/jobd", "man/jobd.8", read(WORDS + "jobd.rt"), "", "jobd")
+check_program("build/jobscope", "man/jobscope.1", read("crates/scope_words/src/words.rt"), "", "jobscope")
 
 # ---- the version
 
@@ -219,11 +221,12 @@ for reason in sorted(reasons):
     if not near(reason, ""):
         faults.append(f"{USING}: {reason} is not in the page")
 control_names, control_options = words_in(control, control)
-for name in sorted(control_names - {"jobctl"}):
+scope_names, scope_options = words_in(read("crates/scope_words/src/words.rt"), "")
+for name in sorted((control_names | scope_names) - {"jobctl"}):
     if not any(re.match(rf"\| `{name}\b", row) for row in rows):
         faults.append(f"{USING}: {name} is not in the page")
 daemon_options = words_in(read(WORDS + "jobd.rt"), "")[1]
-for name in sorted(control_options | daemon_options):
+for name in sorted(control_options | daemon_options | scope_options):
     if not any(re.search(rf"(?<![\w-]){name}(?![\w-])", row) for row in rows):
         faults.append(f"{USING}: {name} is not in the page")
 

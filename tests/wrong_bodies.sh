@@ -2,6 +2,7 @@
 # Tries wrong bodies alone, each against the contracts of its crate: the prover has to refuse every one.
 #
 #   tests/wrong_bodies.sh [--gate] [CRATE..]
+#   tests/wrong_bodies.sh --stale
 #
 # A wrong body is an edit of wrong_bodies/CRATE/, or one part of a joined edit there or in crates/CRATE/must-fail/ (the gate
 # tries the parts of a joined edit together). With --gate the other edits of must-fail/ are tried too. Without CRATE each crate is.
@@ -12,9 +13,11 @@
 #   refused CRATE/NAME elsewhere: ..             a proof or a definition is refused first: look whether a clause says it
 #   NOT REFUSED CRATE/NAME ..                    the contract is too weak, or the edit can't be read
 #
-# The last line counts them. The status is 1 if one was not refused.
+# The last line counts them. The status is 1 if one was not refused. What was refused is noted in wrong_bodies/RESULTS.csv, with the
+# commit and what refused it; --stale tries nothing, and lists the wrong bodies whose crate has other clauses since.
 set -euo pipefail
 top=$(cd "$(dirname "$0")/.." && pwd)
+[ "${1:-}" != --stale ] || exec python3 "$top/tests/body_results.py" stale
 gate=
 [ "${1:-}" = --gate ] && { gate=yes; shift; }
 jobs=${RT_JOBS:-$(nproc)}
@@ -73,6 +76,7 @@ trap 'rm -f "$said"' EXIT
 export top gate
 export -f part_edits lay_crate try_crate
 printf '%s\n' "$@" | xargs -P "$jobs" -I{} bash -c 'try_crate {}' | tee "$said"
+python3 "$top/tests/body_results.py" note "$said"
 refused=$(grep -c '^refused' "$said" || true)
 elsewhere=$(grep -cE '^refused [^ ]+ elsewhere' "$said" || true)
 bad=$(grep -vc '^refused' "$said" || true)

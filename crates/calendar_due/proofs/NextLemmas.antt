@@ -1,10 +1,10 @@
 -- The least minute that a calendar matches, and what it says of the readings that fire it.
-use Rattle.std.proofs.Common.{◌≡◌, ℕ, ◌+◌, ◌*◌, ◌/◌, ◌%◌, ◌==◌, ◌<◌, ◌≤◌, Bool, true, false, ◌||◌, List, [], ◌∷◌, Option, Some, None, refl, sym, ap, ◌∙◌, subst, nat_le, arith}
-use Rattle.std.proofs.lemmas.Bool.{cases_Bool, eq-eqb}
+use Rattle.std.proofs.Common.{◌≡◌, ℕ, ◌+◌, ◌*◌, ◌/◌, ◌==◌, ◌<◌, ◌≤◌, Bool, true, false, ◌||◌, List, [], ◌∷◌, Option, Some, None, refl, sym, ap, ◌∙◌, nat_le, arith}
+use Rattle.std.proofs.lemmas.Bool.{eq-eqb}
 use Rattle.std.proofs.lemmas.Bool.Decides.{nat_tests}
 use Rattle.std.specs.List.{list_any}
 use Rattle.history_model.specs.declared.Entry.{Entry}
-use Rattle.history_model.specs.Calendar.{Zone, IsCrossed, crossed, calendar_fires}
+use Rattle.history_model.specs.Calendar.{Zone, crossed, calendar_fires}
 use Rattle.history_model.specs.Coming.{is_from}
 use Rattle.history_model.proofs.BooleanLemmas.{or-true}
 use Rattle.history_model.proofs.CrossedMinutesLemmas.{members}

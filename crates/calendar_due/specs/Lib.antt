@@ -3,4 +3,5 @@ pub mod Offsets
 pub mod Zone
 pub mod Rules
 pub mod Changes
+pub mod Days
 pub mod Next

@@ -5,6 +5,7 @@ ghost use Rattle.history_model.specs.Calendar.{Zone as Minutes, matches as entry
 ghost use Rattle.history_model.specs.Coming.{is_from};
 ghost use Rattle.calendar_due.specs.Rules.{minute_at};
 ghost use Rattle.calendar_due.specs.Next.{is_matched, IsFirstDue};
+ghost use Rattle.calendar_due.specs.Days.{is_on_day, is_same_day, is_of_day};
 
 use crate::Zone;
 use history_model::{CivilMinute, Entry, MAX_WALL};
@@ -67,14 +68,56 @@ fn is_matched(entries: &[Entry], zone: &Zone, second: u64) -> bool
     Calendar::matches(entries, &zone.civil_minute(second))
 }
 
-// Some entry matches some of the minutes.
+// Some entry matches some of the minutes. Of a day that no entry is on only the day is looked at, once for its minutes that follow
+// one another.
 fn is_any_matched(entries: &[Entry], minutes: &[CivilMinute]) -> bool
     ensures { result ≡ list_any
         (λ minute. list_any (λ entry. entry_matches entry minute) entries.now) minutes.now }
 {
-    minutes
-        .iter()
-        .any(|minute| Calendar::matches(entries, minute))
+    let mut idle: Option<CivilMinute> = None;
+    for minute in minutes {
+        if is_of_day(&idle, minute) {
+            continue;
+        }
+        if Calendar::matches(entries, minute) {
+            return true;
+        }
+        if !is_any_on_day(entries, minute) {
+            idle = Some(*minute);
+        }
+    }
+    false
+}
+
+// The minute is of the day of that one, if there is one.
+fn is_of_day(day: &Option<CivilMinute>, minute: &CivilMinute) -> bool
+    ensures { result ≡ is_of_day day.now minute.now }
+{
+    match day {
+        Some(other) => is_same_day(other, minute),
+        None => false,
+    }
+}
+
+// The minutes have one month, one day and one weekday.
+fn is_same_day(one: &CivilMinute, other: &CivilMinute) -> bool
+    ensures { result ≡ is_same_day one.now other.now }
+{
+    one.month == other.month && one.day == other.day && one.weekday == other.weekday
+}
+
+// Some entry's month, day and weekday suit the minute.
+fn is_any_on_day(entries: &[Entry], minute: &CivilMinute) -> bool
+    ensures { result ≡ list_any (λ entry. is_on_day entry minute.now) entries.now }
+{
+    entries.iter().any(|entry| is_on_day(entry, minute))
+}
+
+// The entry's month, day and weekday suit the minute.
+fn is_on_day(entry: &Entry, minute: &CivilMinute) -> bool
+    ensures { result ≡ is_on_day entry.now minute.now }
+{
+    is_allowed(entry.month, minute.month) && is_day_allowed(entry.day, entry.weekday, minute)
 }
 
 // The entry matches the minute.
@@ -83,8 +126,7 @@ fn is_match(entry: &Entry, minute: &CivilMinute) -> bool
 {
     is_allowed(entry.minute, minute.minute)
         && is_allowed(entry.hour, minute.hour)
-        && is_allowed(entry.month, minute.month)
-        && is_day_allowed(entry.day, entry.weekday, minute)
+        && is_on_day(entry, minute)
 }
 
 // The key is absent, or has this value.

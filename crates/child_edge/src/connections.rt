@@ -1,10 +1,12 @@
 //! Connections of jobs' sockets, from the end of their request to the end of their reply.
 //!
 //! Three kinds are held: those that wait for their run, those whose run goes on, and those whose run is over and whose client
-//! has still to take what it wrote. Two bounds are kept. Of each job at most 64 of the third kind are held. Of all jobs together
-//! as many as `room` are held, of all three kinds, since each of them takes two descriptors. Beyond a bound a connection of the
+//! has still to take what it wrote. Three bounds are kept. Of each job at most 64 of the third kind are held. Of all jobs together
+//! as many as `room` are held, of all three kinds, since each of them takes two descriptors. Beyond these a connection of the
 //! third kind is let go: the one whose client has been still for longest. One whose run is still to come or goes on is never
-//! let go for another.
+//! let go for another. So that clients who wait for one slow job leave room for those of others, a job has no more of the first
+//! two kinds than its share: fewer than there is room left beside those of all jobs. A job alone has half the room, two have a
+//! third each.
 
 use crate::connection::{Connection, Progress};
 use crate::notices::{Asked, LetGo, Notices};
@@ -69,8 +71,9 @@ impl Connections {
         }
     }
 
-    /// Spools the request and holds the connection. A number that is in use is refused; so is one more connection where as many
-    /// as may be are held, none of which can be let go. After an `Err` the client is let go, which is told, and no file is left.
+    /// Spools the request and holds the connection. A number that is in use is refused; so is one more connection where the job
+    /// has its share, or where as many as may be are held, none of which can be let go. After an `Err` the client is let go,
+    /// which is told, and no file is left.
     pub(crate) fn take<R: Clock + Files<File = File>>(
         &mut self,
         rt: &R,
@@ -84,8 +87,8 @@ impl Connections {
             return Err(io::Error::from(ErrorKind::AlreadyExists));
         }
         self.read_clock(rt);
-        if !self.has_room(rt, notices, key.0) {
-            notices.let_go(key.0, label, LetGo::NoRoom(self.room));
+        if let Some(why) = self.want_of_room(rt, notices, key.0) {
+            notices.let_go(key.0, label, why);
             return Err(io::Error::from(ErrorKind::Other));
         }
         exchange.request_end();
@@ -137,21 +140,45 @@ impl Connections {
         }
     }
 
-    // Whether one more may be held, if need be once another was let go.
-    fn has_room<R: Files>(&mut self, rt: &R, notices: &mut Notices, job: JobNo) -> bool {
+    // Why one more of the job can't be held, also if another were let go. None: there is room for it now.
+    fn want_of_room<R: Files>(
+        &mut self,
+        rt: &R,
+        notices: &mut Notices,
+        job: JobNo,
+    ) -> Option<LetGo> {
+        let (own, all) = self.served(job);
+        if own >= self.room.saturating_sub(all) && own > 0 {
+            return Some(LetGo::Share);
+        }
         if self.held.len() < self.room {
             if self.held.range((job, 0)..=(job, u64::MAX)).next().is_none() {
                 notices.has_room(job);
             }
-            return true;
+            return None;
         }
         match self.stillest(None) {
             Some(key) => {
                 self.let_go(rt, notices, key, LetGo::Room(self.room));
-                true
+                None
             }
-            None => false,
+            None => Some(LetGo::NoRoom(self.room)),
         }
+    }
+
+    // How many are held whose run is still to come or goes on: of the job, and of all jobs.
+    fn served(&self, job: JobNo) -> (usize, usize) {
+        let mut own = 0usize;
+        let mut all = 0usize;
+        for (key, connection) in self.held.iter() {
+            if !connection.is_over {
+                all = all.saturating_add(1);
+                if key.0 == job {
+                    own = own.saturating_add(1);
+                }
+            }
+        }
+        (own, all)
     }
 
     // Of those of the job, or of all jobs, whose run is over: the one whose client has been still for longest.

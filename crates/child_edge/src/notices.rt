@@ -44,6 +44,7 @@ pub(crate) enum Asked {
     Over,
     Room,
     NoRoom,
+    Share,
     Client,
 }
 
@@ -62,6 +63,8 @@ pub(crate) enum LetGo {
     Room(usize),
     /// As many connections are held of all jobs, each of which has its run still before it.
     NoRoom(usize),
+    /// Of the job as many wait and are served as may be beside those of others.
+    Share,
 }
 
 impl LetGo {
@@ -72,6 +75,7 @@ impl LetGo {
             LetGo::Job(_) => Asked::Over,
             LetGo::Room(_) => Asked::Room,
             LetGo::NoRoom(_) => Asked::NoRoom,
+            LetGo::Share => Asked::Share,
         }
     }
 }
@@ -80,7 +84,7 @@ impl LetGo {
 const OF_RUNS: [Asked; 4] = [Asked::Start, Asked::Term, Asked::Kill, Asked::Wait];
 
 /// What the bounds on connections ask for.
-const OF_ROOM: [Asked; 3] = [Asked::Over, Asked::Room, Asked::NoRoom];
+const OF_ROOM: [Asked; 4] = [Asked::Over, Asked::Room, Asked::NoRoom, Asked::Share];
 
 /// The notices that wait, and the reason that was told last for each call of a job and for each path.
 #[derive(Drop)]

@@ -151,9 +151,10 @@ impl<R: Processes> OsEdge<R> {
 
 impl<R: Clock + Files<File = File> + Processes> OsEdge<R> {
     /// Holds a connection whose request came whole, under the job and a number that it has had for no other: its request
-    /// is spooled, and the run that is started with the number serves it. If as many are held as [`set_room`](OsEdge::set_room)
-    /// says, the one is let go for it whose run is over and whose client has been still for longest; if none has its run over,
-    /// the new one is refused. After an `Err`, which is counted as a failure and told, the client is let go and nothing is left.
+    /// is spooled, and the run that is started with the number serves it. If as many of the job wait or are served as there is
+    /// room left beside those of all jobs, the new one is refused. If as many are held as [`set_room`](OsEdge::set_room) says, the
+    /// one is let go for it whose run is over and whose client has been still for longest; if none has its run over, the new one
+    /// is refused. After an `Err`, which is counted as a failure and told, the client is let go and nothing is left.
     pub fn take(
         &mut self,
         job: JobNo,

@@ -96,6 +96,7 @@ pub(crate) fn let_go(alloc: Global, why: LetGo) -> Option<String> {
         LetGo::NoRoom(count) => {
             format!(in alloc; "a client was let go: {count} connections are held")
         }
+        LetGo::Share => given_up(alloc, "the job has its share of the connections"),
     };
     told.ok()
 }

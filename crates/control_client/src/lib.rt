@@ -4,7 +4,6 @@
 
 mod connection;
 mod fault;
-mod files;
 mod program;
 mod reply;
 mod request;

@@ -1,12 +1,12 @@
 //! One run of the control program.
 
 use crate::fault::Fault;
-use crate::files::{Found, Kind, files_at};
 use crate::request::{load_event, unload_event};
 use crate::session::Session;
 use crate::settings::{SettingFault, Settings, settings_of};
 use history_model::Event;
 use launchctl_words::{Command, Paths, WordFault, Words, explain, read_words, read_words_beside};
+use path_files::{Found, Kind, files_at};
 use std::alloc::Global;
 use std::fs::Files;
 use std::io;

@@ -4,10 +4,9 @@ use crate::fault::Fault;
 use ctl_protocol::{LINE_LIMIT, event_line, request_line};
 use history_model::{Event, Text};
 use job_defs::{DefFault, read_def};
+use path_files::read_front;
 use std::alloc::Global;
-use std::fs::{File, Files};
-use std::io;
-use std::io::Read;
+use std::fs::Files;
 
 /// The event that loads the file's definition. A fault of the file: it can't be read, is too long for a line, or is not
 /// UTF-8.
@@ -57,18 +56,11 @@ fn label_of(alloc: Global, text: &Text) -> Result<Text, Fault> {
 
 fn read_file<R: Files>(rt: &R, alloc: Global, path: &str) -> Result<Vec<u8>, Fault> {
     let mut bytes = Vec::new(alloc);
-    match read_front(rt, path, &mut bytes) {
+    match read_front(rt, path, LINE_LIMIT, &mut bytes) {
         Ok(()) if bytes.len() <= LINE_LIMIT => Ok(bytes),
         Ok(()) => Err(Fault::TooLong),
         Err(error) => Err(Fault::of_file(error)),
     }
-}
-
-// Adds the file's bytes, as far as they can fit a line, and one more.
-fn read_front<R: Files>(rt: &R, path: &str, bytes: &mut Vec<u8>) -> io::Result<()> {
-    let file = File::open(rt, path)?;
-    let _count = file.take(LINE_LIMIT as u64 + 1).read_to_end(bytes)?;
-    Ok(())
 }
 
 fn text_of(bytes: Vec<u8>) -> Result<Text, Fault> {

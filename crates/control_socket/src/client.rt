@@ -19,7 +19,7 @@ pub(crate) enum Progress {
 }
 
 /// As many pieces are read in a round.
-const PIECES: u32 = 4;
+pub(crate) const PIECES: u32 = 4;
 
 /// As often a write is tried in a round.
 const WRITES: u32 = 4;
@@ -110,7 +110,7 @@ impl Client {
     ) -> io::Result<bool> {
         turn.begin();
         self.dialogue.answer(alloc, turn)?;
-        for _ in 0..PIECES {
+        for _ in 0..turn.pieces() {
             if !self.dialogue.wants_more() || !self.read(room)? {
                 return Ok(false);
             }

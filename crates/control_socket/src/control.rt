@@ -1,8 +1,8 @@
 //! The control socket with its clients.
 
-use crate::client::{Client, Progress};
+use crate::client::{Client, PIECES, Progress};
 use crate::notices::Notices;
-use crate::turn::{Answers, Limit, Turn};
+use crate::turn::{Answers, LINES, Limit, Turn};
 use history_model::Text;
 use mio::net::{UnixListener, UnixStream};
 use mio::{Interest, Registry, Token};
@@ -109,9 +109,10 @@ impl ControlSocket {
     }
 
     /// A round: moves each client on. Reads what came, at most 65,536 bytes, answers whole lines in their order, at most
-    /// [`crate::LINES`], and sends what is taken. Once a line was answered and the limit says that there is no more time, no
-    /// further line is answered and no further client moved on; the next round begins with the client behind. A client that is
-    /// done or gone, or that there is no memory for, is closed. True: one of them may go on at once.
+    /// [`crate::LINES`], and sends what is taken. First each client has one piece and one line; further ones come behind those of
+    /// all clients. Once a line was answered and the limit says that there is no more time, no further line is answered and no
+    /// further client moved on; the next round begins with the client behind. A client that is done or gone, or that there is
+    /// no memory for, is closed. True: one of them may go on at once.
     pub fn serve<A: Answers, L: Limit>(
         &mut self,
         alloc: Global,
@@ -121,20 +122,37 @@ impl ControlSocket {
         self.rounds = self.rounds.saturating_add(1);
         let mut turn = Turn::new(self.rounds, answers, limit);
         self.up = turn.up();
+        turn.allow(1, 1);
+        let is_busy = self.pass(alloc, &mut turn);
+        self.is_whole = is_busy.is_some();
+        match is_busy {
+            Some(false) => false,
+            Some(true) => {
+                turn.allow(PIECES - 1, LINES - 1);
+                self.pass(alloc, &mut turn).unwrap_or(true)
+            }
+            None => true,
+        }
+    }
+
+    // Moves each client on, and says whether one of them may go on at once. None: there was no time for all.
+    fn pass<A: Answers, L: Limit>(
+        &mut self,
+        alloc: Global,
+        turn: &mut Turn<'_, A, L>,
+    ) -> Option<bool> {
         let first = self.first;
         let mut is_busy = false;
         for step in 0..CLIENTS {
             let key = first.wrapping_add(step) % CLIENTS;
             if !turn.has_time() {
                 self.first = key;
-                self.is_whole = false;
-                return true;
+                return None;
             }
-            let may_go_on = self.move_on(alloc, key, &mut turn);
+            let may_go_on = self.move_on(alloc, key, turn);
             is_busy = is_busy || may_go_on;
         }
-        self.is_whole = true;
-        is_busy
+        Some(is_busy)
     }
 
     // Moves the client of the key on, if there is one. True: it may go on at once.

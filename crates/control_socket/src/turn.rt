@@ -32,6 +32,9 @@ pub(crate) struct Turn<'a, A, L> {
     limit: &'a mut L,
     number: u64,
     up: u64,
+    // As many pieces of each client are read in this pass, and as many lines of it answered.
+    pieces: u32,
+    lines: u32,
     // So many further lines of the client whose turn it is.
     left: u32,
     has_time: bool,
@@ -46,9 +49,22 @@ impl<'a, A: Answers, L: Limit> Turn<'a, A, L> {
             limit,
             number,
             up,
+            pieces: 0,
+            lines: 0,
             left: 0,
             has_time: true,
         }
+    }
+
+    /// From now on so many pieces of each client are read, and so many lines of it answered.
+    pub(crate) fn allow(&mut self, pieces: u32, lines: u32) {
+        self.pieces = pieces;
+        self.lines = lines;
+    }
+
+    /// As many pieces of the client are read.
+    pub(crate) fn pieces(&self) -> u32 {
+        self.pieces
     }
 
     /// The rounds are counted from 1.
@@ -68,7 +84,7 @@ impl<'a, A: Answers, L: Limit> Turn<'a, A, L> {
 
     /// It is the next client's turn.
     pub(crate) fn begin(&mut self) {
-        self.left = LINES;
+        self.left = self.lines;
     }
 
     /// Whether a further line of the client is answered in this round.

@@ -94,6 +94,7 @@ fn look_through<S: Alter + Drop>(alloc: Global, conn: Connection<S>) -> Result<F
     }
     let mut store = OverrideStore::open_on(alloc, conn)?;
     let _settings = store.all(alloc)?;
+    let _changes = store.changes(alloc)?;
     Ok(if tables == 0 {
         Found::Empty
     } else {

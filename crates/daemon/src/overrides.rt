@@ -31,9 +31,9 @@ fn list_on<S: Alter + Drop>(
     path: &str,
     conn: Connection<S>,
 ) -> u8 {
-    match OverrideStore::open_on(alloc, conn) {
+    match OverrideStore::open_or_give(alloc, conn) {
         Ok(mut store) => list_all(rt, alloc, path, &mut store),
-        Err(fault) => report_fault(rt, Level::NONE, path, fault),
+        Err((fault, _)) => report_fault(rt, Level::NONE, path, fault),
     }
 }
 

@@ -148,7 +148,7 @@ pub(crate) fn stored<S: Alter + Drop>(
 ) -> Result<(StoredSettings<S>, Vec<Setting>), u8> {
     match opened(alloc, conn) {
         Ok(both) => Ok(both),
-        Err(fault) => Err(report_fault(rt, level, path, fault)),
+        Err((fault, _)) => Err(report_fault(rt, level, path, fault)),
     }
 }
 

@@ -4,6 +4,7 @@ pub mod ScanLemmas
 pub mod FirstLemmas
 pub mod PlacesLemmas
 pub mod TidyLemmas
+pub mod PeriodsLemmas
 pub mod ReleaseLemmas
 pub mod HeldNumbersLemmas
 pub mod LabelledLemmas

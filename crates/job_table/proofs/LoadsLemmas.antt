@@ -14,6 +14,7 @@ use Rattle.history_model.specs.Machine.{State, Job, past_of, is_disabled}
 use Rattle.history_model.specs.Acceptance.{refused_if, refusal_there, refusal_stored, refusal_of_load}
 use Rattle.history_model.specs.declared.TheConstants.{MAX_JOBS, MAX_UP, MAX_WALL}
 use Rattle.history_model.specs.WholeLaws.{AreInOrder}
+use Rattle.job_table.specs.Periods.{HavePeriods}
 use Rattle.job_table.specs.Tables.{IsOnce, labels_in, definition_of_number, is_known}
 use Rattle.job_table.specs.Kept.{KeepsJobs, KeepsState}
 use Rattle.job_table.specs.Triggers.{AreListed}
@@ -49,6 +50,7 @@ grown-sound old new sound reading items len slots orders capacity index calendar
   few = let few = sound.few in omega (arith, few, len);
   room = let room = sound.room in omega (arith, room, len, capacity);
   named = subst (λ i. IsNamed i (map name new.entries.items)) (sym index) (subst (λ es. IsNamed old.index (map name es)) (sym items) sound.named);
+  periods = subst (λ es. HavePeriods (map name es)) (sym items) sound.periods;
   calendars = calendars ∙ sound.calendars ∙ ap (λ es. some_calendar (map name es)) (sym items);
   listed = subst (λ ls. AreListed ls (map name new.entries.items)) (sym triggers) (subst (λ es. AreListed old.triggers.items (map name es)) (sym items) sound.listed);
   order = subst (λ es. AreInOrder (labels_in (map name es))) (sym items) sound.order;
@@ -72,6 +74,7 @@ grown-whole old new whole reading items len slots orders capacity stay calendars
         known = before.known;
         room = before.room;
         named = named-of new.index new.reading.up new.entries.items indexed;
+        periods = before.periods;
         calendars = before.calendars;
         listed = before.listed;
         order = before.order;

@@ -13,6 +13,8 @@ use Rattle.history_model.specs.Labels.{Label, is_same}
 use Rattle.history_model.specs.Machine.{Job}
 use Rattle.history_model.specs.Step.{with_job}
 use Rattle.history_model.specs.WholeLaws.{AreInOrder}
+use Rattle.job_table.specs.Periods.{HasPeriod, HavePeriods}
+use Rattle.job_table.proofs.PeriodsLemmas.{periods-placed}
 use Rattle.job_table.specs.Tables.{Row, IsOnce, is_known, labels_in}
 use Rattle.job_table.specs.Kept.{KeepsJob, KeepsJobs, IsAtRest}
 use Rattle.job_table.specs.Entries.{row, name, has_label, is_above, place_for, entered}
@@ -109,10 +111,10 @@ rest-entered at new job this rs es jobs (Some k) keeps is rests =
 
 pub entered-sound : (old new : Jobs) (ready : Ready) → IsSound old → IsReady (seen old) ready → new.reading ≡ old.reading → new.entries.items ≡ entered ready.entry old.entries.items →
     vec_len new.entries ≡ vec_len old.entries + 1 → new.orders ≡ old.orders → get old.numbers old.numbers.vacant_key ≡ None → Updates old.numbers new.numbers old.numbers.vacant_key (Some tt) →
-    new.index ≡ old.index → new.has_calendars ≡ (old.has_calendars || is_some_entry ready.entry.def.calendar) →
+    new.index ≡ old.index → HasPeriod ready.entry.def → new.has_calendars ≡ (old.has_calendars || is_some_entry ready.entry.def.calendar) →
     ((test : Listed → Bool) → count_by test new.triggers.items ≡ count_by test old.triggers.items + count_by (λ trigger. test (under ready.entry.number trigger)) ready.triggers.items) →
     AreOrdered new.triggers.items → IsSound new
-entered-sound old new ready sound is reading entries count orders vacant numbers index calendars exact listed =
+entered-sound old new ready sound is reading entries count orders vacant numbers index period calendars exact listed =
     let es = old.entries.items in
     let own = ready.entry in
     let k = place_for own.def.label es in
@@ -132,6 +134,7 @@ entered-sound old new ready sound is reading entries count orders vacant numbers
       named = subst (λ i. IsNamed i (map name new.entries.items)) (sym index) (subst (λ all. IsNamed old.index (map name all)) (sym entries)
           (index-placed old.index own es k (subst (λ n. n < room_of old.index.timers) (sym is.number) is.moments)
           (subst (λ n. n < length old.index.places.items) (sym is.number) is.numbered) (let marks = is.marks in omega (arith, marks)) sound.named));
+      periods = subst (λ all. HavePeriods (map name all)) (sym entries) (periods-placed own es k period sound.periods);
       calendars = calendars ∙ ap (λ b. b || is_some_entry own.def.calendar) sound.calendars ∙ sym (calendars-placed own es k) ∙ ap (λ all. some_calendar (map name all)) (sym entries);
       listed = record {
         exact = subst (λ all. (test : Listed → Bool) → count_by test new.triggers.items ≡ count_by test (listed_in (map name all))) (sym entries)
@@ -160,6 +163,7 @@ replaced-sound t places long sound = record {
     empty = sound.named.empty;
     marks = sound.named.marks;
   };
+  periods = sound.periods;
   calendars = sound.calendars;
   listed = sound.listed;
   order = sound.order;

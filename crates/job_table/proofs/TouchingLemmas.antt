@@ -24,7 +24,8 @@ use Rattle.history_model.proofs.ComingLemmas.{next-by}
 use Rattle.history_model.proofs.MomentsLemmas.{is-one}
 use Rattle.job_table.specs.Kept.{KeepsJob, KeepsJobs}
 use Rattle.job_table.specs.Counts.{counts, count_in}
-use Rattle.job_table.specs.Entries.{row, rows, AllStay}
+use Rattle.job_table.specs.Entries.{row, name, rows, AllStay}
+use Rattle.job_table.specs.Periods.{HavePeriods}
 use Rattle.job_table.specs.Index.{is_minute_among}
 use Rattle.job_table.specs.Minutes.{is_some_entry, has_calendars}
 use Rattle.job_table.specs.Visiting.{is_spared, AreVisitedOnce}
@@ -121,20 +122,20 @@ abbrev pub MarksTouch : Zone → Moment → Timers → ℕ → List Entry → Li
 MarksTouch zone at ready place [] jobs = Unit {0}
 MarksTouch zone at ready place (e ∷ es) [] = Unit {0}
 MarksTouch zone at ready place (e ∷ es) (job ∷ jobs) =
-    (ForSome (definition_of job.past).start_interval (λ seconds. 0 < seconds) → is_spared ready place ≡ false → touches zone at job.past ≡ true) × MarksTouch zone at ready (suc place) es jobs
+    (is_spared ready place ≡ false → touches zone at job.past ≡ true) × MarksTouch zone at ready (suc place) es jobs
 
 pub spared-count : (zone : Zone) (before at : Moment) (ready : Timers) (place : ℕ) (es later : List Entry) (jobs : List Job) (label : Label) (past : History) →
     AllStay es → AreVisitedOnce ready place es later → KeepsJobs before (map row es) jobs → MarksTouch zone at ready place es jobs →
-    past_in (first (filter (is_of label) jobs)) ≡ Some past → ForSome (definition_of past).start_interval (λ seconds. 0 < seconds) → touches zone at past ≡ false →
+    past_in (first (filter (is_of label) jobs)) ≡ Some past → touches zone at past ≡ false →
     count_in (counts (rows later)) label ≡ count_in (counts (map row es)) label
-spared-count zone before at ready place [] later [] label past stay visited_once keeps marks found positive none = cc
-spared-count zone before at ready place [] later (job ∷ jobs) label past stay visited_once keeps marks found positive none = absurd keeps
-spared-count zone before at ready place (e ∷ es) later [] label past stay visited_once keeps marks found positive none = absurd keeps
-spared-count zone before at ready place (e ∷ es) [] (job ∷ jobs) label past stay visited_once keeps marks found positive none = absurd visited_once
-spared-count zone before at ready place (e ∷ es) (n ∷ ns) (job ∷ jobs) label past stay visited_once keeps marks found positive none =
+spared-count zone before at ready place [] later [] label past stay visited_once keeps marks found none = cc
+spared-count zone before at ready place [] later (job ∷ jobs) label past stay visited_once keeps marks found none = absurd keeps
+spared-count zone before at ready place (e ∷ es) later [] label past stay visited_once keeps marks found none = absurd keeps
+spared-count zone before at ready place (e ∷ es) [] (job ∷ jobs) label past stay visited_once keeps marks found none = absurd visited_once
+spared-count zone before at ready place (e ∷ es) (n ∷ ns) (job ∷ jobs) label past stay visited_once keeps marks found none =
     go (is_same label e.def.label) refl (spared-count zone before at ready (suc place) es ns jobs label past stay.1 visited_once.3 keeps.1 marks.1) where
       go : (b : Bool) → is_same label e.def.label ≡ b →
-          (past_in (first (filter (is_of label) jobs)) ≡ Some past → ForSome (definition_of past).start_interval (λ seconds. 0 < seconds) → touches zone at past ≡ false →
+          (past_in (first (filter (is_of label) jobs)) ≡ Some past → touches zone at past ≡ false →
           count_in (counts (rows ns)) label ≡ count_in (counts (map row es)) label) →
           count_in (counts (cond n.has_gone (rows ns) (row n ∷ rows ns))) label ≡ (if is_same label e.def.label then e.core.decided else count_in (counts (map row es)) label)
       go true is rest =
@@ -142,19 +143,19 @@ spared-count zone before at ready place (e ∷ es) (n ∷ ns) (job ∷ jobs) lab
           let here : Some job.past ≡ Some past = ap (λ b. past_in (first (cond b (job ∷ filter (is_of label) jobs) (filter (is_of label) jobs)))) (sym of) ∙ found in
           let same : job.past ≡ past = cc in
           let untouched : touches zone at job.past ≡ false = ap (touches zone at) same ∙ none in
-          let spared : is_spared ready place ≡ true = spares (is_spared ready place) refl (subst (λ t. ForSome (definition_of t).start_interval (λ seconds. 0 < seconds)) (sym same) positive) untouched in
+          let spared : is_spared ready place ≡ true = spares (is_spared ready place) refl untouched in
           let kept : n ≡ e = visited_once.2 spared in
           let staying : n.has_gone ≡ false = ap (λ x. x.has_gone) kept ∙ stay.0 in
           ap (λ b. count_in (counts (cond b (rows ns) (row n ∷ rows ns))) label) staying
           ∙ ap (λ x. if is_same label x.def.label then x.core.decided else count_in (counts (rows ns)) label) kept
           ∙ ap (λ b. if b then e.core.decided else count_in (counts (rows ns)) label) is ∙ sym (ap (λ b. if b then e.core.decided else count_in (counts (map row es)) label) is) where
-            spares : (b : Bool) → is_spared ready place ≡ b → ForSome (definition_of job.past).start_interval (λ seconds. 0 < seconds) → touches zone at job.past ≡ false → is_spared ready place ≡ true
-            spares true is positive none = is
-            spares false is positive none = let clash : true ≡ false = sym (marks.0 positive is) ∙ none in absurd (cc clash)
+            spares : (b : Bool) → is_spared ready place ≡ b → touches zone at job.past ≡ false → is_spared ready place ≡ true
+            spares true is none = is
+            spares false is none = let clash : true ≡ false = sym (marks.0 is) ∙ none in absurd (cc clash)
       go false is rest =
           let of : is_of label job ≡ false = ap (is_same label) (sym keeps.0.label) ∙ is in
           let there : past_in (first (filter (is_of label) jobs)) ≡ Some past = ap (λ b. past_in (first (cond b (job ∷ filter (is_of label) jobs) (filter (is_of label) jobs)))) (sym of) ∙ found in
-          head n.has_gone ∙ rest there positive none ∙ sym (ap (λ b. if b then e.core.decided else count_in (counts (map row es)) label) is) where
+          head n.has_gone ∙ rest there none ∙ sym (ap (λ b. if b then e.core.decided else count_in (counts (map row es)) label) is) where
             head : (b : Bool) → count_in (counts (cond b (rows ns) (row n ∷ rows ns))) label ≡ count_in (counts (rows ns)) label
             head true = refl
             head false = ap (λ l. if is_same label l then n.core.decided else count_in (counts (rows ns)) label) (ap (λ m. m.described.label) visited_once.0)
@@ -179,14 +180,14 @@ reason-touches zone before at minutes e job keeps positive crosses (inr among) =
     touch-minute zone at job.past minutes (crosses (some-entry e.def.calendar minutes among) ∙ ap (λ r. map zone (crossed r.wall at.wall)) keeps.present)
     (ap (λ d. is_minute_among d.calendar minutes) (sym keeps.definition) ∙ among)
 
-pub marks-touch : (zone : Zone) (before at : Moment) (minutes : List CivilMinute) (ready : Timers) (place : ℕ) (es : List Entry) (jobs : List Job) →
+pub marks-touch : (zone : Zone) (before at : Moment) (minutes : List CivilMinute) (ready : Timers) (place : ℕ) (es : List Entry) (jobs : List Job) → HavePeriods (map name es) →
     ((k : ℕ) (e : Entry) → slice_get es k ≡ Some e → is_spared ready (place + k) ≡ false → IsReason before at minutes e) →
     (has_calendars (map row es) ≡ true → minutes ≡ map zone (crossed before.wall at.wall)) → KeepsJobs before (map row es) jobs → MarksTouch zone at ready place es jobs
-marks-touch zone before at minutes ready place [] jobs reasons crosses keeps = tt
-marks-touch zone before at minutes ready place (e ∷ es) [] reasons crosses keeps = tt
-marks-touch zone before at minutes ready place (e ∷ es) (job ∷ jobs) reasons crosses keeps = (
-  λ positive marked. reason-touches zone before at minutes e job keeps.0 positive (λ some. crosses (ap (λ b. b || has_calendars (map row es)) some))
+marks-touch zone before at minutes ready place [] jobs periods reasons crosses keeps = tt
+marks-touch zone before at minutes ready place (e ∷ es) [] periods reasons crosses keeps = tt
+marks-touch zone before at minutes ready place (e ∷ es) (job ∷ jobs) periods reasons crosses keeps = (
+  λ marked. reason-touches zone before at minutes e job keeps.0 (subst (λ d. ForSome d.start_interval (λ seconds. 0 < seconds)) keeps.0.definition periods.0) (λ some. crosses (ap (λ b. b || has_calendars (map row es)) some))
       (reasons 0 e refl (subst (λ p. is_spared ready p ≡ false) (omega arith) marked)),
-  marks-touch zone before at minutes ready (suc place) es jobs (λ k x there marked. reasons (suc k) x there (subst (λ p. is_spared ready p ≡ false) (omega arith) marked))
+  marks-touch zone before at minutes ready (suc place) es jobs periods.1 (λ k x there marked. reasons (suc k) x there (subst (λ p. is_spared ready p ≡ false) (omega arith) marked))
       (λ some. crosses (ap (λ b. is_some_entry e.def.calendar || b) some ∙ or-true (is_some_entry e.def.calendar))) keeps.1,
 )

@@ -3,6 +3,7 @@ pub mod Kept
 pub mod Outcomes
 pub mod Counts
 pub mod Minutes
+pub mod Periods
 pub mod Triggers
 pub mod Entries
 pub mod Sound

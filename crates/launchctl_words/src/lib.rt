@@ -1,12 +1,12 @@
 //! What the words of the two programs mean: launchctl's for the control program, and the daemon's own.
 #![tactic(auto)]
 
-mod arguments;
+pub mod arguments;
 mod command;
 mod control_words;
 mod jobctl;
 mod jobd;
-mod parse;
+pub mod parse;
 mod reason;
 mod version;
 

@@ -157,6 +157,8 @@ question s e line text table a k n (is, same) numbered noted keeps led = record 
   few = omega arith;
   numbers = λ none. record { once = numbered.once; named = numbered.named };
   noted = subst (Grows k n) (sym (append-nil line)) noted;
+  tellable = tt;
+  named = tt;
 }
 
 -- no memory, and no line

@@ -99,6 +99,8 @@ flushed event refusal words old table calls stores m n before after other heard 
           few = turn.turn.few;
           numbers = turn.turn.numbers;
           noted = line_flushed old.journal m n (event_line (answered turn.outside e) ++ answer_texts turn.turn.names (answers_in turn.turn.entries)) turn.turn.noted grew;
+          tellable = turn.turn.tellable;
+          named = turn.turn.named;
         };
         own = turn.own;
         numbers = turn.numbers;

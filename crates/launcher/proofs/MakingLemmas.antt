@@ -40,7 +40,7 @@ within at overrides admitted = go (list_all (λ setting. is_label setting.label)
 
 -- the machine that a header opens is as events lead to it
 led_opened : (h : machine.Header) → h.reading.up ≤ MAX_UP → IsLed (opened h)
-led_opened h high = record { orderly = record { range = high; order = tt; short = tt }; few = grind (arith) }
+led_opened h high = record { orderly = record { range = high; order = tt; labels = tt }; few = grind (arith) }
 
 pub led_first : (header : Header) (s : State) → OpensBy header s → opening_refusal header.reading header.overrides ≡ None → IsLed s
 led_first header s opens admitted = subst IsLed (sym opens.state) (led_opened (record { reading = header.reading; zone = shown_by opens.ahead; overrides = header.overrides }) (within header.reading header.overrides admitted))

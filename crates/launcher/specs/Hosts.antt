@@ -5,6 +5,7 @@ use Rattle.history_model.specs.declared.Refusal.{Refusal}
 use Rattle.history_model.specs.declared.event.Event as journal
 use Rattle.history_model.specs.declared.event.Event.TheVariants as journaled
 use Rattle.history_model.specs.declared.event.Setting.{Setting}
+use Rattle.history_model.specs.Labels.{Label}
 use Rattle.history_model.specs.Machine.{State}
 use Rattle.history_model.specs.Acceptance.{refusal_in}
 use Rattle.history_model.specs.Step.{outcome, step}
@@ -19,10 +20,10 @@ use Rattle.job_table.specs.Loads.{load_of}
 use Rattle.child_edge.specs.Calls.{Entry}
 use Rattle.load_asking.specs.declared.asking.Outside.{Outside}
 use Rattle.load_asking.specs.Asking.{Told, told_of}
-use Rattle.load_asking.specs.Stores.{StoreCall, AreTold, set_call}
+use Rattle.load_asking.specs.Stores.{HoldsAfter, Stamp, StoreCall, AreTold, set_call}
 use Rattle.event_journal.specs.Journals.{Kept, Grows}
 use Rattle.launcher_turn.specs.Turns.{AreNumbered, IsLed, KeepsNumbers, TurnsOf, trace}
-use Rattle.launcher_load.specs.LoadTurns.{AsksFor, AsksNothing, AsksStore, IsUntouched, SetRequest, Standing, event_of_set, is_memory, set_request, standing}
+use Rattle.launcher_load.specs.LoadTurns.{AsksFor, AsksNothing, AsksStore, IsUntouched, SetRequest, Standing, event_of_set, is_memory, label_written, load_request, set_request, stamps_after, standing}
 use Rattle.table_opening.specs.Events.{event_of}
 use Rattle.table_opening.specs.Openings.{OpensBy}
 use Rattle.launcher.specs.Inputs.{answered}
@@ -121,6 +122,24 @@ abbrev pub HostHears : {T E W : Type 0} →
 HostHears calls stores holds event refusal words old new =
     Hears event refusal words (stands calls stores old) (stands calls stores new)
     (holds old.store) (holds new.store)
+
+-- ---- the seconds of settings
+
+-- the label whose setting an event asks the store to keep
+abbrev pub label_asked : Option journal.Event → Option Label
+label_asked (Some (journaled.Load def writes_setting force bind store)) =
+    label_written (load_request def writes_setting force)
+label_asked (Some (journaled.Unload label true store)) = Some label
+label_asked (Some (journaled.Enable label store)) = Some label
+label_asked (Some (journaled.Disable label store)) = Some label
+label_asked _ = None
+
+-- The store has the seconds that it had; and if the event was accepted and asked for a setting, its
+-- label has the second of the machine's reading.
+abbrev pub HostStamps : {T E W : Type 0} → (T → List Stamp → Type 0) → Option journal.Event →
+    Option Refusal → Host T E W → Host T E W → Type 0
+HostStamps stamped event refusal old new = (s : State) → KeepsState old.table s →
+    HoldsAfter stamped (stamps_after (label_asked event) refusal s.reading.wall) old.store new.store
 
 -- ---- the first moment
 

@@ -5,9 +5,11 @@ ghost use Rattle.history_model.specs.declared.event.Event.TheVariants as events;
 ghost use Rattle.event_reader.specs.EventLines.{request_at};
 ghost use Rattle.job_table.specs.Numbers.{IsNumbered};
 ghost use Rattle.launcher_load.specs.Lines.{journaled_set};
-ghost use Rattle.launcher.specs.Hosts.{HostHears};
+ghost use Rattle.launcher.specs.Hosts.{HostHears, HostStamps};
 ghost use Rattle.launcher.specs.Inputs.{asked_in};
+ghost use Rattle.launcher.specs.Writable.{WritesWhat};
 
+use crate::fitting::lend_request;
 use crate::host::Host;
 use crate::replies::{done, refused, told};
 use child_edge::{ChildEdge, SocketEdge};
@@ -29,24 +31,32 @@ fn lend_numbers(table: &JobTable)
 
 impl<T: SettingStore, E: ChildEdge + SocketEdge, W: Write> Host<T, E, W> {
     /// A client's line, the newline left out.
-    #[tactic(auto, using(crate::proofs::HostsLemmas::unheard, crate::proofs::HostsLemmas::unread))]
+    #[tactic(auto, using(crate::proofs::HostsLemmas::unheard, crate::proofs::HostsLemmas::unread, crate::proofs::StampsLemmas::refused_stamps, crate::proofs::WritableLemmas::line_writable, crate::proofs::WritableLemmas::no_line_writable))]
     pub(crate) fn line(&mut self, alloc: Global, line: &[u8]) -> Reply
         ensures hears { HostHears E.told T.told T.holds (option_and_then asked_in (request_at line.now))
             result.refusal result.text self.old self.new }
+        ensures stamped { HostStamps T.stamped (option_and_then asked_in (request_at line.now))
+            result.refusal self.old self.new }
+        ensures writable { WritesWhat result.refusal (option_and_then asked_in (request_at line.now)) }
         ensures quiet { is_some result.refusal ≡ true → result.text ≡ [] }
     {
         match self.reader.request(alloc, line) {
-            Ok(outside) => self.ask(alloc, outside),
+            Ok(outside) => {
+                lend_request(&outside);
+                self.ask(alloc, outside)
+            }
             Err(ReadFault::NoMemory) => refused(alloc, Refusal::NoMemory),
             Err(ReadFault::BadRequest) => refused(alloc, Refusal::BadRequest),
         }
     }
 
     /// What a client asks. The outside's answers are asked of the outside, whatever stands in the event.
-    #[tactic(auto, using(crate::proofs::HostsLemmas::unheard))]
+    #[tactic(auto, using(crate::proofs::HostsLemmas::unheard, crate::proofs::StampsLemmas::refused_stamps))]
     fn ask(&mut self, alloc: Global, outside: Event) -> Reply
         ensures hears { HostHears E.told T.told T.holds (asked_in outside)
             result.refusal result.text self.old self.new }
+        ensures stamped { HostStamps T.stamped (asked_in outside)
+            result.refusal self.old self.new }
         ensures quiet { is_some result.refusal ≡ true → result.text ≡ [] }
     {
         match outside {
@@ -85,6 +95,8 @@ impl<T: SettingStore, E: ChildEdge + SocketEdge, W: Write> Host<T, E, W> {
         ensures hears { HostHears E.told T.told T.holds
             (Some (events.Load def.now writes_setting force true true))
             result.refusal result.text self.old self.new }
+        ensures stamped { HostStamps T.stamped (Some (events.Load def.now writes_setting force true true))
+            result.refusal self.old self.new }
         ensures quiet { is_some result.refusal ≡ true → result.text ≡ [] }
     {
         let loaded = load(
@@ -106,6 +118,8 @@ impl<T: SettingStore, E: ChildEdge + SocketEdge, W: Write> Host<T, E, W> {
         ensures hears { HostHears E.told T.told T.holds
             (Some (journaled_set job.now disabled unload true))
             result.refusal result.text self.old self.new }
+        ensures stamped { HostStamps T.stamped (Some (journaled_set job.now disabled unload true))
+            result.refusal self.old self.new }
         ensures quiet { is_some result.refusal ≡ true → result.text ≡ [] }
     {
         let changed = set(
@@ -126,6 +140,8 @@ impl<T: SettingStore, E: ChildEdge + SocketEdge, W: Write> Host<T, E, W> {
     fn unload(&mut self, alloc: Global, job: &str, writes_setting: bool) -> Reply
         ensures hears { HostHears E.told T.told T.holds (Some (events.Unload job.now writes_setting true))
             result.refusal result.text self.old self.new }
+        ensures stamped { HostStamps T.stamped (Some (events.Unload job.now writes_setting true))
+            result.refusal self.old self.new }
         ensures quiet { is_some result.refusal ≡ true → result.text ≡ [] }
     {
         if writes_setting {
@@ -139,6 +155,8 @@ impl<T: SettingStore, E: ChildEdge + SocketEdge, W: Write> Host<T, E, W> {
     fn list(&mut self, alloc: Global) -> Reply
         ensures hears { HostHears E.told T.told T.holds (Some events.List)
             result.refusal result.text self.old self.new }
+        ensures stamped { HostStamps T.stamped (Some events.List)
+            result.refusal self.old self.new }
         ensures quiet { is_some result.refusal ≡ true → result.text ≡ [] }
     {
         lend_numbers(&self.table);
@@ -150,6 +168,8 @@ impl<T: SettingStore, E: ChildEdge + SocketEdge, W: Write> Host<T, E, W> {
     fn print(&mut self, alloc: Global, job: &str) -> Reply
         ensures hears { HostHears E.told T.told T.holds (Some (events.Print job.now))
             result.refusal result.text self.old self.new }
+        ensures stamped { HostStamps T.stamped (Some (events.Print job.now))
+            result.refusal self.old self.new }
         ensures quiet { is_some result.refusal ≡ true → result.text ≡ [] }
     {
         lend_numbers(&self.table);

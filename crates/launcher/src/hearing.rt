@@ -4,9 +4,11 @@ ghost use Rattle.std.specs.Prelude.{◌≡◌, Some, [], is_some, true};
 ghost use Rattle.launcher_load.specs.LoadTurns.{is_memory};
 ghost use Rattle.launcher_turn.specs.Events.{is_clock};
 ghost use Rattle.launcher_turn.specs.Lines.{journaled_by, journaled_of};
-ghost use Rattle.launcher.specs.Hosts.{HostHears};
+ghost use Rattle.launcher.specs.Hosts.{HostHears, HostStamps};
 ghost use Rattle.launcher.specs.Inputs.{input_event, if_label, wants_memory};
+ghost use Rattle.launcher.specs.Writable.{WritesWhat};
 
+use crate::fitting::lend_input;
 use crate::host::Host;
 use crate::input::Input;
 use crate::replies::{done, is_want, refused};
@@ -29,6 +31,9 @@ impl<T: SettingStore, E: ChildEdge + SocketEdge, W: Write> Host<T, E, W> {
     pub fn turn(&mut self, alloc: Global, input: Input<'_>) -> Reply
         ensures hears { HostHears E.told T.told T.holds (input_event input.entry)
             result.refusal result.text self.old self.new }
+        ensures stamped { HostStamps T.stamped (input_event input.entry)
+            result.refusal self.old self.new }
+        ensures writable { WritesWhat result.refusal (input_event input.entry) }
         ensures memory { is_memory result.refusal ≡ true → wants_memory input.entry ≡ true }
         ensures quiet { is_some result.refusal ≡ true → result.text ≡ [] }
     {
@@ -44,9 +49,13 @@ impl<T: SettingStore, E: ChildEdge + SocketEdge, W: Write> Host<T, E, W> {
     fn hear(&mut self, alloc: Global, input: Input<'_>) -> Reply
         ensures hears { HostHears E.told T.told T.holds (input_event input.entry)
             result.refusal result.text self.old self.new }
+        ensures stamped { HostStamps T.stamped (input_event input.entry)
+            result.refusal self.old self.new }
+        ensures writable { WritesWhat result.refusal (input_event input.entry) }
         ensures memory { is_memory result.refusal ≡ true → wants_memory input.entry ≡ true }
         ensures quiet { is_some result.refusal ≡ true → result.text ≡ [] }
     {
+        lend_input(input);
         match input {
             Input::Line(line) => self.line(alloc, line),
             Input::Clock(at) => self.happen(alloc, Happening::Clock(at)),
@@ -63,6 +72,8 @@ impl<T: SettingStore, E: ChildEdge + SocketEdge, W: Write> Host<T, E, W> {
         ensures hears { HostHears E.told T.told T.holds
             (if_label job.now (journaled_of job.now what))
             result.refusal result.text self.old self.new }
+        ensures stamped { HostStamps T.stamped (if_label job.now (journaled_of job.now what))
+            result.refusal self.old self.new }
         ensures memory { is_memory result.refusal ≡ true → ⊥ }
         ensures quiet { is_some result.refusal ≡ true → result.text ≡ [] }
     {
@@ -77,6 +88,8 @@ impl<T: SettingStore, E: ChildEdge + SocketEdge, W: Write> Host<T, E, W> {
     pub(crate) fn happen(&mut self, alloc: Global, what: Happening<'_>) -> Reply
         ensures hears { HostHears E.told T.told T.holds (Some (journaled_by what.entry))
             result.refusal result.text self.old self.new }
+        ensures stamped { HostStamps T.stamped (Some (journaled_by what.entry))
+            result.refusal self.old self.new }
         ensures memory { is_memory result.refusal ≡ true → is_clock what.entry ≡ true }
         ensures quiet { is_some result.refusal ≡ true → result.text ≡ [] }
     {

@@ -1,9 +1,10 @@
 //! The launcher: how it is made, and what it lends.
 
-ghost use Rattle.std.specs.Prelude.{◌≡◌, ◌↔◌, IsTrue, List, Result, is_some, true};
+ghost use Rattle.std.specs.Prelude.{◌≡◌, ◌↔◌, IfOk, IsTrue, List, Result, is_some, true};
 ghost use Rattle.std.specs.Borrow.{sem};
 ghost use Rattle.history_model.specs.declared.event.Setting.{Setting};
 ghost use Rattle.load_asking.specs.declared.store.StoreFault.{StoreFault};
+ghost use Rattle.load_asking.specs.Stores.{HoldsAfter};
 ghost use Rattle.event_journal.specs.Journals.{fresh, held, reported, is_writing};
 ghost use Rattle.launcher.specs.Hosts.{IsNewWith, stands};
 ghost use Rattle.launcher.specs.Faults.{ComesOf, FaultOf};
@@ -59,6 +60,8 @@ impl<T: SettingStore + Drop, E: ChildEdge + SocketEdge + Drop, W: Write + Drop> 
             (fresh (held W.contents journal) (is_some journal))
             (stands E.told T.told host) (T.holds store) (T.holds host.store))
             header answer result) }
+        ensures stamped { IfOk result (λ host.
+            HoldsAfter T.stamped (λ stamps. stamps) store host.store) }
     {
         let mut store = store;
         let settings = match store.all(alloc) {

@@ -3,6 +3,7 @@
 #![tactic(auto)]
 
 mod asking;
+mod fitting;
 mod hearing;
 mod host;
 mod input;

@@ -15,7 +15,7 @@ use Rattle.event_reader.specs.EventLines.{event_at}
 use Rattle.ctl_protocol.specs.Objects.{Plain, text, flag, count, whole, plain_data, with_members}
 use Rattle.ctl_protocol.specs.EventWriter.{name_of, line_members, answer_members, event_object}
 use Rattle.ctl_protocol.proofs.EventWriterLemmas.{event_back}
-use Rattle.launcher_laws.specs.Writable.{IsFit, IsWritable}
+use Rattle.launcher.specs.Writable.{IsFit, IsWritable}
 use Rattle.launcher_laws.proofs.ReadBackLemmas.{IsFitData, AreFit, again, put_fit, text_back}
 
 -- ---- members that are fit

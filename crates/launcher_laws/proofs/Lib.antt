@@ -5,5 +5,6 @@ pub mod HeadersLemmas
 pub mod LinesLemmas
 pub mod RunsLemmas
 pub mod LastingLemmas
+pub mod WritableLemmas
 pub mod ReplaysLemmas
 pub mod ReopenedLemmas

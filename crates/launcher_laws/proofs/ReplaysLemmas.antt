@@ -21,12 +21,14 @@ use Rattle.table_opening.specs.Openings.{OpensBy}
 use Rattle.table_opening.specs.Output.{IsOutput}
 use Rattle.launcher.specs.Hosts.{IsNew, with_settings}
 use Rattle.launcher_laws.specs.Runs.{Moment, Turn, AreTurns, events_in as parts_events}
-use Rattle.launcher_laws.specs.Writable.{IsWritable, IsWritableHeader}
+use Rattle.launcher.specs.Writable.{IsWritable}
+use Rattle.launcher_laws.specs.Writable.{IsWritableHeader}
 use Rattle.launcher_laws.specs.Replays.{outcome_texts, IsReplayed}
 use Rattle.launcher_laws.proofs.EventsLemmas.{event_read}
 use Rattle.launcher_laws.proofs.HeadersLemmas.{header_read}
 use Rattle.launcher_laws.proofs.LinesLemmas.{event_object_text, header_object_text, journal_lines}
 use Rattle.launcher_laws.proofs.RunsLemmas.{grown, went}
+use Rattle.launcher_laws.proofs.WritableLemmas.{parts_writable}
 use Rattle.child_edge.specs.Calls.{Entry}
 
 read_lines : (events : List journal.Event) → AllByRecursion IsWritable events → map event_in (map event_object_text events) ≡ map event_of events
@@ -67,15 +69,15 @@ module _ {T : Type 0} (holds : T → List Setting → Type 0) where
       let is : bytes ≡ header_line h ++ flat_map event_line (parts_events w.parts) =
       its_bytes (Some []) first.stands.journal.bytes last.stands.journal.bytes bytes (header_line h) (flat_map event_line (parts_events w.parts)) refl ends begun.grew later.grew in
       let same : flat_map outcome_line (outcomes (map event_of (parts_events w.parts)) new.machine) ≡ outcome_texts w.parts = ap (flat_map outcome_line) (sym w.all) in
-      let out : AllByRecursion IsWritable (parts_events w.parts) → IsOutput (input_lines bytes) (Some (outcome_texts w.parts)) =
-      λ each. subst (λ t. IsOutput (input_lines bytes) (Some t)) same (its_output h new.machine (parts_events w.parts) bytes new.opens told each is) in
+      let out : IsOutput (input_lines bytes) (Some (outcome_texts w.parts)) =
+      subst (λ t. IsOutput (input_lines bytes) (Some t)) same (its_output h new.machine (parts_events w.parts) bytes new.opens told (parts_writable turns w.parts w.are_parts) is) in
       record {
         parts = w.parts;
         are_parts = w.are_parts;
         lines = is;
         output = out;
-        writes = λ each rest held holds a.
+        writes = λ rest held holds a.
             let input : bytes ≡ a.input = all_consumed bytes a.input rest a.consumed a.ended in
-            let text : a.text ≡ outcome_texts w.parts = one_output (input_lines bytes) a.text (outcome_texts w.parts) (subst (λ l. IsOutput (input_lines l) (Some a.text)) (sym input) a.is) (out each) in
+            let text : a.text ≡ outcome_texts w.parts = one_output (input_lines bytes) a.text (outcome_texts w.parts) (subst (λ l. IsOutput (input_lines l) (Some a.text)) (sym input) a.is) out in
             subst (Appends held holds) text a.wrote;
       }

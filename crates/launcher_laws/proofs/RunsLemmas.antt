@@ -29,7 +29,8 @@ use Rattle.launcher_load.specs.LoadTurns.{is_memory}
 use Rattle.table_opening.specs.Events.{event_of}
 use Rattle.launcher.specs.Inputs.{answered}
 use Rattle.launcher.specs.Hosts.{HostTurnOf, IsSpared, HearsBy}
-use Rattle.launcher_laws.specs.Runs.{Moment, Turn, IsBetween, WasHeard, AreTurns, IsPartOf, AreParts, Part, outcomes_in, events_in as parts_events}
+use Rattle.launcher.specs.Writable.{IsWritable, IsWritableIf}
+use Rattle.launcher_laws.specs.Runs.{answer_told, Moment, Turn, IsBetween, WasHeard, AreTurns, IsPartOf, AreParts, Part, outcomes_in, events_in as parts_events}
 
 -- ---- runs in two parts
 
@@ -42,9 +43,6 @@ outcomes_append [] ys s = refl
 outcomes_append (x ∷ xs) ys s = ap (λ l. outcome s x ∷ l) (outcomes_append xs ys (step s x))
 
 -- ---- the events of a turn, as the journal has them
-
-abbrev answer_told : List Name → Pending → journal.Event
-answer_told names pending = journaled_answer (label_of names pending.job) pending.answer
 
 answer_is : (job : Label) (answer : Answer) → event_of (journaled_answer job answer) ≡ OfJob job (Answered answer)
 answer_is job (answers.Spawned run pid) = refl
@@ -86,8 +84,8 @@ module _ {T : Type 0} (holds : T → List Setting → Type 0) (s : State) (turn 
     noted = spared.silent;
   }
 
-  turned_was : (event : journal.Event) → turn.event ≡ Some event → HostTurnOf s event turn.refusal turn.words turn.before.stands turn.after.stands (holds turn.before.store) (holds turn.after.store) → Was holds s turn
-  turned_was event came t =
+  turned_was : (event : journal.Event) → turn.event ≡ Some event → IsWritable event → HostTurnOf s event turn.refusal turn.words turn.before.stands turn.after.stands (holds turn.before.store) (holds turn.after.store) → Was holds s turn
+  turned_was event came writable t =
       let first = answered t.outside event in
       let input = event_of first in
       let names = t.turn.names in
@@ -99,6 +97,7 @@ module _ {T : Type 0} (holds : T → List Setting → Type 0) (s : State) (turn 
         is_part = inr (record {
           event = event;
           came = came;
+          writable = writable;
           outside = t.outside;
           answers = map (answer_told names) ps;
           first = refl;
@@ -114,6 +113,9 @@ module _ {T : Type 0} (holds : T → List Setting → Type 0) (s : State) (turn 
           entries = t.turn.entries;
           tells = t.turn.tells;
           calls = t.turn.turn.calls;
+          told = refl;
+          tellable = t.turn.tellable;
+          named = t.turn.named;
         });
         all = ap (λ es. outcomes es s) same;
         led = subst (λ es. IsLed (run es s)) same t.turn.led;
@@ -123,12 +125,12 @@ module _ {T : Type 0} (holds : T → List Setting → Type 0) (s : State) (turn 
       }
 
   was : IsLed s → KeepsState turn.before.stands.table s → WasHeard holds turn → Was holds s turn
-  was led keeps heard = go (is_memory turn.refusal) turn.event refl refl heard where
+  was led keeps heard = go (is_memory turn.refusal) turn.event refl refl heard.0 where
     go : (b : Bool) (event : Option journal.Event) → is_memory turn.refusal ≡ b → turn.event ≡ event →
         HearsBy b event turn.refusal turn.words turn.before.stands turn.after.stands (holds turn.before.store) (holds turn.after.store) → Was holds s turn
-    go true event memory is heard = spared_was led keeps (inl (inl memory, refl, refl)) heard.0
-    go false None memory is heard = spared_was led keeps (inl (inr (is, heard.0), refl, refl)) heard.1
-    go false (Some event) memory is heard = turned_was event is (heard s led keeps)
+    go true event memory is heard' = spared_was led keeps (inl (inl memory, refl, refl)) heard'.0
+    go false None memory is heard' = spared_was led keeps (inl (inr (is, heard'.0), refl, refl)) heard'.1
+    go false (Some event) memory is heard' = turned_was event is (subst IsWritableIf is (heard.1 memory)) (heard' s led keeps)
 
 -- ---- the journal, while it is open
 

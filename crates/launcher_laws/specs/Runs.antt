@@ -1,21 +1,25 @@
 -- What a launcher goes through: its turns, one after another.
 use Rattle.std.specs.Prelude.{◌≡◌, ◌⊎◌, ℕ, true, List, [], ◌∷◌, map, Option, Some, None}
-use Rattle.std.specs.List.{flat_map, AllZip}
+use Rattle.std.specs.List.{flat_map, AllZip, AllByRecursion}
 use Rattle.history_model.specs.declared.Refusal.{Refusal}
 use Rattle.history_model.specs.declared.Refusal.TheVariants.{BadRequest}
 use Rattle.history_model.specs.declared.Order.{Order}
 use Rattle.history_model.specs.declared.event.Event as journal
 use Rattle.history_model.specs.declared.event.Setting.{Setting}
 use Rattle.history_model.specs.Step.{Outcome}
-use Rattle.job_table.specs.Tables.{Name}
+use Rattle.job_table.specs.Tables.{Name, label_of}
 use Rattle.job_table.specs.Kept.{labelled}
 use Rattle.child_edge.specs.Calls.{Tells, Entry}
-use Rattle.order_edge.specs.Calls.{call_of, calls_in}
+use Rattle.order_edge.specs.declared.pending.Pending.{Pending}
+use Rattle.order_edge.specs.Calls.{call_of, calls_in, answers_in, IsTellablePending}
 use Rattle.event_journal.specs.Journals.{reported}
+use Rattle.launcher_turn.specs.Lines.{journaled_answer}
+use Rattle.launcher_turn.specs.Turns.{IsNamedIn}
 use Rattle.load_asking.specs.declared.asking.Outside.{Outside}
 use Rattle.launcher_load.specs.LoadTurns.{is_memory, Standing}
 use Rattle.launcher.specs.Inputs.{answered}
 use Rattle.launcher.specs.Hosts.{Hears}
+use Rattle.launcher.specs.Writable.{IsWritable, WritesWhat}
 
 -- how a launcher stands, and its store of settings
 pub record Moment (T : Type 0) : Type 0 where
@@ -46,6 +50,7 @@ module _ {T : Type 0} (holds : T → List Setting → Type 0) where
   WasHeard turn =
       Hears turn.event turn.refusal turn.words turn.before.stands turn.after.stands
       (holds turn.before.store) (holds turn.after.store)
+      × WritesWhat turn.refusal turn.event
 
   -- these turns, each heard, lead from the first moment to the last
   abbrev pub AreTurns : Moment T → List (Turn T) → Moment T → Type 0
@@ -60,14 +65,20 @@ abbrev pub IsNoEvent : {T : Type 0} → Turn T → Type 0
 IsNoEvent turn =
     (is_memory turn.refusal ≡ true) ⊎ ((turn.event ≡ None) × (turn.refusal ≡ Some BadRequest))
 
+-- the journal's event of an answer; a number stands for its job's label
+abbrev pub answer_told : List Name → Pending → journal.Event
+answer_told names pending = journaled_answer (label_of names pending.job) pending.answer
+
 -- The events of a turn, as the journal has them, and their outcomes. The first event is the one
 -- that came, with what the outside answered to it, and its outcome is the reply; the others are the
--- answers to the orders. The orders in all outcomes are the calls that were made, in order, each
--- once, after what a load asks of its sockets.
+-- answers that the calls gave, in order. The orders in all outcomes are the calls that were made,
+-- in order, each once, after what a load asks of its sockets. A line can say the event that came, and
+-- of each answer the numbers and the label of its job.
 pub record AreOutcomesOf {T : Type 0} (turn : Turn T) (events : List journal.Event)
     (outs : List Outcome) : Type 0 where
   pub event : journal.Event
   pub came : turn.event ≡ Some event
+  pub writable : IsWritable event
   pub outside : Outside
   pub answers : List journal.Event
   pub first : events ≡ answered outside event ∷ answers
@@ -83,6 +94,9 @@ pub record AreOutcomesOf {T : Type 0} (turn : Turn T) (events : List journal.Eve
   pub entries : List Entry
   pub tells : Tells mid entries turn.after.stands.calls
   pub calls : calls_in entries ≡ map call_of orders
+  pub told : answers ≡ map (answer_told names) (answers_in entries)
+  pub tellable : AllByRecursion IsTellablePending (answers_in entries)
+  pub named : AllByRecursion (IsNamedIn names) (answers_in entries)
 
 -- what a turn adds to a run of the machine: its events, and their outcomes
 abbrev pub Part : Type 0

@@ -9,7 +9,7 @@ use Rattle.job_table.specs.Numbers.{IsNumbered}
 use Rattle.job_table.specs.declared.Step.{Step}
 use Rattle.order_edge.specs.declared.pending.Pending.{Pending}
 use Rattle.event_journal.specs.Journals.{Kept, Grows}
-use Rattle.launcher_turn.specs.Turns.{Begins, Carried, IsLed, IsShort, trace}
+use Rattle.launcher_turn.specs.Turns.{Begins, Carried, IsLed, NamesLabel, trace}
 use Rattle.launcher_turn.proofs.TurnsLemmas.{Settles, turned-at}
 use Rattle.launcher_load.specs.LoadTurns.{Finishes, HasTaken}
 use Rattle.child_edge.specs.Calls.{Entry}
@@ -17,7 +17,7 @@ use Rattle.child_edge.specs.Calls.{Entry}
 -- the orders of the step are those of the event, and the turn goes by the names of the table that the event left
 pub finished : (before mid new : Table) (s : State) (e : Event) (line : List ℕ) (lent : Step) (first after : List Pending) (a b c : Option (List Entry)) (k m n : Kept) →
     acts_of lent ≡ acts_in mid → AreKnown lent → names_in lent ≡ mid.names → IsNumbered mid → Carried lent.orders.now [] first a b → Settles mid first after new b c m n →
-    Grows k m line → IsShort e → IsLed s → KeepsState before s → HasTaken s e mid → Finishes s e line mid.names new (trace a k) (trace c n)
+    Grows k m line → NamesLabel e → IsLed s → KeepsState before s → HasTaken s e mid → Finishes s e line mid.names new (trace a k) (trace c n)
 unfolding turned-at
 finished before mid new s e line lent first after a b c k m n acts known names numbered carried settles noted short led keeps taken =
     let begins : Begins s e None mid [] first a b = record {

@@ -6,7 +6,7 @@ use Rattle.std.proofs.lemmas.List.{append-nil}
 use Rattle.std.proofs.lemmas.Bool.Decides.{nat_tests}
 use Rattle.history_model.specs.declared.Refusal.{Refusal}
 use Rattle.history_model.specs.declared.Refusal.TheVariants.{NoMemory, SocketRefused, StoreRefused}
-use Rattle.history_model.specs.Labels.{is_label, is_forbidden}
+use Rattle.history_model.specs.Labels.{Label, is_label, is_forbidden}
 use Rattle.history_model.specs.Machine.{State, Event, Load}
 use Rattle.history_model.specs.Acceptance.{refusal_in, refusal_stored, refused_if}
 use Rattle.history_model.specs.Step.{outcome, outcome_by, step, step_by, set_if}
@@ -22,7 +22,7 @@ use Rattle.child_edge.specs.Calls.{Entry}
 use Rattle.child_edge.proofs.CallsLemmas.{tells_nothing}
 use Rattle.load_asking.specs.declared.asking.Outside.{Outside}
 use Rattle.load_asking.specs.Asking.{Asks, told_of}
-use Rattle.load_asking.specs.Stores.{StoreCall}
+use Rattle.load_asking.specs.Stores.{Stamp, StoreCall, stamp_if}
 use Rattle.load_asking.proofs.AskLemmas.{told_nothing}
 use Rattle.event_journal.specs.Journals.{Kept, Grows}
 use Rattle.launcher_turn.specs.Turns.{AreNumbered, IsLed, TurnsOf, trace}
@@ -30,17 +30,10 @@ use Rattle.launcher_turn.proofs.NumbersLemmas.{AreNamed, rows-named, keeps-numbe
 use Rattle.job_table.specs.Numbers.{names_of}
 use Rattle.launcher_turn.proofs.StoredSettingsLemmas.{load_settings}
 use Rattle.launcher_load.specs.Lines.{load_line}
-use Rattle.launcher_load.specs.LoadTurns.{AsksFor, EndsLoad, LoadTurnOf, Makes, is_memory, load_request, settings_after, standing}
+use Rattle.launcher_load.specs.LoadTurns.{AsksFor, EndsLoad, LoadTurnOf, Makes, is_memory, label_read, label_written, load_request, settings_after, stamps_after, standing}
 
 pub clash : {P : Type 0} (o : Option Refusal) (r : Refusal) → o ≡ None → o ≡ Some r → P
 clash {P} o r none some = let no : None ≡ Some r = sym none ∙ some in cc
-
-pub label-short : (bytes : List ℕ) → is_label bytes ≡ true → length bytes ≤ 255
-label-short bytes e = go (nat_lt 0 (length bytes)) (nat_le (length bytes) 255) refl (list_any is_forbidden bytes) e where
-  go : (a b : Bool) → nat_le (length bytes) 255 ≡ b → (c : Bool) → (a && b && not c) ≡ true → length bytes ≤ 255
-  go true true is c e = grind (arith, nat_tests, is)
-  go true false is c e = cc
-  go false b is c e = cc
 
 -- ---- refusals
 
@@ -86,6 +79,8 @@ nothing_done s e line new r a k n is noted keeps led = record {
   few = omega arith;
   numbers = λ none. let no : Some r ≡ None = none in cc;
   noted = subst (Grows k n) (sym (append-nil line)) noted;
+  tellable = tt;
+  named = tt;
 }
 
 -- names that are those of the rows stand for their jobs
@@ -162,3 +157,25 @@ load_sets s bytes writes_setting force outside old d refusal admitted keeps answ
     let e = load_of bytes writes_setting force outside.bind outside.store in
     ap (λ b. if b then s.settings else (step s e).settings) (ap is_memory answer ∙ not_memory d writes_setting outside.bind outside.store)
     ∙ load_settings s bytes d writes_setting force outside.bind outside.store admitted.read (admitted.remains s outside.bind outside.store keeps) unbound unstored
+
+-- a request that was refused stored no second
+pub unstamped : (label : Option Label) (r : Refusal) (second : ℕ) (stamps : List Stamp) → stamps_after label (Some r) second stamps ≡ stamps
+unstamped None r second stamps = refl
+unstamped (Some label) r second stamps = refl
+
+-- a load that was accepted stored the second of the setting that it wrote, and a refused one stored none
+pub load_stamps : (bytes : List ℕ) (writes_setting force : Bool) (outside : Outside) (d : Described) (refusal : Option Refusal) (second : ℕ) (stamps : List Stamp) → def_of bytes ≡ Ok d →
+    refusal ≡ refusal_outside d writes_setting outside.bind outside.store → (has_sockets d ≡ false → outside.bind ≡ true) →
+    stamps_after (label_written (load_request bytes writes_setting force)) refusal second stamps ≡ stamp_if (writes_setting && (outside.bind && outside.store)) d.label second stamps
+load_stamps bytes writes_setting force outside d refusal second stamps read answer unbound =
+    ap (λ r. stamps_after (if writes_setting then label_read r else None) refusal second stamps) read
+    ∙ ap (λ o. stamps_after (if writes_setting then Some d.label else None) o second stamps) answer
+    ∙ go writes_setting (has_sockets d) outside.bind outside.store unbound where
+      go : (w h bind store : Bool) → (h ≡ false → bind ≡ true) → stamps_after (if w then Some d.label else None) (refused_if (h && not bind) SocketRefused (refusal_stored w store)) second stamps ≡ stamp_if (w && (bind && store)) d.label second stamps
+      go false h bind store unbound = refl
+      go true true false store unbound = refl
+      go true true true true unbound = refl
+      go true true true false unbound = refl
+      go true false true true unbound = refl
+      go true false true false unbound = refl
+      go true false false store unbound = let no : false ≡ true = unbound refl in cc

@@ -14,7 +14,7 @@ use Rattle.job_table.specs.Kept.{KeepsState}
 use Rattle.load_asking.specs.Stores.{StoreCall, AreTold, set_call}
 use Rattle.load_asking.proofs.AskLemmas.{told_nothing}
 use Rattle.event_journal.specs.Journals.{Kept, Grows}
-use Rattle.launcher_turn.specs.Turns.{IsLed, IsShort}
+use Rattle.launcher_turn.specs.Turns.{IsLed, NamesLabel}
 use Rattle.launcher_turn.proofs.NumbersLemmas.{same-numbers}
 use Rattle.launcher_load.specs.Lines.{set_line}
 use Rattle.launcher_load.specs.LoadTurns.{AsksStore, SetTurnOf, set_request, standing}
@@ -23,7 +23,7 @@ use Rattle.child_edge.specs.Calls.{Entry}
 use Rattle.job_table.proofs.ChangesLemmas.{set_same}
 
 -- a setting names no label that comes
-pub short_set : (label : Label) (disabled unload store : Bool) → IsShort (set_of label disabled unload store)
+pub short_set : (label : Label) (disabled unload store : Bool) → NamesLabel (set_of label disabled unload store)
 short_set label disabled true store = tt
 short_set label disabled false store = tt
 

@@ -19,7 +19,7 @@ use Rattle.job_table.specs.Outcomes.{IsSameFor}
 use Rattle.child_edge.specs.Calls.{Tells, Entry}
 use Rattle.load_asking.specs.declared.asking.Outside.{Outside}
 use Rattle.load_asking.specs.Asking.{Asks, Told, told_of}
-use Rattle.load_asking.specs.Stores.{StoreCall, AreTold, set_call}
+use Rattle.load_asking.specs.Stores.{Stamp, StoreCall, AreTold, set_call}
 use Rattle.event_journal.specs.Journals.{Kept, Grows}
 use Rattle.launcher_turn.specs.Turns.{AreNumbered, IsLed, KeepsNumbers, TurnsOf, Trace, trace}
 use Rattle.launcher_load.specs.Lines.{load_line, set_line}
@@ -32,6 +32,13 @@ is_memory _ = false
 -- the settings of the machine after the event; want of memory is no event
 abbrev pub settings_after : Option Refusal → State → Event → List Setting
 settings_after reply s e = if is_memory reply then s.settings else (step s e).settings
+
+-- the seconds of settings after a request of which this was the answer: the label whose setting an
+-- accepted request wrote has this second
+abbrev pub stamps_after : Option Label → Option Refusal → ℕ → List Stamp → List Stamp
+stamps_after None refusal second stamps = stamps
+stamps_after (Some label) None second stamps = (label, second) ∷ stamps
+stamps_after (Some label) (Some refusal) second stamps = stamps
 
 -- ---- what was asked
 
@@ -98,6 +105,16 @@ load_request bytes writes_setting force =
 abbrev pub event_of_load : LoadRequest → Outside → Event
 event_of_load request outside =
     load_of request.bytes request.writes_setting request.force outside.bind outside.store
+
+-- the label that the text defines, if it does
+abbrev pub label_read : Result Described Fault → Option Label
+label_read (Ok d) = Some d.label
+label_read (Err fault) = None
+
+-- the label whose setting a load writes
+abbrev pub label_written : LoadRequest → Option Label
+label_written request =
+    if request.writes_setting then label_read (def_of request.bytes) else None
 
 -- what a client asked for with `enable`, `disable` or `unload -w`
 pub record SetRequest : Type 0 where

@@ -5,7 +5,7 @@ ghost use Rattle.history_model.specs.Machine.{State, Event};
 ghost use Rattle.job_table.specs.Tables.{Table};
 ghost use Rattle.job_table.specs.Kept.{KeepsState};
 ghost use Rattle.event_journal.specs.Journals.{Kept, Grows};
-ghost use Rattle.launcher_turn.specs.Turns.{IsLed, IsShort, trace};
+ghost use Rattle.launcher_turn.specs.Turns.{IsLed, NamesLabel, trace};
 ghost use Rattle.launcher_load.specs.LoadTurns.{Finishes, HasTaken};
 
 use child_edge::{ChildEdge, SocketEdge};
@@ -26,7 +26,7 @@ pub(crate) fn finish<E: ChildEdge + SocketEdge, W: Write>(
 )
     requires { room.old.answers ≡ [] }
     ensures { (before : Table) (s : State) (e : Event) (line : List ℕ) (written : Kept) →
-        Grows written journal.old line → IsShort e → IsLed s → KeepsState before s →
+        Grows written journal.old line → NamesLabel e → IsLed s → KeepsState before s →
         HasTaken s e table.old
         → Finishes s e line table.old.names table.new
         (trace (E.told edge.old) written) (trace (E.told edge.new) journal.new) }

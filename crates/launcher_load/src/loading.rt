@@ -11,10 +11,10 @@ ghost use Rattle.job_table.specs.Kept.{KeepsState};
 ghost use Rattle.job_table.specs.Loads.{refusal_outside, IsReady, described_in, refused_with};
 ghost use Rattle.event_journal.specs.Journals.{Kept, Grows};
 ghost use Rattle.load_asking.specs.Asking.{told_of};
-ghost use Rattle.load_asking.specs.Stores.{HoldsAfter};
+ghost use Rattle.load_asking.specs.Stores.{HoldsAfter, stamp_if};
 ghost use Rattle.launcher_turn.specs.Turns.{IsLed, trace};
 ghost use Rattle.launcher_load.specs.Lines.{load_line};
-ghost use Rattle.launcher_load.specs.LoadTurns.{LoadTurnOf, IsUntouched, Makes, EndsLoad, event_of_load, is_memory, load_request, ready_load, settings_after, standing};
+ghost use Rattle.launcher_load.specs.LoadTurns.{LoadTurnOf, IsUntouched, Makes, EndsLoad, event_of_load, is_memory, label_written, load_request, ready_load, settings_after, stamps_after, standing};
 
 use crate::finishing::finish;
 use crate::noting::{note_load, note_load_refused};
@@ -108,6 +108,10 @@ fn ask_and_make<E: ChildEdge + SocketEdge, T: SettingStore, W: Write>(
         (set_if (writes_setting && (result.outside.bind && result.outside.store))
         (described_in ready).label false)
         store.old store.new }
+    ensures stamped { HoldsAfter T.stamped
+        (stamp_if (writes_setting && (result.outside.bind && result.outside.store))
+        (described_in ready).label table.old.reading.wall)
+        store.old store.new }
 {
     let changed = table.reading().wall;
     let outside = ask_outside(
@@ -189,6 +193,10 @@ pub fn load<E: ChildEdge + SocketEdge, T: SettingStore, W: Write>(
     ensures stored { (s : State) → KeepsState table.old s → T.holds store.old s.settings
         → T.holds store.new (settings_after (refused_with result.reply) s
         (event_of_load (load_request def.now writes_setting force) result.outside)) }
+    ensures stamped { (s : State) → KeepsState table.old s → HoldsAfter T.stamped
+        (stamps_after (label_written (load_request def.now writes_setting force))
+        (refused_with result.reply) s.reading.wall)
+        store.old store.new }
     ensures text { IfOk result.reply (λ text. (s : State) → KeepsState table.old s
         → (outcome s
         (event_of_load (load_request def.now writes_setting force) result.outside)).text

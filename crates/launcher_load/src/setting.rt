@@ -1,16 +1,17 @@
 //! A setting of a label: it is made ready, the store is asked, its line is written, and if the store answered well the
 //! setting is made.
 
-ghost use Rattle.std.specs.Prelude.{◌≡◌, ◌||◌, ℕ, Bool, List, [], None, true, false};
+ghost use Rattle.std.specs.Prelude.{◌≡◌, ◌||◌, ℕ, Bool, List, [], None, Some, true, false};
 ghost use Rattle.history_model.specs.Acceptance.{refusal_in};
 ghost use Rattle.history_model.specs.Machine.{State};
 ghost use Rattle.job_table.specs.Changes.{set_of, IsReadySet};
 ghost use Rattle.job_table.specs.Kept.{KeepsState};
 ghost use Rattle.event_journal.specs.Journals.{Kept, Grows};
 ghost use Rattle.load_asking.specs.Asking.{told_of};
+ghost use Rattle.load_asking.specs.Stores.{HoldsAfter};
 ghost use Rattle.launcher_turn.specs.Turns.{IsLed, trace};
 ghost use Rattle.job_table.specs.Loads.{refused_with};
-ghost use Rattle.launcher_load.specs.LoadTurns.{SetTurnOf, Sets, IsUntouched, is_memory, set_request, settings_after, standing};
+ghost use Rattle.launcher_load.specs.LoadTurns.{SetTurnOf, Sets, IsUntouched, is_memory, set_request, settings_after, stamps_after, standing};
 
 use crate::finishing::finish;
 use crate::noting::{note_set, note_set_refused};
@@ -90,6 +91,9 @@ pub fn set<E: ChildEdge + SocketEdge, T: SettingStore, W: Write>(
     ensures stored { (s : State) → KeepsState table.old s → T.holds store.old s.settings
         → T.holds store.new (settings_after (refused_with result.reply) s
         (set_of label.now disabled unload result.stored)) }
+    ensures stamped { (s : State) → KeepsState table.old s → HoldsAfter T.stamped
+        (stamps_after (Some label.now) (refused_with result.reply) s.reading.wall)
+        store.old store.new }
 {
     if !is_label(label) {
         note_set(journal, alloc, label, disabled, unload, true);

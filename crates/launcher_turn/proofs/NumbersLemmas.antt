@@ -1,6 +1,8 @@
 -- The numbers of a turn: while it lasts each stands for one job.
-use Rattle.std.proofs.Common.{◌≡◌, ℕ, ◌==◌, ◌≤◌, Bool, true, false, ◌&&◌, cond, List, [], ◌∷◌, ◌++◌, map, length, Option, Some, None, is_some, refl, sym, ap, subst, ◌∙◌}
-use Rattle.std.specs.List.{filter, list_all, AllByRecursion}
+use Rattle.std.proofs.Common.{◌≡◌, ℕ, ◌==◌, ◌≤◌, Bool, true, false, not, ◌&&◌, cond, List, [], ◌∷◌, ◌++◌, map, length, Option, Some, None, is_some, refl, sym, ap, subst, ◌∙◌, arith}
+use Rattle.std.specs.Prelude.{nat_lt, nat_le}
+use Rattle.std.proofs.lemmas.Bool.Decides.{nat_tests}
+use Rattle.std.specs.List.{filter, list_all, list_any, AllByRecursion}
 use Rattle.std.specs.Cmp.Lexicographic.{same_text}
 use Rattle.std.proofs.lemmas.Bool.{eqb-true, false≢true}
 use Rattle.history_model.specs.declared.Act.{Act}
@@ -10,7 +12,7 @@ use Rattle.history_model.specs.declared.Reading.{Reading}
 use Rattle.history_model.specs.Items.{History}
 use Rattle.history_model.specs.Search.{first}
 use Rattle.history_model.specs.Runs.{is_answer_to}
-use Rattle.history_model.specs.Labels.{Label, is_same}
+use Rattle.history_model.specs.Labels.{Label, is_forbidden, is_label, is_same}
 use Rattle.history_model.specs.Machine.{Job, is_of, past_in}
 use Rattle.history_model.specs.WholeLaws.{labels_of}
 use Rattle.job_defs.specs.Described.{Described}
@@ -24,7 +26,7 @@ use Rattle.order_edge.specs.declared.pending.Pending.{Pending}
 use Rattle.order_edge.specs.Calls.{call_by, call_of, calls_in, answers_in, spawn_answer}
 use Rattle.history_model.specs.Turns.{JobOrder, wanting}
 use Rattle.history_model.proofs.LabelOrderLemmas.{same_self}
-use Rattle.launcher_turn.specs.Turns.{AreNumbered, AreTheirs, KeepsNumbers, number_of}
+use Rattle.launcher_turn.specs.Turns.{AreNumbered, AreTheirs, IsLabel, KeepsNumbers, number_of}
 use Rattle.history_model.proofs.BooleanLemmas.{and-both}
 use Rattle.history_model.proofs.LawfulLemmas.{eqb-self}
 
@@ -112,6 +114,14 @@ once-number (name ∷ names) once a b d e known_a known_b same = go (name.number
   go false ia true ib rest ka kb = let is : name.described ≡ e = cc in absurd (clash d a ka (ap (λ (x : Described). x.label) is ∙ sym same))
   go false ia false ib rest ka kb = rest ka kb same
 
+-- a label has at most 255 bytes
+pub label-short : (bytes : List ℕ) → is_label bytes ≡ true → length bytes ≤ 255
+label-short bytes e = go (nat_lt 0 (length bytes)) (nat_le (length bytes) 255) refl (list_any is_forbidden bytes) e where
+  go : (a b : Bool) → nat_le (length bytes) 255 ≡ b → (c : Bool) → (a && b && not c) ≡ true → length bytes ≤ 255
+  go true true is c e = grind (arith, nat_tests, is)
+  go true false is c e = cc
+  go false b is c e = cc
+
 -- ---- a label that is loaded
 
 -- its row, as two lists of names know it
@@ -120,10 +130,10 @@ pub record IsLoaded (names table : List Name) (label : Label) : Type 0 where
   pub here : definition_of_number names row.number ≡ Some row.described
   pub there : definition_of_number table row.number ≡ Some row.described
   pub named : row.described.label ≡ label
-  pub short : length label ≤ 255
+  pub short : IsLabel label
 
 pub loaded : (at : Reading) (names table : List Name) (label : Label) (t : History) (rows : List Row) (jobs : List Job) → KeepsJobs at rows jobs → AreNamed names rows → AreNamed table rows →
-    AllByRecursion (λ (l : Label). length l ≤ 255) (labels_of jobs) → past_in (first (filter (is_of label) jobs)) ≡ Some t → IsLoaded names table label
+    AllByRecursion IsLabel (labels_of jobs) → past_in (first (filter (is_of label) jobs)) ≡ Some t → IsLoaded names table label
 loaded at names table label t [] [] keeps here there short is = cc
 loaded at names table label t [] (job ∷ jobs) keeps here there short is = absurd keeps
 loaded at names table label t (row ∷ rows) [] keeps here there short is = absurd keeps
@@ -133,7 +143,7 @@ loaded at names table label t (row ∷ rows) (job ∷ jobs) keeps here there sho
           past_in (first (cond b (job ∷ filter (is_of label) jobs) (filter (is_of label) jobs))) ≡ Some t → IsLoaded names table label
       go true found rest is =
           let same : label ≡ job.label = same_text label job.label (sym found) in
-          record { row = row; here = here.0; there = there.0; named = keeps.0.label ∙ sym same; short = subst (λ (l : Label). length l ≤ 255) (sym same) short.0 }
+          record { row = row; here = here.0; there = there.0; named = keeps.0.label ∙ sym same; short = subst IsLabel (sym same) short.0 }
       go false found rest is = rest is
 
 -- ---- numbers that stay

@@ -1,6 +1,6 @@
 -- What one event of a launcher's turn leaves.
 use Rattle.std.proofs.Common.{◌≡◌, ◌≤◌, true, false, ◌&&◌, List, [], ◌∷◌, length, Option, Some, None, refl, sym, ap, subst, ◌∙◌}
-use Rattle.std.specs.Prelude.{Result, Ok, Err, IsOk, IfOk}
+use Rattle.std.specs.Prelude.{Result, Ok, Err, IsOk, IfOk, IsUtf8}
 use Rattle.std.proofs.lemmas.Bool.{false≢true}
 use Rattle.std.specs.List.{list_all, AllByRecursion}
 use Rattle.history_model.specs.declared.Refusal.{Refusal}
@@ -25,14 +25,14 @@ use Rattle.order_edge.specs.Calls.{answers_in}
 use Rattle.history_model.specs.Turns.{JobOrder, wanting, is_answer}
 use Rattle.history_model.proofs.TurnsLemmas.{IsTurning, turning-step}
 use Rattle.history_model.proofs.LabelOrderLemmas.{heard_one-labels, same_self, order-run, all-stays}
-use Rattle.launcher_turn.specs.Turns.{AreNumbered, Carried, orders_lent, IsUntouched, event_in, AreTheirs, IsOrderly, IsWaiting, HappensTo, Happens, Handled, trace}
+use Rattle.launcher_turn.specs.Turns.{AreNumbered, Carried, orders_lent, IsUntouched, event_in, AreTheirs, IsLabel, IsOrderly, IsWaiting, HappensTo, Happens, Handled, trace}
 use Rattle.job_table.specs.Loads.{refused_with}
 use Rattle.job_core.specs.Memory.{NeedsNoMemory}
 use Rattle.ctl_protocol.specs.EventWriter.{event_line}
 use Rattle.event_journal.specs.Journals.{Kept, Grows}
 use Rattle.launcher_turn.specs.Lines.{journaled_answer}
 use Rattle.launcher_turn.proofs.CarryLemmas.{none-called}
-use Rattle.launcher_turn.proofs.NumbersLemmas.{AreNamed, rows-named, label-is, named-next, orders-known, once-number, loaded, keeps-numbers, same-numbers, theirs-append, made-theirs}
+use Rattle.launcher_turn.proofs.NumbersLemmas.{AreNamed, label-short, rows-named, label-is, named-next, orders-known, once-number, loaded, keeps-numbers, same-numbers, theirs-append, made-theirs}
 use Rattle.child_edge.specs.Calls.{Entry}
 use Rattle.job_table.proofs.OutcomesLemmas.{resting}
 
@@ -149,27 +149,28 @@ pub orderly-next : (s : State) (label : Label) (x : Item) → IsOrderly s → Is
 orderly-next s label x is = record {
   range = go (refusal_in s (OfJob label x));
   order = order-run (OfJob label x ∷ []) s is.order;
-  short = labels (refusal_in s (OfJob label x));
+  labels = labels (refusal_in s (OfJob label x));
 } where
   go : (o : Option Refusal) → (step_by o s (OfJob label x)).reading.up ≤ MAX_UP
   go (Some refusal) = is.range
   go None = is.range
 
-  labels : (o : Option Refusal) → AllByRecursion (λ (l : Label). length l ≤ 255) (labels_of (step_by o s (OfJob label x)).jobs)
-  labels (Some refusal) = is.short
-  labels None = all-stays (λ (l : Label). length l ≤ 255) (heard_one label x s.jobs) (subst (AllByRecursion (λ (l : Label). length l ≤ 255)) (sym (heard_one-labels label x s.jobs)) is.short)
+  labels : (o : Option Refusal) → AllByRecursion IsLabel (labels_of (step_by o s (OfJob label x)).jobs)
+  labels (Some refusal) = is.labels
+  labels None = all-stays IsLabel (heard_one label x s.jobs) (subst (AllByRecursion IsLabel) (sym (heard_one-labels label x s.jobs)) is.labels)
 
 -- the answer goes to its job, and then those that it ordered wait behind the others
 pub handled : (reply : Option Refusal) (old new : Table) (before after : List Pending) (told told' : Option (List Entry)) (written written' : Kept) (pending : Pending) (found said : Label) →
-    found ≡ label_of old.names pending.job → IsNumbered old → (length found ≤ 255 → said ≡ found) → Happens (OfJob said (Answered pending.answer)) reply old new before after told told' → Grows written written' (event_line (journaled_answer said pending.answer)) →
+    found ≡ label_of old.names pending.job → IsNumbered old → (length found ≤ 255 → said ≡ found) → IsUtf8 said → Happens (OfJob said (Answered pending.answer)) reply old new before after told told' → Grows written written' (event_line (journaled_answer said pending.answer)) →
     (s : State) (names : List Name) (job_order : JobOrder) (waits : List JobOrder) (rest : List Pending) → IsWaiting old s names (job_order ∷ waits) (pending ∷ rest) →
     Handled s names job_order waits pending rest before after new (trace told written) (trace told' written')
-handled reply old new before after told told' written written' pending found said looked numbered copied happened noted s names job_order waits rest is =
+handled reply old new before after told told' written written' pending found said looked numbered copied text happened noted s names job_order waits rest is =
     let (d, known, label) = is.theirs.0 in
-    let job = loaded s.reading names old.names job_order.0 _ old.rows s.jobs is.keeps.jobs is.numbers.named numbered.named is.orderly.short is.fresh.0.1 in
+    let job = loaded s.reading names old.names job_order.0 _ old.rows s.jobs is.keeps.jobs is.numbers.named numbered.named is.orderly.labels is.fresh.0.1 in
     let number : pending.job ≡ job.row.number = once-number names is.numbers.once pending.job job.row.number d job.row.described known job.here (label ∙ sym job.named) in
     let at : label_of old.names pending.job ≡ job_order.0 = label-is old.names pending.job job.row.described (ap (definition_of_number old.names) number ∙ job.there) ∙ job.named in
-    let short : length found ≤ 255 = subst (λ (l : Label). length l ≤ 255) (sym (looked ∙ at)) job.short in
+    let label_is : IsLabel found = subst IsLabel (sym (looked ∙ at)) job.short in
+    let short : length found ≤ 255 = label-short found label_is in
     let own : label_of names pending.job ≡ job_order.0 = label-is names pending.job d known ∙ label in
     let same : said ≡ label_of names pending.job = copied short ∙ looked ∙ at ∙ sym own in
     let e : Event = event_in names pending in
@@ -192,4 +193,5 @@ handled reply old new before after told told' written written' pending found sai
       };
       noted = subst (λ (l : Label). Grows written written' (event_line (journaled_answer l pending.answer))) same noted;
       lighter = next.1;
+      named = (subst IsLabel (looked ∙ at ∙ sym own) label_is, subst IsUtf8 same text);
     }

@@ -1,5 +1,6 @@
 -- What holds in the middle of a launcher's turn, with some answers still to be made events.
 use Rattle.std.proofs.Common.{◌≡◌, ℕ, suc, ◌+◌, ◌*◌, ◌<◌, ◌≤◌, List, [], ◌∷◌, ◌++◌, map, take, drop, length, get_or, Option, refl, sym, ap, subst, ◌∙◌, append_assoc, arith, add-one, length-append, length-drop, drop-cons}
+use Rattle.std.specs.List.{AllByRecursion}
 use Rattle.std.proofs.lemmas.List.{append-nil, map-append, take_more, take_all, take-append-le, drop-append-le}
 use Rattle.history_model.specs.declared.Order.{Order}
 use Rattle.history_model.specs.Machine.{State, Event}
@@ -9,14 +10,14 @@ use Rattle.job_table.specs.Kept.{KeepsState, labelled}
 use Rattle.child_edge.specs.Calls.{Tells, Entry}
 use Rattle.child_edge.proofs.CallsLemmas.{tells_append, tells_nothing}
 use Rattle.order_edge.specs.declared.pending.Pending.{Pending}
-use Rattle.order_edge.specs.Calls.{call_of, calls_in, answer_in, answers_in}
+use Rattle.order_edge.specs.Calls.{call_of, calls_in, answer_in, answers_in, IsTellablePending}
 use Rattle.std.proofs.lemmas.List.Elements.{filter_map-append}
 use Rattle.std.proofs.lemmas.Grind.{flat_map-append}
 use Rattle.history_model.specs.Turns.{JobOrder, wanting}
 use Rattle.history_model.specs.Waits.{weigh_orders}
 use Rattle.history_model.proofs.TurnsLemmas.{weigh-append}
 use Rattle.history_model.proofs.TurnBoundLemmas.{length-heavy}
-use Rattle.launcher_turn.specs.Turns.{event_in, AreTheirs, IsWaiting, Handled, Settled, trace}
+use Rattle.launcher_turn.specs.Turns.{IsNamedIn, event_in, AreTheirs, IsWaiting, Handled, Settled, trace}
 use Rattle.event_journal.specs.Journals.{Kept, Grows}
 use Rattle.event_journal.proofs.JournalsLemmas.{grows_nothing, grows_append}
 use Rattle.launcher_turn.specs.Lines.{answer_text, answer_texts}
@@ -38,6 +39,11 @@ same-length names [] (p ∷ ps) theirs = absurd theirs
 same-length names (w ∷ ws) [] theirs = absurd theirs
 same-length names (w ∷ ws) (p ∷ ps) theirs = ap (λ n. suc n) (same-length names ws ps theirs.2)
 
+-- what holds of each, and of one more behind them
+all-more : {A : Type 0} (P : A → Type 0) (xs : List A) (x : A) → AllByRecursion P xs → P x → AllByRecursion P (xs ++ x ∷ [])
+all-more P [] x all more = (more, tt)
+all-more P (y ∷ ys) x all more = (all.0, all-more P ys x all.1 more)
+
 -- ---- the loop
 
 pub record IsSoFar (s : State) (names : List Name) (first answers : List Pending) (k : ℕ) (table : Table) (told told' : Option (List Entry)) (written written' : Kept) : Type 0 where
@@ -52,6 +58,7 @@ pub record IsSoFar (s : State) (names : List Name) (first answers : List Pending
   pub waiting : IsWaiting table (run (map (event_in names) (take k answers)) s) names waits (drop k answers)
   pub within : k ≤ length answers
   pub fits : k + weigh_orders waits ≤ 3 * MAX_JOBS
+  pub named : AllByRecursion (IsNamedIn names) (take k answers)
 
 pub so-far-start : (s : State) (names : List Name) (waits : List JobOrder) (first : List Pending) (table : Table) (told : Option (List Entry)) (written : Kept) →
     IsWaiting table s names waits first → weigh_orders waits ≤ 3 * MAX_JOBS → IsSoFar s names first first 0 table told told written written
@@ -67,11 +74,12 @@ so-far-start s names waits first table told written waiting fits = record {
   waiting = waiting;
   within = omega arith;
   fits = omega (arith, fits);
+  named = tt;
 }
 
 pub so-far-end : (s : State) (names : List Name) (first answers : List Pending) (k : ℕ) (table : Table) (told told' : Option (List Entry)) (written written' : Kept) →
-    IsSoFar s names first answers k table told told' written written' → length answers ≤ k → Settled s names first answers table (trace told written) (trace told' written')
-so-far-end s names first answers k table told told' written written' far all =
+    IsSoFar s names first answers k table told told' written written' → length answers ≤ k → AllByRecursion IsTellablePending answers → Settled s names first answers table (trace told written) (trace told' written')
+so-far-end s names first answers k table told told' written written' far all tellable =
     let whole : take k answers ≡ answers = take_all k answers all in
     record {
       made = far.made;
@@ -84,6 +92,8 @@ so-far-end s names first answers k table told told' written written' far all =
       few = omega (arith, all, far.fits);
       noted = subst (λ ps. Grows written written' (answer_texts names ps)) whole far.noted;
       numbers = far.waiting.numbers;
+      tellable = tellable;
+      named = subst (AllByRecursion (IsNamedIn names)) whole far.named;
     }
 
 -- one more answer
@@ -139,6 +149,7 @@ so-far-next s names first answers answers' k d table table' told told' told'' wr
             (subst (IsWaiting table' (step t e) names (waits ++ new)) (sym dropped) next));
         within = omega (arith, in_range, ap length grown, length-append answers (answers_in made));
         fits = omega (arith, less, fits);
+        named = subst (AllByRecursion (IsNamedIn names)) (sym taken) (all-more (IsNamedIn names) (take k answers) p far.named did.named);
       }
 
 abbrev pub Handles : Table → Table → List Pending → List Pending → Option (List Entry) → Option (List Entry) → Kept → Kept → Pending → Type 0

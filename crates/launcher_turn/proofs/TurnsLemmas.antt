@@ -21,12 +21,12 @@ use Rattle.job_table.specs.Kept.{KeepsState, labelled}
 use Rattle.job_table.specs.Outcomes.{UnlessMemory}
 use Rattle.history_model.specs.declared.Refusal.TheVariants.{NoMemory}
 use Rattle.order_edge.specs.declared.pending.Pending.{Pending}
-use Rattle.order_edge.specs.Calls.{call_of, answer_in, answers_in}
+use Rattle.order_edge.specs.Calls.{call_of, answer_in, answers_in, IsTellablePending}
 use Rattle.history_model.specs.Turns.{JobOrder, wanting}
 use Rattle.history_model.specs.Waits.{weigh_orders}
 use Rattle.history_model.proofs.LabelOrderLemmas.{heard-labels, heard_one-labels, order-run, all-stays, all-with}
 use Rattle.history_model.proofs.TurnBoundLemmas.{turning-start, within-step, length-heavy}
-use Rattle.launcher_turn.specs.Turns.{event_in, events_in, AreTheirs, IsWaiting, Begins, Happens, Settled, IsShort, IsLed, TurnsOf, Turns, trace}
+use Rattle.launcher_turn.specs.Turns.{event_in, events_in, AreTheirs, IsWaiting, Begins, Happens, Settled, NamesLabel, IsLabel, IsNamedIn, IsLed, TurnsOf, Turns, trace}
 use Rattle.job_table.specs.Loads.{refused_with}
 use Rattle.launcher_turn.specs.Events.{event_of}
 use Rattle.ctl_protocol.specs.EventWriter.{event_line}
@@ -45,34 +45,34 @@ use Rattle.child_edge.proofs.CallsLemmas.{tells_append}
 
 -- ---- where an event leads
 
-abbrev AreShort : List Job → Type 0
-AreShort jobs = AllByRecursion (λ (l : Label). length l ≤ 255) (labels_of jobs)
+abbrev AreLabels : List Job → Type 0
+AreLabels jobs = AllByRecursion IsLabel (labels_of jobs)
 
-taken-short : (s : State) (e : Event) → IsShort e → AreShort s.jobs → AreShort (taken s e).jobs
-taken-short s Unreadable is short = short
-taken-short s (Load (Err fault) writes_setting force bind store) is short = short
-taken-short s (Load (Ok given) writes_setting force bind store) is short = all-with (λ (l : Label). length l ≤ 255) (record { label = given.label; past = Loaded given.definition s.reading ∷ [] }) is s.jobs short
-taken-short s (UnloadJob label writes_setting store) is short = subst (AllByRecursion (λ (l : Label). length l ≤ 255)) (sym (heard_one-labels label (Asked Unload) s.jobs)) short
-taken-short s (Set label disabled store) is short = short
-taken-short s ListJobs is short = short
-taken-short s (PrintJob label) is short = short
-taken-short s ShutDown is short = subst (AllByRecursion (λ (l : Label). length l ≤ 255)) (sym (heard-labels (λ job. Some (Asked Shutdown)) s.jobs)) short
-taken-short s (Tick at) is short = subst (AllByRecursion (λ (l : Label). length l ≤ 255)) (sym (heard-labels (λ job. Some (Read at (calendar_fires s.zone (definition_of job.past).calendar s.reading.wall at.wall))) s.jobs)) short
-taken-short s (Sight path obs) is short = subst (AllByRecursion (λ (l : Label). length l ≤ 255)) (sym (heard-labels (sight_of path (Saw path obs)) s.jobs)) short
-taken-short s (OfJob label item) is short = subst (AllByRecursion (λ (l : Label). length l ≤ 255)) (sym (heard_one-labels label item s.jobs)) short
+taken-labels : (s : State) (e : Event) → NamesLabel e → AreLabels s.jobs → AreLabels (taken s e).jobs
+taken-labels s Unreadable is short = short
+taken-labels s (Load (Err fault) writes_setting force bind store) is short = short
+taken-labels s (Load (Ok given) writes_setting force bind store) is short = all-with IsLabel (record { label = given.label; past = Loaded given.definition s.reading ∷ [] }) is s.jobs short
+taken-labels s (UnloadJob label writes_setting store) is short = subst (AllByRecursion IsLabel) (sym (heard_one-labels label (Asked Unload) s.jobs)) short
+taken-labels s (Set label disabled store) is short = short
+taken-labels s ListJobs is short = short
+taken-labels s (PrintJob label) is short = short
+taken-labels s ShutDown is short = subst (AllByRecursion IsLabel) (sym (heard-labels (λ job. Some (Asked Shutdown)) s.jobs)) short
+taken-labels s (Tick at) is short = subst (AllByRecursion IsLabel) (sym (heard-labels (λ job. Some (Read at (calendar_fires s.zone (definition_of job.past).calendar s.reading.wall at.wall))) s.jobs)) short
+taken-labels s (Sight path obs) is short = subst (AllByRecursion IsLabel) (sym (heard-labels (sight_of path (Saw path obs)) s.jobs)) short
+taken-labels s (OfJob label item) is short = subst (AllByRecursion IsLabel) (sym (heard_one-labels label item s.jobs)) short
 
-pub led-step : (table : Table) (s : State) (e : Event) → KeepsState table s → IsLed s → IsShort e → IsLed (step s e)
+pub led-step : (table : Table) (s : State) (e : Event) → KeepsState table s → IsLed s → NamesLabel e → IsLed (step s e)
 led-step table s e keeps led is = record {
   orderly = record {
     range = (good-step s e (good table s keeps led.orderly)).range;
     order = order-run (e ∷ []) s led.orderly.order;
-    short = go (refusal_in s e);
+    labels = go (refusal_in s e);
   };
   few = within-step s e led.few;
 } where
-  go : (o : Option Refusal) → AreShort (step_by o s e).jobs
-  go (Some refusal) = led.orderly.short
-  go None = all-stays (λ (l : Label). length l ≤ 255) (taken s e).jobs (taken-short s e is led.orderly.short)
+  go : (o : Option Refusal) → AreLabels (step_by o s e).jobs
+  go (Some refusal) = led.orderly.labels
+  go None = all-stays IsLabel (taken s e).jobs (taken-labels s e is led.orderly.labels)
 
 pub led-answers : (names : List Name) (pending : List Pending) (s : State) → IsLed s → IsLed (run (map (event_in names) pending) s)
 led-answers names [] s led = led
@@ -93,7 +93,7 @@ labelled-none names [] is = refl
 labelled-none names (order ∷ orders) is = cc
 
 -- its orders were carried out, and their answers wait
-pub begun : (s : State) (e : Event) (old new : Table) (after : List Pending) (told told' : Option (List Entry)) → IsShort e → IsLed s → KeepsState old s →
+pub begun : (s : State) (e : Event) (old new : Table) (after : List Pending) (told told' : Option (List Entry)) → NamesLabel e → IsLed s → KeepsState old s →
     (did : Begins s e None new [] after told told') →
     IsWaiting new (step s e) new.names (wanting (outcome s e).orders) after × (weigh_orders (wanting (outcome s e).orders) ≤ 3 * MAX_JOBS) × (after ≡ answers_in did.carried.entries)
 begun s e old new after told told' is led keeps did =
@@ -121,7 +121,7 @@ Settles mid first after new b c written written' =
     (s : State) (names : List Name) (waits : List JobOrder) → IsWaiting mid s names waits first → weigh_orders waits ≤ 3 * MAX_JOBS → Settled s names first after new (trace b written) (trace c written')
 
 -- and so the whole turn
-unfoldable pub turned-at : (s : State) (e : Event) (line : List ℕ) (old mid new : Table) (first after : List Pending) (a b c : Option (List Entry)) (k m n : Kept) → IsShort e → IsLed s → KeepsState old s →
+unfoldable pub turned-at : (s : State) (e : Event) (line : List ℕ) (old mid new : Table) (first after : List Pending) (a b c : Option (List Entry)) (k m n : Kept) → NamesLabel e → IsLed s → KeepsState old s →
     Begins s e None mid [] first a b → Grows k m line → Settles mid first after new b c m n → TurnsOf s e line None new (trace a k) (trace c n)
 turned-at s e line old mid new first after a b c k m n is led keeps did noted settles =
     let start = begun s e old mid first a b is led keeps did in
@@ -145,10 +145,12 @@ turned-at s e line old mid new first after a b c k m n is led keeps did noted se
       few = subst (λ (es : List Event). length es ≤ 3 * MAX_JOBS) (sym events) (subst (λ (n : ℕ). n ≤ 3 * MAX_JOBS) (sym (length-map after (event_in mid.names))) done.few);
       numbers = λ none. done.numbers;
       noted = subst (λ ps. Grows k n (line ++ answer_texts mid.names ps)) (sym all) (grows_append k m n line (answer_texts mid.names after) noted done.noted);
+      tellable = subst (AllByRecursion IsTellablePending) (sym all) done.tellable;
+      named = subst (AllByRecursion (IsNamedIn mid.names)) (sym all) done.named;
     }
 
 -- a refused event is the whole turn
-pub refused-turn : (e : Event) (line : List ℕ) (refusal : Refusal) (old new : Table) (first : List Pending) (a b : Option (List Entry)) (k n : Kept) → IsShort e → Grows k n line →
+pub refused-turn : (e : Event) (line : List ℕ) (refusal : Refusal) (old new : Table) (first : List Pending) (a b : Option (List Entry)) (k n : Kept) → NamesLabel e → Grows k n line →
     Happens e (Some refusal) old new [] first a b → Turns e line (Some refusal) old new (trace a k) (trace b n)
 refused-turn e line refusal old new first a b k n is noted happened = λ s led keeps.
     let happens = happened s keeps in
@@ -169,6 +171,8 @@ refused-turn e line refusal old new first a b k n is noted happened = λ s led k
         few = omega arith;
         numbers = λ none. cc;
         noted = subst (Grows k n) (sym (append-nil line)) noted;
+        tellable = tt;
+        named = tt;
       },
       λ none. cc,
       happens.stays,
@@ -177,12 +181,12 @@ refused-turn e line refusal old new first a b k n is noted happened = λ s led k
 -- ---- as the functions have it
 
 -- what happens names no label that comes
-pub short-event : (what : Happening) → IsShort (event_of what)
-short-event (happenings.Clock at) = tt
-short-event (happenings.Saw path obs) = tt
-short-event (happenings.ToJob label what) = tt
-short-event (happenings.Unload label) = tt
-short-event happenings.Shutdown = tt
+pub label-event : (what : Happening) → NamesLabel (event_of what)
+label-event (happenings.Clock at) = tt
+label-event (happenings.Saw path obs) = tt
+label-event (happenings.ToJob label what) = tt
+label-event (happenings.Unload label) = tt
+label-event happenings.Shutdown = tt
 
 -- the answer of the turn is that of its event
 pub turned-from : (what : Happening) (result : Result (Unit {0}) Refusal) (old mid new : Table) (before first after : List Pending) (a b c : Option (List Entry)) (k m n : Kept) → result ≡ Ok tt → before ≡ [] →
@@ -192,7 +196,7 @@ turned-from what (Err refusal) old mid new before first after a b c k m n ok emp
 turned-from what (Ok done) old mid new before first after a b c k m n ok empty happened noted settles = λ s led keeps.
     let did = happened s keeps in
     let turn : TurnsOf s (event_of what) (event_line (journaled_by what)) None new (trace a k) (trace c n) =
-    turned-at s (event_of what) (event_line (journaled_by what)) old mid new first after a b c k m n (short-event what) led keeps (subst (λ ps. Begins s (event_of what) None mid ps first a b) empty did.begins) noted settles in (
+    turned-at s (event_of what) (event_line (journaled_by what)) old mid new first after a b c k m n (label-event what) led keeps (subst (λ ps. Begins s (event_of what) None mid ps first a b) empty did.begins) noted settles in (
       turn,
       did.loaded,
       keeps-numbers turn.names old new (did.loaded refl) (turn.numbers refl),
@@ -208,5 +212,5 @@ pub refused-from : (what : Happening) (result : Result (Unit {0}) Refusal) (refu
     UnlessMemory {A = Unit {0}} (Err refusal) (Turns (event_of what) (event_line (journaled_by what)) (Some refusal) old new (trace a k) (trace b n))
 refused-from what result refusal old new before first a b k n is empty noted happened =
     unless-memory refusal
-    (λ did. refused-turn (event_of what) (event_line (journaled_by what)) refusal old new first a b k n (short-event what) noted (subst (λ ps. Happens (event_of what) (Some refusal) old new ps first a b) empty did))
+    (λ did. refused-turn (event_of what) (event_line (journaled_by what)) refusal old new first a b k n (label-event what) noted (subst (λ ps. Happens (event_of what) (Some refusal) old new ps first a b) empty did))
     (subst (λ r. UnlessMemory r (Happens (event_of what) (refused_with r) old new before first a b)) is happened)

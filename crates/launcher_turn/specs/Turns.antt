@@ -1,13 +1,13 @@
 -- A turn: one event, whose orders are carried out on the outside, and then each answer as the next
 -- event, first in first out.
-use Rattle.std.specs.Prelude.{◌≡◌, ℕ, ◌+◌, ◌*◌, ◌≤◌, ◌<◌, true, cond, List, [], ◌∷◌, ◌++◌, map, length, Option, Some, None, Result, Ok, Err}
+use Rattle.std.specs.Prelude.{◌≡◌, ℕ, ◌+◌, ◌*◌, ◌≤◌, ◌<◌, true, cond, List, [], ◌∷◌, ◌++◌, map, length, Option, Some, None, Result, Ok, Err, IsUtf8}
 use Rattle.std.specs.List.{list_all, AllByRecursion}
 use Rattle.history_model.specs.declared.Order.{Order}
 use Rattle.history_model.specs.declared.Refusal.{Refusal}
 use Rattle.history_model.specs.declared.TheConstants.{MAX_JOBS, MAX_UP}
 use Rattle.history_model.specs.Items.{Answered}
 use Rattle.history_model.specs.Runs.{is_answer_to}
-use Rattle.history_model.specs.Labels.{Label, is_same}
+use Rattle.history_model.specs.Labels.{Label, is_label, is_same}
 use Rattle.history_model.specs.Machine.{State, Event, Load, OfJob}
 use Rattle.history_model.specs.Step.{outcome, step, run, orders_in}
 use Rattle.history_model.specs.WholeLaws.{AreInOrder, labels_of}
@@ -21,7 +21,7 @@ use Rattle.child_edge.specs.Calls.{Tells, Entry}
 use Rattle.order_edge.specs.declared.pending.Pending.{Pending}
 use Rattle.event_journal.specs.Journals.{Kept, Grows}
 use Rattle.launcher_turn.specs.Lines.{answer_text, answer_texts}
-use Rattle.order_edge.specs.Calls.{call_of, calls_in, answers_in}
+use Rattle.order_edge.specs.Calls.{call_of, calls_in, answers_in, IsTellablePending}
 use Rattle.history_model.specs.Turns.{JobOrder, wanting}
 use Rattle.history_model.specs.Waits.{AreFresh, weight, weigh_orders}
 
@@ -104,11 +104,23 @@ abbrev pub KeepsNumbers : Table → Table → Type 0
 KeepsNumbers old new = (label : Label) (before after : ℕ) →
     number_of label old.rows ≡ Some before → number_of label new.rows ≡ Some after → after ≡ before
 
+-- the name is a label
+abbrev pub IsLabel : Label → Type 0
+IsLabel name = is_label name ≡ true
+
+-- a label that is text
+abbrev pub IsTextLabel : Label → Type 0
+IsTextLabel name = IsLabel name × IsUtf8 name
+
+-- the number of the answer's job stands for such a label
+abbrev pub IsNamedIn : List Name → Pending → Type 0
+IsNamedIn names pending = IsTextLabel (label_of names pending.job)
+
 -- the machine as events lead to it
 pub record IsOrderly (s : State) : Type 0 where
   pub range : s.reading.up ≤ MAX_UP
   pub order : AreInOrder (labels_of s.jobs)
-  pub short : AllByRecursion (λ label. length label ≤ 255) (labels_of s.jobs)
+  pub labels : AllByRecursion IsLabel (labels_of s.jobs)
 
 -- the table stands for a machine that has given these orders, whose answers are still to be made
 -- events
@@ -161,6 +173,7 @@ pub record Handled (s : State) (names : List Name) (job_order : JobOrder) (waits
       IsWaiting new (step s (event_in names pending)) names
       (waits ++ wanting (outcome s (event_in names pending)).orders) (rest ++ answers_in made)
   pub noted : Grows before.journal after.journal (answer_text names pending)
+  pub named : IsNamedIn names pending
   pub lighter : weigh_orders (wanting (outcome s (event_in names pending)).orders)
       < weight job_order.1
 
@@ -177,6 +190,8 @@ pub record Settled (s : State) (names : List Name) (waited settled : List Pendin
   pub few : length settled ≤ 3 * MAX_JOBS
   pub numbers : AreNumbered names new
   pub noted : Grows before.journal after.journal (answer_texts names settled)
+  pub tellable : AllByRecursion IsTellablePending settled
+  pub named : AllByRecursion (IsNamedIn names) settled
 
 -- ---- a turn
 
@@ -185,16 +200,16 @@ pub record IsLed (s : State) : Type 0 where
   pub orderly : IsOrderly s
   pub few : length s.jobs ≤ MAX_JOBS
 
--- a load names a label that is not too long
-abbrev pub IsShort : Event → Type 0
-IsShort (Load (Ok given) writes_setting force bind store) = length given.label ≤ 255
-IsShort _ = Unit {0}
+-- a load names a label
+abbrev pub NamesLabel : Event → Type 0
+NamesLabel (Load (Ok given) writes_setting force bind store) = IsLabel given.label
+NamesLabel _ = Unit {0}
 
 -- For each machine that the table stood for: the edge was called as a turn of it says, and if it
 -- tells, it tells just these calls; the table then stands for the machine after it, and the answer
 -- is the machine's to the input. The journal grew by the lines of these events, which are at most
--- three answers for each job that may be loaded, and the input. The numbers in the calls are those
--- of the jobs that are loaded.
+-- three answers for each job that may be loaded, and the input; a line can say each answer and the
+-- label of its job. The numbers in the calls are those of the jobs that are loaded.
 pub record TurnsOf (s : State) (input : Event) (line : List ℕ) (reply : Option Refusal)
     (new : Table) (before after : Trace) : Type 0 where
   pub names : List Name
@@ -206,6 +221,8 @@ pub record TurnsOf (s : State) (input : Event) (line : List ℕ) (reply : Option
   pub few : length (events_in names entries) ≤ 3 * MAX_JOBS
   pub numbers : reply ≡ None → AreNumbered names new
   pub noted : Grows before.journal after.journal (line ++ answer_texts names (answers_in entries))
+  pub tellable : AllByRecursion IsTellablePending (answers_in entries)
+  pub named : AllByRecursion (IsNamedIn names) (answers_in entries)
 
 -- and they are those under which the jobs were loaded before it; a job that stays loaded keeps its
 -- number

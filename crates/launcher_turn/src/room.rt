@@ -1,10 +1,12 @@
 //! The room that turns need, reserved once: for the answers that are still to be made events, and for one label.
 
-ghost use Rattle.std.specs.Prelude.{◌≡◌, ℕ, ◌<◌, ◌≤◌, ◌*◌, List, [], ◌∷◌, ◌++◌, length, slice_index_or};
+ghost use Rattle.std.specs.Prelude.{◌≡◌, ℕ, ◌<◌, ◌≤◌, ◌*◌, List, [], ◌∷◌, ◌++◌, length, slice_index_or, IsUtf8};
 ghost use Rattle.std.specs.Vec.{vec_capacity};
 ghost use Rattle.std.specs.String.{string_bytes, string_capacity};
 ghost use Rattle.history_model.specs.declared.TheConstants.{MAX_JOBS};
+ghost use Rattle.std.specs.List.{AllByRecursion};
 ghost use Rattle.order_edge.specs.declared.pending.Pending.{Pending as Answered};
+ghost use Rattle.order_edge.specs.Calls.{IsTellablePending};
 
 use history_model::MAX_JOBS;
 use order_edge::Pending;
@@ -17,7 +19,7 @@ const MOST_ANSWERS: usize = 3 * MAX_JOBS;
 /// How many bytes a label has at most.
 const LONGEST_LABEL: usize = 255;
 
-/// The answers of a turn, oldest first, with room for as many as a turn has. To a contract, their list.
+/// The answers of a turn, oldest first, with room for as many as a turn has. A line can say each. To a contract, their list.
 #[derive(Drop)]
 pub struct AnswerQueue {
     answers: Vec<Pending>,
@@ -29,7 +31,8 @@ impl Model for AnswerQueue {
     ghost view = { λ q. q.answers.items };
 
     ghost invariant = { λ q.
-        (3 * MAX_JOBS ≤ vec_capacity q.answers) × (length q.answers.items ≤ 3 * MAX_JOBS) };
+        (3 * MAX_JOBS ≤ vec_capacity q.answers) × (length q.answers.items ≤ 3 * MAX_JOBS)
+        × AllByRecursion IsTellablePending q.answers.items };
 }
 
 impl AnswerQueue {
@@ -50,6 +53,7 @@ impl AnswerQueue {
     pub fn len(&self) -> usize
         ensures length { result ≡ length self.now }
         ensures few { length self.now ≤ 3 * MAX_JOBS }
+        ensures tellable { AllByRecursion IsTellablePending self.now }
     {
         self.answers.len()
     }
@@ -62,8 +66,9 @@ impl AnswerQueue {
         self.answers[place]
     }
 
-    /// Puts an answer behind the others, if there is room for it. Takes no memory.
+    /// Puts an answer behind the others, if there is room for it. Takes no memory. The caller's condition: a line can say it.
     pub(crate) fn keep(&mut self, answer: Pending)
+        requires { IsTellablePending answer }
         ensures { length self.old < 3 * MAX_JOBS → self.new ≡ self.old ++ answer ∷ [] }
     {
         if self.len() < MOST_ANSWERS {
@@ -103,7 +108,8 @@ impl LabelRoom {
 
     /// The text, lent.
     pub fn as_str(&self) -> &str
-        ensures { result.now ≡ self.now }
+        ensures text { result.now ≡ self.now }
+        ensures utf8 { IsUtf8 result.now }
     {
         self.text.as_str()
     }

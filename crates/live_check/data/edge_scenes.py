@@ -391,6 +391,29 @@ def clients_that_never_read(stage):
     launcher.shut_down()
 
 
+def clients_of_a_slow_job(stage):
+    """Many clients wait for a slow job: another job's client is served, as long as there is room for one, and those that were held
+    are answered in the end."""
+    launcher = stage.serve(shell="ulimit -n 64")
+    for label in ("slow", *"abcdefgh"):
+        launcher.load(gated_job(stage, label))
+    launcher.load(socket_job(stage, "quick", ["/bin/cat"]))
+    clients = [begin(stage.at("slow"), b"%d" % number) for number in range(60)]
+    share = "jobd: slow: a client was let go: the job has its share of the connections"
+    wait_for(lambda: share in launcher.said().splitlines(), "no client of the slow job is let go")
+    got = call(stage.at("quick"), b"hello")
+    check(got == b"hello", f"another job's client got {got!r} beside those of a slow one")
+    others = [begin(stage.at(label), label.encode()) for label in "abcdefgh"]
+    wait_for(lambda: launcher.lines("connections are held"), "no client is let go where there is no room")
+    make(stage.at("go"))
+    for name, held in (("slow", clients), ("other", others)):
+        got = [read_all(client) for client in held]
+        served = [number for number, text in enumerate(got) if text]
+        check(0 < len(served) < len(held), f"{len(served)} of {len(held)} clients of {name} jobs were served")
+    check(len(launcher.lines("its share")) == 1, f"it told {launcher.lines('its share')}")
+    launcher.shut_down()
+
+
 def silent_clients_of_one_port(stage):
     """64 clients of a job send nothing: another job's clients are served, and after five seconds further ones of this job."""
     launcher = stage.serve()
@@ -701,6 +724,42 @@ def settings_in_the_log(stage):
     check(alone == shown, f"the store that was made one has {alone!r}")
 
 
+FIRST_VERSION = """
+CREATE TABLE overrides (label TEXT NOT NULL PRIMARY KEY, disabled INTEGER NOT NULL CHECK (disabled IN (0, 1))) STRICT;
+INSERT INTO overrides VALUES ('a', 1), ('b', 0);
+"""
+
+
+def settings_of_the_first_version(stage):
+    """A file of the first version is listed with second 0; a setting, with that of the journal's reading before it."""
+    try:
+        import sqlite3
+    except ImportError:
+        return
+
+    def write(statements):
+        database = sqlite3.connect(stage.at("store"))
+        database.executescript(statements)
+        database.close()
+
+    def has(text, why):
+        run = stage.run(["overrides", "--store", "store"])
+        check((run.returncode, run.stdout) == (0, text), f"{why} the store has {run.stdout!r}, {run.stderr!r}")
+
+    write(FIRST_VERSION)
+    has("a\tdisabled\t0\nb\tenabled\t0\n", "of the first version")
+    launcher, before = stage.serve(journal="journal"), int(time.time())
+    check(launcher.ask({"req": "enable", "job": "a"})["code"] == 0, "enable refused")
+    launcher.shut_down()
+    events = [json.loads(line) for line in text_at(stage.at("journal")).splitlines()]
+    names = [event.get("ev") for event in events]
+    second = [event["wall"] for event in events[: names.index("enable")] if "wall" in event][-1]
+    check(before - 1 <= second <= time.time(), f"the journal's reading is {second}, and not about {before}")
+    has(f"a\tenabled\t{second}\nb\tenabled\t0\n", "after enable")
+    write("UPDATE settings SET changed = 1700000060 WHERE label = 'a'")
+    has("a\tenabled\t1700000060\nb\tenabled\t0\n", "with another second")
+
+
 def limits_and_ignored_signals(stage):
     """Limits that the launcher can't live with, and signals that jobs will inherit as ignored, are told at the start."""
     launcher = stage.start(shell="ulimit -n 8")
@@ -972,11 +1031,12 @@ def end_all(launcher):
 
 
 SCENES = [
-    a_stream_at_a_fifo, clients_that_never_read, silent_clients_of_one_port, ends_that_cannot_be_seen, a_second_launcher,
+    a_stream_at_a_fifo, clients_that_never_read, clients_of_a_slow_job, silent_clients_of_one_port, ends_that_cannot_be_seen, a_second_launcher,
     a_start_that_fails, spool_links_and_fifos, a_spool_that_others_may_write, another_ones_socket, many_at_a_stale_socket,
     a_lost_spool_file, closed_standard_streams, pipelined_settings, silent_clients_of_the_control_socket, no_descriptor_left,
-    settings_in_the_log, limits_and_ignored_signals, private_files, a_journal_at_a_fifo, a_journal_that_may_not_grow, what_is_no_store,
-    long_lines_and_headers, reasons_are_told, run_log, a_standard_error_that_nobody_reads, an_end_beside_one_who_asks_on,
+    settings_in_the_log, settings_of_the_first_version, limits_and_ignored_signals, private_files, a_journal_at_a_fifo,
+    a_journal_that_may_not_grow, what_is_no_store, long_lines_and_headers, reasons_are_told, run_log,
+    a_standard_error_that_nobody_reads, an_end_beside_one_who_asks_on,
 ]
 
 

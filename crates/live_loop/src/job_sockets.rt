@@ -191,8 +191,9 @@ impl JobSockets {
         loss: Loss,
     ) {
         if has_sockets(inputs, origin) {
+            let up = inputs.at().up;
             let label = inputs.host.table().last_step().label(origin.job);
-            self.losses.note(origin, label, loss);
+            self.losses.note(origin, label, loss, up);
         }
     }
 
@@ -272,7 +273,7 @@ impl JobSockets {
         }
         self.label.copy(inputs.host.table().last_step().label(job));
         match came(alloc, inputs, self.label.as_str(), conn) {
-            None => self.losses.came_through(job),
+            None => self.losses.came_through(job, inputs.at().up),
             Some(refusal) => {
                 inputs.host.edge().close(job, conn);
                 if let Some(loss) = Loss::of_refusal(refusal) {

@@ -1,5 +1,7 @@
 //! The launcher with what its live loop waits on.
 
+ghost use Rattle.std.specs.Prelude.{◌≡◌};
+
 use crate::fault::ServeFault;
 use crate::job_sockets::JobSockets;
 use crate::system::System;
@@ -133,6 +135,23 @@ impl<R: System, T: SettingStore + Drop, W: Write + Drop> Live<R, T, W> {
 }
 
 impl<R: System, T: SettingStore, W: Write> Live<R, T, W> {
+    /// The launcher. Whoever wants to ask something of it does so by the control socket.
+    pub fn host(&self) -> &Host<T, OsEdge<R>, W>
+        ensures { result.now ≡ self.now.inputs.host }
+    {
+        &self.inputs.host
+    }
+
+    /// The launcher, for whoever wants no further round. All else is dropped: the control socket's lock is let go, and its file
+    /// and the lock's are left.
+    pub fn into_host(self) -> Host<T, OsEdge<R>, W>
+        ensures { result ≡ self.inputs.host }
+    {
+        let Live { inputs, .. } = self;
+        let Inputs { host, .. } = inputs;
+        host
+    }
+
     /// From now on each line on standard error begins with its level, as the journal of systemd takes it: `<4>` for what was
     /// refused, `<6>` for what became of a run. Takes no memory.
     pub fn set_leveled(&mut self) {

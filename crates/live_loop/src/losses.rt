@@ -1,4 +1,5 @@
-//! The clients of jobs' sockets that were let go, and why: each reason is told once, until a client of its job comes through.
+//! The clients of jobs' sockets that were let go, and why: each reason is told once, until a client of its job comes through a minute
+//! later or more.
 
 use crate::caller::Origin;
 use history_model::{JobNo, Refusal, Text};
@@ -63,10 +64,14 @@ impl Loss {
 /// As many lines wait to be told. Where there is no room for one, the next loss of its kind is told.
 const ROOM: usize = 64;
 
-/// The reasons that were told of a job's clients, by the bind that gave it its sockets.
+/// A reason that was told is told no second time within as many milliseconds, whoever comes through meanwhile.
+const QUIET: u64 = 60_000;
+
+/// The reasons that were told of a job's clients, by the bind that gave it its sockets, and the `up` of the first of them.
 #[derive(Drop)]
 struct Told {
     bind: u64,
+    since: u64,
     reasons: Vec<String>,
 }
 
@@ -92,8 +97,8 @@ impl Losses {
         self.waiting.pop_front()
     }
 
-    /// A client was let go that came to these sockets, of the job of this label. Want of memory drops the line.
-    pub(crate) fn note(&mut self, origin: Origin, label: &str, loss: Loss) {
+    /// A client was let go at this `up` that came to these sockets, of the job of this label. Want of memory drops the line.
+    pub(crate) fn note(&mut self, origin: Origin, label: &str, loss: Loss, up: u64) {
         let Ok(reason) = loss.words(self.alloc) else {
             return;
         };
@@ -101,7 +106,7 @@ impl Losses {
             return;
         }
         if self.add(label, reason.as_str()).is_ok() {
-            self.remember(origin, reason);
+            self.remember(origin, reason, up);
         }
     }
 
@@ -125,7 +130,7 @@ impl Losses {
     }
 
     // Want of memory forgets it.
-    fn remember(&mut self, origin: Origin, reason: String) {
+    fn remember(&mut self, origin: Origin, reason: String, up: u64) {
         let Origin { job, bind } = origin;
         if let Some(told) = self.told.get_mut(&job) {
             if told.bind == bind {
@@ -135,14 +140,24 @@ impl Losses {
         }
         let mut reasons = Vec::new(self.alloc);
         if reasons.push(reason).is_ok() {
-            let _last = self.told.insert(job, Told { bind, reasons });
+            let told = Told {
+                bind,
+                since: up,
+                reasons,
+            };
+            let _last = self.told.insert(job, told);
         }
     }
 
-    /// A client of the job came through: each loss is told again.
-    pub(crate) fn came_through(&mut self, job: JobNo) {
-        if !self.told.is_empty() {
-            let _last = self.told.remove(&job);
+    /// A client of the job came through at this `up`: each loss is told again, if the first that was told is a minute old.
+    pub(crate) fn came_through(&mut self, job: JobNo, up: u64) {
+        if self.told.is_empty() {
+            return;
+        }
+        if let Some(told) = self.told.get(&job) {
+            if told.since.saturating_add(QUIET) <= up {
+                let _last = self.told.remove(&job);
+            }
         }
     }
 }

@@ -5,7 +5,7 @@ use std::rt::Clock;
 use std::time::{Duration, Instant};
 
 /// As many milliseconds a round polls children, and serves clients of one kind. Then the clock is read, and done what it orders.
-const LONGEST: u64 = 10;
+const LONGEST: u64 = 5;
 
 /// The time since children are polled, or clients are served.
 #[derive(Drop)]

@@ -7,6 +7,7 @@ use crate::round_time::RoundTime;
 use crate::system::System;
 use crate::telling::tell;
 use crate::waiting::{next_pause, quick_rounds, round_wait};
+use control_socket::Limit;
 use history_model::SECOND;
 use load_asking::SettingStore;
 use std::alloc::Global;
@@ -24,12 +25,13 @@ const QUICK_WAIT: u64 = 200;
 
 /// One round. It waits at most a tenth of a second, or 200 microseconds if it is one of the four behind a round in which a client's
 /// request came whole, reads the clock, asks about each child, looks at the listed paths once in
-/// 1,000 milliseconds of `up`, serves the control clients and takes new ones, and does the same for the clients of jobs'
+/// 1,000 milliseconds of `up`, takes new control clients and serves all of them, and does the same for the clients of jobs'
 /// sockets. What it finds is handed to the launcher, one by one. In the end it tells what was refused, and what became of runs,
 /// in a line each on standard error.
 ///
-/// Children are polled for 10 milliseconds at most, and one child longer; control clients are served for as long, and a line
-/// longer; then clients of jobs' sockets. What is left is for the next round, which does not wait.
+/// Children are polled for 5 milliseconds at most, and one child longer; control clients are served for as long, and a line
+/// longer; then clients of jobs' sockets. What is left is for the next round, which does not wait. If clients of jobs' sockets took
+/// their whole time, control clients are served once more, so that who asks for one thing waits for few others.
 ///
 /// True: a shutdown was accepted, no job is left, and the control clients have their replies, or a second has passed since.
 /// Poll, if the system refuses to wait; nothing was done then.
@@ -130,16 +132,27 @@ fn serve_clients<R: System, T: SettingStore, W: Write>(
     alloc: Global,
     live: &mut Live<R, T, W>,
 ) {
-    let up = live.inputs.at().up;
-    let mut time = RoundTime::begin(rt, up);
-    let is_asking = live.control.serve(alloc, &mut live.inputs, &mut time);
-    live.control.accept(live.poll.registry());
-    let mut time = RoundTime::begin(rt, up);
+    let mut is_asking = serve_control(rt, alloc, live);
+    let mut time = RoundTime::begin(rt, live.inputs.at().up);
     live.sockets
         .accept(live.poll.registry(), &mut live.inputs, &mut time);
     let is_sending = live.sockets.gather(alloc, &mut live.inputs, &mut time);
+    if !time.has_time() {
+        is_asking = serve_control(rt, alloc, live);
+    }
     let is_taking = live.inputs.host.edge().forward();
     live.is_busy = is_asking || is_sending || is_taking || live.next_child > 0;
+}
+
+// Takes new control clients and serves all. True: one of them may go on at once.
+fn serve_control<R: System, T: SettingStore, W: Write>(
+    rt: &R,
+    alloc: Global,
+    live: &mut Live<R, T, W>,
+) -> bool {
+    live.control.accept(live.poll.registry());
+    let mut time = RoundTime::begin(rt, live.inputs.at().up);
+    live.control.serve(alloc, &mut live.inputs, &mut time)
 }
 
 fn is_over<R: System, T: SettingStore, W: Write>(live: &mut Live<R, T, W>) -> bool {

@@ -1,6 +1,5 @@
 -- What is asked of the store of settings.
-use Rattle.std.specs.Prelude.{◌≡◌, ℕ, Bool, true, false, List, [], ◌∷◌, ◌++◌, Option, Some}
-use Rattle.history_model.specs.declared.event.Setting.{Setting}
+use Rattle.std.specs.Prelude.{◌≡◌, ℕ, Bool, true, false, List, [], ◌∷◌, ◌++◌, Option, Some, if◌then◌else◌}
 
 -- a setting that the store was asked to keep, the second in which it was said, and whether it was
 -- stored
@@ -21,11 +20,17 @@ abbrev pub set_call : List ℕ → Bool → ℕ → Bool → StoreCall
 set_call label disabled changed stored =
     record { label = label; disabled = disabled; changed = changed; stored = stored }
 
--- each list of settings that the store held before, it holds after, changed by this
-abbrev pub HoldsAfter :
-    {S : Type 0} → (S → List Setting → Type 0) → (List Setting → List Setting) → S → S → Type 0
-HoldsAfter Holds change old new =
-    (settings : List Setting) → Holds old settings → Holds new (change settings)
+-- each list that the store held before, it holds after, changed by this
+abbrev pub HoldsAfter : {S A : Type 0} → (S → A → Type 0) → (A → A) → S → S → Type 0
+HoldsAfter Holds change old new = (held : _) → Holds old held → Holds new (change held)
+
+-- a label, and the second of Unix time in which its setting was made
+abbrev pub Stamp : Type 0
+Stamp = List ℕ × ℕ
+
+-- the seconds with a new one, if it is wanted
+abbrev pub stamp_if : Bool → List ℕ → ℕ → List Stamp → List Stamp
+stamp_if wanted label second stamps = if wanted then (label, second) ∷ stamps else stamps
 
 -- that a label is enabled is asked once, if it is wanted
 abbrev pub store_calls : Bool → List ℕ → ℕ → Bool → List StoreCall

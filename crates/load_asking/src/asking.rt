@@ -5,7 +5,7 @@ ghost use Rattle.history_model.specs.declared.TheConstants.{MAX_WALL};
 ghost use Rattle.history_model.specs.Labels.{is_label};
 ghost use Rattle.history_model.specs.Step.{set_if};
 ghost use Rattle.load_asking.specs.Asking.{Asks, told_of};
-ghost use Rattle.load_asking.specs.Stores.{AreTold, HoldsAfter, store_calls};
+ghost use Rattle.load_asking.specs.Stores.{AreTold, HoldsAfter, stamp_if, store_calls};
 
 use crate::SettingStore;
 use child_edge::SocketEdge;
@@ -35,6 +35,8 @@ fn ask_store<T: SettingStore>(
     ensures uncalled { writes_setting ≡ false → result ≡ true }
     ensures stored { HoldsAfter T.holds
         (set_if (writes_setting && result) label.now false) store.old store.new }
+    ensures stamped { HoldsAfter T.stamped
+        (stamp_if (writes_setting && result) label.now changed) store.old store.new }
 {
     if writes_setting {
         store.set(label, false, changed)
@@ -60,6 +62,9 @@ pub fn ask_outside<E: SocketEdge, T: SettingStore>(
         (told_of (E.told edge.new) (T.told store.new)) }
     ensures stored { HoldsAfter T.holds
         (set_if (writes_setting && (result.bind && result.store)) def.now.label false)
+        store.old store.new }
+    ensures stamped { HoldsAfter T.stamped
+        (stamp_if (writes_setting && (result.bind && result.store)) def.now.label changed)
         store.old store.new }
 {
     if !def.has_sockets() {

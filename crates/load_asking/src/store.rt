@@ -5,7 +5,7 @@ ghost use Rattle.history_model.specs.declared.event.Setting.{Setting as Held};
 ghost use Rattle.history_model.specs.declared.TheConstants.{MAX_WALL};
 ghost use Rattle.history_model.specs.Labels.{is_label};
 ghost use Rattle.history_model.specs.Step.{set_if};
-ghost use Rattle.load_asking.specs.Stores.{StoreCall, AreTold, HoldsAfter, set_call};
+ghost use Rattle.load_asking.specs.Stores.{Stamp, StoreCall, AreTold, HoldsAfter, set_call, stamp_if};
 
 use history_model::Setting;
 use std::alloc::Global;
@@ -26,6 +26,9 @@ pub trait SettingStore {
     /// The store holds these settings, newest first, as long as it is what the implementation says of an honest one.
     ghost holds: { Self → List Held → Type 0 };
 
+    /// The store has these seconds of its labels' settings, newest first, as long as it is what the implementation says.
+    ghost stamped: { Self → List Stamp → Type 0 };
+
     /// The settings that it was asked to keep, with its answers, oldest first. A store that does not tell them has none.
     ghost told: { Self → Option (List StoreCall) };
 
@@ -40,12 +43,15 @@ pub trait SettingStore {
         ensures told { AreTold (Self.told self.old)
             (set_call label.now disabled changed result ∷ []) (Self.told self.new) }
         ensures stored { HoldsAfter Self.holds
-            (set_if result label.now disabled) self.old self.new };
+            (set_if result label.now disabled) self.old self.new }
+        ensures stamped { HoldsAfter Self.stamped
+            (stamp_if result label.now changed) self.old self.new };
 
     /// The settings that it holds, the last of a label deciding. Refused as `StoreFault` says. Nothing is changed by it.
     fn all(&mut self, alloc: Global) -> Result<Vec<Setting>, StoreFault>
         ensures told { AreTold (Self.told self.old) [] (Self.told self.new) }
         ensures same { HoldsAfter Self.holds (λ settings. settings) self.old self.new }
+        ensures kept { HoldsAfter Self.stamped (λ stamps. stamps) self.old self.new }
         ensures answers { MatchResult result
             (λ all. Self.may_give self.old (Ok all.items))
             (λ fault. Self.may_give self.old (Err fault)) }

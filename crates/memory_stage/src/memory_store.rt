@@ -75,6 +75,8 @@ fn copied(alloc: Global, setting: &Setting) -> Result<Setting, StoreFault>
 impl SettingStore for MemoryStore {
     ghost holds = { λ s settings. Unit {0} };
 
+    ghost stamped = { λ s stamps. Unit {0} };
+
     ghost told = { λ s. None };
 
     ghost may_give = { λ s answer. MayGive s.held.items s.fault answer };

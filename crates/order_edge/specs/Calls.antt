@@ -1,5 +1,5 @@
 -- The calls by which orders are carried out, and the answers that they give.
-use Rattle.std.specs.Prelude.{◌≡◌, ℕ, List, [], ◌∷◌, map, Option, Some, None}
+use Rattle.std.specs.Prelude.{◌≡◌, ℕ, ◌<◌, ◌^◌, List, [], ◌∷◌, map, Option, Some, None}
 use Rattle.std.specs.List.{filter_map}
 use Rattle.history_model.specs.declared.Act.{Act}
 use Rattle.history_model.specs.declared.Act.TheVariants as acts
@@ -51,3 +51,15 @@ pub record Carries (order : Order) (pending : Option Pending)
   pub answer : Scripted
   pub tells : Tells old ((call_of order, answer) ∷ []) new
   pub gives : pending ≡ answer_in (call_of order, answer)
+
+-- the numbers of an answer are such as a line can say: a run of 64 bits, and a process id from 1 to
+-- 2^32 - 1
+abbrev pub IsTellable : Answer → Type 0
+IsTellable (Spawned run pid) = (run < 2 ^ 64) × (0 < pid) × (pid < 2 ^ 32)
+IsTellable (SpawnRefused run) = run < 2 ^ 64
+IsTellable (Termed run ok) = run < 2 ^ 64
+IsTellable (Killed run ok) = run < 2 ^ 64
+
+-- so are those of the answer to an order
+abbrev pub IsTellablePending : Pending → Type 0
+IsTellablePending pending = IsTellable pending.answer

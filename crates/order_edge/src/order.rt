@@ -1,8 +1,9 @@
 //! One order, carried out by one call.
 
-ghost use Rattle.order_edge.specs.Calls.{Carries, spawn_answer as spawned};
+ghost use Rattle.order_edge.specs.Calls.{Carries, IsTellable, IsTellablePending, spawn_answer as spawned};
 ghost use Rattle.child_edge.specs.Calls.{start_answer};
-ghost use Rattle.std.specs.Prelude.{◌≡◌};
+ghost use Rattle.std.specs.Prelude.{◌≡◌, ◌<◌, IfSome};
+ghost use Rattle.std.specs.Result.{ForOk};
 
 use crate::Pending;
 use child_edge::{ChildEdge, EdgeFault, SocketEdge};
@@ -11,7 +12,9 @@ use job_defs::Def;
 
 /// The answer that the result of a start is.
 fn spawn_answer(run: u64, started: Result<u32, EdgeFault>) -> Answer
-    ensures { result ≡ spawned run (start_answer started) }
+    requires pid { ForOk started (λ pid. 0 < pid) }
+    ensures answer { result ≡ spawned run (start_answer started) }
+    ensures tellable { IsTellable result }
 {
     match started {
         Ok(pid) => Answer::Spawned { run, pid },
@@ -23,7 +26,8 @@ fn spawn_answer(run: u64, started: Result<u32, EdgeFault>) -> Answer
 /// `release` for a job that is gone, which have no answer. `def` is the definition of the order's job.
 #[tactic(auto, using(crate::proofs::CallsLemmas::made_start, crate::proofs::CallsLemmas::made_term, crate::proofs::CallsLemmas::made_kill, crate::proofs::CallsLemmas::made_close, crate::proofs::CallsLemmas::made_release))]
 pub fn carry<E: ChildEdge + SocketEdge>(edge: &mut E, order: Order, def: &Def) -> Option<Pending>
-    ensures { Carries order result (E.told edge.old) (E.told edge.new) }
+    ensures carries { Carries order result (E.told edge.old) (E.told edge.new) }
+    ensures tellable { IfSome result IsTellablePending }
 {
     let job = order.job;
     match order.act {

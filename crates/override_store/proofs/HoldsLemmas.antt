@@ -1,32 +1,35 @@
 -- What a store holds after a call.
-use Rattle.std.proofs.Common.{◌≡◌, ◌⊎◌, inl, inr, Bool, false, List, ◌∷◌, Result, IsTrue, IsErr, OnOk, OnErr, Ok, Err, refl, sym, subst, ◌∙◌, arith}
+use Rattle.std.proofs.Common.{◌≡◌, ◌⊎◌, inl, inr, Bool, false, List, Result, IsTrue, IsErr, OnOk, OnErr, Ok, Err, refl, sym, subst, ◌∙◌, arith}
 use Rattle.sqlite.specs.Tree.{Trees}
 use Rattle.sqlite_disk.specs.Disk.{MoreFaults}
 use Rattle.sqlite.specs.Effect.{Database}
 use Rattle.sqlite.specs.State.{State, HasCleanDisk, Survives}
-use Rattle.history_model.specs.declared.event.Setting.{Setting}
-use Rattle.override_store.specs.OverrideStores.{HoldsNow, HoldsSettings, IsOurs, rows_in}
-use Rattle.override_store.specs.Settings.{HoldsEach}
+use Rattle.override_store.specs.OverrideStores.{IsOurs, rows_in}
+use Rattle.sqlite.specs.Order.{Row}
 
-module _ {old new : State} {Commits : Trees → Type 0} (survives : Survives old new Commits) (was_open : HasCleanDisk new → IsTrue new.is_open → IsTrue old.is_open) where
-  before : (settings : List Setting) → HoldsSettings old settings → HasCleanDisk new → IsTrue new.is_open → HoldsNow old settings
-  before settings holds clean up =
+module _ {A : Type 0} (Keeps : List Row → A → Type 0) {old new : State} {Commits : Trees → Type 0} (survives : Survives old new Commits) (was_open : HasCleanDisk new → IsTrue new.is_open → IsTrue old.is_open) where
+  -- a store keeps this, as long as it is open over an honest disk
+  abbrev Has : State → A → Type 0
+  Has s it = HasCleanDisk s → IsTrue s.is_open → IsOurs s × Keeps (rows_in s.now.trees) it
+
+  before : (it : A) → Has old it → HasCleanDisk new → IsTrue new.is_open → IsOurs old × Keeps (rows_in old.now.trees) it
+  before it holds clean up =
       let early : HasCleanDisk old = omega (arith, clean, survives.clean) in
       holds early (was_open clean up)
 
-  -- what changes nothing leaves what is held
-  pub kept : (HasCleanDisk new → IsOurs old → IsTrue new.is_open → IsOurs new × (new.now ≡ old.now)) → (settings : List Setting) → HoldsSettings old settings → HoldsSettings new settings
-  kept same settings holds clean up =
-      let it = before settings holds clean up in
-      let both = same clean it.0 up in
-      (both.0, subst (λ (d : Database). HoldsEach (rows_in d.trees) settings) (sym both.1) it.1)
+  -- what changes nothing leaves what is kept
+  pub kept : (HasCleanDisk new → IsOurs old → IsTrue new.is_open → IsOurs new × (new.now ≡ old.now)) → (it : A) → Has old it → Has new it
+  kept same it holds clean up =
+      let was = before it holds clean up in
+      let both = same clean was.0 up in
+      (both.0, subst (λ (d : Database). Keeps (rows_in d.trees) it) (sym both.1) was.1)
 
   -- the call that sets answers
-  pub answered : {U E : Type 0} (r : Result U E) (more : Setting) → (HasCleanDisk new → IsOurs old → OnOk r (IsOurs new)) → (HasCleanDisk new → IsOurs old → OnOk r ((settings : List Setting) → HoldsEach (rows_in old.now.trees) settings → HoldsEach (rows_in new.now.trees) (more ∷ settings)))
-      → (HasCleanDisk new → IsOurs old → IsTrue new.is_open → OnErr r (IsOurs new × (new.now ≡ old.now))) → (settings : List Setting) → HoldsSettings old settings → OnOk r (HoldsSettings new (more ∷ settings)) × OnErr r (HoldsSettings new settings)
-  answered (Ok u) more ours newest same settings holds =
-      (λ clean up. let it = before settings holds clean up in (ours clean it.0, newest clean it.0 settings it.1), tt)
-  answered (Err e) more ours newest same settings holds = (tt, kept same settings holds)
+  pub answered : {U E : Type 0} (r : Result U E) (more : A → A) → (HasCleanDisk new → IsOurs old → OnOk r (IsOurs new)) → (HasCleanDisk new → IsOurs old → OnOk r ((it : A) → Keeps (rows_in old.now.trees) it → Keeps (rows_in new.now.trees) (more it)))
+      → (HasCleanDisk new → IsOurs old → IsTrue new.is_open → OnErr r (IsOurs new × (new.now ≡ old.now))) → (it : A) → Has old it → OnOk r (Has new (more it)) × OnErr r (Has new it)
+  answered (Ok u) more ours newest same it holds =
+      (λ clean up. let was = before it holds clean up in (ours clean was.0, newest clean was.0 it was.1), tt)
+  answered (Err e) more ours newest same it holds = (tt, kept same it holds)
 
 not_open : (b : Bool) → b ≡ false → IsTrue b → ⊥
 not_open b e h = let turned = sym e ∙ h in cc

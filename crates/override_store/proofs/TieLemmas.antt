@@ -1,5 +1,6 @@
 -- The tie between rows and a list of settings.
 use Rattle.std.proofs.Common.{◌≡◌, ◌≢◌, inl, inr, ℕ, List, [], ◌∷◌, map, reverse, Bool, true, false, cond, Option, Some, option_map, refl, sym, ap, subst, ◌∙◌}
+use Rattle.std.specs.Prelude.{if◌then◌else◌}
 use Rattle.std.specs.List.{AllZip, filter}
 use Rattle.std.proofs.lemmas.List.Sorted.{IsPermutation-sym, IsPermutation-reverse}
 use Rattle.std.proofs.lemmas.Bool.{cases_Bool}
@@ -11,8 +12,8 @@ use Rattle.history_model.specs.declared.event.Setting.{Setting}
 use Rattle.history_model.specs.Labels.{Label, is_same}
 use Rattle.history_model.specs.Machine.{sets}
 use Rattle.history_model.specs.Search.{first}
-use Rattle.override_store.specs.SettingRows.{Says, Sets, AreSame, IsFlag}
-use Rattle.override_store.specs.Settings.{HoldsEach, setting_in, ListsSettings, IsEntry, shown}
+use Rattle.override_store.specs.SettingRows.{Says, Sets, Stamps, AreSame, IsFlag}
+use Rattle.override_store.specs.Settings.{Change, HoldsEach, StampsEach, second_in, setting_in, ListsSettings, IsEntry, shown}
 use Rattle.override_store.proofs.RowLemmas.{same_text as text_inside}
 use Rattle.override_store.proofs.PermutationLemmas.{has_permuted}
 
@@ -47,6 +48,26 @@ holds_more old new settings label disabled holds now l d =
             λ says. elim ((now l d).0 says) [ inl it ↦ absurd (apart it.0) | inr it ↦ tail ∙ (holds l d).1 it.1 ],
           )
     ]
+
+-- ---- the seconds
+
+same_second : (m n : ℕ) → ◌≡◌ {A = Option ℕ} (Some m) (Some n) → m ≡ n
+same_second m n e = cc
+
+abbrev second_of : Option Change → Option ℕ
+second_of = option_map (λ (c : Change). c.1)
+
+-- the newest second decides of its own label
+head_second : (c : Change) (changes : List Change) (l : Label) (same : Bool) → is_same l c.0 ≡ same → second_in (c ∷ changes) l ≡ (if same then Some c.1 else second_in changes l)
+head_second c changes l true is = ap (λ b. second_of (first (cond b (c ∷ filter (λ (d : Change). is_same l d.0) changes) (filter (λ (d : Change). is_same l d.0) changes)))) is
+head_second c changes l false is = ap (λ b. second_of (first (cond b (c ∷ filter (λ (d : Change). is_same l d.0) changes) (filter (λ (d : Change). is_same l d.0) changes)))) is
+
+-- a second that is written is the newest
+pub stamps_more : (old new : List Row) (changes : List Change) (label : Label) (second : ℕ) → StampsEach old changes → Stamps old new label second → StampsEach new ((label, second) ∷ changes)
+stamps_more old new changes label second had now l s e = elim (cases_Bool (is_same l label)) [
+  | inl same ↦ (now l s).1 (inl (same_text l label (sym same), same_second s second (sym e ∙ head_second (label, second) changes l true same)))
+  | inr other ↦ (now l s).1 (inr (λ here. other_text l label (sym other) here, had l s (sym (head_second (label, second) changes l false other) ∙ e)))
+]
 
 -- rows with the same settings hold the same list
 pub holds_same : (old new : List Row) (settings : List Setting) → HoldsEach old settings → AreSame old new → HoldsEach new settings

@@ -10,9 +10,9 @@ use Rattle.sqlite.specs.declared.types.Value.TheVariants.{Int, Text}
 use Rattle.sqlite.specs.Order.{Row, column, value_cmp}
 use Rattle.history_model.specs.declared.event.Setting.{Setting}
 use Rattle.history_model.specs.Search.{first}
-use Rattle.history_model.specs.Labels.{Label, is_label}
+use Rattle.history_model.specs.Labels.{Label, is_label, is_same}
 use Rattle.history_model.specs.Machine.{sets}
-use Rattle.override_store.specs.SettingRows.{IsFlag, Says}
+use Rattle.override_store.specs.SettingRows.{IsFlag, IsStamped, Says}
 
 -- what the query shows of a row
 abbrev pub shown : Row → Row
@@ -89,6 +89,17 @@ abbrev pub HoldsEach : List Row → List Setting → Type 0
 HoldsEach rows settings =
     (label : Label) (disabled : Bool) →
     (setting_in settings label ≡ Some disabled) ↔ Says rows label disabled
+
+-- the label's last second in a list that has the newest first
+abbrev pub second_in : List Change → Label → Option ℕ
+second_in changes label =
+    option_map (λ (c : Change). c.1) (first (filter (λ (c : Change). is_same label c.0) changes))
+
+-- the rows have the last second of each label in the list
+abbrev pub StampsEach : List Row → List Change → Type 0
+StampsEach rows changes =
+    (label : Label) (second : ℕ) →
+    second_in changes label ≡ Some second → IsStamped rows label second
 
 -- what the rows held, and this setting, they hold now
 abbrev pub HoldsOneMore : List Row → List Row → Setting → Type 0

@@ -11,8 +11,8 @@ ghost use Rattle.sqlite.specs.View.{IsClean};
 ghost use Rattle.history_model.specs.declared.TheConstants.{MAX_WALL};
 ghost use Rattle.history_model.specs.Labels.{is_label, is_same};
 ghost use Rattle.history_model.specs.declared.event.Setting.{Setting};
-ghost use Rattle.override_store.specs.OverrideStores.{AreFit, HoldsAs, HoldsSetting, HoldsSettings, IsOurs, Between, FromOurs, IsOpenedOn, LeavesAll, LeavesOr, OpensNone, SetsOne, StaysOurs, rows_now};
-ghost use Rattle.override_store.specs.Settings.{HoldsEach, ListsChanges, ListsSettings, change_of, HasForeign, HoldsOneMore, ListAlike, labels_changed, labels_set};
+ghost use Rattle.override_store.specs.OverrideStores.{AreFit, CommitsOpen, HoldsAs, HoldsSetting, HoldsSettings, HoldsStamps, IsOurs, Between, FromOurs, IsOpenedOn, LeavesAll, LeavesOr, OpensNone, SetsOne, StaysOurs, rows_now};
+ghost use Rattle.override_store.specs.Settings.{Change, HoldsEach, ListsChanges, ListsSettings, change_of, HasForeign, HoldsOneMore, ListAlike, labels_changed, labels_set};
 
 pub mod again;
 mod batch;
@@ -134,8 +134,12 @@ impl<S: Alter> OverrideStore<S> {
             OnOk result (HoldsSettings new
             (record { label = label.now; disabled = disabled } ∷ settings))
             × OnErr result (HoldsSettings new settings)) }
+        ensures stamped { Between S.Store self.old self.new (λ old new.
+            (changes : List Change) → HoldsStamps old changes →
+            OnOk result (HoldsStamps new ((label.now, changed) ∷ changes))
+            × OnErr result (HoldsStamps new changes)) }
         ensures crash { Between S.Store self.old self.new (λ old new. Survives old new (λ db.
-            IsOurs old → HoldsSetting old db label.now disabled changed)) }
+            CommitsOpen old (HoldsSetting old db label.now disabled changed))) }
         ensures lasts { FromOurs S.Store self.old self.new (λ _ new. OnOk result (LeavesAll new)) }
         ensures known { IfErr result (λ e. e ≢ StoreFault.Foreign) }
     {
@@ -160,11 +164,13 @@ impl<S: Alter> OverrideStore<S> {
         ensures was_open { Between S.Store self.old self.new OpensNone }
         ensures holds { Between S.Store self.old self.new (λ old new.
             (settings : List Setting) → HoldsSettings old settings → HoldsSettings new settings) }
+        ensures stamped { Between S.Store self.old self.new (λ old new.
+            (changes : List Change) → HoldsStamps old changes → HoldsStamps new changes) }
         ensures told { Between S.Store self.old self.new (λ old new. HasCleanDisk new →
             (settings : List Setting) → HoldsSettings old settings →
             IfOk result (λ all. ListAlike (reverse all.items) settings)) }
         ensures crash { Between S.Store self.old self.new (λ old new.
-            Survives old new (λ _. IsOurs old → ⊥)) }
+            Survives old new (λ _. CommitsOpen old ⊥)) }
     {
         let rows = statements::read(&mut self.conn)?;
         lists::entries(alloc, rows.as_slice())
@@ -187,8 +193,10 @@ impl<S: Alter> OverrideStore<S> {
         ensures was_open { Between S.Store self.old self.new OpensNone }
         ensures holds { Between S.Store self.old self.new (λ old new.
             (settings : List Setting) → HoldsSettings old settings → HoldsSettings new settings) }
+        ensures stamped { Between S.Store self.old self.new (λ old new.
+            (changes : List Change) → HoldsStamps old changes → HoldsStamps new changes) }
         ensures crash { Between S.Store self.old self.new (λ old new.
-            Survives old new (λ _. IsOurs old → ⊥)) }
+            Survives old new (λ _. CommitsOpen old ⊥)) }
     {
         let rows = statements::read(&mut self.conn)?;
         lists::changes(alloc, rows.as_slice())

@@ -2,9 +2,12 @@
 //! store that is opened again.
 #![tactic(auto)]
 
-ghost use Rattle.std.specs.Prelude.{IfOk, None, reverse};
+ghost use Rattle.std.specs.Prelude.{◌≡◌, ◌⊎◌, ◌↔◌, IfErr, IfOk, None, [], reverse};
 ghost use Rattle.sqlite.specs.Held.{state};
-ghost use Rattle.override_store.specs.OverrideStores.{AreFit, HoldsOn, HoldsSettings};
+ghost use Rattle.override_store.specs.OverrideStores.{AreFit, HoldsAs, HoldsOn, HoldsSettings, HoldsStamps};
+ghost use Rattle.load_asking.specs.declared.store.StoreFault.TheVariants as given;
+ghost use Rattle.sqlite.specs.Tree.{Trees};
+ghost use Rattle.sqlite.specs.View.{IsClean};
 
 use history_model::Setting;
 use load_asking::{self, SettingStore};
@@ -21,7 +24,9 @@ pub struct StoredSettings<S: Alter> {
 }
 
 /// The fault that the store's is. A name that is no label counts as refused.
-fn fault_of(fault: StoreFault) -> load_asking::StoreFault {
+fn fault_of(fault: StoreFault) -> load_asking::StoreFault
+    ensures memory { result ≡ given.NoMemory ↔ (fault ≡ StoreFault.NoMemory) }
+{
     match fault {
         StoreFault::NoMemory => load_asking::StoreFault::NoMemory,
         StoreFault::Refused | StoreFault::Foreign => load_asking::StoreFault::Refused,
@@ -30,6 +35,8 @@ fn fault_of(fault: StoreFault) -> load_asking::StoreFault {
 
 impl<S: Alter> SettingStore for StoredSettings<S> {
     ghost holds = { λ s settings. HoldsSettings (state S.Store s.store) settings };
+
+    ghost stamped = { λ s stamps. HoldsStamps (state S.Store s.store) stamps };
 
     ghost told = { λ s. None };
 
@@ -51,17 +58,28 @@ impl<S: Alter> SettingStore for StoredSettings<S> {
 }
 
 /// The store on a connection, and the settings that it holds, by rising bytes of their labels. `NoMemory` and `Refused` as
-/// `OverrideStore::open_on`, and `Foreign` if a stored name is no label; what was handed in is then dropped.
+/// `OverrideStore::open_or_give`, and `Foreign` if a stored name is no label. A fault gives what the connection stood on, whose
+/// database is as it was or wholly moved.
 pub fn opened<S: Alter + Drop>(
     alloc: Global,
     conn: Connection<S>,
-) -> Result<(StoredSettings<S>, Vec<Setting>), StoreFault>
+) -> Result<(StoredSettings<S>, Vec<Setting>), (StoreFault, S)>
     ensures holds { IfOk result (λ r. AreFit (state S.Store conn).committed.trees →
         HoldsSettings (state S.Store r.0.store) (reverse r.1.items)) }
+    ensures stamped { IfOk result (λ r. AreFit (state S.Store conn).committed.trees →
+        HoldsStamps (state S.Store r.0.store) []) }
+    ensures left { IfErr result (λ e. IsClean (S.Store.view e.1) →
+        AreFit (state S.Store conn).committed.trees → (db : Trees) → S.Store.recovers e.1 db →
+        (state S.Store conn).may_leave db ⊎ HoldsAs (state S.Store conn).committed.trees db) }
 {
-    let mut store = OverrideStore::open_on(alloc, conn)?;
-    let all = store.all(alloc)?;
-    Ok((StoredSettings { store }, all))
+    let mut store = match OverrideStore::open_or_give(alloc, conn) {
+        Ok(store) => store,
+        Err(refused) => return Err(refused),
+    };
+    match store.all(alloc) {
+        Ok(all) => Ok((StoredSettings { store }, all)),
+        Err(fault) => Err((fault, store.close_on().into_store())),
+    }
 }
 
 /// The store closed and opened again on its connection: it holds the settings that it held. Refused as

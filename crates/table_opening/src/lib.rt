@@ -3,4 +3,4 @@
 
 mod opening;
 
-pub use opening::{OpeningFault, table_of};
+pub use opening::{OpeningFault, table_of, zone_of};

@@ -56,8 +56,8 @@ fn file_zone(alloc: Global, bytes: &[u8]) -> Result<Option<Zone>, AllocError>
     }
 }
 
-/// The zone that a header tells, if there is one.
-fn zone_of(alloc: Global, zone: &ZoneText) -> Result<Option<Zone>, AllocError>
+/// The zone that a header tells, or `None` if it tells none.
+pub fn zone_of(alloc: Global, zone: &ZoneText) -> Result<Option<Zone>, AllocError>
     ensures { IfOk result (IsZoneOf zone.now) }
 {
     match zone {

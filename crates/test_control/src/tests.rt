@@ -36,7 +36,7 @@ static REPLIES_COME_IN_ORDER: &[Step] = &[
     Sends(0, "a\nno\n\nb\n"),
     Sends(1, "c\n"),
     Round,
-    Asked("a\nno\n\nb\nc\n"),
+    Asked("a\nc\nno\n\nb\n"),
     Hears(
         0,
         "{\"code\":0,\"text\":\"a\"}\n{\"code\":3,\"text\":\"no such job\\n\"}\n{\"code\":0,\"text\":\"\"}\n{\"code\":0,\"text\":\"b\"}\n",

@@ -5,14 +5,14 @@ use crate::steps::Step;
 use crate::steps::Step::*;
 use std::test::Fail;
 
-/// The 17th line of a client is answered in the next round, after the line of another client.
+/// The first line of each client is answered before the second of any, and the 17th of a client in the next round.
 static A_CLIENT_HAS_16_LINES_A_ROUND: &[Step] = &[
     Connect(2),
     Round,
     SendsTimes(0, "a\n", 17),
     Sends(1, "b\n"),
     Busy(true),
-    Asked("a\na\na\na\na\na\na\na\na\na\na\na\na\na\na\na\nb\n"),
+    Asked("a\nb\na\na\na\na\na\na\na\na\na\na\na\na\na\na\na\n"),
     Busy(false),
     Asked("a\n"),
     SendsTimes(0, "a\n", 16),
@@ -27,21 +27,32 @@ fn a_client_has_16_lines_a_round(rt: HostRuntime) -> Result<(), Fail> {
     play_steps(&rt, "lines", A_CLIENT_HAS_16_LINES_A_ROUND)
 }
 
-/// A round in which there is time for three lines ends with the third. The next one begins with the client behind.
+/// A round in which there is time for two lines ends with the second. The next one begins with the client behind, also where the
+/// time ended among further lines.
 static A_ROUND_ENDS_WITH_ITS_TIME: &[Step] = &[
     Connect(3),
     Round,
-    Time(3),
-    Sends(0, "a\na\na\na\na\n"),
+    Time(2),
+    Sends(0, "a\na\na\n"),
     Sends(1, "b\nb\n"),
     Sends(2, "c\n"),
     Busy(true),
-    Asked("a\na\na\n"),
-    Hears(1, ""),
+    Asked("a\nb\n"),
+    Hears(2, ""),
     Busy(true),
-    Asked("b\nb\nc\n"),
+    Asked("c\na\n"),
+    Busy(true),
+    Asked("b\na\n"),
     Busy(false),
-    Asked("a\na\n"),
+    Time(3),
+    Sends(0, "a\na\na\na\n"),
+    Sends(1, "b\nb\nb\n"),
+    Busy(true),
+    Asked("b\na\nb\n"),
+    Busy(true),
+    Asked("a\nb\na\n"),
+    Busy(false),
+    Asked("a\n"),
 ];
 
 #[test]

@@ -322,7 +322,7 @@ fn no_spool_file_does_harm(rt: HostRuntime) -> Result<(), Fail> {
 }
 
 /// The replies of 65 clients of a job are not sent yet: the first client is let go. Where as many are held as there is room for,
-/// the one goes that has been still for longest, and never one that waits for its run.
+/// the one goes that has been still for longest, and never one that waits for its run. Of these a job has no more than its share.
 static BOUNDS: &[Case] = &[
     (
         "job",
@@ -347,27 +347,29 @@ static BOUNDS: &[Case] = &[
     (
         "room",
         &[
-            Room(2),
+            Room(3),
             Script(":", SOCKET),
             Bind(0, true),
             Calls("@/s", "wait"),
             Takes("wait", 1, true),
-            Crowd(2, 3),
-            Told(&["a: a client was let go: it takes nothing, and 2 connections are held"]),
+            Crowd(2, 4),
+            Told(&["a: a client was let go: it takes nothing, and 3 connections are held"]),
             Away("@/0-2.reply"),
             Holds("@/0-1.request", "wait"),
             Holds("@/0-3.reply", ""),
+            Holds("@/0-4.reply", ""),
             Calls("@/s", "more"),
-            Takes("more", 4, true),
+            Takes("more", 5, true),
             Away("@/0-3.reply"),
             Told(&[]),
             Calls("@/s", "most"),
-            Takes("most", 5, false),
-            Told(&["a: a client was let go: 2 connections are held"]),
+            Takes("most", 6, false),
+            Told(&["a: a client was let go: the job has its share of the connections"]),
             Hears(""),
-            Away("@/0-5.request"),
+            Away("@/0-6.request"),
             Holds("@/0-1.request", "wait"),
-            Holds("@/0-4.request", "more"),
+            Holds("@/0-4.reply", ""),
+            Holds("@/0-5.request", "more"),
             Failures(1),
         ],
     ),

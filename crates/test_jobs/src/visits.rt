@@ -47,6 +47,12 @@ static MANY: &[Row] = &[
     (Clock(60_000), Some((0, 0))),
 ];
 
+/// After an hour the interval of each of these jobs is over; a moment later that of none.
+static ALL: &[Row] = &[
+    (Clock(3_600_000), Some((100, 100))),
+    (Clock(3_600_001), Some((0, 0))),
+];
+
 const A: &str = r#"{"Label":"a","Program":"/bin/x","StartInterval":30,"ThrottleInterval":0}"#;
 
 const B: &str = r#"{"Label":"b","Program":"/bin/x","StartInterval":30,"ThrottleInterval":0}"#;
@@ -238,6 +244,7 @@ fn fault_from_new(alloc: Global, is_full: bool, rows: &[Row]) -> Option<usize> {
 #[test]
 fn a_reading_asks_the_jobs_that_it_touches(rt: HostRuntime) {
     assert_eq!(rt; fault_from_new(rt.alloc(), true, MANY), None);
+    assert_eq!(rt; fault_from_new(rt.alloc(), true, ALL), None);
 }
 
 #[test]

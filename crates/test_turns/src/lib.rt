@@ -50,18 +50,30 @@ mod tests {
         ];
         let calls = [
             (start(1), STARTED),
-            (term(), Scripted::Done),
-            (kill(), Scripted::Done),
+            (term(1), Scripted::Done),
+            (kill(1), Scripted::Done),
         ];
         let holds = is_called(rt.alloc(), &events, &calls) == Ok(true);
         assert!(rt; holds);
     }
 
-    /// A job is started a second after a refused start at the soonest, also if its throttle is 0.
+    /// A job is started a second after a refused start at the soonest, also if its throttle is 0. TERM and KILL then go to the
+    /// second run, the KILL twenty seconds after the stop.
     #[test]
     fn a_refused_start_comes_again(rt: HostRuntime) {
-        let events = [(at(999), 1), (at(1_000), 2)];
-        let calls = [(start(1), Scripted::Refused), (start(2), STARTED)];
+        let events = [
+            (at(999), 1),
+            (at(1_000), 2),
+            (told(News::Stop), 3),
+            (at(20_999), 3),
+            (at(21_000), 4),
+        ];
+        let calls = [
+            (start(1), Scripted::Refused),
+            (start(2), STARTED),
+            (term(2), Scripted::Done),
+            (kill(2), Scripted::Done),
+        ];
         let holds = is_called(rt.alloc(), &events, &calls) == Ok(true);
         assert!(rt; holds);
     }
@@ -77,9 +89,9 @@ mod tests {
         ];
         let calls = [
             (start(1), STARTED),
-            (term(), Scripted::Refused),
-            (term(), Scripted::Done),
-            (kill(), Scripted::Done),
+            (term(1), Scripted::Refused),
+            (term(1), Scripted::Done),
+            (kill(1), Scripted::Done),
         ];
         let holds = is_called(rt.alloc(), &events, &calls) == Ok(true);
         assert!(rt; holds);
@@ -97,9 +109,9 @@ mod tests {
         ];
         let calls = [
             (start(1), STARTED),
-            (term(), Scripted::Done),
-            (kill(), Scripted::Refused),
-            (kill(), Scripted::Done),
+            (term(1), Scripted::Done),
+            (kill(1), Scripted::Refused),
+            (kill(1), Scripted::Done),
         ];
         let holds = is_called(rt.alloc(), &events, &calls) == Ok(true);
         assert!(rt; holds);

@@ -18,6 +18,8 @@ pub struct ScriptedStore {
 impl SettingStore for ScriptedStore {
     ghost holds = { λ s settings. Unit {0} };
 
+    ghost stamped = { λ s stamps. Unit {0} };
+
     ghost told = { λ s. None };
 
     ghost may_give = { λ s answer. Unit {0} };

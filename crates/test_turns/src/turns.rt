@@ -22,12 +22,12 @@ pub fn start(run: u64) -> EdgeCall {
     }
 }
 
-pub fn term() -> EdgeCall {
-    EdgeCall::Term { job: FIRST, run: 1 }
+pub fn term(run: u64) -> EdgeCall {
+    EdgeCall::Term { job: FIRST, run }
 }
 
-pub fn kill() -> EdgeCall {
-    EdgeCall::Kill { job: FIRST, run: 1 }
+pub fn kill(run: u64) -> EdgeCall {
+    EdgeCall::Kill { job: FIRST, run }
 }
 
 /// A launcher with the job, over an edge that gives these answers in turn.
@@ -72,7 +72,10 @@ pub fn is_called(
 
 /// Says whether a turn goes on if the journal takes no line but its header, and that this is told once.
 pub fn is_closed_once(alloc: Global) -> Result<bool, Refusal> {
-    let calls = [(start(1), Scripted::Started(812)), (term(), Scripted::Done)];
+    let calls = [
+        (start(1), Scripted::Started(812)),
+        (term(1), Scripted::Done),
+    ];
     let mut stage = loaded(alloc, &calls, 1)?;
     let stop = Happening::ToJob("a", News::Stop);
     let goes_on = has_made(alloc, &mut stage, stop, 2)?;

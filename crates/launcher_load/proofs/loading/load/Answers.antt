@@ -2,13 +2,14 @@
 use Rattle.std.proofs.Common.{◌≡◌, Bool, true, false, Some, sym, ap, subst, ◌∙◌}
 use Rattle.std.specs.Prelude.{if◌then◌else◌}
 use Rattle.std.proofs.lemmas.Bool.{false≢true}
+use Rattle.history_model.specs.declared.Refusal.TheVariants.{NoMemory}
 use Rattle.history_model.specs.Machine.{State}
 use Rattle.history_model.specs.Acceptance.{refusal_in}
 use Rattle.job_table.specs.Kept.{KeepsState}
 use Rattle.job_table.specs.Loads.{IsAdmitted, load_of, described_in, refused_with}
 use Rattle.launcher_load.specs.declared.loading.Loaded.{Loaded}
-use Rattle.launcher_load.specs.LoadTurns.{LoadTurnOf, is_memory, load_request, settings_after, standing}
-use Rattle.launcher_load.proofs.LoadTurnsLemmas.{load_ended, load_sets, never_called, not_memory, told_unless}
+use Rattle.launcher_load.specs.LoadTurns.{LoadTurnOf, is_memory, label_written, load_request, settings_after, stamps_after, standing}
+use Rattle.launcher_load.proofs.LoadTurnsLemmas.{load_ended, load_sets, load_stamps, never_called, not_memory, told_unless, unstamped}
 use Rattle.job_defs.proofs.LabelLemmas.{label_read}
 use Rattle.launcher_load.proofs.loading.load.Goals as goal
 use Rattle.child_edge.specs.Calls.{is_done}
@@ -72,3 +73,30 @@ returns-in-Ok-loaded-clause-silent g c = λ memory.
 pub returns-in-Err-clause-silent : goal.returns-in-Err-clause-silent
 returns-in-Err-clause-silent g c = λ memory.
     c.note_load_refused.ensures.silent (subst (λ (l : Loaded). is_memory (refused_with l.reply) ≡ true) c.uncalled-in-Err.ensures memory)
+
+pub returns-in-Ok-loaded-clause-stamped : goal.returns-in-Ok-loaded-clause-stamped
+returns-in-Ok-loaded-clause-stamped g c = λ s keeps stamps had.
+    let admitted = subst (λ b. IsAdmitted c.args.table.now b c.args.writes_setting c.args.force (described_in c.in-Ok.ready)) c.as_bytes.ensures.value c.in-Ok.ensures.admitted in
+    let outside = c.ask_and_make-ended.result.outside in
+    let ends = c.ask_and_make-ended.ensures.ends in
+    let stamped = g.T.SettingStore.stamped c.ask_and_make-ended.new.store in
+    let label = label_written (load_request c.args.def.now c.args.writes_setting c.args.force) in
+    let wall = s.reading.wall in
+    let stored = (rw (ap (λ r. r.wall) (c.in-Ok.ensures.same s keeps).reading) at c.ask_and_make-ended.ensures.stamped) stamps had in
+    let is = load_stamps c.args.def.now c.args.writes_setting c.args.force outside (described_in c.in-Ok.ready) c.ask_and_make-ended.result.refusal wall stamps admitted.read ends.answer
+    (λ none. ends.asks.bind ∙ ap (λ h. if h then is_done ends.asks.bound else true) none) in
+    subst (λ r. stamped (stamps_after label r wall stamps)) (sym c.reply_to.ensures.reply) (subst stamped (sym is) stored)
+
+pub returns-in-Err-clause-stamped : goal.returns-in-Err-clause-stamped
+returns-in-Err-clause-stamped g c = λ s keeps stamps had.
+    let stamped = g.T.SettingStore.stamped c.args.store.now in
+    let label = label_written (load_request c.args.def.now c.args.writes_setting c.args.force) in
+    let wall = s.reading.wall in
+    subst (λ (l : Loaded). stamped (stamps_after label (refused_with l.reply) wall stamps)) (sym c.uncalled-in-Err.ensures) (subst stamped (sym (unstamped label c.in-Err.refusal wall stamps)) had)
+
+pub returns-in-Err-loaded-clause-stamped : goal.returns-in-Err-loaded-clause-stamped
+returns-in-Err-loaded-clause-stamped g c = λ s keeps stamps had.
+    let stamped = g.T.SettingStore.stamped c.args.store.now in
+    let label = label_written (load_request c.args.def.now c.args.writes_setting c.args.force) in
+    let wall = s.reading.wall in
+    subst (λ (l : Loaded). stamped (stamps_after label (refused_with l.reply) wall stamps)) (sym c.uncalled.ensures) (subst stamped (sym (unstamped label NoMemory wall stamps)) had)

@@ -6,13 +6,12 @@ use Rattle.job_defs.specs.Definitions.{given}
 use Rattle.job_table.specs.Tables.{Name, IsOnce, definition_of_number}
 use Rattle.launcher_turn.proofs.NumbersLemmas.{AreNamed}
 use Rattle.job_table.specs.Loads.{described_in, number_in, setting_in}
-use Rattle.launcher_load.proofs.LoadTurnsLemmas.{label-short}
 use Rattle.launcher_load.proofs.loading.make.Goals as goal
 
 pub returns : goal.returns
 returns g c = λ s force bind store line written noted led keeps none.
     let is = c.commit_load.ensures.loads s force bind store keeps none in
-    let done = c.finish.ensures c.args.table.now s (Load (Ok (given (described_in c.args.ready))) (is_some (setting_in c.args.ready)) force bind store) line written noted (label-short (described_in c.args.ready).label c.requires.label) led keeps
+    let done = c.finish.ensures c.args.table.now s (Load (Ok (given (described_in c.args.ready))) (is_some (setting_in c.args.ready)) force bind store) line written noted c.requires.label led keeps
     (record { kept = is.kept; accepted = ap (λ o. o.refusal) is.outcome; orders = ap (λ o. o.orders) is.outcome }) in
     record {
       turn = done.turn;

@@ -1,5 +1,5 @@
 -- The turn of a setting, asked about or not.
-use Rattle.std.proofs.Common.{◌≡◌, Bool, true, None, Some, refl, sym, ap, subst, ◌∙◌}
+use Rattle.std.proofs.Common.{◌≡◌, Bool, true, Some, refl, sym, ap, subst, ◌∙◌}
 use Rattle.history_model.specs.declared.Refusal.TheVariants.{BadRequest, StoreRefused}
 use Rattle.history_model.specs.Machine.{State}
 use Rattle.history_model.specs.Acceptance.{refusal_in, refusal_stored}
@@ -55,3 +55,16 @@ returns-in-Err-clause-turn g c = λ other s led keeps.
     ((s : State) (store : Bool) → KeepsState c.args.table.now s → refusal_in s (set_of c.args.label.now c.args.disabled c.args.unload store) ≡ Some c.in-Err.refusal) c.in-Err.ensures.refused other in
     never_set s c.args.label.now c.args.disabled c.args.unload c.in-Err.refusal c.args.table.now c.prepare_set.new.self (g.E.Edge.told c.args.edge.now) (g.T.SettingStore.told c.args.store.now) c.args.journal.now c.note_set_refused.new.journal c.in-Err.ensures.rows
     (λ store. refused s store keeps) (c.note_set_refused.ensures.noted other) (c.in-Err.ensures.same s keeps) led
+
+pub returns-then-stored-clause-stamped : goal.returns-then-stored-clause-stamped
+returns-then-stored-clause-stamped g c = λ s keeps.
+    rw c.if-stored.true at (rw (ap (λ r. r.wall) (c.reading-changed.ensures.last ∙ keeps.reading)) at c.set-stored.ensures.stamped)
+
+pub returns-else-stored-clause-stamped : goal.returns-else-stored-clause-stamped
+returns-else-stored-clause-stamped g c = λ s keeps. rw c.if-stored.false at c.set-stored.ensures.stamped
+
+pub returns-then-not-is_label-clause-stamped : goal.returns-then-not-is_label-clause-stamped
+returns-then-not-is_label-clause-stamped g c = λ s keeps stamps had. had
+
+pub returns-in-Err-clause-stamped : goal.returns-in-Err-clause-stamped
+returns-in-Err-clause-stamped g c = λ s keeps stamps had. had

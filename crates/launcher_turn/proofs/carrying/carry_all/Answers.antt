@@ -14,4 +14,4 @@ kept g c = elim c.match-carry.branch [
 pub loop-order-preserved : goal.loop-order-preserved
 loop-order-preserved g c =
     turn-more c.args.step.now.orders.now c.loop-order.order-index _ c.args.answers.now c.loop-order.answers c.match-carry.answers
-    c.carry.result _ _ _ c.loop-order-test.true c.loop-order.invariant c.carry.ensures (kept g c)
+    c.carry.result _ _ _ c.loop-order-test.true c.loop-order.invariant c.carry.ensures.carries (kept g c)

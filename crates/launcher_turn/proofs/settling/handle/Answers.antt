@@ -9,6 +9,7 @@ pub returns : goal.returns
 returns g c =
     handled (refused_with c.hear-accepted.result) c.args.table.now c.hear-accepted.new.table _ _ _ _ _ _ c.args.pending c.label.result.now c.as_str.result.now
     (c.label.ensures ∙ ap (λ ns. label_of ns c.args.pending.job) c.last_step.ensures.names) c.last_step.ensures.numbered
-    (λ short. c.as_str.ensures ∙ c.copy.ensures short)
+    (λ short. c.as_str.ensures.text ∙ c.copy.ensures short)
+    c.as_str.ensures.utf8
     (taken-in c.hear-accepted.result c.hear-accepted.ensures.happens c.hear-accepted.ensures.memory)
     c.note.ensures

@@ -12,4 +12,4 @@ loop-next-preserved g c = λ s names waits waiting fits.
     _ _ _ _ _ _ (omega arith) c.at-pending.ensures (c.loop-next.invariant s names waits waiting fits) c.handle.ensures
 
 pub returns : goal.returns
-returns g c = λ s names waits waiting fits. so-far-end s names _ _ _ _ _ _ _ _ (c.loop-next.invariant s names waits waiting fits) (omega arith)
+returns g c = λ s names waits waiting fits. so-far-end s names _ _ _ _ _ _ _ _ (c.loop-next.invariant s names waits waiting fits) (omega arith) c.len.ensures.tellable

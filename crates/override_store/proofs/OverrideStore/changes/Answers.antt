@@ -1,6 +1,6 @@
 -- The answers to the goals of `OverrideStore::changes`.
 use Rattle.std.proofs.Common.{map}
-use Rattle.override_store.specs.Settings.{Change, IsChange, IsForeign, change_of}
+use Rattle.override_store.specs.Settings.{Change, HoldsEach, StampsEach, IsChange, IsForeign, change_of}
 use Rattle.override_store.proofs.AnswerLemmas.{listed_as, if_ok, answer_long, any_shown}
 use Rattle.override_store.proofs.HoldsLemmas.{kept}
 use Rattle.override_store.proofs.OnceLemmas.{once}
@@ -24,7 +24,13 @@ returns-clause-foreign g c clean ours refused =
     rw (← c.self.view_is) (any_shown IsForeign _ rows it found)
 
 pub returns-clause-holds : goal.returns-clause-holds
-returns-clause-holds g c settings holds = kept c.in_ok-rows.ensures.crash c.in_ok-rows.ensures.was_open c.in_ok-rows.ensures.same settings (rw c.self.view_is holds)
+returns-clause-holds g c settings holds = kept HoldsEach c.in_ok-rows.ensures.crash c.in_ok-rows.ensures.was_open c.in_ok-rows.ensures.same settings (rw c.self.view_is holds)
 
 pub returns-in_err-rows-clause-holds : goal.returns-in_err-rows-clause-holds
-returns-in_err-rows-clause-holds g c settings holds = kept c.in_err-rows.ensures.crash c.in_err-rows.ensures.was_open c.in_err-rows.ensures.same settings (rw c.self.view_is holds)
+returns-in_err-rows-clause-holds g c settings holds = kept HoldsEach c.in_err-rows.ensures.crash c.in_err-rows.ensures.was_open c.in_err-rows.ensures.same settings (rw c.self.view_is holds)
+
+pub returns-clause-stamped : goal.returns-clause-stamped
+returns-clause-stamped g c changes holds = kept StampsEach c.in_ok-rows.ensures.crash c.in_ok-rows.ensures.was_open c.in_ok-rows.ensures.same changes (rw c.self.view_is holds)
+
+pub returns-in_err-rows-clause-stamped : goal.returns-in_err-rows-clause-stamped
+returns-in_err-rows-clause-stamped g c changes holds = kept StampsEach c.in_err-rows.ensures.crash c.in_err-rows.ensures.was_open c.in_err-rows.ensures.same changes (rw c.self.view_is holds)

@@ -14,6 +14,7 @@ use Rattle.history_model.specs.Refusals.{is_clock_refused}
 use Rattle.history_model.specs.Acceptance.{refused_if}
 use Rattle.history_model.specs.Machine.{State, Job, Tick}
 use Rattle.history_model.specs.Step.{heard, stays}
+use Rattle.job_table.specs.Periods.{HavePeriods}
 use Rattle.job_table.specs.Tables.{IsOnce, is_known, labels_in}
 use Rattle.job_table.specs.Kept.{KeepsJobs, KeepsState, numbered_all}
 use Rattle.job_table.specs.Counts.{counts, count_in, IsCounted}
@@ -168,6 +169,7 @@ returns-clause-sound c =
       few = omega arith;
       room = omega arith;
       named = named-of _ _ _ (returns-clause-indexed c);
+      periods = subst HavePeriods (sym names) c.requires.sound.periods;
       calendars = c.requires.sound.calendars ∙ ap some_calendar (sym names);
       listed = subst (AreListed c.args.self.now.triggers.items) (sym names) c.requires.sound.listed;
       order = subst (λ ns. AreInOrder (labels_in ns)) (sym names) c.requires.sound.order;
@@ -240,7 +242,7 @@ pub returns-clause-kept : goal.returns-clause-kept
 returns-clause-kept c = λ s keeps. (done c s keeps).kept
 
 pub returns-clause-untouched : goal.returns-clause-untouched
-returns-clause-untouched c = λ s keeps label past found positive none.
+returns-clause-untouched c = λ s keeps label past found none.
     let old = c.args.self.now in
     let es = old.entries.items in
     let after = c.visit_ready-visited.new.entries in
@@ -255,11 +257,11 @@ returns-clause-untouched c = λ s keeps label past found positive none.
     ap (λ xs. count_in (counts (rows xs)) label) whole
     ∙ spared-count s.zone old.reading c.args.at c.mark_minutes.new.ready 0 es after s.jobs label past c.requires.stay visits
     (subst (λ rs. KeepsJobs old.reading rs s.jobs) (rows-all es c.requires.stay) own)
-    (marks-touch s.zone old.reading c.args.at c.args.minutes.now c.mark_minutes.new.ready 0 es s.jobs
+    (marks-touch s.zone old.reading c.args.at c.args.minutes.now c.mark_minutes.new.ready 0 es s.jobs c.requires.sound.periods
     (λ k e there marked. mark-reason es c.requires.stay old.reading c.args.at c.args.minutes.now old.index.timers c.mark_due.new.timers old.index.places.items c.mark_due.new.ready c.mark_minutes.new.ready
     indexed.timed indexed.alone indexed.placed m.marked m.reached m.spared m.minute k e there (subst (λ p. is_spared c.mark_minutes.new.ready p ≡ false) (omega arith) marked))
     (λ some. crosses (ap has_calendars (rows-all es c.requires.stay) ∙ some)) (subst (λ rs. KeepsJobs old.reading rs s.jobs) (rows-all es c.requires.stay) own))
-    found positive none
+    found none
     ∙ ap (λ rs. count_in (counts rs) label) (sym (rows-all es c.requires.stay))
 
 pub returns-clause-stay : goal.returns-clause-stay

@@ -3,6 +3,7 @@ use Rattle.std.proofs.Common.{◌≡◌, ◌<◌, ◌++◌, true, false, not, ma
 use Rattle.std.specs.Prelude.{slice_get}
 use Rattle.std.specs.List.{list_all, filter_map}
 use Rattle.history_model.specs.Step.{heard, stays}
+use Rattle.job_table.specs.Periods.{HavePeriods}
 use Rattle.job_table.specs.Tables.{IsOnce, is_known, labels_in}
 use Rattle.job_table.specs.Kept.{KeepsJobs, numbered_all}
 use Rattle.job_table.specs.Counts.{counts, count_in, IsCounted}
@@ -138,6 +139,7 @@ returns-clause-whole c =
         few = let few = c.requires.sound.few in omega (arith, few);
         room = let room = c.requires.sound.room in let more = c.visit_ready-visited.ensures.capacity in omega (arith, room, more);
         named = named-of index old.reading.up (with_items old.entries after).items indexed;
+        periods = subst HavePeriods (sym names) c.requires.sound.periods;
         calendars = c.requires.sound.calendars ∙ ap some_calendar (sym names);
         listed = subst (AreListed c.args.self.now.triggers.items) (sym names) c.requires.sound.listed;
         order = subst (λ ns. AreInOrder (labels_in ns)) (sym names) c.requires.sound.order;

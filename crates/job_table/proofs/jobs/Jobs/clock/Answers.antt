@@ -5,6 +5,6 @@ use Rattle.job_table.proofs.EventsLemmas.{alike-state}
 use Rattle.job_table.proofs.jobs.Jobs.clock.Goals as goal
 
 pub returns-clause-untouched : goal.returns-clause-untouched
-returns-clause-untouched c = λ s keeps label past there positive spared.
-    c.advance-self.ensures.untouched s (alike-state c.args.self.now c.begin.new.self s c.begin.ensures.alike keeps c.begin.ensures.rows) label past there positive spared
+returns-clause-untouched c = λ s keeps label past there spared.
+    c.advance-self.ensures.untouched s (alike-state c.args.self.now c.begin.new.self s c.begin.ensures.alike keeps c.begin.ensures.rows) label past there spared
     ∙ ap (λ rs. count_in (counts rs) label) c.begin.ensures.rows

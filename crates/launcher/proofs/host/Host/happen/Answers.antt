@@ -1,11 +1,13 @@
 -- What happened, with its reply.
-use Rattle.std.proofs.Common.{[], Some}
+use Rattle.std.proofs.Common.{[], Option, Some, sym, subst}
+use Rattle.history_model.specs.Labels.{Label}
 use Rattle.launcher_turn.specs.Lines.{journaled_by}
 use Rattle.job_table.specs.Loads.{refused_with}
 use Rattle.launcher.proofs.HostsLemmas.{as_replied}
 use Rattle.launcher.proofs.HearingLemmas.{happened}
+use Rattle.launcher.proofs.StampsLemmas.{sets_none}
 use Rattle.launcher.proofs.host.Host.happen.Goals as goal
-use Rattle.launcher_load.specs.LoadTurns.{standing}
+use Rattle.launcher_load.specs.LoadTurns.{stamps_after, standing}
 
 pub returns-clause-hears : goal.returns-clause-hears
 returns-clause-hears g c =
@@ -14,3 +16,7 @@ returns-clause-hears g c =
     let held = g.T.SettingStore.holds c.args.self.now.store in
     as_replied (Some (journaled_by c.args.what)) c.done.result.refusal (refused_with c.turn-answer.result) c.done.result.text [] old new held held c.done.ensures.refusal c.done.ensures.text
     (happened c.args.what c.turn-answer.result old.table new.table old.calls new.calls old.stores old.journal new.journal held c.turn-answer.ensures.turn c.turn-answer.ensures.memory)
+
+pub returns-clause-stamped : goal.returns-clause-stamped
+returns-clause-stamped g c = λ s keeps stamps had.
+    subst (λ (label : Option Label). g.T.SettingStore.stamped c.args.self.now.store (stamps_after label c.done.result.refusal s.reading.wall stamps)) (sym (sets_none c.args.what)) had

@@ -1,5 +1,6 @@
 -- A load, with its reply.
-use Rattle.std.proofs.Common.{Some, true, refl}
+use Rattle.std.proofs.Common.{Option, Some, true, refl, sym, subst}
+use Rattle.history_model.specs.declared.Refusal.{Refusal}
 use Rattle.std.specs.String.{string_bytes}
 use Rattle.history_model.specs.declared.event.Event.TheVariants as events
 use Rattle.history_model.specs.Step.{outcome}
@@ -8,7 +9,7 @@ use Rattle.job_table.specs.Loads.{load_of, refused_with}
 use Rattle.launcher.proofs.HostsLemmas.{as_replied}
 use Rattle.launcher.proofs.AskingLemmas.{loaded, load_words}
 use Rattle.launcher.proofs.host.Host.load.Goals as goal
-use Rattle.launcher_load.specs.LoadTurns.{standing}
+use Rattle.launcher_load.specs.LoadTurns.{label_written, load_request, stamps_after, standing}
 
 pub returns-clause-hears : goal.returns-clause-hears
 returns-clause-hears g c =
@@ -21,3 +22,8 @@ returns-clause-hears g c =
     (loaded c.args.def.now c.args.writes_setting c.args.force did.outside (refused_with did.reply) c.told.result.text old new before after c.load-loaded.ensures.memory c.load-loaded.ensures.silent c.load-loaded.ensures.turn
     c.load-loaded.ensures.stored
     (load_words string_bytes did.reply c.told.result.text (λ s. KeepsState old.table s) (λ s. (outcome s (load_of c.args.def.now c.args.writes_setting c.args.force did.outside.bind did.outside.store)).text) c.load-loaded.ensures.text c.told.ensures.text))
+
+pub returns-clause-stamped : goal.returns-clause-stamped
+returns-clause-stamped g c = λ s keeps stamps had.
+    let label = label_written (load_request c.args.def.now c.args.writes_setting c.args.force) in
+    subst (λ (r : Option Refusal). g.T.SettingStore.stamped c.load-loaded.new.store (stamps_after label r s.reading.wall stamps)) (sym c.told.ensures.refusal) (c.load-loaded.ensures.stamped s keeps stamps had)

@@ -1,10 +1,13 @@
 -- A setting, with its reply.
-use Rattle.std.proofs.Common.{[], Some, true}
+use Rattle.std.proofs.Common.{[], Option, Some, true, sym, subst}
+use Rattle.history_model.specs.declared.Refusal.{Refusal}
+use Rattle.history_model.specs.Labels.{Label}
 use Rattle.job_table.specs.Loads.{refused_with}
 use Rattle.launcher_load.specs.Lines.{journaled_set}
-use Rattle.launcher_load.specs.LoadTurns.{standing}
+use Rattle.launcher_load.specs.LoadTurns.{stamps_after, standing}
 use Rattle.launcher.proofs.HostsLemmas.{as_replied}
 use Rattle.launcher.proofs.AskingLemmas.{changed}
+use Rattle.launcher.proofs.StampsLemmas.{set_asked}
 use Rattle.launcher.proofs.host.Host.set.Goals as goal
 
 pub returns-clause-hears : goal.returns-clause-hears
@@ -16,3 +19,10 @@ returns-clause-hears g c =
     let after = g.T.SettingStore.holds c.set-changed.new.store in
     as_replied (Some (journaled_set c.args.job.now c.args.disabled c.args.unload true)) c.done.result.refusal (refused_with did.reply) c.done.result.text [] old new before after c.done.ensures.refusal c.done.ensures.text
     (changed c.args.job.now c.args.disabled c.args.unload did.stored (refused_with did.reply) old new before after c.set-changed.ensures.memory c.set-changed.ensures.silent c.set-changed.ensures.turn c.set-changed.ensures.stored)
+
+pub returns-clause-stamped : goal.returns-clause-stamped
+returns-clause-stamped g c = λ s keeps stamps had.
+    let stamped = g.T.SettingStore.stamped c.set-changed.new.store in
+    let wall = s.reading.wall in
+    subst (λ (label : Option Label). stamped (stamps_after label c.done.result.refusal wall stamps)) (sym (set_asked c.args.job.now c.args.disabled c.args.unload))
+    (subst (λ (r : Option Refusal). stamped (stamps_after (Some c.args.job.now) r wall stamps)) (sym c.done.ensures.refusal) (c.set-changed.ensures.stamped s keeps stamps had))

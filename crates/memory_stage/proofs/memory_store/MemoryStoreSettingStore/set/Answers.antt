@@ -3,4 +3,4 @@ use Rattle.memory_stage.proofs.memory_store.MemoryStoreSettingStore.set.Goals as
 
 -- it tells nothing
 pub returns : goal.returns
-returns c = record { told = λ after is. cc; stored = λ settings holds. tt }
+returns c = record { told = λ after is. cc; stored = λ settings holds. tt; stamped = λ stamps had. tt }

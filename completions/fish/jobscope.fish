@@ -1,0 +1,62 @@
+# Completion of jobscope for fish.
+
+# The journal that the command line names, or that of JOBD_JOURNAL.
+function __jobscope_journal
+    set -l words (commandline -opc)
+    for at in (seq 2 (count $words))
+        switch $words[$at]
+            case '--journal=*'
+                string replace -- '--journal=' '' $words[$at]
+                return
+            case --journal
+                if test (math $at + 1) -le (count $words)
+                    echo $words[(math $at + 1)]
+                end
+                return
+        end
+    end
+    if set -q JOBD_JOURNAL
+        echo $JOBD_JOURNAL
+    end
+end
+
+# The labels of the jobs whose load the journal tells, one a line.
+function __jobscope_labels
+    set -l journal (__jobscope_journal)
+    if test -n "$journal"
+        jobscope runs --journal $journal 2>/dev/null | awk -F '\t' 'NR > 1 { print $1 }'
+    end
+end
+
+# The files that may be definitions, and the folders.
+function __jobscope_files
+    __fish_complete_suffix .json
+    __fish_complete_suffix .plist
+end
+
+set -l subcommands check next why log runs picture cron help
+set -l none "not __fish_seen_subcommand_from $subcommands"
+
+complete -c jobscope -f
+complete -c jobscope -s h -l help -d 'Print help'
+complete -c jobscope -n $none -a check -d 'Say whether definitions would load, and what may be wrong with them'
+complete -c jobscope -n $none -a next -d 'Show the coming starts of calendars and intervals'
+complete -c jobscope -n $none -a why -d 'Say why each job runs or not'
+complete -c jobscope -n $none -a log -d "Tell a journal's events to people"
+complete -c jobscope -n $none -a runs -d "Count each job's runs"
+complete -c jobscope -n $none -a picture -d "Draw each job's runs over time"
+complete -c jobscope -n $none -a cron -d 'Write a definition for each line of a crontab'
+complete -c jobscope -n $none -a help -d 'Print help'
+complete -c jobscope -n '__fish_seen_subcommand_from cron' -a - -d 'The lines of standard input'
+complete -c jobscope -n '__fish_seen_subcommand_from check next' -a '(__jobscope_files)'
+complete -c jobscope -n '__fish_seen_subcommand_from check' -l strict -d 'Fail at a warning too'
+complete -c jobscope -n '__fish_seen_subcommand_from check next' -l zone -x -d 'The zone as a POSIX rule'
+complete -c jobscope -n '__fish_seen_subcommand_from check next' -l zone-file -r -F -d 'The zone as a zone file'
+complete -c jobscope -n '__fish_seen_subcommand_from next' -s n -x -d 'How many starts'
+complete -c jobscope -n '__fish_seen_subcommand_from next' -l from -x -d 'After this second of Unix time'
+complete -c jobscope -n '__fish_seen_subcommand_from why log runs picture' -l journal -r -F -d 'The journal'
+complete -c jobscope -n '__fish_seen_subcommand_from why log runs picture' -a '(__jobscope_labels)'
+complete -c jobscope -n '__fish_seen_subcommand_from why log picture' -l utc -d 'Show times in UTC'
+complete -c jobscope -n '__fish_seen_subcommand_from picture' -l html -d 'Write a page that stands alone'
+complete -c jobscope -n '__fish_seen_subcommand_from log' -s f -d 'Go on as the journal grows'
+complete -c jobscope -n '__fish_seen_subcommand_from log' -l since -x -d 'From this second of Unix time on'

@@ -1,0 +1,96 @@
+//! A journal that comes in pieces.
+
+use crate::fault::JournalFault;
+use crate::reader::{Journal, open};
+use ctl_protocol::{LINE_LIMIT, LineFault, LineFeed};
+use std::alloc::{AllocError, Global};
+
+/// The lines of a journal that comes in pieces, and the journal as far as it was read.
+#[derive(Drop)]
+pub struct JournalReader {
+    feed: LineFeed,
+    journal: Option<Journal>,
+    is_long: bool,
+    /// How many lines were read, the header too.
+    pub lines: u64,
+    /// How many of them are no event, and the number of the first of these.
+    pub bad: u64,
+    pub first_bad: u64,
+}
+
+impl From<AllocError> for JournalFault {
+    fn from(_error: AllocError) -> JournalFault {
+        JournalFault::NoMemory
+    }
+}
+
+impl JournalReader {
+    /// No line was read.
+    pub fn new(alloc: Global) -> JournalReader {
+        JournalReader {
+            feed: LineFeed::new(alloc, LINE_LIMIT),
+            journal: None,
+            is_long: false,
+            lines: 0,
+            bad: 0,
+            first_bad: 0,
+        }
+    }
+
+    /// Takes the next piece.
+    pub fn take(&mut self, piece: &[u8]) -> Result<(), JournalFault> {
+        match self.feed.feed(piece) {
+            Ok(()) => Ok(()),
+            Err(LineFault::TooLong) => {
+                self.is_long = true;
+                Ok(())
+            }
+            Err(LineFault::NoMemory) => Err(JournalFault::NoMemory),
+        }
+    }
+
+    /// Reads the next whole line, and says whether there was one. A line that is no event is counted, and left out.
+    pub fn next(&mut self, alloc: Global) -> Result<bool, JournalFault> {
+        let line = match self.feed.next_line() {
+            Ok(Some(line)) => line,
+            Ok(None) if self.is_long => {
+                return Err(JournalFault::LongLine(self.lines.saturating_add(1)));
+            }
+            Ok(None) => return Ok(false),
+            Err(_) => return Err(JournalFault::NoMemory),
+        };
+        self.lines = self.lines.saturating_add(1);
+        match &mut self.journal {
+            None => self.journal = Some(open(alloc, line.as_slice())?),
+            Some(journal) => {
+                if !journal.take(alloc, line.as_slice())? {
+                    self.bad = self.bad.saturating_add(1);
+                    if self.bad == 1 {
+                        self.first_bad = self.lines;
+                    }
+                }
+            }
+        }
+        Ok(true)
+    }
+
+    /// Reads each whole line that was taken.
+    pub fn read_on(&mut self, alloc: Global) -> Result<(), JournalFault> {
+        for _ in 0..u64::MAX {
+            if !self.next(alloc)? {
+                break;
+            }
+        }
+        Ok(())
+    }
+
+    /// The journal, if its header was read.
+    pub fn journal(&self) -> Option<&Journal> {
+        self.journal.as_ref()
+    }
+
+    /// Whether a last line stands there that no newline ends.
+    pub fn is_cut(&self) -> bool {
+        !self.feed.rest().is_empty()
+    }
+}

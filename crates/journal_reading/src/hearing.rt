@@ -1,0 +1,199 @@
+//! An event of a journal goes to the table, and what it says.
+ghost use Rattle.std.specs.Prelude.{◌≡◌, None};
+ghost use Rattle.history_model.specs.Clock.{reading_in};
+ghost use Rattle.job_core.specs.Events.{item_of};
+
+use crate::job::Asked;
+use crate::run::Run;
+use history_model::{Answer, Ask, DemandKind, Event, Refusal, Wants};
+use job_table::{JobEvent, JobTable, Step};
+use std::alloc::Global;
+
+/// When a job that has no run starts again.
+#[derive(Clone, Copy)]
+pub struct Wait {
+    /// Whether something wants it.
+    pub is_wanted: bool,
+    /// The `up` until which it is throttled, if it is.
+    pub throttled_until: Option<u64>,
+}
+
+/// What an event of a journal was, or gave.
+#[derive(Clone, Copy)]
+pub enum What {
+    Loaded,
+    LoadRefused(Refusal),
+    Asked(Asked),
+    /// It was asked, and refused.
+    Declined(Asked, Refusal),
+    /// A connection came.
+    Came(u64),
+    /// A connection was given up by its client.
+    Left(u64),
+    /// A start was ordered, since this wanted it.
+    Ordered {
+        run: u64,
+        connection: Option<u64>,
+        demand: Option<DemandKind>,
+        wants: Wants,
+    },
+    Began {
+        run: u64,
+        pid: u32,
+    },
+    NotBegun {
+        run: u64,
+        wait: Wait,
+    },
+    /// TERM was ordered for the run, or KILL.
+    Told {
+        run: u64,
+        kills: bool,
+    },
+    /// That signal could not be sent.
+    Untold {
+        run: u64,
+        kills: bool,
+    },
+    Ended {
+        run: Run,
+        wait: Wait,
+    },
+    /// The system refused to wait for the run.
+    Lost {
+        run: u64,
+    },
+    Gone,
+}
+
+/// What a line gave, and the label of the job; the label is empty if it is not known, or if it is every job's.
+#[derive(Drop)]
+pub struct News {
+    pub label: String,
+    pub what: What,
+}
+
+// Whether the call answered a step.
+fn answer(answer: Result<Step<'_>, Refusal>) -> Result<bool, Refusal> {
+    match answer {
+        Ok(_) => Ok(true),
+        Err(refusal) => Err(refusal),
+    }
+}
+
+fn tell(table: &mut JobTable, job: &str, event: JobEvent<'_>) -> Result<bool, Refusal>
+    requires silent { reading_in (item_of event) ≡ None }
+{
+    answer(table.hear(job, event))
+}
+
+/// The words of a load, and what the outside answered.
+#[derive(Clone, Copy)]
+struct LoadWords {
+    writes_setting: bool,
+    force: bool,
+    bind: bool,
+    store: bool,
+}
+
+fn load(alloc: Global, table: &mut JobTable, def: &str, words: LoadWords) -> Result<bool, Refusal> {
+    let ready = table.prepare_load(alloc, def.as_bytes(), words.writes_setting, words.force)?;
+    if ready.def().has_sockets() && !words.bind {
+        return Err(Refusal::SocketRefused);
+    }
+    if words.writes_setting && !words.store {
+        return Err(Refusal::StoreRefused);
+    }
+    table.commit_load(ready);
+    Ok(true)
+}
+
+fn set(
+    alloc: Global,
+    table: &mut JobTable,
+    job: &str,
+    disabled: bool,
+    unload: bool,
+    store: bool,
+) -> Result<bool, Refusal> {
+    let ready = table.prepare_set(alloc, job, disabled, unload)?;
+    if !store {
+        return Err(Refusal::StoreRefused);
+    }
+    table.commit_set(ready);
+    Ok(true)
+}
+
+/// The table hears the event, as a launcher's would. It says whether the event made a step: a question makes none. After a
+/// refusal the table is as before.
+pub(crate) fn hear(alloc: Global, table: &mut JobTable, event: &Event) -> Result<bool, Refusal> {
+    match event {
+        Event::Load {
+            def,
+            writes_setting,
+            force,
+            bind,
+            store,
+        } => {
+            let words = LoadWords {
+                writes_setting: *writes_setting,
+                force: *force,
+                bind: *bind,
+                store: *store,
+            };
+            load(alloc, table, def.as_str(), words)
+        }
+        Event::Unload {
+            job,
+            writes_setting: true,
+            store,
+        } => set(alloc, table, job.as_str(), true, true, *store),
+        Event::Unload { job, .. } => answer(table.unload(job.as_str())),
+        Event::Enable { job, store } => set(alloc, table, job.as_str(), false, false, *store),
+        Event::Disable { job, store } => set(alloc, table, job.as_str(), true, false, *store),
+        Event::Clock(at) => answer(table.clock(alloc, *at)),
+        Event::Saw { path, obs } => answer(table.saw(path.as_str(), *obs)),
+        Event::Shutdown => answer(table.shutdown()),
+        Event::List => Ok(false),
+        Event::Print { .. } => Ok(false),
+        _ => hear_of_job(table, event),
+    }
+}
+
+// An event of one job, told by its label.
+fn hear_of_job(table: &mut JobTable, event: &Event) -> Result<bool, Refusal> {
+    match event {
+        Event::Start { job } => tell(table, job.as_str(), JobEvent::Asked(Ask::Start)),
+        Event::Stop { job } => tell(table, job.as_str(), JobEvent::Asked(Ask::Stop)),
+        Event::Kickstart { job, kills_first } => tell(
+            table,
+            job.as_str(),
+            JobEvent::Asked(Ask::Kickstart(*kills_first)),
+        ),
+        Event::Came { job, conn } => tell(table, job.as_str(), JobEvent::Came(*conn)),
+        Event::Left { job, conn } => tell(table, job.as_str(), JobEvent::Left(*conn)),
+        Event::Ended { job, run, how } => tell(table, job.as_str(), JobEvent::Ended(*run, *how)),
+        Event::WaitRefused { job, run } => {
+            tell(table, job.as_str(), JobEvent::WaitRefused { run: *run })
+        }
+        _ => hear_answer(table, event),
+    }
+}
+
+// What the outside answered to an order.
+fn hear_answer(table: &mut JobTable, event: &Event) -> Result<bool, Refusal> {
+    let (job, answered) = match event {
+        Event::Spawned { job, run, pid } => (
+            job,
+            Answer::Spawned {
+                run: *run,
+                pid: *pid,
+            },
+        ),
+        Event::SpawnRefused { job, run } => (job, Answer::SpawnRefused { run: *run }),
+        Event::Termed { job, run, ok } => (job, Answer::Termed { run: *run, ok: *ok }),
+        Event::Killed { job, run, ok } => (job, Answer::Killed { run: *run, ok: *ok }),
+        _ => return Ok(false),
+    };
+    tell(table, job.as_str(), JobEvent::Answered(answered))
+}

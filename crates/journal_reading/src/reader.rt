@@ -1,0 +1,335 @@
+//! A journal that is open: the table, the zone of civil time, and what is kept of the past.
+
+use crate::fault::JournalFault;
+use crate::hearing::{News, Wait, What, hear};
+use crate::job::Asked;
+use crate::past::Past;
+use calendar_due::Zone;
+use ctl_protocol::{LineReader, ReadFault, read_header};
+use history_model::{Act, Event, Reading, Refusal};
+use job_defs::read_def;
+use job_table::{JobTable, Step};
+use std::alloc::{AllocError, Global};
+use table_opening::{OpeningFault, table_of, zone_of};
+
+/// A journal whose header was read, and what its lines gave so far.
+#[derive(Drop)]
+pub struct Journal {
+    pub table: JobTable,
+    /// The zone of the header.
+    pub zone: Zone,
+    pub past: Past,
+    /// What the last line gave, in order.
+    pub news: Vec<News>,
+    reader: LineReader,
+}
+
+/// The wait of a job, as the table has it.
+fn wait_of(table: &JobTable, label: &str) -> Wait {
+    match table.reasons(label) {
+        Some(reasons) => {
+            let wants = reasons.wants;
+            Wait {
+                is_wanted: wants.demand
+                    || wants.connections > 0
+                    || wants.keep_alive
+                    || wants.successful_exit
+                    || wants.crashed
+                    || wants.path_state
+                    || wants.queue_directories,
+                throttled_until: reasons.throttled_until,
+            }
+        }
+        None => Wait {
+            is_wanted: false,
+            throttled_until: None,
+        },
+    }
+}
+
+/// The journal that a header opens.
+pub(crate) fn open(alloc: Global, line: &[u8]) -> Result<Journal, JournalFault> {
+    let header = match read_header(alloc, line) {
+        Ok(header) => header,
+        Err(ReadFault::NoMemory) => return Err(JournalFault::NoMemory),
+        Err(ReadFault::BadRequest) => return Err(JournalFault::BadHeader),
+    };
+    let Some(zone) = zone_of(alloc, &header.zone)? else {
+        return Err(JournalFault::BadZone);
+    };
+    match table_of(alloc, header) {
+        Ok(table) => Ok(Journal {
+            table,
+            zone,
+            past: Past::new(alloc),
+            news: Vec::new(alloc),
+            reader: LineReader::new(alloc)?,
+        }),
+        Err(OpeningFault::NoMemory) => Err(JournalFault::NoMemory),
+        Err(OpeningFault::BadZone) => Err(JournalFault::BadZone),
+        Err(_) => Err(JournalFault::BadSettings),
+    }
+}
+
+impl Journal {
+    /// The last reading.
+    pub fn reading(&self) -> Reading {
+        self.table.reading()
+    }
+
+    /// Takes in a line after the header. It says whether the line is an event; what it gave is `news`.
+    pub(crate) fn take(&mut self, alloc: Global, line: &[u8]) -> Result<bool, AllocError> {
+        self.news.clear();
+        match self.reader.event(alloc, line) {
+            Ok(event) => {
+                self.hear(alloc, &event)?;
+                Ok(true)
+            }
+            Err(ReadFault::NoMemory) => Err(AllocError),
+            Err(ReadFault::BadRequest) => Ok(false),
+        }
+    }
+
+    fn hear(&mut self, alloc: Global, event: &Event) -> Result<(), AllocError> {
+        match hear(alloc, &mut self.table, event) {
+            Ok(true) => {
+                self.note(alloc, event)?;
+                self.note_orders(alloc)
+            }
+            Ok(false) => Ok(()),
+            Err(Refusal::NoMemory) => Err(AllocError),
+            Err(refusal) => self.note_refusal(alloc, event, refusal),
+        }
+    }
+
+    // Tells what the line gave.
+    fn tell(&mut self, alloc: Global, label: &str, what: What) -> Result<(), AllocError> {
+        let label = String::from_str(alloc, label)?;
+        self.news.push(News { label, what })?;
+        Ok(())
+    }
+
+    // What a load, a question to a job or an answer was refused. Answers out of turn are left aside.
+    fn note_refusal(
+        &mut self,
+        alloc: Global,
+        event: &Event,
+        refusal: Refusal,
+    ) -> Result<(), AllocError> {
+        if let Event::Load { def, .. } = event {
+            return match read_def(alloc, def.as_str().as_bytes()) {
+                Ok(def) => self.tell(alloc, def.label(), What::LoadRefused(refusal)),
+                Err(_) => self.tell(alloc, "", What::LoadRefused(refusal)),
+            };
+        }
+        match asked_in(event) {
+            Some((label, asked)) => self.tell(alloc, label, What::Declined(asked, refusal)),
+            None => Ok(()),
+        }
+    }
+
+    // An event that was accepted.
+    fn note(&mut self, alloc: Global, event: &Event) -> Result<(), AllocError> {
+        if let Some((label, asked)) = asked_in(event) {
+            self.note_asked(label, asked);
+            return self.tell(alloc, label, What::Asked(asked));
+        }
+        match event {
+            Event::Load { def, .. } => self.note_load(alloc, def.as_str()),
+            Event::Came { job, conn } => self.tell(alloc, job.as_str(), What::Came(*conn)),
+            Event::Left { job, conn } => self.tell(alloc, job.as_str(), What::Left(*conn)),
+            _ => self.note_run(alloc, event),
+        }
+    }
+
+    fn note_load(&mut self, alloc: Global, def: &str) -> Result<(), AllocError> {
+        let at = self.reading();
+        let Ok(def) = read_def(alloc, def.as_bytes()) else {
+            return Ok(());
+        };
+        let label = String::from_str(alloc, def.label())?;
+        self.tell(alloc, label.as_str(), What::Loaded)?;
+        self.past.load(label, def, at)
+    }
+
+    // What keeps from a start, or asks for an end, is kept until the next order.
+    fn note_asked(&mut self, label: &str, asked: Asked) {
+        let at = self.reading();
+        if asked == Asked::Shutdown {
+            for (_, job) in self.past.jobs.iter_mut() {
+                job.asked = Some((asked, at));
+            }
+        }
+        if let Asked::Start | Asked::Kickstart | Asked::Enable | Asked::Disable = asked {
+            return;
+        }
+        if let Some(job) = self.past.jobs.get_mut(label) {
+            job.asked = Some((asked, at));
+        }
+    }
+
+    // An answer, or an end.
+    fn note_run(&mut self, alloc: Global, event: &Event) -> Result<(), AllocError> {
+        match event {
+            Event::Spawned { job, run, pid } => self.note_begun(alloc, job.as_str(), *run, *pid),
+            Event::SpawnRefused { job, run } => self.note_refused(alloc, job.as_str(), *run),
+            Event::Termed {
+                job,
+                run,
+                ok: false,
+            } => self.tell(
+                alloc,
+                job.as_str(),
+                What::Untold {
+                    run: *run,
+                    kills: false,
+                },
+            ),
+            Event::Killed {
+                job,
+                run,
+                ok: false,
+            } => self.tell(
+                alloc,
+                job.as_str(),
+                What::Untold {
+                    run: *run,
+                    kills: true,
+                },
+            ),
+            Event::Ended { job, .. } => self.note_ended(alloc, job.as_str(), event),
+            Event::WaitRefused { job, run } => self.note_lost(alloc, job.as_str(), *run),
+            _ => Ok(()),
+        }
+    }
+
+    fn note_begun(
+        &mut self,
+        alloc: Global,
+        label: &str,
+        run: u64,
+        pid: u32,
+    ) -> Result<(), AllocError> {
+        let at = self.reading();
+        if let Some(job) = self.past.jobs.get_mut(label) {
+            job.begin(at);
+        }
+        self.tell(alloc, label, What::Began { run, pid })
+    }
+
+    fn note_refused(&mut self, alloc: Global, label: &str, run: u64) -> Result<(), AllocError> {
+        let at = self.reading();
+        let wait = wait_of(&self.table, label);
+        let mut over = None;
+        if let Some(job) = self.past.jobs.get_mut(label) {
+            over = job.refuse(at);
+        }
+        self.past.keep(over)?;
+        self.tell(alloc, label, What::NotBegun { run, wait })
+    }
+
+    fn note_ended(&mut self, alloc: Global, label: &str, event: &Event) -> Result<(), AllocError> {
+        let at = self.reading();
+        let wait = wait_of(&self.table, label);
+        let mut over = None;
+        if let (Event::Ended { how, .. }, Some(job)) = (event, self.past.jobs.get_mut(label)) {
+            over = job.end(*how, at);
+        }
+        self.past.keep(over)?;
+        match over {
+            Some(run) => self.tell(alloc, label, What::Ended { run, wait }),
+            None => Ok(()),
+        }
+    }
+
+    // A launcher is refused the wait again in each of its rounds; it is told once.
+    fn note_lost(&mut self, alloc: Global, label: &str, run: u64) -> Result<(), AllocError> {
+        let is_first = match self.past.jobs.get_mut(label) {
+            Some(job) => job.lose(),
+            None => false,
+        };
+        if is_first {
+            self.tell(alloc, label, What::Lost { run })?;
+        }
+        Ok(())
+    }
+
+    // The orders of the last step.
+    fn note_orders(&mut self, alloc: Global) -> Result<(), AllocError> {
+        let step = self.table.last_step();
+        order_all(alloc, &self.table, &mut self.past, &mut self.news, &step)
+    }
+}
+
+// Takes in each order of a step.
+fn order_all(
+    alloc: Global,
+    table: &JobTable,
+    past: &mut Past,
+    news: &mut Vec<News>,
+    step: &Step<'_>,
+) -> Result<(), AllocError> {
+    let at = table.reading();
+    for order in step.orders {
+        let label = step.label(order.job);
+        if let Some(what) = ordered(table, past, label, order.act, at) {
+            let label = String::from_str(alloc, label)?;
+            news.push(News { label, what })?;
+        }
+    }
+    Ok(())
+}
+
+// Takes in an order.
+fn ordered(table: &JobTable, past: &mut Past, label: &str, act: Act, at: Reading) -> Option<What> {
+    let job = past.jobs.get_mut(label)?;
+    match act {
+        Act::Spawn { run, conn } => {
+            let demand = table.latest_demand(label);
+            job.order(run, demand, at);
+            let wants = table.reasons(label)?.wants;
+            Some(What::Ordered {
+                run,
+                connection: conn,
+                demand,
+                wants,
+            })
+        }
+        Act::Term { run } => {
+            job.tell(false, at);
+            Some(What::Told { run, kills: false })
+        }
+        Act::Kill { run } => {
+            job.tell(true, at);
+            Some(What::Told { run, kills: true })
+        }
+        Act::Close { .. } => None,
+        Act::Gone => {
+            job.leave(at);
+            Some(What::Gone)
+        }
+    }
+}
+
+// What a client asked, and of which label; the empty one for all jobs.
+fn asked_in(event: &Event) -> Option<(&str, Asked)> {
+    match event {
+        Event::Start { job } => Some((job.as_str(), Asked::Start)),
+        Event::Stop { job } => Some((job.as_str(), Asked::Stop)),
+        Event::Kickstart {
+            job,
+            kills_first: false,
+        } => Some((job.as_str(), Asked::Kickstart)),
+        Event::Kickstart { job, .. } => Some((job.as_str(), Asked::Strike)),
+        Event::Unload {
+            job,
+            writes_setting: false,
+            ..
+        } => Some((job.as_str(), Asked::Unload)),
+        Event::Unload { job, .. } => Some((job.as_str(), Asked::UnloadForGood)),
+        Event::Enable { job, .. } => Some((job.as_str(), Asked::Enable)),
+        Event::Disable { job, .. } => Some((job.as_str(), Asked::Disable)),
+        Event::Shutdown => Some(("", Asked::Shutdown)),
+        _ => None,
+    }
+}

@@ -1,0 +1,79 @@
+//! One run of a job, from its order to its end.
+ghost use Rattle.std.specs.Prelude.{◌≡◌};
+ghost use Rattle.history_model.specs.Levels.{is_crash_end};
+
+use history_model::{DemandKind, Ended, Reading};
+
+/// How a run stands, or how it ended.
+#[derive(Clone, Copy, PartialEq, Eq)]
+pub enum RunEnd {
+    /// The answer to its order is awaited.
+    Awaited,
+    /// Its child lives.
+    Lives,
+    /// Its order was refused.
+    Refused,
+    /// It ended with this exit code.
+    Code(u8),
+    /// It ended by this signal; 0 is an unknown one.
+    Signal(u8),
+}
+
+/// A run, and the readings at which it was ordered, began and ended.
+#[derive(Clone, Copy)]
+pub struct Run {
+    /// The serial number of its job.
+    pub job: u64,
+    /// Its number among the runs of its job's load, from 1.
+    pub run: u64,
+    /// What made the demand that was pending when it was ordered, if one was.
+    pub demand: Option<DemandKind>,
+    pub ordered: Reading,
+    /// When the order was answered; until then as `ordered`.
+    pub begun: Reading,
+    /// When it ended, or was refused; until then as `begun`.
+    pub ended: Reading,
+    pub end: RunEnd,
+    /// Whether TERM or KILL was ordered for it.
+    pub is_told: bool,
+    /// Whether its end was a crash.
+    pub is_crash: bool,
+}
+
+/// Whether an end is a crash: by one of the signals 3 to 8, 11 and 31, or by an unknown one if neither TERM nor KILL was ordered.
+pub(crate) fn is_crash(how: Ended, is_told: bool) -> bool
+    ensures { result ≡ is_crash_end is_told how }
+{
+    match how {
+        Ended::Code(_) => false,
+        Ended::Signal(3..=8 | 11 | 31) => true,
+        Ended::Signal(0) => !is_told,
+        Ended::Signal(_) => false,
+    }
+}
+
+impl Run {
+    /// A run that is just ordered.
+    pub(crate) fn ordered(job: u64, run: u64, demand: Option<DemandKind>, at: Reading) -> Run {
+        Run {
+            job,
+            run,
+            demand,
+            ordered: at,
+            begun: at,
+            ended: at,
+            end: RunEnd::Awaited,
+            is_told: false,
+            is_crash: false,
+        }
+    }
+
+    /// How many milliseconds it lived, or has lived up to this reading.
+    pub fn lived(&self, at: Reading) -> u64 {
+        match self.end {
+            RunEnd::Awaited | RunEnd::Refused => 0,
+            RunEnd::Lives => at.up.saturating_sub(self.begun.up),
+            RunEnd::Code(_) | RunEnd::Signal(_) => self.ended.up.saturating_sub(self.begun.up),
+        }
+    }
+}

@@ -1,0 +1,91 @@
+//! What the types of an input say of it: its texts are UTF-8, and its numbers have 64 bits. Nothing is done.
+
+ghost use Rattle.std.specs.Prelude.{◌<◌, ◌^◌, IsUtf8};
+ghost use Rattle.launcher.specs.Inputs.{asked_in};
+ghost use Rattle.launcher.specs.Writable.{IsWritableInput, SaysFitIf};
+
+use crate::input::Input;
+use history_model::{Ended, Event, Text};
+
+/// A text is UTF-8.
+fn lend_text(text: &str)
+    ensures { IsUtf8 text.now }
+{
+    let _ = text;
+}
+
+/// A text that stands inside an event is UTF-8.
+fn lend_inner(text: &Text)
+    ensures { IsUtf8 text.now }
+{
+    lend_text(text.as_str());
+}
+
+/// All texts of what a client asks are UTF-8.
+pub(crate) fn lend_request(event: &Event)
+    ensures { SaysFitIf (asked_in event.now) }
+{
+    match event {
+        Event::Load { def, .. } => lend_inner(def),
+        Event::Unload { job, .. }
+        | Event::Start { job }
+        | Event::Stop { job }
+        | Event::Kickstart { job, .. }
+        | Event::Enable { job, .. }
+        | Event::Disable { job, .. }
+        | Event::Print { job } => lend_inner(job),
+        _ => {}
+    }
+}
+
+/// A number has 64 bits.
+fn lend_number(number: u64)
+    ensures { number < 2 ^ 64 }
+{
+    let _ = number;
+}
+
+/// A label is UTF-8, and the number of what happened to its job has 64 bits.
+fn lend_news(job: &str, number: u64)
+    ensures text { IsUtf8 job.now }
+    ensures number { number < 2 ^ 64 }
+{
+    let _ = job;
+    let _ = number;
+}
+
+/// A code or a signal has 8 bits.
+fn lend_byte(byte: u8)
+    ensures { byte < 2 ^ 8 }
+{
+    let _ = byte;
+}
+
+/// What an input says, unless it is a line, can be written.
+#[tactic(auto, using(crate::proofs::WritableLemmas::clock_writable, crate::proofs::WritableLemmas::saw_writable, crate::proofs::WritableLemmas::came_writable, crate::proofs::WritableLemmas::left_writable, crate::proofs::WritableLemmas::code_writable, crate::proofs::WritableLemmas::signal_writable, crate::proofs::WritableLemmas::refused_writable))]
+pub(crate) fn lend_input(input: Input<'_>)
+    ensures { IsWritableInput input.entry }
+{
+    match input {
+        Input::Line(_) => {}
+        Input::Clock(at) => {
+            lend_number(at.up);
+            lend_number(at.wall);
+        }
+        Input::Saw(path, obs) => {
+            lend_text(path);
+            lend_number(obs.stamp);
+        }
+        Input::Came(job, conn) => lend_news(job, conn),
+        Input::Left(job, conn) => lend_news(job, conn),
+        Input::WaitRefused(job, run) => lend_news(job, run),
+        Input::Ended(job, run, Ended::Code(code)) => {
+            lend_news(job, run);
+            lend_byte(code);
+        }
+        Input::Ended(job, run, Ended::Signal(signal)) => {
+            lend_news(job, run);
+            lend_byte(signal);
+        }
+    }
+}

@@ -1,0 +1,75 @@
+-- Each event of the turns can be written.
+use Rattle.std.proofs.Common.{◌≡◌, inl, inr, ℕ, ◌<◌, ◌^◌, ◌&&◌, true, List, [], ◌∷◌, ◌++◌, map, nat_lt, sym, subst, arith}
+use Rattle.std.specs.List.{AllByRecursion}
+use Rattle.std.proofs.lemmas.Bool.{and_from}
+use Rattle.std.proofs.lemmas.Bool.Decides.{nat_tests}
+use Rattle.history_model.specs.declared.Answer.{Answer}
+use Rattle.history_model.specs.declared.Answer.TheVariants.{Spawned, SpawnRefused, Termed, Killed}
+use Rattle.history_model.specs.declared.event.Event as journal
+use Rattle.history_model.specs.declared.event.Event.TheVariants as events
+use Rattle.history_model.specs.Labels.{Label, is_label}
+use Rattle.job_table.specs.Tables.{Name, label_of}
+use Rattle.order_edge.specs.declared.pending.Pending.{Pending}
+use Rattle.order_edge.specs.Calls.{answers_in, IsTellable, IsTellablePending}
+use Rattle.launcher_turn.specs.Lines.{journaled_answer}
+use Rattle.launcher_turn.specs.Turns.{IsNamedIn, IsTextLabel}
+use Rattle.launcher_laws.specs.Runs.{Turn, Part, IsPartOf, AreParts, answer_told, events_in}
+use Rattle.load_asking.specs.declared.asking.Outside.{Outside}
+use Rattle.launcher.specs.Inputs.{answered}
+use Rattle.launcher.specs.Writable.{IsWritable}
+
+numbered : (run pid : ℕ) → IsTellable (Spawned run pid) → nat_lt 0 pid && nat_lt pid (2 ^ 32) ≡ true
+numbered run pid (long, some, few) =
+    let above : nat_lt 0 pid ≡ true = grind (arith, nat_tests, some) in
+    let below : nat_lt pid (2 ^ 32) ≡ true = grind (arith, nat_tests, few) in
+    and_from (nat_lt 0 pid) (nat_lt pid (2 ^ 32)) above below
+
+answer_writable : (job : Label) (answer : Answer) → IsTellable answer → IsTextLabel job → IsWritable (journaled_answer job answer)
+answer_writable job (Spawned run pid) is named =
+    let short : pid < 2 ^ 64 = omega (arith, is.2) in
+    record { writable = and_from (is_label job) (nat_lt 0 pid && nat_lt pid (2 ^ 32)) named.0 (numbered run pid is); fit = (named.1, (short, (is.0, tt))) }
+answer_writable job (SpawnRefused run) is named = record { writable = named.0; fit = (named.1, (is, tt)) }
+answer_writable job (Termed run ok) is named = record { writable = named.0; fit = (named.1, (tt, (is, tt))) }
+answer_writable job (Killed run ok) is named = record { writable = named.0; fit = (named.1, (tt, (is, tt))) }
+
+answers_writable : (names : List Name) (ps : List Pending) → AllByRecursion IsTellablePending ps → AllByRecursion (IsNamedIn names) ps → AllByRecursion IsWritable (map (answer_told names) ps)
+answers_writable names [] tellable named = tt
+answers_writable names (p ∷ ps) tellable named = (answer_writable (label_of names p.job) p.answer tellable.0 named.0, answers_writable names ps tellable.1 named.1)
+
+-- what the outside answered has no say in it
+answered_writable : (outside : Outside) (e : journal.Event) → IsWritable e → IsWritable (answered outside e)
+answered_writable outside (events.Load def writes_setting force bind store) is = record { writable = is.writable; fit = is.fit }
+answered_writable outside (events.Unload job writes_setting store) is = record { writable = is.writable; fit = is.fit }
+answered_writable outside (events.Start job) is = record { writable = is.writable; fit = is.fit }
+answered_writable outside (events.Stop job) is = record { writable = is.writable; fit = is.fit }
+answered_writable outside (events.Kickstart job kills_first) is = record { writable = is.writable; fit = is.fit }
+answered_writable outside (events.Enable job store) is = record { writable = is.writable; fit = is.fit }
+answered_writable outside (events.Disable job store) is = record { writable = is.writable; fit = is.fit }
+answered_writable outside events.List is = record { writable = is.writable; fit = is.fit }
+answered_writable outside (events.Print job) is = record { writable = is.writable; fit = is.fit }
+answered_writable outside events.Shutdown is = record { writable = is.writable; fit = is.fit }
+answered_writable outside (events.Clock at) is = record { writable = is.writable; fit = is.fit }
+answered_writable outside (events.Saw path obs) is = record { writable = is.writable; fit = is.fit }
+answered_writable outside (events.Came job conn) is = record { writable = is.writable; fit = is.fit }
+answered_writable outside (events.Left job conn) is = record { writable = is.writable; fit = is.fit }
+answered_writable outside (events.Spawned job run pid) is = record { writable = is.writable; fit = is.fit }
+answered_writable outside (events.SpawnRefused job run) is = record { writable = is.writable; fit = is.fit }
+answered_writable outside (events.Termed job run ok) is = record { writable = is.writable; fit = is.fit }
+answered_writable outside (events.Killed job run ok) is = record { writable = is.writable; fit = is.fit }
+answered_writable outside (events.Ended job run how) is = record { writable = is.writable; fit = is.fit }
+answered_writable outside (events.WaitRefused job run) is = record { writable = is.writable; fit = is.fit }
+
+part_writable : {T : Type 0} (turn : Turn T) (part : Part) → IsPartOf turn part → AllByRecursion IsWritable part.0
+part_writable turn part (inl none) = subst (AllByRecursion IsWritable) (sym none.1) tt
+part_writable turn part (inr did) =
+    subst (AllByRecursion IsWritable) (sym did.first)
+    (answered_writable did.outside did.event did.writable, subst (AllByRecursion IsWritable) (sym did.told) (answers_writable did.names (answers_in did.entries) did.tellable did.named))
+
+both : (xs ys : List journal.Event) → AllByRecursion IsWritable xs → AllByRecursion IsWritable ys → AllByRecursion IsWritable (xs ++ ys)
+both [] ys left right = right
+both (x ∷ xs) ys left right = (left.0, both xs ys left.1 right)
+
+pub parts_writable : {T : Type 0} (turns : List (Turn T)) (parts : List Part) → AreParts turns parts → AllByRecursion IsWritable (events_in parts)
+parts_writable turns [] are = tt
+parts_writable [] (part ∷ parts) are = absurd are
+parts_writable (turn ∷ turns) (part ∷ parts) are = both part.0 (events_in parts) (part_writable turn part are.0) (parts_writable turns parts are.1)

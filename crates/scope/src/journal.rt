@@ -1,0 +1,197 @@
+//! A journal that words name: where it is, and its reading to the end of what is there.
+
+use crate::telling::{BAD_FILE, tell_of};
+use journal_reading::{JournalFault, JournalReader};
+use scope_words::JournalWords;
+use std::alloc::Global;
+use std::env::VarError;
+use std::fs::File;
+use std::io::{ErrorKind, IsTerminal, Read};
+use std::{env, io};
+
+/// How faults name standard input.
+const INPUT: &str = "standard input";
+
+/// How many bytes are read at once.
+const PIECE: usize = 16_384;
+
+/// After so many pieces a line of progress is written anew.
+const STRIDE: u64 = 128;
+
+/// How many bytes of a journal's beginning are kept, to know it by.
+const HEAD: usize = 256;
+
+/// What is read: a file, or standard input.
+#[derive(Drop)]
+pub(crate) enum Source {
+    File(File),
+    Input,
+}
+
+/// A journal as far as it was read.
+#[derive(Drop)]
+pub(crate) struct Feed {
+    pub(crate) reader: JournalReader,
+    /// How many bytes were read.
+    pub(crate) offset: u64,
+    /// The first of them.
+    pub(crate) head: Vec<u8>,
+}
+
+impl Feed {
+    pub(crate) fn new(alloc: Global) -> Feed {
+        Feed {
+            reader: JournalReader::new(alloc),
+            offset: 0,
+            head: Vec::new(alloc),
+        }
+    }
+
+    fn take(&mut self, piece: &[u8]) -> Result<(), JournalFault> {
+        let room = HEAD.saturating_sub(self.head.len()).min(piece.len());
+        let front = piece.get(..room).unwrap_or(&[]);
+        self.head.extend_from_slice(front)?;
+        self.offset = self.offset.saturating_add(piece.len() as u64);
+        self.reader.take(piece)
+    }
+}
+
+fn read(host: &HostRuntime, source: &mut Source, piece: &mut [u8]) -> io::Result<usize> {
+    match source {
+        Source::File(file) => file.read(piece),
+        Source::Input => host.stdin().read(piece),
+    }
+}
+
+/// Takes the next piece of the source, and says whether there was one.
+pub(crate) fn take_piece(
+    host: &HostRuntime,
+    source: &mut Source,
+    feed: &mut Feed,
+) -> Result<bool, JournalFault> {
+    let mut piece = [0u8; PIECE];
+    match read(host, source, &mut piece) {
+        Ok(0) => Ok(false),
+        Ok(count) => {
+            feed.take(piece.get(..count).unwrap_or(&[]))?;
+            Ok(true)
+        }
+        Err(error) if error.kind() == ErrorKind::Interrupted => Ok(true),
+        Err(error) => Err(JournalFault::Read(error)),
+    }
+}
+
+/// The journal's path: that of the words, else that of `JOBD_JOURNAL`. None: it comes on standard input.
+pub(crate) fn journal_path(host: &HostRuntime, of: &JournalWords) -> io::Result<Option<String>> {
+    if let Some(path) = &of.journal {
+        return Ok(Some(String::from_str(host.alloc(), path.as_str())?));
+    }
+    match env::var(host, "JOBD_JOURNAL") {
+        Ok(path) if path.is_empty() => Ok(None),
+        Ok(path) => Ok(Some(path)),
+        Err(VarError::OutOfMemory) => Err(io::Error::from(ErrorKind::OutOfMemory)),
+        Err(_) => Ok(None),
+    }
+}
+
+/// Opens a journal's file. InvalidInput for what is no plain file: it is not opened, so that nothing waits at a FIFO.
+pub(crate) fn open_journal(host: &HostRuntime, path: &str) -> io::Result<File> {
+    if !std::fs::metadata(host, path)?.is_file() {
+        return Err(io::Error::new(ErrorKind::InvalidInput, "no plain file"));
+    }
+    File::open(host, path)
+}
+
+/// Tells what keeps the journal from being read. An error for want of memory.
+pub(crate) fn tell_fault(host: &HostRuntime, name: &str, fault: &JournalFault) -> io::Result<()> {
+    if let JournalFault::NoMemory = fault {
+        return Err(io::Error::from(ErrorKind::OutOfMemory));
+    }
+    tell_of(host, name, fault);
+    Ok(())
+}
+
+/// Tells the lines that are no event, if there are some, and answers the exit status.
+pub(crate) fn tell_bad(host: &HostRuntime, name: &str, reader: &JournalReader) -> u8 {
+    let first = reader.first_bad;
+    let more = reader.bad.saturating_sub(1);
+    if reader.bad == 0 {
+        return 0;
+    }
+    if more == 0 {
+        let _written = eprintln!(host; "jobscope: {name}: line {first} is no event");
+    } else {
+        let _written = eprintln!(host;
+            "jobscope: {name}: line {first} is no event, and {more} more"
+        );
+    }
+    BAD_FILE
+}
+
+// Reads the source to its end. On a terminal a line of progress stands on standard error meanwhile.
+fn read_source(
+    host: &HostRuntime,
+    alloc: Global,
+    source: &mut Source,
+    feed: &mut Feed,
+) -> Result<(), JournalFault> {
+    let is_seen = host.stderr().is_terminal();
+    let mut is_told = false;
+    for count in 1..u64::MAX {
+        if !take_piece(host, source, feed)? {
+            break;
+        }
+        feed.reader.read_on(alloc)?;
+        if is_seen && count % STRIDE == 0 {
+            let lines = feed.reader.lines;
+            let _written = eprint!(host; "\r{lines} lines");
+            is_told = true;
+        }
+    }
+    if is_told {
+        let _written = eprint!(host; "\r\x1b[K");
+    }
+    match feed.reader.journal() {
+        Some(_) => Ok(()),
+        None => Err(JournalFault::NoHeader),
+    }
+}
+
+/// Reads the journal that the words name up to its last whole line. `Some`: the exit status, which is 65 if a line is no event; such a
+/// line is told and left out. None: the journal can't be read, and this was told.
+pub(crate) fn read_journal(
+    host: &HostRuntime,
+    alloc: Global,
+    of: &JournalWords,
+    feed: &mut Feed,
+) -> io::Result<Option<u8>> {
+    let path = journal_path(host, of)?;
+    let name = name_of(&path);
+    let read = match source_of(host, &path) {
+        Ok(mut source) => read_source(host, alloc, &mut source, feed),
+        Err(error) => Err(JournalFault::Read(error)),
+    };
+    match read {
+        Ok(()) => Ok(Some(tell_bad(host, name, &feed.reader))),
+        Err(fault) => {
+            tell_fault(host, name, &fault)?;
+            Ok(None)
+        }
+    }
+}
+
+/// How faults name the journal of the path.
+pub(crate) fn name_of(path: &Option<String>) -> &str {
+    match path {
+        Some(path) => path.as_str(),
+        None => INPUT,
+    }
+}
+
+/// What is read: the file of the path, or standard input.
+pub(crate) fn source_of(host: &HostRuntime, path: &Option<String>) -> io::Result<Source> {
+    match path {
+        Some(path) => Ok(Source::File(open_journal(host, path.as_str())?)),
+        None => Ok(Source::Input),
+    }
+}

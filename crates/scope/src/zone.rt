@@ -1,0 +1,50 @@
+//! The zone that words name.
+
+use crate::telling::tell_of;
+use calendar_due::{LONGEST_FILE, Zone, ZoneFault};
+use path_files::read_file;
+use scope_times::utc;
+use scope_words::ZoneWords;
+use std::alloc::Global;
+use std::io;
+use std::io::ErrorKind;
+
+/// The zone that the words name; UTC if they name none. None: the rule or the file tells no zone, and this was told.
+pub(crate) fn zone_of(
+    host: &HostRuntime,
+    alloc: Global,
+    zone: &ZoneWords,
+) -> io::Result<Option<Zone>> {
+    match zone {
+        ZoneWords::Default => Ok(Some(utc())),
+        ZoneWords::Rule(rule) => zone_made(host, rule.as_str(), Zone::posix(rule.as_str())),
+        ZoneWords::File(path) => zone_in(host, alloc, path.as_str()),
+    }
+}
+
+fn zone_in(host: &HostRuntime, alloc: Global, path: &str) -> io::Result<Option<Zone>> {
+    match read_file(host, alloc, path, LONGEST_FILE) {
+        Ok(Some(bytes)) => zone_made(host, path, Zone::tzif(alloc, bytes.as_slice())),
+        Ok(None) => zone_made(host, path, Err(ZoneFault::BadZone)),
+        Err(error) if error.kind() == ErrorKind::OutOfMemory => Err(error),
+        Err(error) => {
+            tell_of(host, path, &error);
+            Ok(None)
+        }
+    }
+}
+
+fn zone_made(
+    host: &HostRuntime,
+    named: &str,
+    made: Result<Zone, ZoneFault>,
+) -> io::Result<Option<Zone>> {
+    match made {
+        Ok(zone) => Ok(Some(zone)),
+        Err(ZoneFault::NoMemory) => Err(io::Error::from(ErrorKind::OutOfMemory)),
+        Err(ZoneFault::BadZone) => {
+            tell_of(host, named, &"no zone");
+            Ok(None)
+        }
+    }
+}

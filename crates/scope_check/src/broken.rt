@@ -1,0 +1,111 @@
+//! What stands where a text is no JSON.
+
+use crate::finding::Place;
+use crate::place::{begin_at, place_at};
+use json::{Reader, Scratch, Token};
+use std::alloc::{AllocError, Global};
+
+const XML: &str =
+    "a property list in XML; convert it with: python3 -c 'import plistlib,json,sys; json.dump(plistlib.load(sys.stdin.buffer),sys.stdout)' < FILE > FILE.json";
+
+const BINARY: &str =
+    "a binary property list; convert it with: python3 -c 'import plistlib,json,sys; json.dump(plistlib.load(sys.stdin.buffer),sys.stdout)' < FILE > FILE.json";
+
+/// The place of the first byte that is no JSON, and what stands there.
+pub(crate) fn broken_in(
+    alloc: Global,
+    bytes: &[u8],
+) -> Result<(Option<Place>, &'static str), AllocError> {
+    if bytes.starts_with(b"bplist") {
+        return Ok((None, BINARY));
+    }
+    let Ok(text) = std::str::from_utf8(bytes) else {
+        return Ok((None, "the file is not UTF-8"));
+    };
+    let Some(offset) = bad_offset(alloc, text)? else {
+        return Ok((None, "the values are nested more than 127 levels deep"));
+    };
+    let (at, told) = told_at(text.as_bytes(), offset, begin_at(text, 0));
+    Ok((Some(place_at(text, at)), told))
+}
+
+// Where the first token begins that is no JSON; the text's end if there is none. None if values are nested too deep before it.
+fn bad_offset(alloc: Global, text: &str) -> Result<Option<usize>, AllocError> {
+    let mut scratch = Scratch::new(alloc);
+    let mut reader = Reader::new(text, &mut scratch)?;
+    let mut depth: usize = 0;
+    for _k in 0..text.len() {
+        match reader.next() {
+            Some(Token::Bad) => return Ok(Some(reader.offset())),
+            Some(Token::BeginArray | Token::BeginObject) => depth = depth.saturating_add(1),
+            Some(Token::EndArray | Token::EndObject) => depth = depth.saturating_sub(1),
+            Some(_) => {}
+            None => return Ok(Some(text.len())),
+        }
+        if depth > 127 {
+            return Ok(None);
+        }
+    }
+    Ok(Some(text.len()))
+}
+
+// The place that is told, and what stands there: the text is bad at the offset, and its first byte that is no blank stands at `first`.
+fn told_at(bytes: &[u8], offset: usize, first: usize) -> (usize, &'static str) {
+    let Some(byte) = bytes.get(first) else {
+        return (0, "the file is empty");
+    };
+    if *byte == b'<' {
+        return (first, XML);
+    }
+    if bytes.starts_with(b"\xEF\xBB\xBF") {
+        return (0, "a byte order mark; write the file without one");
+    }
+    let Some(found) = bytes.get(offset) else {
+        return (offset, "the text ends before its last bracket is closed");
+    };
+    match *found {
+        b'}' | b']' => match comma_before(bytes, offset) {
+            Some(comma) => (
+                comma,
+                "a comma before a closing bracket; JSON has none there",
+            ),
+            None => (
+                offset,
+                "this bracket closes nothing, or a value is missing before it",
+            ),
+        },
+        b',' => (offset, "this comma follows no value"),
+        other => (offset, told_of(other)),
+    }
+}
+
+fn told_of(found: u8) -> &'static str {
+    match found {
+        b'/' | b'#' => "a comment; JSON has none",
+        b'\'' => "a single quote; texts stand in double quotes",
+        b'"' =>
+            "a comma or a colon is missing before this text, or the text has no end or a bad character",
+        b'=' | b';' => "an old-style property list has this sign; JSON has : and ,",
+        b'{' | b'[' => "a comma or a colon is missing before this bracket",
+        b'0'..=b'9' | b'+' | b'-' | b'.' =>
+            "no number of JSON (no sign +, no 0 before other digits), or a comma is missing before it",
+        b'A'..=b'Z' | b'a'..=b'z' =>
+            "no value of JSON: wanted true, false, null, a number or a text in double quotes",
+        _ => "no JSON from here on",
+    }
+}
+
+// The comma that is the last byte before the offset but for blanks.
+fn comma_before(bytes: &[u8], offset: usize) -> Option<usize> {
+    let front = bytes.get(..offset)?;
+    let mut at = offset;
+    for byte in front.iter().rev() {
+        at = at.saturating_sub(1);
+        match *byte {
+            b' ' | b'\t' | b'\n' | b'\r' => {}
+            b',' => return Some(at),
+            _ => return None,
+        }
+    }
+    None
+}

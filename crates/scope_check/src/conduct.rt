@@ -1,0 +1,207 @@
+//! What may be wrong with a definition that loads.
+
+use crate::changes::Change;
+use crate::entries::add_entries;
+use crate::finding::{Grade, Remark};
+use crate::names::ignored_remark;
+use crate::place::{has_key, place_of};
+use crate::variables::add_variables;
+use history_model::{KeyName, Text};
+use job_defs::Def;
+use json_kinds::key_name;
+use std::alloc::{AllocError, Global};
+
+/// The remarks on a definition that was read from these bytes: first the keys that nothing acts on, then what it starts, then how.
+pub(crate) fn remarks_of(
+    alloc: Global,
+    bytes: &[u8],
+    def: &Def,
+    changes: &[Change],
+) -> Result<Vec<Remark>, AllocError> {
+    let mut remarks = Vec::new(alloc);
+    let Ok(text) = std::str::from_utf8(bytes) else {
+        return Ok(remarks);
+    };
+    for name in def.not_acted_on() {
+        remarks.push(ignored_remark(alloc, text, name.as_str())?)?;
+    }
+    add_starts(alloc, text, def, &mut remarks)?;
+    add_entries(alloc, text, def.calendar(), changes, &mut remarks)?;
+    add_command(alloc, text, def, &mut remarks)?;
+    add_paths(alloc, text, def, &mut remarks)?;
+    add_variables(alloc, text, &mut remarks)?;
+    Ok(remarks)
+}
+
+fn add(
+    alloc: Global,
+    text: &str,
+    key: KeyName,
+    told: &str,
+    remarks: &mut Vec<Remark>,
+) -> Result<(), AllocError> {
+    remarks.push(Remark {
+        place: place_of(alloc, text.as_bytes(), key, None)?,
+        grade: Grade::Warning,
+        text: String::from_str(alloc, told)?,
+    })?;
+    Ok(())
+}
+
+// Whether something starts the job but a `jobctl start`. `Crashed` alone does not: it holds after the end of a run.
+fn is_started(def: &Def) -> bool {
+    let is_kept = def.keep_alive()
+        || def.successful_exit().is_some()
+        || !def.path_state().is_empty();
+    let is_watching = !def.watch_paths().is_empty() || !def.queue_directories().is_empty();
+    let is_timed = def.start_interval().is_some() || !def.calendar().is_empty();
+    def.run_at_load() || is_kept || is_watching || is_timed || def.has_sockets()
+}
+
+/// How many conditions of `KeepAlive` the definition has.
+pub(crate) fn conditions(def: &Def) -> usize {
+    let mut count = def.path_state().len();
+    if def.successful_exit().is_some() {
+        count = count.saturating_add(1);
+    }
+    if def.crashed().is_some() {
+        count = count.saturating_add(1);
+    }
+    count
+}
+
+fn add_starts(
+    alloc: Global,
+    text: &str,
+    def: &Def,
+    remarks: &mut Vec<Remark>,
+) -> Result<(), AllocError> {
+    if !is_started(def) {
+        let told = "nothing starts this job but jobctl start or kickstart";
+        add(alloc, text, KeyName::Label, told, remarks)?;
+    }
+    if conditions(def) > 1 {
+        let told =
+            "KeepAlive: one of its conditions suffices to keep the job running; they need not hold together";
+        add(alloc, text, KeyName::KeepAlive, told, remarks)?;
+    }
+    let throttle = def.throttle_interval();
+    if let Some(interval) = def.start_interval() {
+        if interval < throttle {
+            let told = format!(in alloc;
+                "StartInterval is {interval}, less than ThrottleInterval: starts are {throttle} s apart at least"
+            )?;
+            add(alloc, text, KeyName::StartInterval, told.as_str(), remarks)?;
+        }
+    }
+    if def.has_sockets() && !has_key(alloc, text, KeyName::ThrottleInterval)? {
+        let told =
+            "Sockets: the default ThrottleInterval of 10 lets a client wait up to 10 s for the next start; give a smaller one, as 0 or 1";
+        add(alloc, text, KeyName::Sockets, told, remarks)?;
+    }
+    add_disabled(alloc, text, def, remarks)
+}
+
+fn add_disabled(
+    alloc: Global,
+    text: &str,
+    def: &Def,
+    remarks: &mut Vec<Remark>,
+) -> Result<(), AllocError> {
+    if !def.disabled() {
+        return Ok(());
+    }
+    let told =
+        "Disabled: a load leaves this job out, unless jobctl enable or load -w or -F says otherwise";
+    remarks.push(Remark {
+        place: place_of(alloc, text.as_bytes(), KeyName::DisabledKey, None)?,
+        grade: Grade::Note,
+        text: String::from_str(alloc, told)?,
+    })?;
+    Ok(())
+}
+
+// Whether the text looks like a command line: behind a blank comes an option or a path, or the first word is no whole path.
+fn is_command_line(program: &str) -> bool {
+    let is_name = program.contains(' ') && !program.starts_with('/');
+    is_name || program.contains(" -") || program.contains(" /")
+}
+
+fn add_command(
+    alloc: Global,
+    text: &str,
+    def: &Def,
+    remarks: &mut Vec<Remark>,
+) -> Result<(), AllocError> {
+    let program = def.program();
+    let key = KeyName::Program;
+    if def.arguments().is_empty() && is_command_line(program) {
+        let told = format!(in alloc;
+            "the program is the one word {program:?}, with its blanks; each word of a command line is a member of ProgramArguments"
+        )?;
+        add(alloc, text, key, told.as_str(), remarks)?;
+    } else if program.starts_with('~') {
+        let told = "the program begins with ~, which nothing expands here; write the whole path";
+        add(alloc, text, key, told, remarks)?;
+    } else if !program.starts_with('/') {
+        let told = if program.contains('/') {
+            "the program is a relative path, which goes from the job's folder (WorkingDirectory); write the whole path"
+        } else {
+            "the program is looked for in the job's PATH, since it has no /; write the whole path"
+        };
+        add(alloc, text, key, told, remarks)?;
+    }
+    Ok(())
+}
+
+fn add_paths(
+    alloc: Global,
+    text: &str,
+    def: &Def,
+    remarks: &mut Vec<Remark>,
+) -> Result<(), AllocError> {
+    let keys = [
+        (KeyName::WorkingDirectory, def.working_directory()),
+        (KeyName::StandardInPath, def.standard_in_path()),
+        (KeyName::StandardOutPath, def.standard_out_path()),
+        (KeyName::StandardErrorPath, def.standard_error_path()),
+    ];
+    for (key, path) in keys {
+        if let Some(path) = path {
+            add_tilde(alloc, text, key, path, remarks)?;
+        }
+    }
+    add_tildes(alloc, text, KeyName::WatchPaths, def.watch_paths(), remarks)?;
+    let queues = def.queue_directories();
+    add_tildes(alloc, text, KeyName::QueueDirectories, queues, remarks)
+}
+
+fn add_tildes(
+    alloc: Global,
+    text: &str,
+    key: KeyName,
+    paths: &[Text],
+    remarks: &mut Vec<Remark>,
+) -> Result<(), AllocError> {
+    for path in paths {
+        add_tilde(alloc, text, key, path.as_str(), remarks)?;
+    }
+    Ok(())
+}
+
+fn add_tilde(
+    alloc: Global,
+    text: &str,
+    key: KeyName,
+    path: &str,
+    remarks: &mut Vec<Remark>,
+) -> Result<(), AllocError> {
+    if path.starts_with('~') {
+        let name = key_name(key);
+        let told = format!(in alloc;
+            "{name}: {path:?} begins with ~, which nothing expands here; write the whole path"
+        )?;
+        add(alloc, text, key, told.as_str(), remarks)?;
+    }
+    Ok(())
+}

@@ -1,0 +1,23 @@
+//! What a load would say of a definition's bytes, with the place of each fault, and what may be wrong with a definition that loads.
+#![tactic(auto)]
+
+mod broken;
+mod changes;
+mod checked;
+mod conduct;
+mod culprit;
+mod entries;
+mod finding;
+mod names;
+mod place;
+mod refusal;
+mod sockets;
+mod summary;
+mod variables;
+mod wanted;
+
+pub use changes::{Change, changes_in_year};
+pub use checked::{Checked, check_def};
+pub use finding::{Grade, Place, Remark, finding_line};
+pub use place::place_of;
+pub use summary::summary_of;

@@ -1,0 +1,59 @@
+//! The fields that five texts are.
+
+use crate::fault::LineFault;
+use crate::fields::{Field, Fields};
+use crate::items::{Item, items_of};
+use crate::kinds::{DAY, HOUR, Kind, MINUTE, MONTH, WEEKDAY};
+use std::alloc::{AllocError, Global};
+
+/// The five texts of a line's fields.
+#[derive(Clone, Copy)]
+pub(crate) struct Texts<'a> {
+    pub(crate) minute: &'a str,
+    pub(crate) hour: &'a str,
+    pub(crate) day: &'a str,
+    pub(crate) month: &'a str,
+    pub(crate) weekday: &'a str,
+}
+
+/// The fields that the texts are. Of a day and a weekday either suffices if neither begins with `*`.
+pub(crate) fn fields_of(alloc: Global, texts: Texts<'_>) -> Result<Fields, LineFault> {
+    let is_either = !texts.day.starts_with('*') && !texts.weekday.starts_with('*');
+    let minutes = field_of(alloc, &MINUTE, texts.minute, true)?;
+    let hours = field_of(alloc, &HOUR, texts.hour, true)?;
+    let days = field_of(alloc, &DAY, texts.day, !is_either)?;
+    let months = field_of(alloc, &MONTH, texts.month, true)?;
+    let weekdays = field_of(alloc, &WEEKDAY, texts.weekday, !is_either)?;
+    Ok(Fields {
+        minutes,
+        hours,
+        days,
+        months,
+        weekdays,
+        is_either,
+    })
+}
+
+// With `may_be_every`, a field that names each value is one that is `*`.
+fn field_of(
+    alloc: Global,
+    kind: &Kind,
+    text: &str,
+    may_be_every: bool,
+) -> Result<Field, LineFault> {
+    let items = items_of(alloc, kind, text)?;
+    let values = values_of(alloc, items.as_slice(), kind.low, kind.high)?;
+    let count = kind.high.saturating_sub(kind.low).saturating_add(1);
+    let is_every = may_be_every && values.len() == usize::from(count);
+    Ok(Field { is_every, values })
+}
+
+fn values_of(alloc: Global, items: &[Item], low: u8, high: u8) -> Result<Vec<u8>, AllocError> {
+    let mut values = Vec::new(alloc);
+    for value in low..=high {
+        if items.iter().any(|item| item.has(value)) {
+            values.push(value)?;
+        }
+    }
+    Ok(values)
+}

@@ -1,0 +1,2 @@
+pub mod AxisLemmas
+pub mod BarsLemmas

@@ -1,0 +1,7 @@
+use Rattle.std.proofs.Common.{string_bytes, ◌≡◌}
+use Rattle.scope_picture.specs.Escape.{escaped_text}
+use Rattle.scope_picture.proofs.escape.escaped.Given as goal
+
+abbrev pub invariant-loop-c : goal.invariant-loop-c
+invariant-loop-c l =
+    string_bytes l.written ≡ escaped_text l.yielded

@@ -1,0 +1,22 @@
+-- Text within XML (Extensible Markup Language 1.0, sections 2.2 and 2.4), and so within HTML too.
+use Rattle.std.specs.Prelude.{ℕ, Bool, List, ◌||◌, ◌&&◌, ◌==◌, if◌then◌else◌, nat_lt, codes, encode_utf8}
+use Rattle.std.specs.List.{flat_map}
+
+-- whether the character may not stand in XML, or is a control character
+abbrev pub is_unwritable : ℕ → Bool
+is_unwritable c = nat_lt c 0x20 || (nat_lt 0x7E c && nat_lt c 0xA0) || c == 0xFFFE || c == 0xFFFF
+
+-- the bytes by which a character is written: the five characters of markup by their names, what is unwritable as U+FFFD
+abbrev pub escaped : ℕ → List ℕ
+escaped c =
+    if c == 0x26 then codes "&amp;"
+    else if c == 0x3C then codes "&lt;"
+    else if c == 0x3E then codes "&gt;"
+    else if c == 0x22 then codes "&quot;"
+    else if c == 0x27 then codes "&#39;"
+    else if is_unwritable c then encode_utf8 0xFFFD
+    else encode_utf8 c
+
+-- the text, each character by its escape
+abbrev pub escaped_text : List ℕ → List ℕ
+escaped_text cs = flat_map escaped cs

@@ -1,0 +1,262 @@
+//! The chart in lines of a terminal: bars of block characters, and a line of marks under a row that has some.
+
+use crate::axis::Axis;
+use crate::chart::{Chart, Mark, Row, gravity};
+use crate::escape::is_unwritable;
+use crate::ticks::{Tick, ticks};
+use crate::words::missing_words;
+use calendar_due::Zone;
+use history_model::MAX_WALL;
+use scope_times::time_text;
+use std::alloc::{AllocError, Global};
+use unicode_width::{UnicodeWidthChar, UnicodeWidthStr};
+
+/// The block of a bar by how grave its end is.
+const BLOCKS: [char; 6] = ['▀', '█', '▄', '▓', '▒', '▚'];
+
+/// How many columns an axis has at least.
+const LEAST: usize = 8;
+
+/// What the blocks and the marks mean.
+const LEGEND: [&str; 9] = [
+    "█ code 0",
+    "▓ another code",
+    "▒ a signal",
+    "▚ a crash",
+    "▄ stopped",
+    "▀ lives",
+    "v demand",
+    "~ throttle",
+    "x refusal",
+];
+
+// The lines, how they are laid out, and how moments are shown.
+#[derive(Drop)]
+struct Screen<'a> {
+    text: String,
+    alloc: Global,
+    zone: &'a Zone,
+    /// The columns of the labels.
+    column: usize,
+    axis: Axis,
+}
+
+/// The chart in lines of at most `width` columns, or of 20 if those are more. Moments are shown in the zone.
+pub fn blocks_text(
+    alloc: Global,
+    zone: &Zone,
+    chart: &Chart,
+    width: u16,
+) -> Result<String, AllocError> {
+    let width = usize::from(width.max(20));
+    let column = longest_label(chart).min(width / 3);
+    let room = width.saturating_sub(column).saturating_sub(1).max(LEAST);
+    let mut screen = Screen {
+        text: String::new(alloc),
+        alloc,
+        zone,
+        column,
+        axis: Axis::new(chart.axis.from, chart.axis.until, room as u16),
+    };
+    screen.add_span(width)?;
+    for row in &chart.rows {
+        screen.add_row(row)?;
+    }
+    screen.add_axis()?;
+    screen.add_pieces(&LEGEND, width)?;
+    if let Some(missing) = missing_words(alloc, chart)? {
+        screen.text.push_str(missing.as_str())?;
+        screen.text.push_str("\n")?;
+    }
+    let Screen { text, .. } = screen;
+    Ok(text)
+}
+
+fn longest_label(chart: &Chart) -> usize {
+    let mut longest = 0;
+    for row in &chart.rows {
+        longest = row.label.as_str().width().max(longest);
+    }
+    longest
+}
+
+// The character as it is shown: control characters as a question mark.
+fn shown(c: char) -> char {
+    if is_unwritable(c) { '?' } else { c }
+}
+
+impl Screen<'_> {
+    // Ends a line, with the spaces at its end left out.
+    fn add_line(&mut self, line: &[char]) -> Result<(), AllocError> {
+        let mut spaces: usize = 0;
+        for c in line {
+            if *c == ' ' {
+                spaces = spaces.saturating_add(1);
+                continue;
+            }
+            for _ in 0..spaces {
+                self.text.push(' ')?;
+            }
+            spaces = 0;
+            self.text.push(*c)?;
+        }
+        self.text.push('\n')
+    }
+
+    // The label in its column, cut if it is longer, and a space.
+    fn label_cells(&self, label: &str) -> Result<Vec<char>, AllocError> {
+        let mut cells = Vec::new(self.alloc);
+        let is_cut = label.width() > self.column;
+        let room = self.column.saturating_sub(usize::from(is_cut));
+        let mut used: usize = 0;
+        for c in label.chars() {
+            let c = shown(c);
+            let wide = UnicodeWidthChar::width(c).unwrap_or(0);
+            if used.saturating_add(wide) > room {
+                break;
+            }
+            used = used.saturating_add(wide);
+            cells.push(c)?;
+        }
+        if is_cut {
+            cells.push('…')?;
+            used = used.saturating_add(1);
+        }
+        for _ in used..self.column.saturating_add(1) {
+            cells.push(' ')?;
+        }
+        Ok(cells)
+    }
+
+    fn add_row(&mut self, row: &Row) -> Result<(), AllocError> {
+        let mut cells = self.empty_cells()?;
+        let mut graves = Vec::new(self.alloc);
+        for _ in 0..self.axis.places {
+            graves.push(0u8)?;
+        }
+        for bar in &row.bars {
+            let (begin, end) = self.axis.edges(bar.from, bar.until);
+            let first = begin.min(self.axis.places.saturating_sub(1));
+            let past = end.max(first.saturating_add(1));
+            let grave = gravity(bar.end).saturating_add(1);
+            for place in first..past {
+                raise(&mut graves, usize::from(place), grave);
+            }
+        }
+        for (place, grave) in graves.iter().enumerate() {
+            if let Some(block) = BLOCKS.get(usize::from(*grave).wrapping_sub(1)) {
+                put(&mut cells, place, *block);
+            }
+        }
+        let mut line = self.label_cells(row.label.as_str())?;
+        line.extend_from_slice(cells.as_slice())?;
+        self.add_line(line.as_slice())?;
+        self.add_marks(row)
+    }
+
+    fn empty_cells(&self) -> Result<Vec<char>, AllocError> {
+        let mut cells = Vec::new(self.alloc);
+        for _ in 0..self.axis.places {
+            cells.push(' ')?;
+        }
+        Ok(cells)
+    }
+
+    // The graver mark stands over the others of its place.
+    fn add_marks(&mut self, row: &Row) -> Result<(), AllocError> {
+        if row.demands.is_empty() && row.throttles.is_empty() && row.refusals.is_empty() {
+            return Ok(());
+        }
+        let mut cells = self.empty_cells()?;
+        self.put_marks(&mut cells, row.demands.as_slice(), 'v');
+        self.put_marks(&mut cells, row.throttles.as_slice(), '~');
+        self.put_marks(&mut cells, row.refusals.as_slice(), 'x');
+        let mut line = self.label_cells("")?;
+        line.extend_from_slice(cells.as_slice())?;
+        self.add_line(line.as_slice())
+    }
+
+    fn put_marks(&self, cells: &mut Vec<char>, marks: &[Mark], sign: char) {
+        let last = self.axis.places.saturating_sub(1);
+        for mark in marks {
+            put(cells, usize::from(self.axis.place(mark.at).min(last)), sign);
+        }
+    }
+
+    // The ticks: a line with their texts, and one with what stands below them.
+    fn add_axis(&mut self) -> Result<(), AllocError> {
+        let most = u64::from(self.axis.places / 12).max(1);
+        let ticks = ticks(self.alloc, self.zone, &self.axis, most)?;
+        self.add_tick_line(ticks.as_slice(), false)?;
+        self.add_tick_line(ticks.as_slice(), true)
+    }
+
+    fn add_tick_line(&mut self, ticks: &[Tick], is_below: bool) -> Result<(), AllocError> {
+        let mut cells = self.empty_cells()?;
+        let last = self.axis.places.saturating_sub(1);
+        for tick in ticks {
+            let place = usize::from(self.axis.place(tick.at).min(last));
+            let (sign, text) = if is_below {
+                (' ', tick.below.as_str())
+            } else {
+                ('|', tick.text.as_str())
+            };
+            put(&mut cells, place, sign);
+            put_text(&mut cells, place.saturating_add(1), text);
+        }
+        let mut line = self.label_cells("")?;
+        line.extend_from_slice(cells.as_slice())?;
+        self.add_line(line.as_slice())
+    }
+
+    // From when to when.
+    fn add_span(&mut self, width: usize) -> Result<(), AllocError> {
+        let from = time_text(self.alloc, self.zone, self.axis.from.min(MAX_WALL))?;
+        let until = time_text(self.alloc, self.zone, self.axis.until.min(MAX_WALL))?;
+        let until = format!(in self.alloc; "to {until}")?;
+        self.add_pieces(&[from.as_str(), until.as_str()], width)
+    }
+
+    // The pieces with two spaces between them, in lines of the width.
+    fn add_pieces(&mut self, pieces: &[&str], width: usize) -> Result<(), AllocError> {
+        let mut used: usize = 0;
+        for piece in pieces {
+            let wide = piece.width();
+            if used > 0 && used.saturating_add(wide).saturating_add(2) > width {
+                self.text.push('\n')?;
+                used = 0;
+            }
+            if used > 0 {
+                self.text.push_str("  ")?;
+                used = used.saturating_add(2);
+            }
+            self.text.push_str(piece)?;
+            used = used.saturating_add(wide);
+        }
+        self.text.push('\n')
+    }
+}
+
+fn raise(graves: &mut Vec<u8>, place: usize, grave: u8) {
+    if let Some(held) = graves.get_mut(place) {
+        *held = grave.max(*held);
+    }
+}
+
+fn put(cells: &mut Vec<char>, place: usize, c: char) {
+    if let Some(cell) = cells.get_mut(place) {
+        *cell = c;
+    }
+}
+
+// Puts the text from the place on, if it has room there.
+fn put_text(cells: &mut Vec<char>, place: usize, text: &str) {
+    if place.saturating_add(text.len()) > cells.len() {
+        return;
+    }
+    let mut at = place;
+    for c in text.chars() {
+        put(cells, at, c);
+        at = at.saturating_add(1);
+    }
+}

@@ -1,0 +1,155 @@
+//! A page that stands alone: the chart, the table of the runs, why each job stands as it does, and the coming starts. No script.
+
+use crate::chart::Chart;
+use crate::escape::escaped;
+use crate::svg::figure;
+use calendar_due::Zone;
+use history_model::MAX_WALL;
+use scope_times::time_text;
+use std::alloc::{AllocError, Global};
+use std::fmt::Write;
+
+/// A start that the clock will want.
+#[derive(Drop)]
+pub struct Coming {
+    pub label: String,
+    /// When, in seconds of Unix time.
+    pub at: u64,
+    /// The key that wants it.
+    pub key: &'static str,
+}
+
+/// What stands on a page beside the chart.
+#[derive(Clone, Copy)]
+pub struct Page<'a> {
+    /// Lines of cells with tabs between them, the first being the head.
+    pub table: &'a str,
+    /// Why each job stands as it does.
+    pub why: &'a str,
+    /// In the order of time.
+    pub coming: &'a [Coming],
+}
+
+const HEAD: &str = "<!DOCTYPE html>
+<html lang=\"en\">
+<head>
+<meta charset=\"utf-8\">
+<meta name=\"viewport\" content=\"width=device-width, initial-scale=1\">
+<title>Runs of jobs</title>
+<style>
+:root { color-scheme: light dark; --page: #ffffff; --text: #1c2733; --rule: #d9dfe5; --soft: #f4f6f8; }
+@media (prefers-color-scheme: dark) { :root { --page: #11171d; --text: #e6ebf0; --rule: #2c3742; --soft: #1a222b; } }
+body { margin: 0; background: var(--page); color: var(--text); font: 16px/1.45 system-ui, 'DejaVu Sans', sans-serif; }
+main { max-width: 75rem; margin: 0 auto; padding: 1rem; }
+h1 { font-size: 1.5rem; margin: 0 0 0.75rem; }
+h2 { font-size: 1.15rem; margin: 1.75rem 0 0.5rem; }
+figure, .wide { margin: 0; overflow-x: auto; border: 1px solid var(--rule); border-radius: 6px; }
+figure svg { display: block; width: 100%; min-width: 46rem; height: auto; }
+table { border-collapse: collapse; width: 100%; font-variant-numeric: tabular-nums; }
+th, td { padding: 0.3rem 0.7rem; text-align: right; white-space: nowrap; border-bottom: 1px solid var(--rule); }
+th:first-child, td:first-child, .left td, .left th { text-align: left; }
+tr:last-child td { border-bottom: 0; }
+th { background: var(--soft); font-weight: 600; }
+pre { margin: 0; padding: 0.75rem; background: var(--soft); border-radius: 6px; white-space: pre-wrap; overflow-wrap: anywhere; font: 0.85rem/1.45 ui-monospace, 'DejaVu Sans Mono', Menlo, Consolas, monospace; }
+</style>
+</head>
+<body>
+<main>
+<h1>Runs of jobs</h1>
+<figure>
+";
+
+/// The page as HTML. Moments are shown in the zone.
+pub fn page_text(
+    alloc: Global,
+    zone: &Zone,
+    chart: &Chart,
+    page: &Page<'_>,
+) -> Result<String, AllocError> {
+    let mut text = String::from_str(alloc, HEAD)?;
+    let figure = figure(alloc, zone, chart)?;
+    text.push_str(figure.as_str())?;
+    text.push_str("</figure>\n<h2>What the runs came to</h2>\n<div class=\"wide\"><table>\n")?;
+    add_table(alloc, &mut text, page.table)?;
+    text.push_str("</table></div>\n<h2>Coming starts by the clock</h2>\n")?;
+    add_coming(alloc, &mut text, zone, page.coming)?;
+    let why = escaped_lines(alloc, page.why)?;
+    let why = why.as_str();
+    write!(
+        text,
+        "<h2>Why each job stands as it does</h2>\n<pre>{why}</pre>\n</main>\n</body>\n</html>\n"
+    )?;
+    Ok(text)
+}
+
+// The text escaped line by line, so that its newlines stay.
+fn escaped_lines(alloc: Global, text: &str) -> Result<String, AllocError> {
+    let mut lines = String::new(alloc);
+    for line in text.split('\n') {
+        let line = escaped(alloc, line)?;
+        lines.push_str(line.as_str())?;
+        lines.push_str("\n")?;
+    }
+    Ok(lines)
+}
+
+fn add_table(alloc: Global, text: &mut String, table: &str) -> Result<(), AllocError> {
+    let mut is_head = true;
+    for line in table.lines() {
+        text.push_str("<tr>")?;
+        add_cells(alloc, text, is_head, line)?;
+        text.push_str("</tr>\n")?;
+        is_head = false;
+    }
+    Ok(())
+}
+
+fn add_cells(
+    alloc: Global,
+    text: &mut String,
+    is_head: bool,
+    line: &str,
+) -> Result<(), AllocError> {
+    let (open, close) = cell_marks(is_head);
+    for part in line.split('\t') {
+        let part = escaped(alloc, part)?;
+        text.push_str(open)?;
+        text.push_str(part.as_str())?;
+        text.push_str(close)?;
+    }
+    Ok(())
+}
+
+// What stands before a cell and behind it.
+fn cell_marks(is_head: bool) -> (&'static str, &'static str) {
+    if is_head {
+        ("<th>", "</th>")
+    } else {
+        ("<td>", "</td>")
+    }
+}
+
+fn add_coming(
+    alloc: Global,
+    text: &mut String,
+    zone: &Zone,
+    coming: &[Coming],
+) -> Result<(), AllocError> {
+    if coming.is_empty() {
+        return text.push_str("<p>None.</p>\n");
+    }
+    text.push_str(
+        "<div class=\"wide\"><table class=\"left\">\n<tr><th>time</th><th>label</th><th>by</th></tr>\n",
+    )?;
+    for start in coming {
+        let time = time_text(alloc, zone, start.at.min(MAX_WALL))?;
+        let label = escaped(alloc, start.label.as_str())?;
+        let label = label.as_str();
+        let key = start.key;
+        write!(
+            text,
+            "<tr><td>{time}</td><td>{label}</td><td>{key}</td></tr>\n"
+        )?;
+    }
+    text.push_str("</table></div>\n")
+}

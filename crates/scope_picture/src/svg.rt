@@ -1,0 +1,294 @@
+//! The chart as SVG.
+
+use crate::axis::Axis;
+use crate::chart::{Bar, Chart, End, Mark, Row};
+use crate::escape::escaped;
+use crate::ticks::ticks;
+use crate::words::{bar_words, end_class, missing_words};
+use calendar_due::Zone;
+use history_model::MAX_WALL;
+use scope_times::time_text;
+use std::alloc::{AllocError, Global};
+use std::fmt::Write;
+
+/// How many places the axis of a chart has that is painted as SVG.
+pub const PLACES: u16 = 980;
+
+/// Where the axis begins.
+const LEFT: u64 = 10;
+
+/// The heights of what stands above the rows, of a row, and of what stands below.
+const HEAD: u64 = 64;
+
+const ROW: u64 = 50;
+
+const FOOT: u64 = 62;
+
+/// So many ticks are written at most.
+const MOST_TICKS: u64 = 9;
+
+const STYLE: &str = "<style>
+.runs { color-scheme: light dark; --ground: #ffffff; --ink: #1c2733; --faint: #5b6875; --line: #d9dfe5; --well: #2e7d5b; --code: #b86200; --signal: #7b4fb5; --crash: #c62828; --stopped: #4a6a8a; --lives: #1b76c4; }
+@media (prefers-color-scheme: dark) { .runs { --ground: #11171d; --ink: #e6ebf0; --faint: #9aa7b4; --line: #2c3742; --well: #56b88c; --code: #f0a040; --signal: #b794f0; --crash: #ff6b6b; --stopped: #8fb0d0; --lives: #5fb0f5; } }
+.runs text { font: 12px ui-monospace, 'DejaVu Sans Mono', Menlo, Consolas, monospace; fill: var(--ink); }
+.runs .ground { fill: var(--ground); }
+.runs .faint { fill: var(--faint); }
+.runs .label { font-weight: bold; }
+.runs .tick, .runs .base { stroke: var(--line); fill: none; }
+.runs .well { fill: var(--well); stroke: var(--well); }
+.runs .code { fill: var(--code); stroke: var(--code); }
+.runs .signal { fill: var(--signal); stroke: var(--signal); }
+.runs .crash { fill: var(--crash); stroke: var(--crash); }
+.runs .stopped { fill: var(--ground); stroke: var(--stopped); stroke-width: 1.5; }
+.runs .lives { fill: var(--lives); stroke: var(--lives); }
+.runs .open { fill: none; stroke-width: 2; }
+.runs .demand { fill: var(--lives); }
+.runs .throttle { fill: var(--ground); stroke: var(--code); stroke-width: 1.5; }
+.runs .refusal { fill: none; stroke: var(--crash); stroke-width: 2; }
+</style>
+";
+
+// What is painted, and how moments are shown.
+#[derive(Drop)]
+struct Paper<'a> {
+    text: String,
+    alloc: Global,
+    zone: &'a Zone,
+    axis: Axis,
+}
+
+/// The chart as an SVG document. Moments are shown in the zone.
+pub fn svg_text(alloc: Global, zone: &Zone, chart: &Chart) -> Result<String, AllocError> {
+    let mut text = String::from_str(alloc, "<?xml version=\"1.0\" encoding=\"UTF-8\"?>\n")?;
+    let figure = figure(alloc, zone, chart)?;
+    text.push_str(figure.as_str())?;
+    Ok(text)
+}
+
+/// The chart as an element `svg`, within a document. Moments are shown in the zone.
+pub(crate) fn figure(alloc: Global, zone: &Zone, chart: &Chart) -> Result<String, AllocError> {
+    let mut paper = Paper {
+        text: String::new(alloc),
+        alloc,
+        zone,
+        axis: chart.axis,
+    };
+    let rows = (chart.rows.len() as u64).saturating_mul(ROW);
+    let bottom = rows.saturating_add(HEAD);
+    paper.begin(bottom.saturating_add(FOOT))?;
+    paper.add_ticks(bottom)?;
+    let mut top = HEAD;
+    for row in &chart.rows {
+        paper.add_row(row, top)?;
+        top = top.saturating_add(ROW);
+    }
+    paper.add_legend(bottom)?;
+    paper.add_missing(chart, bottom)?;
+    paper.text.push_str("</svg>\n")?;
+    let Paper { text, .. } = paper;
+    Ok(text)
+}
+
+impl Paper<'_> {
+    fn moment(&self, at: u64) -> Result<String, AllocError> {
+        time_text(self.alloc, self.zone, at.min(MAX_WALL))
+    }
+
+    // The head: how large it is, its title, its colours, and the span.
+    fn begin(&mut self, height: u64) -> Result<(), AllocError> {
+        let from = self.moment(self.axis.from)?;
+        let until = self.moment(self.axis.until)?;
+        write!(
+            self.text,
+            "<svg xmlns=\"http://www.w3.org/2000/svg\" class=\"runs\" viewBox=\"0 0 1000 {height}\" width=\"1000\" height=\"{height}\" role=\"img\">\n"
+        )?;
+        write!(self.text, "<title>Runs from {from} to {until}</title>\n")?;
+        self.text.push_str(STYLE)?;
+        write!(
+            self.text,
+            "<rect class=\"ground\" width=\"1000\" height=\"{height}\"/>\n"
+        )?;
+        write!(
+            self.text,
+            "<text x=\"10\" y=\"18\">{from} to {until}</text>\n"
+        )
+    }
+
+    // The ticks, from above the rows to their bottom.
+    fn add_ticks(&mut self, bottom: u64) -> Result<(), AllocError> {
+        let ticks = ticks(self.alloc, self.zone, &self.axis, MOST_TICKS)?;
+        for tick in &ticks {
+            let place = u64::from(self.axis.place(tick.at));
+            let x = LEFT + place;
+            let anchor = anchor_of(place);
+            let text = tick.text.as_str();
+            let below = tick.below.as_str();
+            write!(
+                self.text,
+                "<path class=\"tick\" d=\"M{x} 58V{bottom}\"/><text class=\"faint\" x=\"{x}\" y=\"38\" text-anchor=\"{anchor}\">{text}</text><text class=\"faint\" x=\"{x}\" y=\"52\" text-anchor=\"{anchor}\">{below}</text>\n"
+            )?;
+        }
+        Ok(())
+    }
+
+    fn add_row(&mut self, row: &Row, top: u64) -> Result<(), AllocError> {
+        let label = escaped(self.alloc, row.label.as_str())?;
+        let label = label.as_str();
+        let written = top.saturating_add(14);
+        let base = top.saturating_add(47);
+        write!(
+            self.text,
+            "<g><text class=\"label\" x=\"10\" y=\"{written}\">{label}</text><path class=\"base\" d=\"M10 {base}h980\"/>\n"
+        )?;
+        for bar in &row.bars {
+            self.add_bar(bar, top.saturating_add(31))?;
+        }
+        let lane = top.saturating_add(18);
+        self.add_marks("demand", "a demand", row.demands.as_slice(), lane)?;
+        self.add_marks("throttle", "a throttle", row.throttles.as_slice(), lane)?;
+        self.add_marks("refusal", "a refusal", row.refusals.as_slice(), lane)?;
+        self.text.push_str("</g>\n")
+    }
+
+    // A bar whose upper edge is there, with its end's shape.
+    fn add_bar(&mut self, bar: &Bar, top: u64) -> Result<(), AllocError> {
+        let (begin, end) = self.axis.edges(bar.from, bar.until);
+        let from = self.moment(bar.from)?;
+        let until = self.moment(bar.until)?;
+        let told = bar_words(self.alloc, bar)?;
+        let x = LEFT + u64::from(begin);
+        let width = u64::from(end - begin).max(1);
+        let class = end_class(bar.end);
+        let runs = bar.runs;
+        write!(
+            self.text,
+            "<g class=\"{class}\" data-runs=\"{runs}\"><title>{told}: {from} to {until}</title><rect x=\"{x}\" y=\"{top}\" width=\"{width}\" height=\"12\"/>"
+        )?;
+        self.add_end(bar.end, LEFT + u64::from(end), top)?;
+        self.text.push_str("</g>\n")
+    }
+
+    // The shape of an end.
+    fn add_end(&mut self, end: End, x: u64, top: u64) -> Result<(), AllocError> {
+        let shape = match end {
+            End::Code(0) | End::Stopped => "",
+            End::Code(_) => "m-2 -3h4v18h-4z\"",
+            End::Signal(_) => "m-2 -3l8 9l-8 9z\"",
+            End::Crash(_) => "m-6 -1l12 14m0 -14l-12 14\" class=\"open\"",
+            End::Lives => "m0 -1l7 7l-7 7\" class=\"open\"",
+        };
+        if shape.is_empty() {
+            return Ok(());
+        }
+        write!(self.text, "<path d=\"M{x} {top}{shape}/>")
+    }
+
+    fn add_marks(
+        &mut self,
+        class: &str,
+        name: &str,
+        marks: &[Mark],
+        top: u64,
+    ) -> Result<(), AllocError> {
+        for mark in marks {
+            let x = LEFT + u64::from(self.axis.place(mark.at));
+            let at = self.moment(mark.at)?;
+            let count = mark.count;
+            let more = count.saturating_sub(1);
+            write!(
+                self.text,
+                "<path class=\"{class}\" data-count=\"{count}\" d=\"M{x} {top}"
+            )?;
+            self.text.push_str(mark_shape(class))?;
+            write!(self.text, "\"><title>{name}: {at}")?;
+            if more > 0 {
+                write!(self.text, ", and {more} more beside it")?;
+            }
+            self.text.push_str("</title></path>\n")?;
+        }
+        Ok(())
+    }
+
+    // What each colour and shape means.
+    fn add_legend(&mut self, bottom: u64) -> Result<(), AllocError> {
+        let bars = [
+            (End::Code(0), "code 0"),
+            (End::Code(1), "another code"),
+            (End::Signal(1), "a signal"),
+            (End::Crash(11), "a crash"),
+            (End::Stopped, "stopped"),
+            (End::Lives, "lives"),
+        ];
+        let top = bottom.saturating_add(10);
+        let line = bottom.saturating_add(21);
+        let mut x = LEFT;
+        for (end, name) in bars {
+            let class = end_class(end);
+            write!(
+                self.text,
+                "<g class=\"{class}\"><rect x=\"{x}\" y=\"{top}\" width=\"22\" height=\"12\"/>"
+            )?;
+            self.add_end(end, x.saturating_add(22), top)?;
+            let beside = x.saturating_add(34);
+            write!(
+                self.text,
+                "</g><text class=\"faint\" x=\"{beside}\" y=\"{line}\">{name}</text>\n"
+            )?;
+            x = x.saturating_add(150);
+        }
+        self.add_mark_legend(bottom)
+    }
+
+    fn add_mark_legend(&mut self, bottom: u64) -> Result<(), AllocError> {
+        let marks = [
+            ("demand", "a demand"),
+            ("throttle", "a throttle"),
+            ("refusal", "a refusal"),
+        ];
+        let top = bottom.saturating_add(32);
+        let line = bottom.saturating_add(41);
+        let mut x: u64 = 25;
+        for (class, name) in marks {
+            let shape = mark_shape(class);
+            let beside = x.saturating_add(19);
+            write!(
+                self.text,
+                "<path class=\"{class}\" d=\"M{x} {top}{shape}\"/><text class=\"faint\" x=\"{beside}\" y=\"{line}\">{name}</text>\n"
+            )?;
+            x = x.saturating_add(150);
+        }
+        Ok(())
+    }
+
+    fn add_missing(&mut self, chart: &Chart, bottom: u64) -> Result<(), AllocError> {
+        let Some(missing) = missing_words(self.alloc, chart)? else {
+            return Ok(());
+        };
+        let missing = missing.as_str();
+        let line = bottom.saturating_add(57);
+        write!(
+            self.text,
+            "<text class=\"faint\" x=\"10\" y=\"{line}\">{missing}</text>\n"
+        )
+    }
+}
+
+// On which side of a tick its text stands: near the edges within the chart.
+fn anchor_of(place: u64) -> &'static str {
+    if place < 50 {
+        "start"
+    } else if place > 930 {
+        "end"
+    } else {
+        "middle"
+    }
+}
+
+// The shape of a mark, from the middle of its upper edge.
+fn mark_shape(class: &str) -> &'static str {
+    match class {
+        "demand" => "m-5 0h10l-5 9z",
+        "throttle" => "m0 0l4.5 4.5l-4.5 4.5l-4.5 -4.5z",
+        _ => "m-4 0.5l8 8m0 -8l-8 8",
+    }
+}

@@ -1,0 +1,66 @@
+//! Rounds over a system that refuses, with one job.
+
+use crate::refusing::Refusing;
+use crate::scene::{goes_on, journal_of, launcher_over, new_folder};
+use control_socket::ControlSocket;
+use launcher::Input;
+use live_loop::Live;
+use memory_stage::{MemoryStore, Sink};
+use std::cell::RefCell;
+use std::fs;
+use std::rc::Rc;
+
+const LOAD: &[u8] =
+    b"{\"req\":\"load\",\"def\":\"{\\\"Label\\\":\\\"a\\\",\\\"Program\\\":\\\"/bin/x\\\",\\\"RunAtLoad\\\":true,\\\"WatchPaths\\\":[\\\"/w\\\"],\\\"Sockets\\\":{\\\"s\\\":{\\\"SockNodeName\\\":\\\"localhost\\\",\\\"SockServiceName\\\":7}},\\\"inetdCompatibility\\\":{\\\"Wait\\\":false}}\"}";
+
+/// No reading, no sight and no connection, and each wait as it was answered.
+const JOURNAL: &[u8] = b"{\"overrides\":{},\"up\":0,\"wall\":1700000000,\"zone\":\"UTC0\"}\n\
+{\"F\":false,\"bind\":true,\"def\":\"{\\\"Label\\\":\\\"a\\\",\\\"Program\\\":\\\"/bin/x\\\",\\\"RunAtLoad\\\":true,\\\"WatchPaths\\\":[\\\"/w\\\"],\\\"Sockets\\\":{\\\"s\\\":{\\\"SockNodeName\\\":\\\"localhost\\\",\\\"SockServiceName\\\":7}},\\\"inetdCompatibility\\\":{\\\"Wait\\\":false}}\",\"ev\":\"load\",\"store\":true,\"w\":false}\n\
+{\"ev\":\"spawned\",\"job\":\"a\",\"pid\":7,\"run\":1}\n\
+{\"ev\":\"wait_refused\",\"job\":\"a\",\"run\":1}\n\
+{\"code\":3,\"ev\":\"ended\",\"job\":\"a\",\"run\":1}\n";
+
+/// The first round tells each refusal; the second finds the child's end.
+const TOLD: &str = "jobd: a: run 1: cannot wait for its end: permission denied
+jobd: cannot look at /w: permission denied
+jobd: a: cannot let a client in: Invalid argument (os error 22)
+";
+
+/// Makes two rounds, and says whether both go on and the journal then is as wanted.
+fn is_journaled(rt: &Refusing, live: Live<Refusing, MemoryStore, Sink>) -> bool {
+    let mut live = live;
+    let first = goes_on(rt, &mut live);
+    let second = goes_on(rt, &mut live);
+    let journal = journal_of(live);
+    first && second && journal.is_some_and(|journal| journal.as_slice() == JOURNAL)
+}
+
+/// The rounds of a launcher that has the job.
+fn live_over(
+    host_rt: &HostRuntime,
+    rt: &Refusing,
+    folder: &str,
+) -> Option<Live<Refusing, MemoryStore, Sink>> {
+    let path = format!(in rt.alloc(); "{folder}/socket").ok()?;
+    let mut host = launcher_over(rt, rt.clone().ok()?, folder)?;
+    let _reply = host.turn(rt.alloc(), Input::Line(LOAD));
+    let control = ControlSocket::open(host_rt, rt.alloc(), path.as_str()).ok()?;
+    Live::new(rt, rt.alloc(), host, control).ok()
+}
+
+/// Whether a round takes each refusal as it should, goes on, and tells it.
+pub fn are_taken(rt: &HostRuntime) -> Option<bool> {
+    let told = Rc::new(rt.alloc(), RefCell::new(String::new(rt.alloc()))).ok()?;
+    let folder = new_folder(rt, "refusals")?;
+    let refusing = Refusing {
+        host: rt.clone().ok()?,
+        told,
+    };
+    let is_journaled = match live_over(rt, &refusing, folder.as_str()) {
+        Some(live) => is_journaled(&refusing, live),
+        None => false,
+    };
+    fs::remove_dir_all(rt, folder.as_str()).ok()?;
+    let told = refusing.told.try_borrow().ok()?;
+    Some(is_journaled && told.as_str() == TOLD)
+}

@@ -1,0 +1,2 @@
+#! /nowhere/interpreter -u
+true

@@ -1,0 +1,103 @@
+#!/usr/bin/env python3
+"""Keeps wrong_bodies/RESULTS.csv: for each wrong body the tree in which it was last refused, and by what.
+
+    tests/body_results.py note FILE    notes the lines `refused CRATE/NAME ..` that tests/wrong_bodies.sh wrote into FILE
+    tests/body_results.py stale        lists each wrong body that is to be tried: its crate has other clauses or definitions now than
+                                       in that tree, or no try is noted
+
+A body's name is that of its edit, with `.PART` behind it for a part of a joined edit. The status of `stale` is 1 if it lists one.
+"""
+import csv
+import glob
+import os
+import re
+import subprocess
+import sys
+
+TOP = os.path.dirname(os.path.dirname(os.path.abspath(__file__)))
+FILE = f"{TOP}/wrong_bodies/RESULTS.csv"
+COLUMNS = ["crate", "body", "tree", "refused"]
+CLAUSE = re.compile(r"\b(?:ensures|requires)\*?\s+(?:\w+\s+)?\{")
+
+
+def git(*words):
+    return subprocess.run(["git", "-C", TOP, *words], capture_output=True, text=True).stdout
+
+
+def bodies():
+    """Each wrong body that stands in the tree, as (crate, name)."""
+    for path in sorted(glob.glob(f"{TOP}/wrong_bodies/*/*.edit") + glob.glob(f"{TOP}/crates/*/must-fail/*.edit")):
+        with open(path) as it:
+            parts = re.findall(r"(?m)^# part: (\S+)", it.read())
+        crate = path[len(TOP) :].split("/")[2]
+        edit = os.path.basename(path)[: -len(".edit")]
+        yield from ((crate, f"{edit}.{it}" if parts else edit) for it in parts or [edit])
+
+
+def clauses(text):
+    """The clauses of a source, each with its braces, white space as one blank."""
+    for it in CLAUSE.finditer(text):
+        depth, at = 1, it.end()
+        while depth and at < len(text):
+            depth += {"{": 1, "}": -1}.get(text[at], 0)
+            at += 1
+        yield " ".join(text[it.start() : at].split())
+
+
+def said(crate, tree):
+    """All that the contracts of the crate say, in a commit, or in the working tree if `tree` is empty."""
+    folders = [f"crates/{crate}/src", f"crates/{crate}/specs"]
+    names = git("ls-tree", "-r", "--name-only", tree, *folders) if tree else git("ls-files", *folders)
+    found = []
+    for name in names.split():
+        if tree:
+            text = git("show", f"{tree}:{name}")
+        elif os.path.isfile(f"{TOP}/{name}"):
+            with open(f"{TOP}/{name}") as it:
+                text = it.read()
+        else:
+            continue
+        found += clauses(text) if name.endswith(".rt") else [text]
+    return sorted(found)
+
+
+def noted():
+    if not os.path.isfile(FILE):
+        return {}
+    with open(FILE, newline="") as it:
+        return {(row["crate"], row["body"]): row for row in csv.DictReader(it)}
+
+
+def note(path):
+    rows, tree = noted(), git("rev-parse", "--short", "HEAD").strip()
+    with open(path) as it:
+        for line in it:
+            if found := re.match(r"refused (\w+)/(\S+) (?:by )?(.*)", line):
+                rows[found[1], found[2]] = dict(zip(COLUMNS, (found[1], found[2], tree, found[3][:120])))
+    there = set(bodies())
+    with open(FILE, "w", newline="") as it:
+        out = csv.DictWriter(it, COLUMNS, lineterminator="\n")
+        out.writeheader()
+        out.writerows(rows[key] for key in sorted(rows) if key in there)
+    return 0
+
+
+def stale():
+    rows, now, then, listed = noted(), {}, {}, 0
+    for crate, body in bodies():
+        tree = rows.get((crate, body), {}).get("tree")
+        if tree:
+            if crate not in now:
+                now[crate] = said(crate, "")
+            if (crate, tree) not in then:
+                then[crate, tree] = said(crate, tree)
+            if then[crate, tree] == now[crate]:
+                continue
+        listed += 1
+        print(f"{crate}/{body}: {f'other clauses since {tree}' if tree else 'no try is noted'}")
+    print(f"{listed} to be tried")
+    return 1 if listed else 0
+
+
+if __name__ == "__main__":
+    sys.exit(note(sys.argv[2]) if sys.argv[1:2] == ["note"] and len(sys.argv) == 3 else stale() if sys.argv[1:] == ["stale"] else __doc__)
