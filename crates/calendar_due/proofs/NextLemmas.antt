@@ -5,7 +5,7 @@ use Rattle.std.proofs.lemmas.Bool.Decides.{nat_tests}
 use Rattle.std.specs.List.{list_any}
 use Rattle.history_model.specs.declared.Entry.{Entry}
 use Rattle.history_model.specs.Calendar.{Zone, crossed, calendar_fires}
-use Rattle.history_model.specs.Coming.{is_from}
+use Rattle.history_model.specs.NextMomentByFacts.{has_come}
 use Rattle.history_model.proofs.BooleanLemmas.{or-true}
 use Rattle.history_model.proofs.CrossedMinutesLemmas.{members}
 use Rattle.calendar_due.specs.Next.{is_matched, IsDueIn, IsFirstDue}
@@ -49,7 +49,7 @@ found-in p (x ∷ xs) some = go (p x) refl (found-in p xs) some where
 
 -- a reading fires the calendar exactly if it is not before the first minute that is due
 pub first-fires : (zone : Zone) (entries : List Entry) (after until wall : ℕ) (o : Option ℕ) → IsFirstDue zone entries after until o → wall ≤ until → wall ≤ after + 34560000 →
-    calendar_fires zone entries after wall ≡ is_from o wall
+    calendar_fires zone entries after wall ≡ has_come o wall
 first-fires zone entries after until wall o first inside near = go (calendar_fires zone entries after wall) o refl first where
   -- a crossed minute that is matched is due
   due-crossed : calendar_fires zone entries after wall ≡ true → (m : ℕ) × (m ≤ wall) × IsDueIn zone entries after until m
@@ -62,7 +62,7 @@ first-fires zone entries after until wall o first inside near = go (calendar_fir
   crossed-due m low (whole, above, below, is) =
       any_of (is_matched zone entries) (crossed after wall) m ((members after wall m).1 (whole, above, low, omega (arith, near, above))) is
 
-  go : (b : Bool) (o : Option ℕ) → calendar_fires zone entries after wall ≡ b → IsFirstDue zone entries after until o → b ≡ is_from o wall
+  go : (b : Bool) (o : Option ℕ) → calendar_fires zone entries after wall ≡ b → IsFirstDue zone entries after until o → b ≡ has_come o wall
   go true None e none = let (m, low, due) = due-crossed e in absurd (none m due)
   go false None e none = refl
   go true (Some m) e (due, least) = let (n, low, other) = due-crossed e in let le = least n other in let is : nat_le m wall ≡ true = grind (arith, nat_tests, le, low) in sym is

@@ -2,7 +2,7 @@
 ghost use Rattle.std.specs.Prelude.{◌≡◌, ◌≤◌, ◌+◌, ℕ, map};
 ghost use Rattle.std.specs.List.{list_any};
 ghost use Rattle.history_model.specs.Calendar.{Zone as Minutes, matches as entry_matches, allows, is_weekday, allows_day, crossed, calendar_fires};
-ghost use Rattle.history_model.specs.Coming.{is_from};
+ghost use Rattle.history_model.specs.NextMomentByFacts.{has_come};
 ghost use Rattle.calendar_due.specs.Rules.{minute_at};
 ghost use Rattle.calendar_due.specs.Next.{is_matched, IsFirstDue};
 ghost use Rattle.calendar_due.specs.Days.{is_on_day, is_same_day, is_of_day};
@@ -41,7 +41,7 @@ impl Calendar {
         requires { until ≤ MAX_WALL }
         ensures least { IsFirstDue (minute_at zone.now) entries.now after until result }
         ensures fires { (wall : ℕ) → wall ≤ until → wall ≤ after + 34560000 →
-            calendar_fires (minute_at zone.now) entries.now after wall ≡ is_from result wall }
+            calendar_fires (minute_at zone.now) entries.now after wall ≡ has_come result wall }
     {
         first_due(entries, zone, after, until)
     }

@@ -16,7 +16,7 @@ use Rattle.history_model.specs.DueByFacts.{any_seen, first_seen}
 use Rattle.history_model.proofs.SeenLemmas.{any-seen, first-seen}
 use Rattle.history_model.proofs.WrittenLemmas.{newer}
 use Rattle.history_model.proofs.ConnectionLemmas.{seen-more}
-use Rattle.conditions.specs.Kept.{Kept, kept_of, conditions_hold, holds_by}
+use Rattle.conditions.specs.ConditionFacts.{ConditionFacts, kept_of, conditions_hold, holds_by}
 use Rattle.conditions.specs.States.{wanted_of, sight_of, after_sight}
 use Rattle.conditions.specs.declared.levels.State.{State}
 
@@ -60,7 +60,7 @@ first-state (s ∷ ss) = go (presence_holds s.present s.last) (first-state ss) w
   go false rest = rest
 
 -- the first path that holds, of what is kept, and of a past
-abbrev pub path_in : Kept → Option (List ℕ)
+abbrev pub path_in : ConditionFacts → Option (List ℕ)
 path_in k = option_map (λ (state : List ℕ × Bool). state.0) (first_seen (λ (state : List ℕ × Bool). presence_holds state.1) k.path_state k.seen)
 
 pub kept-path : (past : History) → state_that_holds past ≡ path_in (kept_of past)

@@ -37,9 +37,9 @@ pub struct Conditions {
 }
 
 impl Model for Conditions {
-    ghost use Rattle.conditions.specs.Kept.{Kept};
+    ghost use Rattle.conditions.specs.ConditionFacts.{ConditionFacts};
 
-    ghost Value = { Kept };
+    ghost Value = { ConditionFacts };
 
     ghost use Rattle.std.specs.Prelude.{map};
     ghost use Rattle.conditions.specs.States.{wanted_of, sight_of};
@@ -56,7 +56,7 @@ impl Model for Conditions {
 }
 
 impl Conditions {
-    ghost use Rattle.conditions.specs.Kept.{Kept, kept_of, conditions_hold, holds_by};
+    ghost use Rattle.conditions.specs.ConditionFacts.{ConditionFacts, kept_of, conditions_hold, holds_by};
     ghost use Rattle.conditions.specs.States.{wanted_of, sight_of, after_sight};
 
     /// The conditions of a definition, before any end and any sight. The one refusal is of memory.
@@ -86,17 +86,17 @@ impl Conditions {
 
     /// Takes in how a run ended, and whether TERM or KILL was ordered for it. An end by signal 3 to 8, 11 or 31 is a crash,
     /// and one by an unknown signal if neither was ordered.
-    pub fn ended(&mut self, run: u64, how: Ended, is_told: bool)
+    pub fn ended(&mut self, run: u64, how: Ended, is_ordered_to_end: bool)
         ensures step { self.new ≡ record self.old
-            { ended = Some (run, how); has_crashed = is_crash_end is_told how } }
+            { ended = Some (run, how); has_crashed = is_crash_end is_ordered_to_end how } }
         ensures past { (past : History) → self.old ≡ kept_of past →
-            is_told ≡ list_any (is_stopping_order run) past →
+            is_ordered_to_end ≡ list_any (is_stopping_order run) past →
             self.new ≡ kept_of (RunEnded run how ∷ past) }
     {
         self.last_end = Some((run, how));
         self.has_crashed = match how {
             Ended::Code(_) => false,
-            Ended::Signal(n) => matches!(n, 3..=8 | 11 | 31) || (n == 0 && !is_told),
+            Ended::Signal(n) => matches!(n, 3..=8 | 11 | 31) || (n == 0 && !is_ordered_to_end),
         };
     }
 

@@ -11,7 +11,7 @@ use Rattle.history_model.specs.declared.Reading.{Reading}
 use Rattle.history_model.specs.declared.TheConstants.{MAX_UP, MAX_WALL}
 use Rattle.history_model.specs.declared.event.Setting.{Setting}
 use Rattle.history_model.specs.Labels.{Label, is_label, is_before}
-use Rattle.history_model.specs.WholeLaws.{AreInOrder}
+use Rattle.history_model.specs.MachineLaws.{AreInOrder}
 use Rattle.ctl_protocol.specs.declared.header.Header.{Header}
 use Rattle.ctl_protocol.specs.declared.header.ZoneText.{ZoneText}
 use Rattle.ctl_protocol.specs.declared.header.ZoneText.TheVariants.{Posix, Offset, File}

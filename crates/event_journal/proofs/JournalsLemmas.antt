@@ -6,20 +6,20 @@ use Rattle.std.proofs.KnownBytes.{Appends-nil, Appends-trans}
 use Rattle.replay_loop.specs.Writing.{AppendsFront}
 use Rattle.event_journal.specs.declared.journal.Phase.{Phase}
 use Rattle.event_journal.specs.declared.journal.Phase.TheVariants.{Open, Closed, Reported}
-use Rattle.event_journal.specs.Journals.{Kept, Grows, GrowsIn, CausedIn, Poured, poured_bytes, poured_cause, is_writing}
+use Rattle.event_journal.specs.Journals.{JournalState, Grows, GrowsIn, CausedIn, Poured, poured_bytes, poured_cause, is_writing}
 
-unchanged_in : (phase : Phase) (kept : Kept) → GrowsIn phase phase kept kept []
+unchanged_in : (phase : Phase) (kept : JournalState) → GrowsIn phase phase kept kept []
 unchanged_in Open kept = Appends-nil kept.bytes
 unchanged_in Closed kept = refl
 unchanged_in Reported kept = refl
 
-same_cause : (phase : Phase) (kept : Kept) → CausedIn phase phase kept kept
+same_cause : (phase : Phase) (kept : JournalState) → CausedIn phase phase kept kept
 same_cause Open kept = refl
 same_cause Closed kept = refl
 same_cause Reported kept = refl
 
 -- no line was written
-pub grows_nothing : (kept : Kept) → Grows kept kept []
+pub grows_nothing : (kept : JournalState) → Grows kept kept []
 grows_nothing kept = record { has_writer = refl; grew = unchanged_in kept.phase kept; cause = same_cause kept.phase kept }
 
 -- a front of the first text is one of both
@@ -35,12 +35,12 @@ front_second a b c s t first grew = record {
   wrote = Appends-trans a b c s grew.front first grew.wrote;
 }
 
-both_in : (p q r : Phase) (a b c : Kept) (s t : List ℕ) → GrowsIn p q a b s → GrowsIn q r b c t → GrowsIn p r a c (s ++ t)
+both_in : (p q r : Phase) (a b c : JournalState) (s t : List ℕ) → GrowsIn p q a b s → GrowsIn q r b c t → GrowsIn p r a c (s ++ t)
 both_in Open Open Open a b c s t first second = Appends-trans a.bytes b.bytes c.bytes s t first second
 both_in Open Open Closed a b c s t first second = front_second a.bytes b.bytes c.bytes s t first second
 both_in Open Open Reported a b c s t first second = absurd second
 both_in Open Closed Open a b c s t first second = absurd second
-both_in Open Closed Closed a b c s t first second = front_first a.bytes c.bytes s t (subst (λ (k : Kept). AppendsFront a.bytes k.bytes s) (sym second) first)
+both_in Open Closed Closed a b c s t first second = front_first a.bytes c.bytes s t (subst (λ (k : JournalState). AppendsFront a.bytes k.bytes s) (sym second) first)
 both_in Open Closed Reported a b c s t first second = absurd second
 both_in Open Reported r a b c s t first second = absurd first
 both_in Closed Open r a b c s t first second = absurd first
@@ -55,7 +55,7 @@ both_in Reported Reported Closed a b c s t first second = absurd second
 both_in Reported Reported Reported a b c s t first second = second ∙ first
 
 -- what closed it then
-both_causes : (p q r : Phase) (a b c : Kept) (s t : List ℕ) → b.has_writer ≡ a.has_writer → GrowsIn p q a b s → GrowsIn q r b c t → CausedIn p q a b → CausedIn q r b c → CausedIn p r a c
+both_causes : (p q r : Phase) (a b c : JournalState) (s t : List ℕ) → b.has_writer ≡ a.has_writer → GrowsIn p q a b s → GrowsIn q r b c t → CausedIn p q a b → CausedIn q r b c → CausedIn p r a c
 both_causes Open Open Open a b c s t same grew grows first second = second ∙ first
 both_causes Open Open Closed a b c s t same grew grows first second = (sym same ∙ second.0, sym first ∙ second.1, second.2)
 both_causes Open Open Reported a b c s t same grew grows first second = absurd second
@@ -75,7 +75,7 @@ both_causes Reported q r a b c s t same grew grows first second = later q r grew
   later Reported r grew grows second = second
 
 -- one text after another
-pub grows_append : (a b c : Kept) (s t : List ℕ) → Grows a b s → Grows b c t → Grows a c (s ++ t)
+pub grows_append : (a b c : JournalState) (s t : List ℕ) → Grows a b s → Grows b c t → Grows a c (s ++ t)
 grows_append a b c s t first second = record {
   has_writer = second.has_writer ∙ first.has_writer;
   grew = both_in a.phase b.phase c.phase a b c s t first.grew second.grew;
@@ -85,7 +85,7 @@ grows_append a b c s t first second = record {
 -- ---- a journal by its parts
 
 -- as contracts see it
-abbrev by_parts : Option Poured → Phase → Kept
+abbrev by_parts : Option Poured → Phase → JournalState
 by_parts writer phase = record { has_writer = is_some writer; bytes = poured_bytes writer; cause = poured_cause writer; phase = phase }
 
 -- if no line is written, none is missed

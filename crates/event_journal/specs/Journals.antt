@@ -29,7 +29,7 @@ poured_cause (Some writer) = writer.cause
 
 -- whether there is a writer, the bytes that it holds if they are known, what was refused to the
 -- journal, if anything was, and how the journal stands
-pub record Kept : Type 0 where
+pub record JournalState : Type 0 where
   pub has_writer : Bool
   pub bytes : Option (List ℕ)
   pub cause : Option Cause
@@ -42,7 +42,7 @@ IsSound Closed cause = is_some cause ≡ true
 IsSound Reported cause = is_some cause ≡ true
 
 -- an open journal over a writer with these bytes, or over none
-abbrev pub fresh : Option (List ℕ) → Bool → Kept
+abbrev pub fresh : Option (List ℕ) → Bool → JournalState
 fresh bytes has_writer =
     record { has_writer = has_writer; bytes = bytes; cause = None; phase = Open }
 
@@ -58,12 +58,12 @@ writes_in Closed has_writer = false
 writes_in Reported has_writer = false
 
 -- lines are still written
-abbrev pub is_writing : Kept → Bool
+abbrev pub is_writing : JournalState → Bool
 is_writing kept = writes_in kept.phase kept.has_writer
 
 -- a journal that was shut stays as it was; an open one grew by all of the text, or it is closed and
 -- grew by a front of it
-abbrev pub GrowsIn : Phase → Phase → Kept → Kept → List ℕ → Type 0
+abbrev pub GrowsIn : Phase → Phase → JournalState → JournalState → List ℕ → Type 0
 GrowsIn Open Open old new text = Appends old.bytes new.bytes text
 GrowsIn Open Closed old new text = AppendsFront old.bytes new.bytes text
 GrowsIn Open Reported old new text = ⊥
@@ -76,7 +76,7 @@ GrowsIn Reported Reported old new text = new ≡ old
 
 -- A journal that was open is closed only if it has a writer, nothing was refused to it before, and
 -- now a write or a flush was, or memory for a line. Else what was refused to it is as it was.
-abbrev pub CausedIn : Phase → Phase → Kept → Kept → Type 0
+abbrev pub CausedIn : Phase → Phase → JournalState → JournalState → Type 0
 CausedIn Open Open old new = new.cause ≡ old.cause
 CausedIn Open Closed old new =
     (old.has_writer ≡ true) × (old.cause ≡ None) × (is_some new.cause ≡ true)
@@ -85,7 +85,7 @@ CausedIn Closed phase old new = new.cause ≡ old.cause
 CausedIn Reported phase old new = new.cause ≡ old.cause
 
 -- a journal over the same writer that grew so, and was closed only for a cause
-pub record Grows (old new : Kept) (text : List ℕ) : Type 0 where
+pub record Grows (old new : JournalState) (text : List ℕ) : Type 0 where
   pub has_writer : new.has_writer ≡ old.has_writer
   pub grew : GrowsIn old.phase new.phase old new text
   pub cause : CausedIn old.phase new.phase old new
@@ -97,7 +97,7 @@ reported_phase Closed = Reported
 reported_phase Reported = Reported
 
 -- the journal after its closing was reported
-abbrev pub reported : Kept → Kept
+abbrev pub reported : JournalState → JournalState
 reported kept =
     record {
       has_writer = kept.has_writer;

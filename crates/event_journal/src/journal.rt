@@ -32,10 +32,10 @@ pub struct Journal<W: Write> {
 }
 
 impl<W: Write> Model for Journal<W> {
-    ghost use Rattle.event_journal.specs.Journals.{Kept, IsSound, poured_bytes, poured_cause};
+    ghost use Rattle.event_journal.specs.Journals.{JournalState, IsSound, poured_bytes, poured_cause};
     ghost use Rattle.std.specs.Prelude.{is_some};
 
-    ghost Value = { Kept };
+    ghost Value = { JournalState };
 
     ghost view = { λ j. record {
       has_writer = is_some j.writer;

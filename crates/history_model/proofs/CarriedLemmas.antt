@@ -13,7 +13,7 @@ use Rattle.history_model.specs.Demands.{came_in, carries, waiting}
 use Rattle.history_model.specs.Refusals.{IsLawful, is_number_used}
 use Rattle.history_model.specs.Facts.{Facts}
 use Rattle.history_model.specs.ByFacts.{settle}
-use Rattle.history_model.specs.WholeLaws.{carried_by, carried, IsFalling}
+use Rattle.history_model.specs.MachineLaws.{carried_by, carried, IsFalling}
 use Rattle.history_model.proofs.BooleanLemmas.{or-false}
 use Rattle.history_model.proofs.SearchLemmas.{list_any-implied}
 use Rattle.history_model.proofs.LawfulLemmas.{eqb-false, eqb-self, names_run, spawned-named, due-Spawn, unnamed, awaited-latest, Answers, Answers-from}

@@ -14,14 +14,14 @@ use Rattle.history_model.specs.Clock.{definition_of}
 use Rattle.history_model.specs.Runs.{is_gone, living}
 use Rattle.history_model.specs.Due.{due}
 use Rattle.history_model.specs.Refusals.{refusal_of, IsLawful}
-use Rattle.history_model.specs.Keeps.{ordered}
+use Rattle.history_model.specs.FactsOfPast.{ordered}
 use Rattle.history_model.specs.Calendar.{calendar_fires}
 use Rattle.history_model.specs.Labels.{Label, is_label, is_same}
 use Rattle.history_model.specs.Machine.{State, Job, Event, Unreadable, Load, UnloadJob, Set, ListJobs, PrintJob, ShutDown, Tick, Sight, OfJob, is_of, past_in, past_of}
 use Rattle.history_model.specs.Acceptance.{is_heard, refusal_at, refusal_in}
 use Rattle.history_model.specs.Step.{with_item, heard, heard_one, lists, sight_of, taken, stays, with_orders, step_by, step, run}
-use Rattle.history_model.specs.WholeLaws.{living_in, concerns, only}
-use Rattle.history_model.specs.Census.{is_start_of, is_finish_of, is_taken_as, count_taken}
+use Rattle.history_model.specs.MachineLaws.{living_in, concerns, only}
+use Rattle.history_model.specs.RunCounts.{is_start_of, is_finish_of, is_taken_as, count_taken}
 use Rattle.history_model.proofs.BooleanLemmas.{and-both, not-false}
 use Rattle.history_model.proofs.LawfulLemmas.{Answers-from, IsChild-from}
 use Rattle.history_model.proofs.RunsLemmas.{sound, spawned-awaited, spawned-living, child-present, ended-living}

@@ -16,7 +16,7 @@ use Rattle.history_model.specs.Refusals.{IsLawful}
 use Rattle.history_model.specs.Facts.{facts_of}
 use Rattle.history_model.specs.ByFacts.{settle}
 use Rattle.history_model.specs.Moments.{later_by, timeouts, child_moments, waits, next_period, least_of, least, next_moment}
-use Rattle.history_model.specs.Coming.{sooner, coming, coming_after, coming_period, coming_end, next_by}
+use Rattle.history_model.specs.NextMomentByFacts.{sooner, coming, coming_after, coming_period, coming_end, next_by}
 use Rattle.history_model.specs.Demands.{waiting}
 use Rattle.history_model.proofs.BooleanLemmas.{and-left, and-right, not-true, or-false}
 use Rattle.history_model.proofs.LawfulLemmas.{Answers-from, due-Spawn, due-Kill-may, due_shape, unthrottled}

@@ -5,7 +5,7 @@ use Rattle.history_model.specs.Items.{Loaded, Read, Saw, Asked, Came, Left, Orde
 use Rattle.history_model.specs.Search.{first, latest}
 use Rattle.history_model.specs.Demands.{came_in}
 use Rattle.history_model.specs.Refusals.{IsLawful, is_number_used}
-use Rattle.history_model.specs.WholeLaws.{IsFalling}
+use Rattle.history_model.specs.MachineLaws.{IsFalling}
 use Rattle.history_model.proofs.ConnectionLemmas.{IsNew-from}
 use Rattle.history_model.proofs.CarriedLemmas.{used-above}
 

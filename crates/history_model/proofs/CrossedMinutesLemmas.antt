@@ -5,7 +5,7 @@ use Rattle.std.proofs.lemmas.Bool.{eqb-true}
 use Rattle.std.proofs.lemmas.Bool.Decides.{nat_tests}
 use Rattle.std.specs.List.{list_any, AllByRecursion}
 use Rattle.history_model.specs.Calendar.{IsCrossed, minutes_above, last_before, crossed}
-use Rattle.history_model.specs.WholeLaws.{IsRising}
+use Rattle.history_model.specs.MachineLaws.{IsRising}
 
 -- the minute m is the multiple number j of 60, above k and at most k + n
 abbrev IsCounted : ℕ → ℕ → ℕ → ℕ → Type 0

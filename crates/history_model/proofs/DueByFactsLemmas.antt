@@ -9,8 +9,8 @@ use Rattle.history_model.specs.Search.{first}
 use Rattle.history_model.specs.Due.{is_over}
 use Rattle.history_model.specs.Facts.{Facts}
 use Rattle.history_model.specs.DueByFacts.{is_newest_within, is_throttled_by, is_wanted_by, may_kill_by, may_term_by, due_beside_by, due_by}
-use Rattle.history_model.specs.Coming.{sooner, coming, coming_after, coming_period, coming_end, next_by}
-use Rattle.history_model.specs.Skipping.{IsLater}
+use Rattle.history_model.specs.NextMomentByFacts.{sooner, coming, coming_after, coming_period, coming_end, next_by}
+use Rattle.history_model.specs.LaterMoments.{IsLater}
 use Rattle.history_model.proofs.UntouchedLemmas.{kill-shape}
 use Rattle.history_model.specs.declared.TheConstants.{SECOND}
 

@@ -6,12 +6,12 @@ use Rattle.history_model.specs.declared.Refusal.{Refusal}
 use Rattle.history_model.specs.Items.{Item}
 use Rattle.history_model.specs.Runs.{is_gone}
 use Rattle.history_model.specs.Due.{due}
-use Rattle.history_model.specs.Keeps.{ordered}
+use Rattle.history_model.specs.FactsOfPast.{ordered}
 use Rattle.history_model.specs.Labels.{Label}
 use Rattle.history_model.specs.Machine.{State, Job, Header, Event, Unreadable, Load, UnloadJob, Set, ListJobs, PrintJob, ShutDown, Tick, Sight, OfJob, is_of, opened}
 use Rattle.history_model.specs.Acceptance.{refusal_in}
 use Rattle.history_model.specs.Step.{with_item, heard, heard_one, taken, stays, with_orders, step_by, step, run}
-use Rattle.history_model.specs.WholeLaws.{concerns, only}
+use Rattle.history_model.specs.MachineLaws.{concerns, only}
 use Rattle.history_model.proofs.OneLabelLemmas.{filter-stays, taken-only, taken-other, absent}
 
 pub length-heard : (item : Job → Option Item) (jobs : List Job) → length (heard item jobs) ≡ length jobs

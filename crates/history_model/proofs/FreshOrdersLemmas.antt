@@ -12,13 +12,13 @@ use Rattle.history_model.specs.Search.{first}
 use Rattle.history_model.specs.Runs.{is_gone}
 use Rattle.history_model.specs.Demands.{waiting}
 use Rattle.history_model.specs.Due.{due}
-use Rattle.history_model.specs.Keeps.{ordered}
+use Rattle.history_model.specs.FactsOfPast.{ordered}
 use Rattle.history_model.specs.Labels.{Label, is_same, is_before}
 use Rattle.history_model.specs.Machine.{Job, is_of, past_in}
 use Rattle.history_model.specs.Step.{acts_of, listed, orders_of, stays}
-use Rattle.history_model.specs.WholeLaws.{AreInOrder, labels_of}
+use Rattle.history_model.specs.MachineLaws.{AreInOrder, labels_of}
 use Rattle.history_model.specs.Turns.{JobOrder, wanting, wants_answer}
-use Rattle.history_model.specs.Waits.{AreFresh}
+use Rattle.history_model.specs.AwaitedOrders.{AreFresh}
 use Rattle.history_model.proofs.LawfulLemmas.{due-rest}
 use Rattle.history_model.proofs.OneLabelLemmas.{apart}
 use Rattle.history_model.proofs.LabelOrderLemmas.{same_self, is_less-Less}

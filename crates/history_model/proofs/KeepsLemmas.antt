@@ -16,7 +16,7 @@ use Rattle.history_model.specs.DueByFacts.{refusal_by, due_by}
 use Rattle.history_model.proofs.LawfulLemmas.{unless-None}
 use Rattle.history_model.proofs.ClockLemmas.{Read-later}
 use Rattle.history_model.proofs.ByFactsLemmas.{refusal-by, due-by, facts-after}
-use Rattle.history_model.specs.Keeps.{Keeps, reply, ordered}
+use Rattle.history_model.specs.FactsOfPast.{Keeps, reply, ordered}
 use Rattle.history_model.proofs.BooleanLemmas.{not-true}
 
 -- the items that come from outside

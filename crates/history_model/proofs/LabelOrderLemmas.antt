@@ -12,13 +12,13 @@ use Rattle.history_model.specs.declared.Ask.TheVariants.{Unload, Shutdown}
 use Rattle.history_model.specs.Clock.{definition_of}
 use Rattle.history_model.specs.Runs.{is_gone}
 use Rattle.history_model.specs.Due.{due}
-use Rattle.history_model.specs.Keeps.{ordered}
+use Rattle.history_model.specs.FactsOfPast.{ordered}
 use Rattle.history_model.specs.Calendar.{calendar_fires}
 use Rattle.history_model.specs.Labels.{Label, is_same, is_less, is_before}
 use Rattle.history_model.specs.Machine.{State, Job, Event, Unreadable, Load, UnloadJob, Set, ListJobs, PrintJob, ShutDown, Tick, Sight, OfJob, is_of}
 use Rattle.history_model.specs.Acceptance.{refusal_in}
 use Rattle.history_model.specs.Step.{with_item, heard, heard_one, with_job, sight_of, taken, stays, step_by, step, run}
-use Rattle.history_model.specs.WholeLaws.{AreInOrder, labels_of}
+use Rattle.history_model.specs.MachineLaws.{AreInOrder, labels_of}
 use Rattle.history_model.proofs.OneLabelLemmas.{absent}
 use Rattle.history_model.proofs.StepLemmas.{all-implied}
 use Rattle.history_model.proofs.LawfulLemmas.{eqb-self}

@@ -13,7 +13,7 @@ use Rattle.history_model.specs.Demands.{came_in, is_left, is_carrying, waiting, 
 use Rattle.history_model.specs.Due.{due, due_beside, is_wanted, is_throttled, has_ever_spawned}
 use Rattle.history_model.specs.Refusals.{IsLawful}
 use Rattle.history_model.specs.Machine.{Job}
-use Rattle.history_model.specs.WholeLaws.{IsSpaced, IsPatient, is_held_back, is_here, is_carried, is_waiting}
+use Rattle.history_model.specs.MachineLaws.{IsSpaced, IsPatient, is_held_back, is_here, is_carried, is_waiting}
 use Rattle.history_model.proofs.BooleanLemmas.{and-false}
 use Rattle.history_model.proofs.RunsLemmas.{childless}
 use Rattle.history_model.proofs.StepLemmas.{Rests, all-implied}

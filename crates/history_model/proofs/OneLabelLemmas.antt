@@ -15,14 +15,14 @@ use Rattle.history_model.specs.Search.{or_else, first}
 use Rattle.history_model.specs.Clock.{definition_of}
 use Rattle.history_model.specs.Runs.{is_gone}
 use Rattle.history_model.specs.Due.{due}
-use Rattle.history_model.specs.Keeps.{ordered}
+use Rattle.history_model.specs.FactsOfPast.{ordered}
 use Rattle.history_model.specs.Calendar.{calendar_fires}
 use Rattle.history_model.specs.Labels.{Label, is_same, is_before}
 use Rattle.history_model.specs.Machine.{State, Job, Given, Event, Unreadable, Load, UnloadJob, Set, ListJobs, PrintJob, ShutDown, Tick, Sight, OfJob, is_of, sets, past_in, past_of, is_disabled}
 use Rattle.history_model.specs.Acceptance.{refused_if, refusal_there, refusal_of_load, refusal_in, refusal_stored}
 use Rattle.history_model.specs.Texts.{text_after, printed}
 use Rattle.history_model.specs.Step.{Outcome, with_item, heard, heard_one, with_job, set_if, sight_of, taken, acts_of, orders_of, stays, with_orders, step_by, step, outcome_by, outcome, outcomes, orders_in}
-use Rattle.history_model.specs.WholeLaws.{concerns, only, is_for, own, outcomes_of, HasRoom}
+use Rattle.history_model.specs.MachineLaws.{concerns, only, is_for, own, outcomes_of, HasRoom}
 use Rattle.history_model.proofs.StepLemmas.{Rests, IsGood, good-step, refused-None, or_else-None}
 
 -- ---- filters

@@ -10,7 +10,7 @@ use Rattle.history_model.specs.Runs.{living, is_stopped, is_struck}
 use Rattle.history_model.specs.Kinds.{is_spawn_order, is_spawn_refusal, is_term_order, is_kill_answer}
 use Rattle.history_model.specs.Due.{is_within, is_over, may_retry}
 use Rattle.history_model.specs.Refusals.{IsLawful}
-use Rattle.history_model.specs.WholeLaws.{AreOver, IsOverdue}
+use Rattle.history_model.specs.MachineLaws.{AreOver, IsOverdue}
 use Rattle.history_model.proofs.BooleanLemmas.{and-both, or-false}
 use Rattle.history_model.proofs.LawfulLemmas.{due-Spawn, due-Kill-may, unthrottled}
 use Rattle.history_model.proofs.RunsLemmas.{IsAlone, sound}

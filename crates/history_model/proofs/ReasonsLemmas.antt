@@ -26,7 +26,7 @@ use Rattle.history_model.specs.Facts.{Facts, facts_of}
 use Rattle.history_model.specs.DueByFacts.{is_newest_within, is_throttled_by, is_wanted_by}
 use Rattle.history_model.specs.Reasons.{state_that_holds, queue_that_holds, path_that_holds, exit_wants, crash_wants, wants_of, some_want, greatest, free_from, throttled_until, standing_child, reasons_of, some_reason, waits_alone, needs_event, is_none_or_stops, IsFirstFree, not_before, wanted_from, spawns_from}
 use Rattle.history_model.specs.ReasonsByFacts.{path_by, wants_by, end_after, free_by, reasons_by, needs_by, wanted_from_by, spawns_from_by}
-use Rattle.history_model.specs.Coming.{is_from, coming_period}
+use Rattle.history_model.specs.NextMomentByFacts.{has_come, coming_period}
 use Rattle.history_model.proofs.BooleanLemmas.{and-right, not-true, or-true, or-false-right}
 use Rattle.history_model.proofs.ClockLemmas.{any-within}
 use Rattle.history_model.proofs.ByFactsLemmas.{throttled-by, level-by}
@@ -346,7 +346,7 @@ period-reached seconds load previous up positive = go (nat_lt k (periods seconds
       let more : periods seconds (previous - load) + 1 ≤ (up - load) / (SECOND * seconds) = (le-div_iff_mul-le some).1 whole in
       absurd (grind (arith, nat_tests, ex, more))
 
-crossed-from : (o : Option ℕ) (load previous up : ℕ) → ForSome o (λ seconds. 0 < seconds) → crosses_interval o load previous up ≡ is_from (first (next_period o load previous)) up
+crossed-from : (o : Option ℕ) (load previous up : ℕ) → ForSome o (λ seconds. 0 < seconds) → crosses_interval o load previous up ≡ has_come (first (next_period o load previous)) up
 crossed-from None load previous up positive = refl
 crossed-from (Some seconds) load previous up positive = period-reached seconds load previous up (positive seconds refl)
 
@@ -360,21 +360,21 @@ le-max a b up = go (nat_le b up) (nat_le a up) (nat_le (max a b) up) refl refl r
   go false y false ex ey ez = refl
   go false y true ex ey ez = absurd (grind (arith, nat_tests, ex, ez))
 
-from-max : (free up : ℕ) (o : Option ℕ) → (is_from o up && nat_le free up) ≡ is_from (not_before free o) up
+from-max : (free up : ℕ) (o : Option ℕ) → (has_come o up && nat_le free up) ≡ has_come (not_before free o) up
 from-max free up None = refl
 from-max free up (Some m) = le-max free m up
 
 -- a job that is wanted is so at every moment
-or-wanted : (crossed w : Bool) (o : Option ℕ) (up : ℕ) → crossed ≡ is_from o up → (crossed || w) ≡ is_from (cond w (Some 0) o) up
+or-wanted : (crossed w : Bool) (o : Option ℕ) (up : ℕ) → crossed ≡ has_come o up → (crossed || w) ≡ has_come (cond w (Some 0) o) up
 or-wanted crossed true o up e = or-true crossed ∙ sym (let zero_first : nat_le 0 up ≡ true = grind (arith, nat_tests) in zero_first)
 or-wanted crossed false o up e = or-false-right crossed ∙ e
 
-pub moment-due : (t : History) (at : Reading) → HasPeriod t → is_some_spawn (due (Read at false ∷ t)) ≡ is_from (spawns_from t) at.up
+pub moment-due : (t : History) (at : Reading) → HasPeriod t → is_some_spawn (due (Read at false ∷ t)) ≡ has_come (spawns_from t) at.up
 moment-due t at positive = reading-due t at false
     ∙ (λ i. not (needs_event (reasons_of t)) && or-wanted (interval_fires t at) (is_wanted t) (first (next_period (definition_of t).start_interval (load_of t).1.up (now t).up)) at.up
     (crossed-from (definition_of t).start_interval (load_of t).1.up (now t).up at.up positive) i && nat_le (free_from t) at.up)
     ∙ go (needs_event (reasons_of t)) where
-      go : (b : Bool) → (not b && is_from (wanted_from t) at.up && nat_le (free_from t) at.up) ≡ is_from (cond b None (not_before (free_from t) (wanted_from t))) at.up
+      go : (b : Bool) → (not b && has_come (wanted_from t) at.up && nat_le (free_from t) at.up) ≡ has_come (cond b None (not_before (free_from t) (wanted_from t))) at.up
       go true = refl
       go false = from-max (free_from t) at.up (wanted_from t)
 

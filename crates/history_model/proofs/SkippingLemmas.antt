@@ -11,11 +11,11 @@ use Rattle.history_model.specs.Facts.{Facts, facts_of}
 use Rattle.history_model.specs.DueByFacts.{due_by}
 use Rattle.history_model.specs.declared.reasons.DemandKind.TheVariants as kinds
 use Rattle.history_model.specs.ByFacts.{fired_by, facts_after}
-use Rattle.history_model.specs.Keeps.{Keeps}
-use Rattle.history_model.specs.Coming.{next_by}
+use Rattle.history_model.specs.FactsOfPast.{Keeps}
+use Rattle.history_model.specs.NextMomentByFacts.{next_by}
 use Rattle.history_model.specs.Reasons.{reasons_of}
 use Rattle.history_model.specs.ReasonsByFacts.{free_by, reasons_by}
-use Rattle.history_model.specs.Skipping.{IsLater}
+use Rattle.history_model.specs.LaterMoments.{IsLater}
 use Rattle.history_model.proofs.ByFactsLemmas.{due-by, facts-after}
 use Rattle.history_model.proofs.ComingLemmas.{next-by}
 use Rattle.history_model.proofs.ClockLemmas.{now-grows}

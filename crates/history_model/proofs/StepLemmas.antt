@@ -16,7 +16,7 @@ use Rattle.history_model.specs.Clock.{now, definition_of}
 use Rattle.history_model.specs.Runs.{is_gone, is_removed, child}
 use Rattle.history_model.specs.Due.{due}
 use Rattle.history_model.specs.Refusals.{refusal_of, is_clock_refused, IsLawful, IsBehindLoad}
-use Rattle.history_model.specs.Keeps.{ordered}
+use Rattle.history_model.specs.FactsOfPast.{ordered}
 use Rattle.history_model.specs.Calendar.{calendar_fires}
 use Rattle.history_model.specs.Labels.{Label, is_label, is_before}
 use Rattle.history_model.specs.Machine.{State, Job, Header, Event, Unreadable, Load, UnloadJob, Set, ListJobs, PrintJob, ShutDown, Tick, Sight, OfJob, is_of, past_in, past_of, opened}

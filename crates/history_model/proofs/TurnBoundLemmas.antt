@@ -17,11 +17,11 @@ use Rattle.history_model.specs.Labels.{Label, is_before}
 use Rattle.history_model.specs.Machine.{State, Job, Header, Event, Unreadable, Load, UnloadJob, Set, ListJobs, PrintJob, ShutDown, Tick, Sight, OfJob, past_of, opened}
 use Rattle.history_model.specs.Acceptance.{refusal_in, refusal_there, refusal_of_load}
 use Rattle.history_model.specs.Step.{with_job, sight_of, acts_of, orders_of, taken, step, step_by, outcome, outcome_by, run}
-use Rattle.history_model.specs.WholeLaws.{AreInOrder, labels_of}
+use Rattle.history_model.specs.MachineLaws.{AreInOrder, labels_of}
 use Rattle.history_model.proofs.StepLemmas.{IsGood, good-step, good-run, good-opened, refused-None, or_else-None}
 use Rattle.history_model.proofs.LabelOrderLemmas.{order-run, order-taken}
 use Rattle.history_model.specs.Turns.{JobOrder, wanting, AreAnswers, still_waiting}
-use Rattle.history_model.specs.Waits.{weight, weigh_orders}
+use Rattle.history_model.specs.AwaitedOrders.{weight, weigh_orders}
 use Rattle.history_model.proofs.BooleanLemmas.{not-false}
 use Rattle.history_model.proofs.FewLoadsLemmas.{length-heard, length-heard_one, length-stays}
 use Rattle.history_model.proofs.WaitsLemmas.{weigh, weigh_one, weigh-acts}

@@ -18,12 +18,12 @@ use Rattle.history_model.specs.Labels.{Label, is_same, is_label}
 use Rattle.history_model.specs.Machine.{State, Job, Event, OfJob, is_of, past_in, past_of}
 use Rattle.history_model.specs.Acceptance.{refusal_in, refusal_at, is_heard}
 use Rattle.history_model.specs.Step.{with_item, heard_one, acts_of, orders_of, stays, step, step_by, outcome, outcome_by}
-use Rattle.history_model.specs.WholeLaws.{AreInOrder, labels_of, concerns}
+use Rattle.history_model.specs.MachineLaws.{AreInOrder, labels_of, concerns}
 use Rattle.history_model.proofs.StepLemmas.{Rests, IsGood, good-step, refused-None}
 use Rattle.history_model.proofs.OneLabelLemmas.{filter-stays, taken-other, rest-stays, rest-orders, all-filter, apart}
 use Rattle.history_model.proofs.LabelOrderLemmas.{order-run, order-taken}
 use Rattle.history_model.specs.Turns.{JobOrder, wanting, wants_answer, is_answer}
-use Rattle.history_model.specs.Waits.{IsFresh, AreFresh, weight, weigh_orders}
+use Rattle.history_model.specs.AwaitedOrders.{IsFresh, AreFresh, weight, weigh_orders}
 use Rattle.history_model.proofs.BooleanLemmas.{and-both}
 use Rattle.history_model.proofs.WaitsLemmas.{weigh, lighter}
 use Rattle.history_model.proofs.FreshOrdersLemmas.{all-append, fresh-with_orders, fresh-same, fresh-append, differ-sym}

@@ -16,7 +16,7 @@ use Rattle.history_model.specs.Facts.{Facts, facts_of}
 use Rattle.history_model.specs.ByFacts.{facts_after}
 use Rattle.history_model.specs.DueByFacts.{due_by, due_beside_by, may_spawn_by, may_kill_by, may_term_by, is_newest_within}
 use Rattle.history_model.specs.Step.{acts_of, listed}
-use Rattle.history_model.specs.Waits.{weight}
+use Rattle.history_model.specs.AwaitedOrders.{weight}
 use Rattle.history_model.specs.declared.Refusal.TheVariants.{Stale}
 use Rattle.history_model.proofs.BooleanLemmas.{and-false}
 use Rattle.history_model.proofs.LawfulLemmas.{unless-None}

@@ -20,7 +20,7 @@ use Rattle.history_model.specs.Runs.{settles}
 use Rattle.history_model.specs.Demands.{is_same_path, differs, carries}
 use Rattle.history_model.specs.Levels.{is_crash_end}
 use Rattle.history_model.specs.Facts.{Facts}
-use Rattle.history_model.specs.Keeps.{reply}
+use Rattle.history_model.specs.FactsOfPast.{reply}
 use Rattle.history_model.specs.DueByFacts.{is_busy_by, any_seen, refusal_by}
 
 -- what is still awaited after an item that is no order

@@ -9,7 +9,7 @@ use Rattle.history_model.specs.Levels.{presence_holds, queue_holds}
 use Rattle.history_model.specs.Facts.{Facts}
 use Rattle.history_model.specs.DueByFacts.{is_wanted_by, is_throttled_by, any_seen, first_seen}
 use Rattle.history_model.specs.Search.{or_else}
-use Rattle.history_model.specs.Coming.{coming_period}
+use Rattle.history_model.specs.NextMomentByFacts.{coming_period}
 use Rattle.history_model.specs.Reasons.{exit_wants, crash_wants, standing_child, not_before}
 
 -- `wants_of`

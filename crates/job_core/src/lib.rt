@@ -10,10 +10,10 @@ ghost use Rattle.history_model.specs.Clock as clock;
 ghost use Rattle.history_model.specs.Runs as runs;
 ghost use Rattle.history_model.specs.Demands.{waiting, latest_demand};
 ghost use Rattle.history_model.specs.Refusals.{refusal_of};
-ghost use Rattle.history_model.specs.Keeps.{Keeps, reply, ordered};
+ghost use Rattle.history_model.specs.FactsOfPast.{Keeps, reply, ordered};
 ghost use Rattle.history_model.specs.Due.{due};
 ghost use Rattle.history_model.specs.Moments as moments;
-ghost use Rattle.history_model.specs.Coming.{next_by};
+ghost use Rattle.history_model.specs.NextMomentByFacts.{next_by};
 ghost use Rattle.history_model.specs.Reasons.{reasons_of, spawns_from, path_that_holds};
 
 mod calendar;

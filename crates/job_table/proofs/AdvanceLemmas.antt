@@ -12,16 +12,16 @@ use Rattle.history_model.specs.declared.Order.{Order}
 use Rattle.history_model.specs.Items.{Item, Read, History}
 use Rattle.history_model.specs.Clock.{now}
 use Rattle.history_model.specs.Calendar.{allows, matches}
-use Rattle.history_model.specs.Coming.{next_by}
-use Rattle.history_model.specs.Keeps.{Keeps}
+use Rattle.history_model.specs.NextMomentByFacts.{next_by}
+use Rattle.history_model.specs.FactsOfPast.{Keeps}
 use Rattle.history_model.specs.Labels.{Label}
 use Rattle.history_model.specs.Machine.{Job}
 use Rattle.history_model.specs.Step.{acts_of, orders_of, heard, with_item}
-use Rattle.history_model.specs.Skipping.{IsLater}
+use Rattle.history_model.specs.LaterMoments.{IsLater}
 use Rattle.job_table.proofs.SkippingLemmas.{skipped, skipped-due}
 use Rattle.history_model.proofs.DueByFactsLemmas.{next-same}
 use Rattle.job_table.specs.Tables.{Name, IsOnce, definition_of_number, label_of}
-use Rattle.job_table.specs.Kept.{KeepsJob, KeepsJobs, IsAtRest, numbered, numbered_all, labelled}
+use Rattle.job_table.specs.StandsFor.{KeepsJob, KeepsJobs, IsAtRest, numbered, numbered_all, labelled}
 use Rattle.job_table.specs.Counts.{counts, count_in, next_count, went_up, is_near, IsCounted}
 use Rattle.job_table.specs.Entries.{row, name, rows, AllStay}
 use Rattle.job_table.specs.News.{item_for}

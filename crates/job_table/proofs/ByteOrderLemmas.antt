@@ -6,7 +6,7 @@ use Rattle.std.specs.List.Sorted.{IsPartitionPoint, IsPartitionedBy}
 use Rattle.std.proofs.lemmas.Bool.Decides.{nat_tests}
 use Rattle.std.proofs.lemmas.Option.{slice_get_within, slice_get-get_or, get_or_from_slice_get, slice_get_cases}
 use Rattle.history_model.specs.Labels.{Label, is_before}
-use Rattle.history_model.specs.WholeLaws.{AreInOrder}
+use Rattle.history_model.specs.MachineLaws.{AreInOrder}
 use Rattle.history_model.proofs.StepLemmas.{all-implied}
 use Rattle.job_table.specs.Tables.{labels_in}
 use Rattle.job_table.specs.Entries.{name, stays, has_label, is_above, is_here}

@@ -9,7 +9,7 @@ use Rattle.history_model.specs.Machine.{State, UnloadJob}
 use Rattle.history_model.specs.Acceptance.{refusal_in}
 use Rattle.history_model.specs.Step.{Outcome, with_orders, step, step_by, outcome, outcome_by, orders_of}
 use Rattle.job_table.specs.Tables.{Table}
-use Rattle.job_table.specs.Kept.{KeepsState, labelled, acts_in}
+use Rattle.job_table.specs.StandsFor.{KeepsState, labelled, acts_in}
 use Rattle.job_table.specs.Changes.{withdrawn, set_of}
 use Rattle.job_table.specs.Entries.{rows, name}
 use Rattle.job_table.specs.Outcomes.{plain_outcome}

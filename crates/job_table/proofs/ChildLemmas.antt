@@ -10,13 +10,13 @@ use Rattle.history_model.specs.Search.{first}
 use Rattle.history_model.specs.Runs.{child, runs}
 use Rattle.history_model.specs.Refusals.{IsLawful}
 use Rattle.history_model.specs.Labels.{Label, is_same, is_before}
-use Rattle.history_model.specs.Keeps.{Keeps}
-use Rattle.history_model.specs.WholeLaws.{AreInOrder}
+use Rattle.history_model.specs.FactsOfPast.{Keeps}
+use Rattle.history_model.specs.MachineLaws.{AreInOrder}
 use Rattle.history_model.specs.Machine.{Job, is_of, past_in}
 use Rattle.history_model.proofs.RunsLemmas.{sound, child-present}
 use Rattle.history_model.proofs.BooleanLemmas.{or-second, and-both}
 use Rattle.job_table.specs.Tables.{Name, IsOther, IsOnce, labels_in}
-use Rattle.job_table.specs.Kept.{KeepsJobs}
+use Rattle.job_table.specs.StandsFor.{KeepsJobs}
 use Rattle.job_table.specs.Entries.{row, name, rows, is_above, place_for}
 use Rattle.job_table.specs.Nearest.{IsNearest, with_child, run_in}
 use Rattle.job_table.specs.declared.entry.Entry.{Entry}

@@ -8,7 +8,7 @@ use Rattle.history_model.specs.Labels.{is_same, is_before}
 use Rattle.history_model.specs.Machine.{Job}
 use Rattle.history_model.specs.Step.{with_job}
 use Rattle.job_table.specs.Tables.{Name, IsOther, IsOnce}
-use Rattle.job_table.specs.Kept.{KeepsJob, KeepsJobs}
+use Rattle.job_table.specs.StandsFor.{KeepsJob, KeepsJobs}
 use Rattle.job_table.specs.Entries.{row, name, rows, AllStay, is_above, entered}
 use Rattle.job_table.specs.Sound.{AreHeld}
 use Rattle.job_table.specs.Loads.{IsAbsent}

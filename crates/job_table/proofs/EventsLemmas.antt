@@ -20,7 +20,7 @@ use Rattle.history_model.specs.Step.{stays, orders_of, lists, sight_of}
 use Rattle.job_defs.specs.Definitions.{definition}
 use Rattle.calendar_due.specs.Rules.{minute_at}
 use Rattle.job_table.specs.Tables.{Row}
-use Rattle.job_table.specs.Kept.{KeepsJobs, KeepsSettings, KeepsState, labelled}
+use Rattle.job_table.specs.StandsFor.{KeepsJobs, KeepsSettings, KeepsState, labelled}
 use Rattle.job_table.specs.Entries.{row, name, rows, AllStay}
 use Rattle.job_table.specs.Sound.{seen}
 use Rattle.job_table.specs.Alike.{IsAlike}

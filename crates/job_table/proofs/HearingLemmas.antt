@@ -7,12 +7,12 @@ use Rattle.history_model.specs.declared.Refusal.{Refusal}
 use Rattle.history_model.specs.Items.{Item, Saw, History}
 use Rattle.history_model.specs.Clock.{now, definition_of}
 use Rattle.history_model.specs.Facts.{Facts}
-use Rattle.history_model.specs.Keeps.{Keeps, reply}
+use Rattle.history_model.specs.FactsOfPast.{Keeps, reply}
 use Rattle.history_model.specs.Machine.{Job}
 use Rattle.history_model.specs.Step.{heard, with_item, lists}
 use Rattle.job_defs.specs.Definitions.{definition}
 use Rattle.job_defs.specs.Described.{Described}
-use Rattle.job_table.specs.Kept.{KeepsJobs}
+use Rattle.job_table.specs.StandsFor.{KeepsJobs}
 use Rattle.job_table.specs.Entries.{row}
 use Rattle.job_table.specs.News.{item_for}
 use Rattle.job_table.specs.Hearing.{followed, refusal_if, IsHeard, AreHeard, AreFor, IsAccepted, present_with}

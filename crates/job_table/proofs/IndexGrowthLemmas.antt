@@ -4,7 +4,7 @@ use Rattle.std.specs.Prelude.{slice_get, slice_index_or, get_or, unwrap_or}
 use Rattle.std.specs.List.{filter}
 use Rattle.std.proofs.lemmas.Bool.Decides.{nat_tests}
 use Rattle.timer_heap.specs.Timers.{Timers, moment_in, room, KeepsMoments}
-use Rattle.history_model.specs.Coming.{next_by}
+use Rattle.history_model.specs.NextMomentByFacts.{next_by}
 use Rattle.job_table.specs.Tables.{definition_of_number}
 use Rattle.job_table.specs.Entries.{row, rows, name, stays, AllStay}
 use Rattle.job_table.specs.Index.{moment_for, AreTimed, ArePlaced, IsNamed, IsIndexOf}

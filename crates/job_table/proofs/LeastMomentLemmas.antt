@@ -6,12 +6,12 @@ use Rattle.std.specs.Option.{ForSome}
 use Rattle.timer_heap.specs.Timers.{Timers, moment_in, IsNoLater, IsLeast}
 use Rattle.history_model.specs.declared.Reading.{Reading}
 use Rattle.history_model.specs.Moments.{next_moment}
-use Rattle.history_model.specs.Coming.{next_by}
+use Rattle.history_model.specs.NextMomentByFacts.{next_by}
 use Rattle.history_model.specs.Machine.{Job}
 use Rattle.history_model.proofs.ComingLemmas.{next-by}
 use Rattle.history_model.proofs.BooleanLemmas.{or-second}
 use Rattle.job_table.specs.Tables.{Row}
-use Rattle.job_table.specs.Kept.{KeepsJob, KeepsJobs}
+use Rattle.job_table.specs.StandsFor.{KeepsJob, KeepsJobs}
 use Rattle.job_table.specs.Entries.{row, rows, name}
 use Rattle.job_table.specs.Index.{AreTimed, AreAlone, moment_for}
 use Rattle.job_table.specs.Minutes.{is_some_entry, has_calendars}

@@ -13,10 +13,10 @@ use Rattle.history_model.specs.Labels.{Label}
 use Rattle.history_model.specs.Machine.{State, Job, past_of, is_disabled}
 use Rattle.history_model.specs.Acceptance.{refused_if, refusal_there, refusal_stored, refusal_of_load}
 use Rattle.history_model.specs.declared.TheConstants.{MAX_JOBS, MAX_UP, MAX_WALL}
-use Rattle.history_model.specs.WholeLaws.{AreInOrder}
+use Rattle.history_model.specs.MachineLaws.{AreInOrder}
 use Rattle.job_table.specs.Periods.{HavePeriods}
 use Rattle.job_table.specs.Tables.{IsOnce, labels_in, definition_of_number, is_known}
-use Rattle.job_table.specs.Kept.{KeepsJobs, KeepsState}
+use Rattle.job_table.specs.StandsFor.{KeepsJobs, KeepsState}
 use Rattle.job_table.specs.Triggers.{AreListed}
 use Rattle.job_table.specs.Entries.{row, name, AllStay, has_label}
 use Rattle.job_table.specs.Loads.{IsAbsent, enabled_if}

@@ -2,7 +2,7 @@
 use Rattle.std.proofs.Common.{◌≡◌, ◌⊎◌, inl, inr, ℕ, ◌≤◌, ◌<◌, ◌==◌, Bool, true, false, List, Option, Some, None, refl, sym, ap, ◌∙◌, subst, arith}
 use Rattle.std.proofs.lemmas.Bool.Decides.{nat_tests}
 use Rattle.timer_heap.specs.Timers.{Timers, moment_in, Updates}
-use Rattle.history_model.specs.Skipping.{IsLater}
+use Rattle.history_model.specs.LaterMoments.{IsLater}
 use Rattle.job_table.specs.Index.{place_in}
 use Rattle.job_table.specs.Marking.{IsMarked, IsReachedAt}
 

@@ -9,7 +9,7 @@ use Rattle.history_model.specs.Labels.{Label, is_less, is_before}
 use Rattle.history_model.specs.Machine.{Job}
 use Rattle.history_model.proofs.BooleanLemmas.{and-right}
 use Rattle.job_table.specs.Tables.{Row}
-use Rattle.job_table.specs.Kept.{KeepsJobs}
+use Rattle.job_table.specs.StandsFor.{KeepsJobs}
 use Rattle.job_table.specs.Entries.{has_label, is_here}
 use Rattle.job_table.specs.Nearest.{paths_of, listed_paths, paths_in}
 use Rattle.job_table.specs.declared.entry.Entry.{Entry}

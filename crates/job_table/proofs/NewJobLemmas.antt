@@ -12,11 +12,11 @@ use Rattle.history_model.specs.declared.TheConstants.{MAX_UP, MAX_WALL}
 use Rattle.history_model.specs.Labels.{Label, is_same}
 use Rattle.history_model.specs.Machine.{Job}
 use Rattle.history_model.specs.Step.{with_job}
-use Rattle.history_model.specs.WholeLaws.{AreInOrder}
+use Rattle.history_model.specs.MachineLaws.{AreInOrder}
 use Rattle.job_table.specs.Periods.{HasPeriod, HavePeriods}
 use Rattle.job_table.proofs.PeriodsLemmas.{periods-placed}
 use Rattle.job_table.specs.Tables.{Row, IsOnce, is_known, labels_in}
-use Rattle.job_table.specs.Kept.{KeepsJob, KeepsJobs, IsAtRest}
+use Rattle.job_table.specs.StandsFor.{KeepsJob, KeepsJobs, IsAtRest}
 use Rattle.job_table.specs.Entries.{row, name, has_label, is_above, place_for, entered}
 use Rattle.job_table.specs.Index.{moment_for, IsNamed, IsIndexed}
 use Rattle.job_table.specs.Loads.{IsReady}

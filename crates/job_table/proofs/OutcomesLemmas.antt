@@ -6,7 +6,7 @@ use Rattle.history_model.specs.Search.{first}
 use Rattle.history_model.specs.declared.Reading.{Reading}
 use Rattle.history_model.specs.declared.Refusal.{Refusal}
 use Rattle.history_model.specs.declared.TheConstants.{MAX_UP}
-use Rattle.history_model.specs.Keeps.{reply}
+use Rattle.history_model.specs.FactsOfPast.{reply}
 use Rattle.history_model.specs.Machine.{State, Job, Event, sets}
 use Rattle.history_model.specs.Acceptance.{refusal_in}
 use Rattle.history_model.specs.Step.{Outcome, stays, orders_of, taken, with_orders, step_by, step, outcome_by, outcome, refused}
@@ -14,7 +14,7 @@ use Rattle.history_model.specs.Texts.{text_after}
 use Rattle.history_model.proofs.StepLemmas.{Rests, IsGood, good-step, all-implied}
 use Rattle.calendar_due.specs.Rules.{minute_at}
 use Rattle.job_table.specs.Tables.{Row, Table}
-use Rattle.job_table.specs.Kept.{KeepsJobs, KeepsSettings, KeepsState, IsAtRest, acts_in}
+use Rattle.job_table.specs.StandsFor.{KeepsJobs, KeepsSettings, KeepsState, IsAtRest, acts_in}
 use Rattle.job_table.specs.Outcomes.{plain_outcome, IsSameFor}
 
 pub resting : (at : Reading) (rows : List Row) (jobs : List Job) → KeepsJobs at rows jobs → AllByRecursion IsAtRest jobs → AllByRecursion (Rests at) jobs

@@ -8,13 +8,13 @@ use Rattle.history_model.specs.Items.{Item, Loaded, Read, Saw, Asked, Came, Left
 use Rattle.history_model.specs.Search.{first, first as head_of, or_else, latest}
 use Rattle.history_model.specs.Clock.{now, definition_of, reading_in, load_in, no_reading, no_definition}
 use Rattle.history_model.specs.Refusals.{refusal_of}
-use Rattle.history_model.specs.Keeps.{Keeps, reply}
+use Rattle.history_model.specs.FactsOfPast.{Keeps, reply}
 use Rattle.history_model.specs.Labels.{Label, is_same}
 use Rattle.history_model.specs.Machine.{Job, is_of, past_in}
 use Rattle.history_model.specs.Acceptance.{refusal_at}
 use Rattle.history_model.specs.Step.{with_item, heard_one}
 use Rattle.job_defs.specs.Definitions.{definition}
-use Rattle.job_table.specs.Kept.{KeepsJob, KeepsJobs}
+use Rattle.job_table.specs.StandsFor.{KeepsJob, KeepsJobs}
 use Rattle.job_table.specs.Entries.{row, name, rows, AllStay, has_label, is_here}
 use Rattle.job_table.specs.declared.entry.Entry.{Entry}
 use Rattle.job_table.proofs.ListLemmas.{set-map}

@@ -9,7 +9,7 @@ use Rattle.history_model.specs.Step.{orders_of, taken, with_orders, step, step_b
 use Rattle.history_model.specs.Texts.{text_after}
 use Rattle.history_model.proofs.OneLabelLemmas.{rest-stays, rest-orders}
 use Rattle.job_table.specs.Tables.{Table, label_of, definition_of_number}
-use Rattle.job_table.specs.Kept.{KeepsJobs, KeepsState, is_none}
+use Rattle.job_table.specs.StandsFor.{KeepsJobs, KeepsState, is_none}
 use Rattle.job_table.specs.Entries.{row, name, rows, has_number}
 use Rattle.job_table.specs.declared.entry.Entry.{Entry}
 use Rattle.job_table.proofs.FirstLemmas.{IsFirstWhere, NonePasses}

@@ -6,10 +6,10 @@ use Rattle.history_model.specs.Items.{History}
 use Rattle.history_model.specs.Clock.{now, definition_of}
 use Rattle.history_model.specs.Due.{due}
 use Rattle.history_model.specs.Facts.{Facts}
-use Rattle.history_model.specs.Keeps.{Keeps, ordered}
+use Rattle.history_model.specs.FactsOfPast.{Keeps, ordered}
 use Rattle.history_model.specs.Machine.{Job}
 use Rattle.job_table.specs.Tables.{Row}
-use Rattle.job_table.specs.Kept.{KeepsJobs}
+use Rattle.job_table.specs.StandsFor.{KeepsJobs}
 use Rattle.job_table.specs.Entries.{row, rows}
 use Rattle.job_table.specs.declared.entry.Entry.{Entry}
 

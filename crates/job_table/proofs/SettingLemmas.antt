@@ -6,7 +6,7 @@ use Rattle.history_model.specs.declared.event.Setting.{Setting}
 use Rattle.history_model.specs.Search.{first}
 use Rattle.history_model.specs.Labels.{Label, is_same}
 use Rattle.history_model.specs.Machine.{sets}
-use Rattle.job_table.specs.Kept.{KeepsSettings, with_setting}
+use Rattle.job_table.specs.StandsFor.{KeepsSettings, with_setting}
 use Rattle.job_table.specs.Loads.{enabled_if}
 use Rattle.history_model.specs.Step.{set_if}
 use Rattle.job_table.proofs.FirstLemmas.{IsFirstWhere, NonePasses}

@@ -4,7 +4,7 @@ use Rattle.std.specs.List.{flat_map}
 use Rattle.history_model.specs.declared.Reading.{Reading}
 use Rattle.history_model.specs.Machine.{Job}
 use Rattle.history_model.specs.Texts.{shown_text}
-use Rattle.job_table.specs.Kept.{KeepsJob, KeepsJobs}
+use Rattle.job_table.specs.StandsFor.{KeepsJob, KeepsJobs}
 use Rattle.job_table.specs.Entries.{row, rows}
 use Rattle.job_table.specs.Listed.{IsListed}
 use Rattle.job_table.specs.declared.entry.Entry.{Entry}

@@ -6,9 +6,9 @@ use Rattle.history_model.specs.Clock.{now}
 use Rattle.history_model.specs.Due.{due}
 use Rattle.history_model.specs.Refusals.{refusal_of, IsLawful}
 use Rattle.history_model.specs.Facts.{Facts}
-use Rattle.history_model.specs.Keeps.{Keeps}
-use Rattle.history_model.specs.Coming.{next_by}
-use Rattle.history_model.specs.Skipping.{IsLater}
+use Rattle.history_model.specs.FactsOfPast.{Keeps}
+use Rattle.history_model.specs.NextMomentByFacts.{next_by}
+use Rattle.history_model.specs.LaterMoments.{IsLater}
 use Rattle.history_model.proofs.ComingLemmas.{next-by}
 use Rattle.history_model.proofs.SkippingLemmas.{keeps-still, due-kept}
 

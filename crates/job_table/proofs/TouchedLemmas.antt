@@ -12,13 +12,13 @@ use Rattle.history_model.specs.Clock.{definition_of}
 use Rattle.history_model.specs.Labels.{Label, is_same}
 use Rattle.history_model.specs.declared.Refusal.{Refusal}
 use Rattle.history_model.specs.Search.{first}
-use Rattle.history_model.specs.Keeps.{reply}
+use Rattle.history_model.specs.FactsOfPast.{reply}
 use Rattle.history_model.specs.Machine.{State, Job, is_of, past_in}
 use Rattle.history_model.specs.Step.{lists, heard, heard as heard_of, heard_one, with_item, stays, orders_of}
 use Rattle.job_defs.specs.Definitions.{definition}
 use Rattle.job_defs.specs.Described.{Described}
 use Rattle.job_table.specs.Tables.{Row, Name, IsOther, IsOnce}
-use Rattle.job_table.specs.Kept.{KeepsJobs, KeepsState, IsAtRest, labelled}
+use Rattle.job_table.specs.StandsFor.{KeepsJobs, KeepsState, IsAtRest, labelled}
 use Rattle.job_table.specs.Sound.{seen}
 use Rattle.job_table.specs.Alike.{IsAlike}
 use Rattle.job_table.specs.Loads.{refused_with}

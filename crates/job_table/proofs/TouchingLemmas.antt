@@ -14,15 +14,15 @@ use Rattle.history_model.specs.Items.{History}
 use Rattle.history_model.specs.Search.{first}
 use Rattle.history_model.specs.Clock.{now, load_of, definition_of, crosses_interval}
 use Rattle.history_model.specs.Calendar.{Zone, allows, crossed}
-use Rattle.history_model.specs.Coming.{next_by}
+use Rattle.history_model.specs.NextMomentByFacts.{next_by}
 use Rattle.history_model.specs.Facts.{Facts}
-use Rattle.history_model.specs.Keeps.{Keeps}
+use Rattle.history_model.specs.FactsOfPast.{Keeps}
 use Rattle.history_model.specs.Labels.{Label, is_same}
 use Rattle.history_model.specs.Machine.{Job, is_of, past_in}
 use Rattle.history_model.specs.Moments.{waits, next_moment, IsPeriod, IsMoment, is_reached, is_minute_crossed, touches}
 use Rattle.history_model.proofs.ComingLemmas.{next-by}
 use Rattle.history_model.proofs.MomentsLemmas.{is-one}
-use Rattle.job_table.specs.Kept.{KeepsJob, KeepsJobs}
+use Rattle.job_table.specs.StandsFor.{KeepsJob, KeepsJobs}
 use Rattle.job_table.specs.Counts.{counts, count_in}
 use Rattle.job_table.specs.Entries.{row, name, rows, AllStay}
 use Rattle.job_table.specs.Periods.{HavePeriods}

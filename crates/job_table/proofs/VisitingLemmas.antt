@@ -11,13 +11,13 @@ use Rattle.history_model.specs.Items.{Item}
 use Rattle.history_model.specs.Clock.{now}
 use Rattle.history_model.specs.Runs.{is_gone}
 use Rattle.history_model.specs.Due.{due}
-use Rattle.history_model.specs.Keeps.{Keeps, ordered}
+use Rattle.history_model.specs.FactsOfPast.{Keeps, ordered}
 use Rattle.history_model.specs.Machine.{Job}
 use Rattle.history_model.specs.Step.{acts_of, listed, stays, heard, with_item}
 use Rattle.history_model.proofs.BooleanLemmas.{or-second}
 use Rattle.job_defs.specs.Definitions.{definition}
 use Rattle.job_table.specs.Tables.{Row}
-use Rattle.job_table.specs.Kept.{KeepsJob, KeepsJobs, IsAtRest, numbered, numbered_all}
+use Rattle.job_table.specs.StandsFor.{KeepsJob, KeepsJobs, IsAtRest, numbered, numbered_all}
 use Rattle.job_table.specs.Counts.{next_count}
 use Rattle.job_table.specs.Entries.{row, name, rows, AllStay}
 use Rattle.job_table.specs.News.{item_for}

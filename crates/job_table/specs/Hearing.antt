@@ -5,7 +5,7 @@ use Rattle.history_model.specs.declared.Refusal.{Refusal}
 use Rattle.history_model.specs.Items.{Item, History}
 use Rattle.history_model.specs.Clock.{now}
 use Rattle.history_model.specs.Refusals.{refusal_of}
-use Rattle.history_model.specs.Keeps.{Keeps}
+use Rattle.history_model.specs.FactsOfPast.{Keeps}
 use Rattle.history_model.specs.Machine.{Job}
 use Rattle.job_table.specs.Tables.{Row}
 use Rattle.job_table.specs.Entries.{name}

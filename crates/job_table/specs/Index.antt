@@ -1,7 +1,7 @@
 -- The index of moments: what holds of it beside the entries.
 use Rattle.std.specs.Prelude.{◌≡◌, ℕ, ◌<◌, ◌≤◌, Bool, true, cond, List, length, map, Option, Some, None, is_some, slice_get, slice_index_or}
 use Rattle.timer_heap.specs.Timers.{Timers, moment_in, room}
-use Rattle.history_model.specs.Coming.{next_by}
+use Rattle.history_model.specs.NextMomentByFacts.{next_by}
 use Rattle.job_table.specs.Tables.{Name, definition_of_number}
 use Rattle.std.specs.Prelude.{false}
 use Rattle.std.specs.List.{list_any}
@@ -9,7 +9,7 @@ use Rattle.history_model.specs.declared.Reading.{Reading}
 use Rattle.history_model.specs.declared.CivilMinute.{CivilMinute}
 use Rattle.history_model.specs.declared.Entry.{Entry as Due}
 use Rattle.history_model.specs.Calendar.{allows}
-use Rattle.history_model.specs.Skipping.{IsLater}
+use Rattle.history_model.specs.LaterMoments.{IsLater}
 use Rattle.job_table.specs.Entries.{name}
 use Rattle.job_table.specs.declared.entry.Entry.{Entry}
 use Rattle.job_table.specs.declared.jobs.Jobs.{Jobs}

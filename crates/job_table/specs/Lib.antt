@@ -1,5 +1,5 @@
 pub mod Tables
-pub mod Kept
+pub mod StandsFor
 pub mod Outcomes
 pub mod Counts
 pub mod Minutes

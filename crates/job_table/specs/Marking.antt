@@ -8,7 +8,7 @@ use Rattle.std.specs.List.{list_any, filter}
 use Rattle.job_table.specs.Visiting.{is_spared}
 use Rattle.job_table.specs.Triggers.{is_of, is_placed_at}
 use Rattle.job_table.specs.declared.trigger.Listed.{Listed}
-use Rattle.history_model.specs.Skipping.{IsLater}
+use Rattle.history_model.specs.LaterMoments.{IsLater}
 
 -- each job with a moment has a place, and a place has room for its mark
 abbrev pub HavePlaces : Timers → List ℕ → Timers → Type 0

@@ -6,7 +6,7 @@ use Rattle.history_model.specs.Labels.{Label}
 use Rattle.history_model.specs.Machine.{Job}
 use Rattle.timer_heap.specs.Timers.{moment_in}
 use Rattle.job_table.specs.Tables.{Row}
-use Rattle.job_table.specs.Kept.{IsAtRest}
+use Rattle.job_table.specs.StandsFor.{IsAtRest}
 use Rattle.job_table.specs.Counts.{counts, count_in}
 use Rattle.job_table.specs.Entries.{rows, has_label}
 use Rattle.job_table.specs.Index.{moment_for}

@@ -3,7 +3,7 @@
 ghost use Rattle.std.specs.Prelude.{◌≡◌, Some, true, map, is_some, not};
 ghost use Rattle.std.specs.List.{position};
 ghost use Rattle.history_model.specs.Labels.{is_before};
-ghost use Rattle.history_model.specs.WholeLaws.{AreInOrder};
+ghost use Rattle.history_model.specs.MachineLaws.{AreInOrder};
 ghost use Rattle.job_table.specs.Tables.{label_of, definition_of_number, labels_in};
 ghost use Rattle.job_table.specs.Entries.{name, has_number, has_label, is_here, is_above, place_for};
 ghost use Rattle.job_table.specs.Index.{ArePlaced};

@@ -9,7 +9,7 @@ ghost use Rattle.history_model.specs.Machine.{Job, is_of, past_in};
 ghost use Rattle.history_model.specs.Acceptance.{refusal_at};
 ghost use Rattle.history_model.specs.Step.{heard, heard_one, stays, orders_of};
 ghost use Rattle.job_core.specs.Events.{item_of};
-ghost use Rattle.job_table.specs.Kept.{KeepsJobs, labelled};
+ghost use Rattle.job_table.specs.StandsFor.{KeepsJobs, labelled};
 ghost use Rattle.job_table.specs.Numbers.{names_of};
 ghost use Rattle.job_table.specs.Room.{HasSameRoom};
 ghost use Rattle.job_table.specs.Entries.{rows, name, AllStay};

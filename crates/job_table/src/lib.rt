@@ -106,7 +106,7 @@ impl JobTable {
     ghost use Rattle.job_table.specs.Ends.{IsAnswer, GoesOn, GoesOnUnless, AreKnown, acts_of, names_in};
     ghost use Rattle.job_table.specs.Outcomes.{UnlessMemory, IsReplyText, Means};
     ghost use Rattle.job_core.specs.Memory.{NeedsNoMemory};
-    ghost use Rattle.job_table.specs.Kept.{acts_in, is_none, KeepsState};
+    ghost use Rattle.job_table.specs.StandsFor.{acts_in, is_none, KeepsState};
     ghost use Rattle.job_table.specs.Opening.{opening_refusal};
     ghost use Rattle.job_table.specs.Minutes.{has_calendars};
     ghost use Rattle.job_table.specs.Numbers.{IsNumbered};

@@ -12,7 +12,7 @@ ghost use Rattle.history_model.specs.declared.TheConstants.{MAX_JOBS, MAX_UP};
 ghost use Rattle.history_model.specs.Items.{Item};
 ghost use Rattle.history_model.specs.Machine.{Job};
 ghost use Rattle.history_model.specs.Step.{stays as job_stays, heard};
-ghost use Rattle.job_table.specs.Kept.{KeepsJobs, numbered_all};
+ghost use Rattle.job_table.specs.StandsFor.{KeepsJobs, numbered_all};
 ghost use Rattle.job_table.specs.Hearing.{AreFor, IsAccepted, present_with};
 ghost use Rattle.job_table.specs.Visiting.{is_spared, AreSpared, AreAtRest, AreVisitedOnce, count_visited};
 ghost use Rattle.job_table.specs.Tables.{Name, IsOnce, is_known};

@@ -4,7 +4,7 @@ ghost use Rattle.std.specs.Prelude.{◌≡◌};
 ghost use Rattle.std.specs.Option.{option_map};
 ghost use Rattle.history_model.specs.Machine.{State, past_of};
 ghost use Rattle.history_model.specs.Reasons.{reasons_of};
-ghost use Rattle.job_table.specs.Kept.{KeepsState};
+ghost use Rattle.job_table.specs.StandsFor.{KeepsState};
 ghost use Rattle.job_table.specs.Waking.{waking, spawning, demanding, holding};
 
 use crate::find::place_here;

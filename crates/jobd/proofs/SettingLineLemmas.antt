@@ -7,7 +7,7 @@ use Rattle.history_model.specs.Labels.{Label}
 use Rattle.history_model.specs.Machine.{State}
 use Rattle.history_model.specs.Acceptance.{refusal_in, refusal_stored}
 use Rattle.job_table.specs.Tables.{Table}
-use Rattle.job_table.specs.Kept.{KeepsState, acts_in}
+use Rattle.job_table.specs.StandsFor.{KeepsState, acts_in}
 use Rattle.job_table.specs.Outcomes.{IsSameFor}
 use Rattle.job_table.specs.Changes.{set_of, IsChanged, Changes}
 use Rattle.job_table.specs.declared.changing.NewSetting.{NewSetting}

@@ -2,7 +2,7 @@
 #![tactic(auto)]
 
 mod events;
-mod launcher;
+mod journal_machine;
 pub mod laws;
 mod lines;
 mod loads;

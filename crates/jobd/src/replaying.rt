@@ -3,7 +3,7 @@ ghost use Rattle.std.specs.Prelude.{OnOk, IfErr, ◌^◌};
 ghost use Rattle.replay_loop.specs.Reading.{Finished, Failed};
 ghost use Rattle.table_opening.specs.Output.{IsOutput};
 
-use crate::launcher::Launcher;
+use crate::journal_machine::JournalMachine;
 use replay_loop::{ReplayFault, run_within};
 use std::alloc::Global;
 use std::io::{Read, Write};
@@ -24,7 +24,7 @@ pub fn replay_within<R: Read, W: Write>(
       holds = W.contents writer.new;
     }) e) }
 {
-    match run_within::<Launcher, R, W>(alloc, reader, writer, reads) {
+    match run_within::<JournalMachine, R, W>(alloc, reader, writer, reads) {
         Ok(()) => Ok(()),
         Err(e) => Err(e),
     }

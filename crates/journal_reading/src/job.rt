@@ -137,7 +137,7 @@ impl Job {
     /// TERM or KILL was ordered for the present run.
     pub(crate) fn tell(&mut self, kills: bool, at: Reading) {
         if let Some(run) = &mut self.current {
-            run.is_told = true;
+            run.is_ordered_to_end = true;
         }
         if kills {
             self.kill = Some(at);
@@ -179,7 +179,7 @@ impl Job {
     pub(crate) fn end(&mut self, how: Ended, at: Reading) -> Option<Run> {
         let mut run = self.current?;
         run.ended = at;
-        run.is_crash = is_crash(how, run.is_told);
+        run.is_crash = is_crash(how, run.is_ordered_to_end);
         run.end = match how {
             Ended::Code(code) => RunEnd::Code(code),
             Ended::Signal(signal) => RunEnd::Signal(signal),

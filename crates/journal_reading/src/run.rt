@@ -35,19 +35,19 @@ pub struct Run {
     pub ended: Reading,
     pub end: RunEnd,
     /// Whether TERM or KILL was ordered for it.
-    pub is_told: bool,
+    pub is_ordered_to_end: bool,
     /// Whether its end was a crash.
     pub is_crash: bool,
 }
 
 /// Whether an end is a crash: by one of the signals 3 to 8, 11 and 31, or by an unknown one if neither TERM nor KILL was ordered.
-pub(crate) fn is_crash(how: Ended, is_told: bool) -> bool
-    ensures { result ≡ is_crash_end is_told how }
+pub(crate) fn is_crash(how: Ended, is_ordered_to_end: bool) -> bool
+    ensures { result ≡ is_crash_end is_ordered_to_end how }
 {
     match how {
         Ended::Code(_) => false,
         Ended::Signal(3..=8 | 11 | 31) => true,
-        Ended::Signal(0) => !is_told,
+        Ended::Signal(0) => !is_ordered_to_end,
         Ended::Signal(_) => false,
     }
 }
@@ -63,7 +63,7 @@ impl Run {
             begun: at,
             ended: at,
             end: RunEnd::Awaited,
-            is_told: false,
+            is_ordered_to_end: false,
             is_crash: false,
         }
     }

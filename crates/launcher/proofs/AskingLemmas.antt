@@ -11,7 +11,7 @@ use Rattle.history_model.specs.Machine.{State, Event, ListJobs, PrintJob}
 use Rattle.history_model.specs.Acceptance.{refusal_in}
 use Rattle.history_model.specs.Step.{Outcome, outcome, step, step_by}
 use Rattle.job_table.specs.Tables.{Table}
-use Rattle.job_table.specs.Kept.{KeepsState}
+use Rattle.job_table.specs.StandsFor.{KeepsState}
 use Rattle.job_table.specs.Loads.{load_of, refused_with}
 use Rattle.job_table.specs.Changes.{set_of}
 use Rattle.job_table.specs.Numbers.{IsNumbered}
@@ -20,7 +20,7 @@ use Rattle.load_asking.specs.declared.asking.Outside.{Outside}
 use Rattle.load_asking.specs.Asking.{told_of}
 use Rattle.load_asking.specs.Stores.{StoreCall}
 use Rattle.load_asking.proofs.AskLemmas.{told_nothing}
-use Rattle.event_journal.specs.Journals.{Kept, Grows}
+use Rattle.event_journal.specs.Journals.{JournalState, Grows}
 use Rattle.event_journal.proofs.JournalsLemmas.{grows_nothing}
 use Rattle.ctl_protocol.specs.EventWriter.{event_line}
 use Rattle.launcher_turn.specs.Turns.{IsLed, TurnsOf, trace}
@@ -46,7 +46,7 @@ loaded bytes writes_setting force outside refusal words old new before after unt
     (λ memory. (
       record {
         untouched = untouched memory;
-        silent = subst (λ (x : Kept). Grows old.journal x []) (sym (silent memory)) (grows_nothing old.journal);
+        silent = subst (λ (x : JournalState). Grows old.journal x []) (sym (silent memory)) (grows_nothing old.journal);
         stored = λ s keeps holds. unsettled after refusal s (load_of bytes writes_setting force outside.bind outside.store) memory (stored s keeps holds);
       },
       silent memory,
@@ -129,7 +129,7 @@ changed label disabled unload kept refusal old new before after untouched silent
     (λ memory. (
       record {
         untouched = untouched memory;
-        silent = subst (λ (x : Kept). Grows old.journal x []) (sym (silent memory)) (grows_nothing old.journal);
+        silent = subst (λ (x : JournalState). Grows old.journal x []) (sym (silent memory)) (grows_nothing old.journal);
         stored = λ s keeps holds. unsettled after refusal s (set_of label disabled unload kept) memory (stored s keeps holds);
       },
       silent memory,
@@ -140,7 +140,7 @@ changed label disabled unload kept refusal old new before after untouched silent
 -- ---- questions
 
 -- a question that is answered is the whole turn
-question : (s : State) (e : Event) (line text : List ℕ) (table : Table) (a : Option (List Entry)) (k n : Kept) → (outcome s e ≡ record { refusal = None; orders = []; text = text }) × (step s e ≡ s) →
+question : (s : State) (e : Event) (line text : List ℕ) (table : Table) (a : Option (List Entry)) (k n : JournalState) → (outcome s e ≡ record { refusal = None; orders = []; text = text }) × (step s e ≡ s) →
     IsNumbered table → Grows k n line → KeepsState table s → IsLed s → TurnsOf s e line None table (trace a k) (trace a n)
 question s e line text table a k n (is, same) numbered noted keeps led = record {
   names = table.names;
@@ -162,14 +162,14 @@ question s e line text table a k n (is, same) numbered noted keeps led = record 
 }
 
 -- no memory, and no line
-uncalled : (table : Table) (a : Option (List Entry)) (t : Option (List StoreCall)) (k n : Kept) (before : List Setting → Type 0) → n ≡ k → IsSpared (standing table a t k) (standing table a t n) before before
+uncalled : (table : Table) (a : Option (List Entry)) (t : Option (List StoreCall)) (k n : JournalState) (before : List Setting → Type 0) → n ≡ k → IsSpared (standing table a t k) (standing table a t n) before before
 uncalled table a t k n before is = record {
   untouched = record { same = λ s keeps. keeps; rows = refl; tells = tells_nothing a; stores = told_nothing t };
-  silent = subst (λ (x : Kept). Grows k x []) (sym is) (grows_nothing k);
+  silent = subst (λ (x : JournalState). Grows k x []) (sym is) (grows_nothing k);
   stored = λ s keeps holds. holds;
 }
 
-module _ {A : Type 0} (bytes : A → List ℕ) (table : Table) (a : Option (List Entry)) (t : Option (List StoreCall)) (k n : Kept) (before : List Setting → Type 0) (words : List ℕ) where
+module _ {A : Type 0} (bytes : A → List ℕ) (table : Table) (a : Option (List Entry)) (t : Option (List StoreCall)) (k n : JournalState) (before : List Setting → Type 0) (words : List ℕ) where
   pub listed : (answer : Result A Refusal) → IfOk answer (λ x. IsReplyText ListJobs table (bytes x)) → IfErr answer (λ r. r ≡ NoMemory) → OnOk answer (Grows k n (event_line journaled.List)) → OnErr answer (n ≡ k) →
       IsNumbered table → IfOk answer (λ x. words ≡ bytes x) → Hears (Some journaled.List) (refused_with answer) words (standing table a t k) (standing table a t n) before before
   unfolding question

@@ -18,13 +18,13 @@ use Rattle.load_asking.specs.declared.asking.Outside.{Outside}
 use Rattle.load_asking.specs.Stores.{StoreCall}
 use Rattle.load_asking.proofs.AskLemmas.{told_nothing}
 use Rattle.load_asking.specs.Asking.{told_of}
-use Rattle.event_journal.specs.Journals.{Kept, Grows}
+use Rattle.event_journal.specs.Journals.{JournalState, Grows}
 use Rattle.event_journal.proofs.JournalsLemmas.{grows_nothing}
 use Rattle.ctl_protocol.specs.EventWriter.{event_line}
-use Rattle.launcher_turn.specs.declared.happening.Happening.{Happening}
-use Rattle.launcher_turn.specs.declared.happening.Happening.TheVariants as happenings
-use Rattle.launcher_turn.specs.declared.happening.News.{News}
-use Rattle.launcher_turn.specs.declared.happening.News.TheVariants as news
+use Rattle.launcher_turn.specs.declared.event_ref.EventRef.{EventRef}
+use Rattle.launcher_turn.specs.declared.event_ref.EventRef.TheVariants as happenings
+use Rattle.launcher_turn.specs.declared.event_ref.News.{News}
+use Rattle.launcher_turn.specs.declared.event_ref.News.TheVariants as news
 use Rattle.launcher_turn.specs.Events as turns
 use Rattle.launcher_turn.specs.Events.{is_clock, item_heard}
 use Rattle.launcher_turn.specs.Lines.{journaled_by, journaled_of, journaled_answer}
@@ -59,7 +59,7 @@ same_news label (news.Ended run how) = refl
 same_news label (news.WaitRefused run) = refl
 same_news label (news.Answered a) = same_answer label a
 
-same_line : (what : Happening) → answered well (journaled_by what) ≡ journaled_by what
+same_line : (what : EventRef) → answered well (journaled_by what) ≡ journaled_by what
 same_line (happenings.Clock at) = refl
 same_line (happenings.Saw path obs) = refl
 same_line (happenings.ToJob label n) = same_news label.now n
@@ -82,7 +82,7 @@ news_event label (news.Ended run how) = refl
 news_event label (news.WaitRefused run) = refl
 news_event label (news.Answered a) = answer_event label a
 
-same_event : (what : Happening) → event_of (journaled_by what) ≡ turns.event_of what
+same_event : (what : EventRef) → event_of (journaled_by what) ≡ turns.event_of what
 same_event (happenings.Clock at) = refl
 same_event (happenings.Saw path obs) = refl
 same_event (happenings.ToJob label n) = news_event label.now n
@@ -108,7 +108,7 @@ module _ (s : State) (a : Option (List Entry)) (t : Option (List StoreCall)) whe
   asks_news label (news.WaitRefused run) = record { bind = refl; store = refl; tells = tells_nothing a; stores = told_nothing t }
   asks_news label (news.Answered x) = asks_answer label x
 
-  asks_none : (what : Happening) → AsksOutside s (journaled_by what) 0 well (told_of a t) (told_of a t)
+  asks_none : (what : EventRef) → AsksOutside s (journaled_by what) 0 well (told_of a t) (told_of a t)
   asks_none (happenings.Clock at) = record { bind = refl; store = refl; tells = tells_nothing a; stores = told_nothing t }
   asks_none (happenings.Saw path obs) = record { bind = refl; store = refl; tells = tells_nothing a; stores = told_nothing t }
   asks_none (happenings.ToJob label n) = asks_news label.now n
@@ -131,7 +131,7 @@ own_news label (news.Ended run how) names = tt
 own_news label (news.WaitRefused run) names = tt
 own_news label (news.Answered x) names = own_answer label x names
 
-own_none : (what : Happening) (names : List Name) → IsOwn (journaled_by what) names 0
+own_none : (what : EventRef) (names : List Name) → IsOwn (journaled_by what) names 0
 own_none (happenings.Clock at) names = tt
 own_none (happenings.Saw path obs) names = tt
 own_none (happenings.ToJob label n) names = own_news label.now n names
@@ -140,16 +140,16 @@ own_none happenings.Shutdown names = tt
 
 -- ---- what it does to words and settings
 
-quiet : (what : Happening) (t : State) → text_after (turns.event_of what) t ≡ []
+quiet : (what : EventRef) (t : State) → text_after (turns.event_of what) t ≡ []
 quiet (happenings.Clock at) t = refl
 quiet (happenings.Saw path obs) t = refl
 quiet (happenings.ToJob label n) t = refl
 quiet (happenings.Unload label) t = refl
 quiet happenings.Shutdown t = refl
 
-unset : (s : State) (what : Happening) → (step s (turns.event_of what)).settings ≡ s.settings
+unset : (s : State) (what : EventRef) → (step s (turns.event_of what)).settings ≡ s.settings
 unset s what = go what (refusal_in s (turns.event_of what)) where
-  go : (w : Happening) (o : Option Refusal) → (step_by o s (turns.event_of w)).settings ≡ s.settings
+  go : (w : EventRef) (o : Option Refusal) → (step_by o s (turns.event_of w)).settings ≡ s.settings
   go w (Some refusal) = refl
   go (happenings.Clock at) None = refl
   go (happenings.Saw path obs) None = refl
@@ -168,7 +168,7 @@ unless P (Err _) holds other = holds
 abbrev Counted : State → Event → List ℕ → Option Refusal → Table → Table → Trace → Trace → Type 0
 Counted s e line reply old new before after = (turn : TurnsOf s e line reply new before after) × (reply ≡ None → AreNumbered turn.names old)
 
-pub happened : (what : Happening) (answer : Result (Unit {0}) Refusal) (old new : Table) (a c : Option (List Entry)) (t : Option (List StoreCall)) (k n : Kept) (before : List Setting → Type 0) →
+pub happened : (what : EventRef) (answer : Result (Unit {0}) Refusal) (old new : Table) (a c : Option (List Entry)) (t : Option (List StoreCall)) (k n : JournalState) (before : List Setting → Type 0) →
     UnlessMemory answer (Turns (turns.event_of what) (event_line (journaled_by what)) (refused_with answer) old new (trace a k) (trace c n)) →
     (answer ≡ Err NoMemory → (is_clock what ≡ true) × IsUntouched old new a c × (n ≡ k)) →
     Hears (Some (journaled_by what)) (refused_with answer) [] (standing old a t k) (standing new c t n) before before
@@ -178,7 +178,7 @@ happened what answer old new a c t k n before turned none =
     let left = none (is_want answer memory) in (
       record {
         untouched = record { same = left.1.same; rows = left.1.rows; tells = left.1.tells; stores = told_nothing t };
-        silent = subst (λ (x : Kept). Grows k x []) (sym left.2) (grows_nothing k);
+        silent = subst (λ (x : JournalState). Grows k x []) (sym left.2) (grows_nothing k);
         stored = λ s keeps holds. holds;
       },
       left.2,

@@ -19,7 +19,7 @@ use Rattle.job_table.specs.Tables.{Table}
 use Rattle.load_asking.specs.declared.store.StoreFault.{StoreFault}
 use Rattle.load_asking.specs.declared.store.StoreFault.TheVariants as answers
 use Rattle.load_asking.specs.Stores.{StoreCall, AreTold}
-use Rattle.event_journal.specs.Journals.{Kept, Grows}
+use Rattle.event_journal.specs.Journals.{JournalState, Grows}
 use Rattle.launcher_turn.specs.Turns.{IsLed}
 use Rattle.table_opening.specs.Openings.{OpensBy, StandsOpened}
 use Rattle.launcher.specs.declared.host.HostFault.{HostFault}
@@ -45,7 +45,7 @@ led_opened h high = record { orderly = record { range = high; order = tt; labels
 pub led_first : (header : Header) (s : State) → OpensBy header s → opening_refusal header.reading header.overrides ≡ None → IsLed s
 led_first header s opens admitted = subst IsLed (sym opens.state) (led_opened (record { reading = header.reading; zone = shown_by opens.ahead; overrides = header.overrides }) (within header.reading header.overrides admitted))
 
-pub made_new : (header : Header) (settings : List Setting) (table : Table) (calls : Option (List Entry)) (stores stores' : Option (List StoreCall)) (first noted : Kept) (before after : List Setting → Type 0) →
+pub made_new : (header : Header) (settings : List Setting) (table : Table) (calls : Option (List Entry)) (stores stores' : Option (List StoreCall)) (first noted : JournalState) (before after : List Setting → Type 0) →
     StandsOpened (with_settings header settings) table → AreTold stores [] stores' → Grows first noted (header_line (with_settings header settings)) → ((list : List Setting) → before list → after (reverse settings)) →
     IsNewWith settings header calls stores first (standing table calls stores' noted) before after
 made_new header settings table calls stores stores' first noted before after stands uncalled grew holds = (

@@ -6,12 +6,12 @@ use Rattle.history_model.specs.declared.Refusal.{Refusal}
 use Rattle.history_model.specs.Labels.{Label}
 use Rattle.history_model.specs.Machine.{State}
 use Rattle.job_table.specs.Tables.{Table}
-use Rattle.job_table.specs.Kept.{KeepsState}
+use Rattle.job_table.specs.StandsFor.{KeepsState}
 use Rattle.load_asking.specs.Stores.{HoldsAfter, Stamp}
-use Rattle.launcher_turn.specs.declared.happening.Happening.{Happening}
-use Rattle.launcher_turn.specs.declared.happening.Happening.TheVariants as happenings
-use Rattle.launcher_turn.specs.declared.happening.News.{News}
-use Rattle.launcher_turn.specs.declared.happening.News.TheVariants as news
+use Rattle.launcher_turn.specs.declared.event_ref.EventRef.{EventRef}
+use Rattle.launcher_turn.specs.declared.event_ref.EventRef.TheVariants as happenings
+use Rattle.launcher_turn.specs.declared.event_ref.News.{News}
+use Rattle.launcher_turn.specs.declared.event_ref.News.TheVariants as news
 use Rattle.launcher_turn.specs.Lines.{journaled_answer, journaled_by, journaled_of}
 use Rattle.launcher_load.specs.Lines.{journaled_set}
 use Rattle.launcher_load.specs.LoadTurns.{stamps_after}
@@ -42,7 +42,7 @@ news_sets_none job (news.Ended run how) = refl
 news_sets_none job (news.WaitRefused run) = refl
 news_sets_none job (news.Answered a) = answer_sets_none job a
 
-pub sets_none : (what : Happening) → label_asked (Some (journaled_by what)) ≡ None
+pub sets_none : (what : EventRef) → label_asked (Some (journaled_by what)) ≡ None
 sets_none (happenings.Clock at) = refl
 sets_none (happenings.Saw path obs) = refl
 sets_none (happenings.ToJob label n) = news_sets_none label.now n

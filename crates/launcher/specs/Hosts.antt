@@ -15,13 +15,13 @@ use Rattle.ctl_protocol.specs.declared.header.Header.{Header}
 use Rattle.ctl_protocol.specs.EventWriter.{event_line}
 use Rattle.ctl_protocol.specs.HeaderLines.{header_line}
 use Rattle.job_table.specs.Tables.{Name, definition_of_number}
-use Rattle.job_table.specs.Kept.{KeepsState}
+use Rattle.job_table.specs.StandsFor.{KeepsState}
 use Rattle.job_table.specs.Loads.{load_of}
 use Rattle.child_edge.specs.Calls.{Entry}
 use Rattle.load_asking.specs.declared.asking.Outside.{Outside}
 use Rattle.load_asking.specs.Asking.{Told, told_of}
 use Rattle.load_asking.specs.Stores.{HoldsAfter, Stamp, StoreCall, AreTold, set_call}
-use Rattle.event_journal.specs.Journals.{Kept, Grows}
+use Rattle.event_journal.specs.Journals.{JournalState, Grows}
 use Rattle.launcher_turn.specs.Turns.{AreNumbered, IsLed, KeepsNumbers, TurnsOf, trace}
 use Rattle.launcher_load.specs.LoadTurns.{AsksFor, AsksNothing, AsksStore, IsUntouched, SetRequest, Standing, event_of_set, is_memory, label_written, load_request, set_request, stamps_after, standing}
 use Rattle.table_opening.specs.Events.{event_of}
@@ -152,7 +152,7 @@ with_settings header settings =
 -- gave, has asked the outside nothing, and its journal has that header's line, or a front of it. If
 -- the store held any settings, it holds those of this machine.
 pub record IsNew (header : Header) (calls : Option (List Entry)) (stores : Option (List StoreCall))
-    (journal : Kept) (new : Standing) (before after : List Setting → Type 0) : Type 0 where
+    (journal : JournalState) (new : Standing) (before after : List Setting → Type 0) : Type 0 where
   pub settings : List Setting
   pub machine : State
   pub opens : OpensBy (with_settings header settings) machine
@@ -165,6 +165,6 @@ pub record IsNew (header : Header) (calls : Option (List Entry)) (stores : Optio
 
 -- and these are the settings that the store gave
 abbrev pub IsNewWith : List Setting → Header → Option (List Entry) → Option (List StoreCall) →
-    Kept → Standing → (List Setting → Type 0) → (List Setting → Type 0) → Type 0
+    JournalState → Standing → (List Setting → Type 0) → (List Setting → Type 0) → Type 0
 IsNewWith settings header calls stores journal new before after =
     (made : IsNew header calls stores journal new before after) × (made.settings ≡ settings)

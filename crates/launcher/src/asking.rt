@@ -17,7 +17,7 @@ use ctl_protocol::ReadFault;
 use history_model::{Event, Refusal, Reply};
 use job_table::JobTable;
 use launcher_load::{load, set};
-use launcher_turn::{Happening, News, list, print};
+use launcher_turn::{EventRef, News, list, print};
 use load_asking::SettingStore;
 use std::alloc::Global;
 use std::io::Write;
@@ -72,20 +72,20 @@ impl<T: SettingStore, E: ChildEdge + SocketEdge, W: Write> Host<T, E, W> {
                 ..
             } => self.unload(alloc, job.as_str(), writes_setting),
             Event::Start { job } => {
-                self.happen(alloc, Happening::ToJob(job.as_str(), News::Start))
+                self.happen(alloc, EventRef::ToJob(job.as_str(), News::Start))
             }
-            Event::Stop { job } => self.happen(alloc, Happening::ToJob(job.as_str(), News::Stop)),
+            Event::Stop { job } => self.happen(alloc, EventRef::ToJob(job.as_str(), News::Stop)),
             Event::Kickstart { job, kills_first } => {
                 self.happen(
                     alloc,
-                    Happening::ToJob(job.as_str(), News::Kickstart(kills_first)),
+                    EventRef::ToJob(job.as_str(), News::Kickstart(kills_first)),
                 )
             }
             Event::Enable { job, .. } => self.set(alloc, job.as_str(), false, false),
             Event::Disable { job, .. } => self.set(alloc, job.as_str(), true, false),
             Event::List => self.list(alloc),
             Event::Print { job } => self.print(alloc, job.as_str()),
-            Event::Shutdown => self.happen(alloc, Happening::Shutdown),
+            Event::Shutdown => self.happen(alloc, EventRef::Shutdown),
             _ => refused(alloc, Refusal::BadRequest),
         }
     }
@@ -147,7 +147,7 @@ impl<T: SettingStore, E: ChildEdge + SocketEdge, W: Write> Host<T, E, W> {
         if writes_setting {
             self.set(alloc, job, true, true)
         } else {
-            self.happen(alloc, Happening::Unload(job))
+            self.happen(alloc, EventRef::Unload(job))
         }
     }
 

@@ -15,7 +15,7 @@ use crate::replies::{done, is_want, refused};
 use child_edge::{ChildEdge, SocketEdge};
 use history_model::{Refusal, Reply};
 use job_defs::is_label;
-use launcher_turn::{Happening, News, turn};
+use launcher_turn::{EventRef, News, turn};
 use load_asking::SettingStore;
 use std::alloc::Global;
 use std::io::Write;
@@ -58,8 +58,8 @@ impl<T: SettingStore, E: ChildEdge + SocketEdge, W: Write> Host<T, E, W> {
         lend_input(input);
         match input {
             Input::Line(line) => self.line(alloc, line),
-            Input::Clock(at) => self.happen(alloc, Happening::Clock(at)),
-            Input::Saw(path, obs) => self.happen(alloc, Happening::Saw(path, obs)),
+            Input::Clock(at) => self.happen(alloc, EventRef::Clock(at)),
+            Input::Saw(path, obs) => self.happen(alloc, EventRef::Saw(path, obs)),
             Input::Came(job, conn) => self.happen_to(alloc, job, News::Came(conn)),
             Input::Left(job, conn) => self.happen_to(alloc, job, News::Left(conn)),
             Input::Ended(job, run, how) => self.happen_to(alloc, job, News::Ended(run, how)),
@@ -78,14 +78,14 @@ impl<T: SettingStore, E: ChildEdge + SocketEdge, W: Write> Host<T, E, W> {
         ensures quiet { is_some result.refusal ≡ true → result.text ≡ [] }
     {
         if is_label(job) {
-            self.happen(alloc, Happening::ToJob(job, what))
+            self.happen(alloc, EventRef::ToJob(job, what))
         } else {
             refused(alloc, Refusal::BadRequest)
         }
     }
 
     /// What happens, if the outside is first asked nothing.
-    pub(crate) fn happen(&mut self, alloc: Global, what: Happening<'_>) -> Reply
+    pub(crate) fn happen(&mut self, alloc: Global, what: EventRef<'_>) -> Reply
         ensures hears { HostHears E.told T.told T.holds (Some (journaled_by what.entry))
             result.refusal result.text self.old self.new }
         ensures stamped { HostStamps T.stamped (Some (journaled_by what.entry))

@@ -3,15 +3,15 @@ use Rattle.std.proofs.Common.{List, Option}
 use Rattle.history_model.specs.declared.event.Setting.{Setting}
 use Rattle.ctl_protocol.specs.declared.header.Header.{Header}
 use Rattle.load_asking.specs.Stores.{StoreCall}
-use Rattle.event_journal.specs.Journals.{Kept}
+use Rattle.event_journal.specs.Journals.{JournalState}
 use Rattle.launcher.specs.Hosts.{IsNew}
-use Rattle.launcher_laws.specs.Runs.{Moment, Turn, AreTurns}
+use Rattle.launcher_laws.specs.Runs.{Snapshot, Turn, AreTurns}
 use Rattle.launcher_laws.specs.Lasting.{Lasts}
 use Rattle.launcher_laws.proofs.RunsLemmas.{went}
 use Rattle.child_edge.specs.Calls.{Entry}
 
 module _ {T : Type 0} (holds : T → List Setting → Type 0) where
-  pub lasted : (header : Header) (calls : Option (List Entry)) (stores : Option (List StoreCall)) (journal : Kept) (store : T) (first last : Moment T) (turns : List (Turn T)) →
+  pub lasted : (header : Header) (calls : Option (List Entry)) (stores : Option (List StoreCall)) (journal : JournalState) (store : T) (first last : Snapshot T) (turns : List (Turn T)) →
       (new : IsNew header calls stores journal first.stands (holds store) (holds first.store)) → AreTurns holds first turns last → (list : List Setting) → holds store list → Lasts holds new.machine turns last
   lasted header calls stores journal store first last turns new heard list held =
       let w = went holds new.machine first turns last new.led new.kept heard in

@@ -8,15 +8,15 @@ use Rattle.override_store.specs.OverrideStores.{HoldsSettings, IsOpenedOn, rows_
 use Rattle.override_store.specs.Settings.{HoldsEach, setting_in}
 use Rattle.override_store.proofs.AgainLemmas.{held_on, same_settings}
 use Rattle.load_asking.specs.Stores.{StoreCall}
-use Rattle.event_journal.specs.Journals.{Kept}
+use Rattle.event_journal.specs.Journals.{JournalState}
 use Rattle.launcher.specs.Hosts.{IsNew}
-use Rattle.launcher_laws.specs.Runs.{Moment, Turn, AreTurns}
+use Rattle.launcher_laws.specs.Runs.{Snapshot, Turn, AreTurns}
 use Rattle.launcher_laws.specs.Lasting.{Lasts, settings_of}
 use Rattle.launcher_laws.proofs.LastingLemmas.{lasted}
 use Rattle.child_edge.specs.Calls.{Entry}
 
 module _ {T : Type 0} (state_of : T → State) where
-  pub reopened : (header : Header) (calls : Option (List Entry)) (stores : Option (List StoreCall)) (journal : Kept) (store : T) (first last : Moment T) (turns : List (Turn T)) (again : State) →
+  pub reopened : (header : Header) (calls : Option (List Entry)) (stores : Option (List StoreCall)) (journal : JournalState) (store : T) (first last : Snapshot T) (turns : List (Turn T)) (again : State) →
       (new : IsNew header calls stores journal first.stands (HoldsSettings (state_of store)) (HoldsSettings (state_of first.store))) → AreTurns (λ t. HoldsSettings (state_of t)) first turns last →
       (list : List Setting) → HoldsSettings (state_of store) list → IsOpenedOn (state_of last.store) again → HasCleanDisk again → (listed : List Setting) → HoldsEach (rows_in again.now.trees) (reverse listed) →
       (lasts : Lasts (λ t. HoldsSettings (state_of t)) new.machine turns last) × ((label : List ℕ) → setting_in (reverse listed) label ≡ setting_in (settings_of lasts) label)

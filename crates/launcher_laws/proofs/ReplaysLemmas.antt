@@ -20,7 +20,7 @@ use Rattle.table_opening.specs.Events.{event_of, read_as, event_in}
 use Rattle.table_opening.specs.Openings.{OpensBy}
 use Rattle.table_opening.specs.Output.{IsOutput}
 use Rattle.launcher.specs.Hosts.{IsNew, with_settings}
-use Rattle.launcher_laws.specs.Runs.{Moment, Turn, AreTurns, events_in as parts_events}
+use Rattle.launcher_laws.specs.Runs.{Snapshot, Turn, AreTurns, events_in as parts_events}
 use Rattle.launcher.specs.Writable.{IsWritable}
 use Rattle.launcher_laws.specs.Writable.{IsWritableHeader}
 use Rattle.launcher_laws.specs.Replays.{outcome_texts, IsReplayed}
@@ -57,7 +57,7 @@ its_bytes old mid new bytes first more begins ends one two =
     subst (λ o. Appends (Some []) o (first ++ more)) ends (subst (λ o. Appends o new (first ++ more)) begins (Appends-trans old mid new first more one two))
 
 module _ {T : Type 0} (holds : T → List Setting → Type 0) where
-  pub replayed : (header : Header) (calls : Option (List Entry)) (stores : Option (List StoreCall)) (store : T) (first last : Moment T) (turns : List (Turn T)) (bytes : List ℕ) →
+  pub replayed : (header : Header) (calls : Option (List Entry)) (stores : Option (List StoreCall)) (store : T) (first last : Snapshot T) (turns : List (Turn T)) (bytes : List ℕ) →
       (new : IsNew header calls stores (fresh (Some []) true) first.stands (holds store) (holds first.store)) → AreTurns holds first turns last →
       last.stands.journal.phase ≡ Open → last.stands.journal.bytes ≡ Some bytes → IsWritableHeader (with_settings header new.settings) →
       IsReplayed (with_settings header new.settings) turns bytes

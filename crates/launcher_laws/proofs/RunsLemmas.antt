@@ -14,14 +14,14 @@ use Rattle.history_model.specs.Labels.{Label}
 use Rattle.history_model.specs.Machine.{State, Event, OfJob}
 use Rattle.history_model.specs.Step.{Outcome, outcome, step, run, outcomes}
 use Rattle.job_table.specs.Tables.{Table, Name, label_of}
-use Rattle.job_table.specs.Kept.{KeepsState}
-use Rattle.order_edge.specs.declared.pending.Pending.{Pending}
+use Rattle.job_table.specs.StandsFor.{KeepsState}
+use Rattle.order_edge.specs.declared.unheard.Unheard.{Unheard}
 use Rattle.order_edge.specs.Calls.{answers_in}
 use Rattle.ctl_protocol.specs.EventWriter.{event_line}
 use Rattle.event_journal.specs.declared.journal.Phase.{Phase}
 use Rattle.event_journal.specs.declared.writer.Cause.{Cause}
 use Rattle.event_journal.specs.declared.journal.Phase.TheVariants.{Open, Closed, Reported}
-use Rattle.event_journal.specs.Journals.{Kept, Grows, GrowsIn, reported}
+use Rattle.event_journal.specs.Journals.{JournalState, Grows, GrowsIn, reported}
 use Rattle.launcher_turn.specs.Lines.{journaled_answer, answer_texts}
 use Rattle.launcher_turn.specs.Turns.{IsLed, event_in, events_in}
 use Rattle.launcher_turn.proofs.StoredSettingsLemmas.{turn_settings}
@@ -30,7 +30,7 @@ use Rattle.table_opening.specs.Events.{event_of}
 use Rattle.launcher.specs.Inputs.{answered}
 use Rattle.launcher.specs.Hosts.{HostTurnOf, IsSpared, HearsBy}
 use Rattle.launcher.specs.Writable.{IsWritable, IsWritableIf}
-use Rattle.launcher_laws.specs.Runs.{answer_told, Moment, Turn, IsBetween, WasHeard, AreTurns, IsPartOf, AreParts, Part, outcomes_in, events_in as parts_events}
+use Rattle.launcher_laws.specs.Runs.{answer_told, Snapshot, Turn, IsBetween, WasHeard, AreTurns, IsPartOf, AreParts, Part, outcomes_in, events_in as parts_events}
 
 -- ---- runs in two parts
 
@@ -50,11 +50,11 @@ answer_is job (answers.SpawnRefused run) = refl
 answer_is job (answers.Termed run ok) = refl
 answer_is job (answers.Killed run ok) = refl
 
-answers_are : (names : List Name) (ps : List Pending) → map event_of (map (answer_told names) ps) ≡ map (event_in names) ps
+answers_are : (names : List Name) (ps : List Unheard) → map event_of (map (answer_told names) ps) ≡ map (event_in names) ps
 answers_are names [] = refl
 answers_are names (p ∷ ps) = λ i. answer_is (label_of names p.job) p.answer i ∷ answers_are names ps i
 
-answer_lines : (names : List Name) (ps : List Pending) → flat_map event_line (map (answer_told names) ps) ≡ answer_texts names ps
+answer_lines : (names : List Name) (ps : List Unheard) → flat_map event_line (map (answer_told names) ps) ≡ answer_texts names ps
 answer_lines names [] = refl
 answer_lines names (p ∷ ps) = ap (λ l. event_line (answer_told names p) ++ l) (answer_lines names ps)
 
@@ -135,11 +135,11 @@ module _ {T : Type 0} (holds : T → List Setting → Type 0) (s : State) (turn 
 -- ---- the journal, while it is open
 
 -- an open journal was open before, and grew by all of the text
-pub record IsOpenBy (old new : Kept) (text : List ℕ) : Type 0 where
+pub record IsOpenBy (old new : JournalState) (text : List ℕ) : Type 0 where
   pub was : old.phase ≡ Open
   pub grew : Appends old.bytes new.bytes text
 
-grown_in : (p q : Phase) (old new : Kept) (text : List ℕ) → old.phase ≡ p → q ≡ Open → GrowsIn p q old new text → IsOpenBy old new text
+grown_in : (p q : Phase) (old new : JournalState) (text : List ℕ) → old.phase ≡ p → q ≡ Open → GrowsIn p q old new text → IsOpenBy old new text
 grown_in Open Open old new text was still grew = record { was = was; grew = grew }
 grown_in Open Closed old new text was still grew = cc
 grown_in Open Reported old new text was still grew = cc
@@ -150,7 +150,7 @@ grown_in Reported Open old new text was still grew = absurd grew
 grown_in Reported Closed old new text was still grew = cc
 grown_in Reported Reported old new text was still grew = cc
 
-pub grown : (old new : Kept) (text : List ℕ) → Grows old new text → new.phase ≡ Open → IsOpenBy old new text
+pub grown : (old new : JournalState) (text : List ℕ) → Grows old new text → new.phase ≡ Open → IsOpenBy old new text
 grown old new text grows still = grown_in old.phase new.phase old new text refl still grows.grew
 
 unreported : (has : Bool) (bytes : Option (List ℕ)) (cause : Option Cause) (p : Phase) → (reported (record { has_writer = has; bytes = bytes; cause = cause; phase = p })).phase ≡ Open → p ≡ Open
@@ -158,22 +158,22 @@ unreported has bytes cause Open is = refl
 unreported has bytes cause Closed is = cc
 unreported has bytes cause Reported is = cc
 
-between : {T : Type 0} (old new : Moment T) → IsBetween old new → new.stands.journal.phase ≡ Open → IsOpenBy old.stands.journal new.stands.journal []
+between : {T : Type 0} (old new : Snapshot T) → IsBetween old new → new.stands.journal.phase ≡ Open → IsOpenBy old.stands.journal new.stands.journal []
 between old new left still = elim left.journal [
   | inl same ↦ record {
-    was = sym (ap (λ (k : Kept). k.phase) same) ∙ still;
-    grew = subst (λ b. Appends old.stands.journal.bytes b []) (sym (ap (λ (k : Kept). k.bytes) same)) (Appends-nil old.stands.journal.bytes);
+    was = sym (ap (λ (k : JournalState). k.phase) same) ∙ still;
+    grew = subst (λ b. Appends old.stands.journal.bytes b []) (sym (ap (λ (k : JournalState). k.bytes) same)) (Appends-nil old.stands.journal.bytes);
   }
   | inr same ↦ record {
-    was = unreported old.stands.journal.has_writer old.stands.journal.bytes old.stands.journal.cause old.stands.journal.phase (sym (ap (λ (k : Kept). k.phase) same) ∙ still);
-    grew = subst (λ b. Appends old.stands.journal.bytes b []) (sym (ap (λ (k : Kept). k.bytes) same)) (Appends-nil old.stands.journal.bytes);
+    was = unreported old.stands.journal.has_writer old.stands.journal.bytes old.stands.journal.cause old.stands.journal.phase (sym (ap (λ (k : JournalState). k.phase) same) ∙ still);
+    grew = subst (λ b. Appends old.stands.journal.bytes b []) (sym (ap (λ (k : JournalState). k.bytes) same)) (Appends-nil old.stands.journal.bytes);
   }
 ]
 
 -- ---- all turns
 
 -- what the turns were for the machine s
-pub record Went {T : Type 0} (holds : T → List Setting → Type 0) (s : State) (first : Moment T) (turns : List (Turn T)) (last : Moment T) : Type 0 where
+pub record Went {T : Type 0} (holds : T → List Setting → Type 0) (s : State) (first : Snapshot T) (turns : List (Turn T)) (last : Snapshot T) : Type 0 where
   pub parts : List Part
   pub are_parts : AreParts turns parts
   pub all : outcomes_in parts ≡ outcomes (map event_of (parts_events parts)) s
@@ -183,7 +183,7 @@ pub record Went {T : Type 0} (holds : T → List Setting → Type 0) (s : State)
   pub noted : last.stands.journal.phase ≡ Open → IsOpenBy first.stands.journal last.stands.journal (flat_map event_line (parts_events parts))
 
 module _ {T : Type 0} (holds : T → List Setting → Type 0) where
-  none_went : (s : State) (first last : Moment T) → IsLed s → KeepsState first.stands.table s → IsBetween first last → Went holds s first [] last
+  none_went : (s : State) (first last : Snapshot T) → IsLed s → KeepsState first.stands.table s → IsBetween first last → Went holds s first [] last
   none_went s first last led keeps left = record {
     parts = [];
     are_parts = tt;
@@ -194,7 +194,7 @@ module _ {T : Type 0} (holds : T → List Setting → Type 0) where
     noted = between first last left;
   }
 
-  one_went : (s : State) (first : Moment T) (turn : Turn T) (turns : List (Turn T)) (last : Moment T) → IsBetween first turn.before → (w : Was holds s turn) →
+  one_went : (s : State) (first : Snapshot T) (turn : Turn T) (turns : List (Turn T)) (last : Snapshot T) → IsBetween first turn.before → (w : Was holds s turn) →
       Went holds (run (map event_of w.events) s) turn.after turns last → Went holds s first (turn ∷ turns) last
   one_went s first turn turns last left w more =
       let same : map event_of (w.events ++ parts_events more.parts) ≡ map event_of w.events ++ map event_of (parts_events more.parts) = map-append event_of w.events (parts_events more.parts) in
@@ -219,7 +219,7 @@ module _ {T : Type 0} (holds : T → List Setting → Type 0) where
             };
       }
 
-  pub went : (s : State) (first : Moment T) (turns : List (Turn T)) (last : Moment T) → IsLed s → KeepsState first.stands.table s → AreTurns holds first turns last → Went holds s first turns last
+  pub went : (s : State) (first : Snapshot T) (turns : List (Turn T)) (last : Snapshot T) → IsLed s → KeepsState first.stands.table s → AreTurns holds first turns last → Went holds s first turns last
   went s first [] last led keeps left = none_went s first last led keeps left
   went s first (turn ∷ turns) last led keeps heard =
       let w = was holds s turn led (subst (λ (t : Table). KeepsState t s) (sym heard.0.table) keeps) heard.1 in

@@ -9,7 +9,7 @@ use Rattle.history_model.specs.declared.event.Event as journal
 use Rattle.history_model.specs.declared.event.Event.TheVariants as events
 use Rattle.history_model.specs.Labels.{Label, is_label}
 use Rattle.job_table.specs.Tables.{Name, label_of}
-use Rattle.order_edge.specs.declared.pending.Pending.{Pending}
+use Rattle.order_edge.specs.declared.unheard.Unheard.{Unheard}
 use Rattle.order_edge.specs.Calls.{answers_in, IsTellable, IsTellablePending}
 use Rattle.launcher_turn.specs.Lines.{journaled_answer}
 use Rattle.launcher_turn.specs.Turns.{IsNamedIn, IsTextLabel}
@@ -32,7 +32,7 @@ answer_writable job (SpawnRefused run) is named = record { writable = named.0; f
 answer_writable job (Termed run ok) is named = record { writable = named.0; fit = (named.1, (tt, (is, tt))) }
 answer_writable job (Killed run ok) is named = record { writable = named.0; fit = (named.1, (tt, (is, tt))) }
 
-answers_writable : (names : List Name) (ps : List Pending) → AllByRecursion IsTellablePending ps → AllByRecursion (IsNamedIn names) ps → AllByRecursion IsWritable (map (answer_told names) ps)
+answers_writable : (names : List Name) (ps : List Unheard) → AllByRecursion IsTellablePending ps → AllByRecursion (IsNamedIn names) ps → AllByRecursion IsWritable (map (answer_told names) ps)
 answers_writable names [] tellable named = tt
 answers_writable names (p ∷ ps) tellable named = (answer_writable (label_of names p.job) p.answer tellable.0 named.0, answers_writable names ps tellable.1 named.1)
 

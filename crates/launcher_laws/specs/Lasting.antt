@@ -3,15 +3,15 @@ use Rattle.std.specs.Prelude.{◌≡◌, List, map}
 use Rattle.history_model.specs.declared.event.Setting.{Setting}
 use Rattle.history_model.specs.Machine.{State}
 use Rattle.history_model.specs.Step.{run, outcomes}
-use Rattle.job_table.specs.Kept.{KeepsState}
+use Rattle.job_table.specs.StandsFor.{KeepsState}
 use Rattle.table_opening.specs.Events.{event_of}
-use Rattle.launcher_laws.specs.Runs.{Moment, Turn, Part, AreParts, events_in, outcomes_in}
+use Rattle.launcher_laws.specs.Runs.{Snapshot, Turn, Part, AreParts, events_in, outcomes_in}
 
 -- From the machine s the turns led to the last moment, by the events of their parts. The replies
 -- and the calls are the machine's, the table stands for the machine that the events lead to, and
 -- the store holds that machine's settings.
 pub record Lasts {T : Type 0} (holds : T → List Setting → Type 0) (s : State)
-    (turns : List (Turn T)) (last : Moment T) : Type 0 where
+    (turns : List (Turn T)) (last : Snapshot T) : Type 0 where
   pub parts : List Part
   pub are_parts : AreParts turns parts
   pub all : outcomes_in parts ≡ outcomes (map event_of (events_in parts)) s
@@ -21,5 +21,5 @@ pub record Lasts {T : Type 0} (holds : T → List Setting → Type 0) (s : State
 -- the settings of that machine
 abbrev pub settings_of :
     {T : Type 0} {holds : T → List Setting → Type 0} {s : State} {turns : List (Turn T)}
-    {last : Moment T} → Lasts holds s turns last → List Setting
+    {last : Snapshot T} → Lasts holds s turns last → List Setting
 settings_of {s = s} lasts = (run (map event_of (events_in lasts.parts)) s).settings

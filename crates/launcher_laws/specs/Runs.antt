@@ -8,9 +8,9 @@ use Rattle.history_model.specs.declared.event.Event as journal
 use Rattle.history_model.specs.declared.event.Setting.{Setting}
 use Rattle.history_model.specs.Step.{Outcome}
 use Rattle.job_table.specs.Tables.{Name, label_of}
-use Rattle.job_table.specs.Kept.{labelled}
+use Rattle.job_table.specs.StandsFor.{labelled}
 use Rattle.child_edge.specs.Calls.{Tells, Entry}
-use Rattle.order_edge.specs.declared.pending.Pending.{Pending}
+use Rattle.order_edge.specs.declared.unheard.Unheard.{Unheard}
 use Rattle.order_edge.specs.Calls.{call_of, calls_in, answers_in, IsTellablePending}
 use Rattle.event_journal.specs.Journals.{reported}
 use Rattle.launcher_turn.specs.Lines.{journaled_answer}
@@ -22,7 +22,7 @@ use Rattle.launcher.specs.Hosts.{Hears}
 use Rattle.launcher.specs.Writable.{IsWritable, WritesWhat}
 
 -- how a launcher stands, and its store of settings
-pub record Moment (T : Type 0) : Type 0 where
+pub record Snapshot (T : Type 0) : Type 0 where
   pub stands : Standing
   pub store : T
 
@@ -32,13 +32,13 @@ pub record Turn (T : Type 0) : Type 0 where
   pub event : Option journal.Event
   pub refusal : Option Refusal
   pub words : List ℕ
-  pub before : Moment T
-  pub after : Moment T
+  pub before : Snapshot T
+  pub after : Snapshot T
 
 -- Between two turns the outside may be asked other things, and the closing of the journal be
 -- reported.
 -- The table and the store stay.
-pub record IsBetween {T : Type 0} (old new : Moment T) : Type 0 where
+pub record IsBetween {T : Type 0} (old new : Snapshot T) : Type 0 where
   pub table : new.stands.table ≡ old.stands.table
   pub store : new.store ≡ old.store
   pub journal : (new.stands.journal ≡ old.stands.journal)
@@ -53,7 +53,7 @@ module _ {T : Type 0} (holds : T → List Setting → Type 0) where
       × WritesWhat turn.refusal turn.event
 
   -- these turns, each heard, lead from the first moment to the last
-  abbrev pub AreTurns : Moment T → List (Turn T) → Moment T → Type 0
+  abbrev pub AreTurns : Snapshot T → List (Turn T) → Snapshot T → Type 0
   AreTurns first [] last = IsBetween first last
   AreTurns first (turn ∷ turns) last =
       IsBetween first turn.before × WasHeard turn × AreTurns turn.after turns last
@@ -66,7 +66,7 @@ IsNoEvent turn =
     (is_memory turn.refusal ≡ true) ⊎ ((turn.event ≡ None) × (turn.refusal ≡ Some BadRequest))
 
 -- the journal's event of an answer; a number stands for its job's label
-abbrev pub answer_told : List Name → Pending → journal.Event
+abbrev pub answer_told : List Name → Unheard → journal.Event
 answer_told names pending = journaled_answer (label_of names pending.job) pending.answer
 
 -- The events of a turn, as the journal has them, and their outcomes. The first event is the one

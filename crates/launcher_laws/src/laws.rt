@@ -12,9 +12,9 @@ ghost use Rattle.override_store.specs.Settings.{HoldsEach, ListAlike};
 ghost use Rattle.load_asking.specs.Stores.{StoreCall};
 ghost use Rattle.stored_settings.specs.declared.StoredSettings.{StoredSettings as Stored};
 ghost use Rattle.event_journal.specs.declared.journal.Phase.TheVariants.{Open};
-ghost use Rattle.event_journal.specs.Journals.{Kept, fresh};
+ghost use Rattle.event_journal.specs.Journals.{JournalState, fresh};
 ghost use Rattle.launcher.specs.Hosts.{IsNew, with_settings};
-ghost use Rattle.launcher_laws.specs.Runs.{Moment, Turn, AreTurns};
+ghost use Rattle.launcher_laws.specs.Runs.{Snapshot, Turn, AreTurns};
 ghost use Rattle.launcher_laws.specs.Lasting.{Lasts, settings_of};
 ghost use Rattle.launcher_laws.specs.Writable.{IsWritableHeader};
 ghost use Rattle.launcher_laws.specs.Replays.{IsReplayed};
@@ -29,7 +29,7 @@ use stored_settings::StoredSettings;
 /// replies and the calls were the machine's.
 pub fn the_store_holds_what_the_machine_sets<T: SettingStore>(store: &T)
     ensures { (header : Header) (calls : Option (List Entry)) (stores : Option (List StoreCall))
-        (journal : Kept) (first last : Moment T) (turns : List (Turn T)) →
+        (journal : JournalState) (first last : Snapshot T) (turns : List (Turn T)) →
         (new : IsNew header calls stores journal first.stands
         (T.holds store.now) (T.holds first.store)) →
         AreTurns T.holds first turns last →
@@ -45,7 +45,7 @@ pub fn a_store_opened_again_has_the_last_settings<S: Alter, R: Alter>(
     again: &OverrideStore<R>,
 )
     ensures { (header : Header) (calls : Option (List Entry)) (stores : Option (List StoreCall))
-        (journal : Kept) (first last : Moment (Stored S)) (turns : List (Turn (Stored S))) →
+        (journal : JournalState) (first last : Snapshot (Stored S)) (turns : List (Turn (Stored S))) →
         (new : IsNew header calls stores journal first.stands
         (HoldsSettings (state S.Store store.now.store))
         (HoldsSettings (state S.Store first.store.store))) →
@@ -66,7 +66,7 @@ pub fn a_store_opened_again_has_the_last_settings<S: Alter, R: Alter>(
 /// A replay of the journal writes the replies and the orders of all turns, if no write of the journal was refused. It began empty.
 pub fn a_replay_writes_what_was_replied<T: SettingStore>(store: &T)
     ensures { (header : Header) (calls : Option (List Entry)) (stores : Option (List StoreCall))
-        (first last : Moment T) (turns : List (Turn T)) (bytes : List ℕ) →
+        (first last : Snapshot T) (turns : List (Turn T)) (bytes : List ℕ) →
         (new : IsNew header calls stores (fresh (Some []) true) first.stands
         (T.holds store.now) (T.holds first.store)) →
         AreTurns T.holds first turns last →

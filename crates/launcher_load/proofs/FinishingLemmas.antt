@@ -3,19 +3,19 @@ use Rattle.std.proofs.Common.{◌≡◌, ℕ, true, List, [], Option, None, refl
 use Rattle.std.specs.List.{list_all}
 use Rattle.history_model.specs.Machine.{State, Event}
 use Rattle.job_table.specs.Tables.{Table, is_known}
-use Rattle.job_table.specs.Kept.{KeepsState, labelled, acts_in}
+use Rattle.job_table.specs.StandsFor.{KeepsState, labelled, acts_in}
 use Rattle.job_table.specs.Ends.{AreKnown, acts_of, names_in}
 use Rattle.job_table.specs.Numbers.{IsNumbered}
 use Rattle.job_table.specs.declared.Step.{Step}
-use Rattle.order_edge.specs.declared.pending.Pending.{Pending}
-use Rattle.event_journal.specs.Journals.{Kept, Grows}
+use Rattle.order_edge.specs.declared.unheard.Unheard.{Unheard}
+use Rattle.event_journal.specs.Journals.{JournalState, Grows}
 use Rattle.launcher_turn.specs.Turns.{Begins, Carried, IsLed, NamesLabel, trace}
 use Rattle.launcher_turn.proofs.TurnsLemmas.{Settles, turned-at}
 use Rattle.launcher_load.specs.LoadTurns.{Finishes, HasTaken}
 use Rattle.child_edge.specs.Calls.{Entry}
 
 -- the orders of the step are those of the event, and the turn goes by the names of the table that the event left
-pub finished : (before mid new : Table) (s : State) (e : Event) (line : List ℕ) (lent : Step) (first after : List Pending) (a b c : Option (List Entry)) (k m n : Kept) →
+pub finished : (before mid new : Table) (s : State) (e : Event) (line : List ℕ) (lent : Step) (first after : List Unheard) (a b c : Option (List Entry)) (k m n : JournalState) →
     acts_of lent ≡ acts_in mid → AreKnown lent → names_in lent ≡ mid.names → IsNumbered mid → Carried lent.orders.now [] first a b → Settles mid first after new b c m n →
     Grows k m line → NamesLabel e → IsLed s → KeepsState before s → HasTaken s e mid → Finishes s e line mid.names new (trace a k) (trace c n)
 unfolding turned-at

@@ -10,10 +10,10 @@ use Rattle.history_model.specs.Machine.{State, past_of}
 use Rattle.history_model.specs.Acceptance.{refusal_in, refusal_at, refusal_stored, refused_if}
 use Rattle.job_table.specs.Changes.{set_of}
 use Rattle.job_table.specs.Tables.{Table}
-use Rattle.job_table.specs.Kept.{KeepsState}
+use Rattle.job_table.specs.StandsFor.{KeepsState}
 use Rattle.load_asking.specs.Stores.{StoreCall, AreTold, set_call}
 use Rattle.load_asking.proofs.AskLemmas.{told_nothing}
-use Rattle.event_journal.specs.Journals.{Kept, Grows}
+use Rattle.event_journal.specs.Journals.{JournalState, Grows}
 use Rattle.launcher_turn.specs.Turns.{IsLed, NamesLabel}
 use Rattle.launcher_turn.proofs.NumbersLemmas.{same-numbers}
 use Rattle.launcher_load.specs.Lines.{set_line}
@@ -37,7 +37,7 @@ bad_label s label disabled true store is = ap (λ b. refused_if (not b) BadReque
 bad_label s label disabled false store is = ap (λ b. refused_if (not b) BadRequest (refusal_stored true store)) is
 
 -- a setting that was refused before the store was asked
-pub never_set : (s : State) (label : Label) (disabled unload : Bool) (r : Refusal) (old new : Table) (a : Option (List Entry)) (t : Option (List StoreCall)) (k n : Kept) → new.rows ≡ old.rows →
+pub never_set : (s : State) (label : Label) (disabled unload : Bool) (r : Refusal) (old new : Table) (a : Option (List Entry)) (t : Option (List StoreCall)) (k n : JournalState) → new.rows ≡ old.rows →
     ((store : Bool) → refusal_in s (set_of label disabled unload store) ≡ Some r) → Grows k n (set_line label disabled unload true) → KeepsState new s → IsLed s →
     SetTurnOf s (set_request label disabled unload) true (Some r) (standing old a t k) (standing new a t n)
 never_set s label disabled unload r old new a t k n same is noted keeps led = record {

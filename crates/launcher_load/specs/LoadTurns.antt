@@ -11,7 +11,7 @@ use Rattle.job_defs.specs.Described.{Described}
 use Rattle.job_defs.specs.Definitions.{given}
 use Rattle.job_defs.specs.Keys.{def_of}
 use Rattle.job_table.specs.Tables.{Table, Name, definition_of_number}
-use Rattle.job_table.specs.Kept.{KeepsState, acts_in}
+use Rattle.job_table.specs.StandsFor.{KeepsState, acts_in}
 use Rattle.job_table.specs.Loads.{load_of, refusal_outside, described_in, number_in, setting_in}
 use Rattle.job_table.specs.declared.loading.Ready.{Ready}
 use Rattle.job_table.specs.Changes.{set_of}
@@ -20,7 +20,7 @@ use Rattle.child_edge.specs.Calls.{Tells, Entry}
 use Rattle.load_asking.specs.declared.asking.Outside.{Outside}
 use Rattle.load_asking.specs.Asking.{Asks, Told, told_of}
 use Rattle.load_asking.specs.Stores.{Stamp, StoreCall, AreTold, set_call}
-use Rattle.event_journal.specs.Journals.{Kept, Grows}
+use Rattle.event_journal.specs.Journals.{JournalState, Grows}
 use Rattle.launcher_turn.specs.Turns.{AreNumbered, IsLed, KeepsNumbers, TurnsOf, Trace, trace}
 use Rattle.launcher_load.specs.Lines.{load_line, set_line}
 
@@ -82,11 +82,11 @@ pub record Standing : Type 0 where
   pub table : Table
   pub calls : Option (List Entry)
   pub stores : Option (List StoreCall)
-  pub journal : Kept
+  pub journal : JournalState
 
 -- as it stands with these
 abbrev pub standing :
-    Table → Option (List Entry) → Option (List StoreCall) → Kept → Standing
+    Table → Option (List Entry) → Option (List StoreCall) → JournalState → Standing
 standing table calls stores journal =
     record { table = table; calls = calls; stores = stores; journal = journal }
 

@@ -3,8 +3,8 @@
 ghost use Rattle.std.specs.Prelude.{◌≡◌, ℕ, List, []};
 ghost use Rattle.history_model.specs.Machine.{State, Event};
 ghost use Rattle.job_table.specs.Tables.{Table};
-ghost use Rattle.job_table.specs.Kept.{KeepsState};
-ghost use Rattle.event_journal.specs.Journals.{Kept, Grows};
+ghost use Rattle.job_table.specs.StandsFor.{KeepsState};
+ghost use Rattle.event_journal.specs.Journals.{JournalState, Grows};
 ghost use Rattle.launcher_turn.specs.Turns.{IsLed, NamesLabel, trace};
 ghost use Rattle.launcher_load.specs.LoadTurns.{Finishes, HasTaken};
 
@@ -25,7 +25,7 @@ pub(crate) fn finish<E: ChildEdge + SocketEdge, W: Write>(
     room: &mut Room,
 )
     requires { room.old.answers ≡ [] }
-    ensures { (before : Table) (s : State) (e : Event) (line : List ℕ) (written : Kept) →
+    ensures { (before : Table) (s : State) (e : Event) (line : List ℕ) (written : JournalState) →
         Grows written journal.old line → NamesLabel e → IsLed s → KeepsState before s →
         HasTaken s e table.old
         → Finishes s e line table.old.names table.new

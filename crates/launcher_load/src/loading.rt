@@ -7,9 +7,9 @@ ghost use Rattle.history_model.specs.Acceptance.{refusal_in};
 ghost use Rattle.history_model.specs.Labels.{is_label};
 ghost use Rattle.history_model.specs.Machine.{State};
 ghost use Rattle.history_model.specs.Step.{outcome, set_if};
-ghost use Rattle.job_table.specs.Kept.{KeepsState};
+ghost use Rattle.job_table.specs.StandsFor.{KeepsState};
 ghost use Rattle.job_table.specs.Loads.{refusal_outside, IsReady, described_in, refused_with};
-ghost use Rattle.event_journal.specs.Journals.{Kept, Grows};
+ghost use Rattle.event_journal.specs.Journals.{JournalState, Grows};
 ghost use Rattle.load_asking.specs.Asking.{told_of};
 ghost use Rattle.load_asking.specs.Stores.{HoldsAfter, stamp_if};
 ghost use Rattle.launcher_turn.specs.Turns.{IsLed, trace};
@@ -73,7 +73,7 @@ fn make<E: ChildEdge + SocketEdge, W: Write>(
     requires ready { IsReady table.old ready }
     requires label { is_label (described_in ready).label ≡ true }
     requires empty { room.old.answers ≡ [] }
-    ensures { (s : State) (force bind store : Bool) (line : List ℕ) (written : Kept) →
+    ensures { (s : State) (force bind store : Bool) (line : List ℕ) (written : JournalState) →
         Grows written journal.old line → IsLed s → KeepsState table.old s
         → refusal_in s (ready_load ready force bind store) ≡ None
         → Makes s (ready_load ready force bind store) line ready table.old table.new

@@ -5,8 +5,8 @@ ghost use Rattle.std.specs.Prelude.{◌≡◌, ◌||◌, ℕ, Bool, List, [], No
 ghost use Rattle.history_model.specs.Acceptance.{refusal_in};
 ghost use Rattle.history_model.specs.Machine.{State};
 ghost use Rattle.job_table.specs.Changes.{set_of, IsReadySet};
-ghost use Rattle.job_table.specs.Kept.{KeepsState};
-ghost use Rattle.event_journal.specs.Journals.{Kept, Grows};
+ghost use Rattle.job_table.specs.StandsFor.{KeepsState};
+ghost use Rattle.event_journal.specs.Journals.{JournalState, Grows};
 ghost use Rattle.load_asking.specs.Asking.{told_of};
 ghost use Rattle.load_asking.specs.Stores.{HoldsAfter};
 ghost use Rattle.launcher_turn.specs.Turns.{IsLed, trace};
@@ -48,7 +48,7 @@ fn make<E: ChildEdge + SocketEdge, W: Write>(
 )
     requires ready { IsReadySet table.old ready }
     requires empty { room.old.answers ≡ [] }
-    ensures { (s : State) (store : Bool) (line : List ℕ) (written : Kept) →
+    ensures { (s : State) (store : Bool) (line : List ℕ) (written : JournalState) →
         Grows written journal.old line → IsLed s → KeepsState table.old s
         → refusal_in s (set_of ready.setting.label ready.setting.disabled ready.unload store) ≡ None
         → Sets s (set_of ready.setting.label ready.setting.disabled ready.unload store) line

@@ -6,21 +6,21 @@ use Rattle.std.proofs.lemmas.List.Elements.{filter_map-append}
 use Rattle.history_model.specs.declared.Order.{Order}
 use Rattle.child_edge.specs.Calls.{Tells, Entry}
 use Rattle.child_edge.proofs.CallsLemmas.{tells_nothing, tells_append}
-use Rattle.order_edge.specs.declared.pending.Pending.{Pending}
+use Rattle.order_edge.specs.declared.unheard.Unheard.{Unheard}
 use Rattle.order_edge.specs.Calls.{call_of, calls_in, answer_in, answers_in, Carries}
 use Rattle.launcher_turn.specs.Turns.{Carried}
 use Rattle.history_model.proofs.BooleanLemmas.{and-both}
 use Rattle.history_model.specs.declared.TheConstants.{MAX_JOBS}
 
-pub none_carried : (old : List Pending) (told : Option (List Entry)) → Carried [] old old told told
+pub none_carried : (old : List Unheard) (told : Option (List Entry)) → Carried [] old old told told
 none_carried old told = record { entries = []; tells = tells_nothing told; calls = refl; kept = λ fits. sym (append-nil old) }
 
 -- the answer, if there is one, is kept if there is room
-abbrev pub IsKept : Option Pending → List Pending → List Pending → Type 0
+abbrev pub IsKept : Option Unheard → List Unheard → List Unheard → Type 0
 IsKept None old new = new ≡ old
 IsKept (Some pending) old new = length old < 3 * MAX_JOBS → new ≡ old ++ pending ∷ []
 
-kept-more : (o : Option Pending) (old mid new made : List Pending) → (length old + length made ≤ 3 * MAX_JOBS → mid ≡ old ++ made) → IsKept o mid new →
+kept-more : (o : Option Unheard) (old mid new made : List Unheard) → (length old + length made ≤ 3 * MAX_JOBS → mid ≡ old ++ made) → IsKept o mid new →
     length old + length (made ++ cons_option o []) ≤ 3 * MAX_JOBS → new ≡ old ++ (made ++ cons_option o [])
 kept-more None old mid new made before is fits =
     let short : length old + length made ≤ 3 * MAX_JOBS = omega (arith, ap length (append-nil made), fits) in
@@ -33,7 +33,7 @@ kept-more (Some p) old mid new made before is fits =
     let below : length mid < 3 * MAX_JOBS = omega (arith, size, long, fits) in
     is below ∙ ap (λ xs. xs ++ p ∷ []) same ∙ append_assoc old made (p ∷ [])
 
-pub carried-more : (orders : List Order) (order : Order) (old mid new : List Pending) (pending : Option Pending) (a b c : Option (List Entry)) →
+pub carried-more : (orders : List Order) (order : Order) (old mid new : List Unheard) (pending : Option Unheard) (a b c : Option (List Entry)) →
     Carried orders old mid a b → Carries order pending b c → IsKept pending mid new → Carried (orders ++ order ∷ []) old new a c
 carried-more orders order old mid new pending a b c before one kept =
     let entry : Entry = (call_of order, one.answer) in
@@ -47,7 +47,7 @@ carried-more orders order old mid new pending a b c before one kept =
       kept = λ fits. kept-more pending old mid new (answers_in before.entries) before.kept kept (omega (arith, ap length all, fits)) ∙ ap (λ xs. old ++ xs) (sym all);
     }
 
-pub turn-more : (orders : List Order) (i : ℕ) (d : Order) (old mid new : List Pending) (pending : Option Pending) (a b c : Option (List Entry)) → i < length orders →
+pub turn-more : (orders : List Order) (i : ℕ) (d : Order) (old mid new : List Unheard) (pending : Option Unheard) (a b c : Option (List Entry)) → i < length orders →
     Carried (take i orders) old mid a b → Carries (get_or orders i d) pending b c → IsKept pending mid new → Carried (take (i + 1) orders) old new a c
 turn-more orders i d old mid new pending a b c within before one kept =
     subst (λ os. Carried os old new a c) (sym (take_more orders i d within)) (carried-more (take i orders) (get_or orders i d) old mid new pending a b c before one kept)
@@ -58,7 +58,7 @@ all-at p (x ∷ xs) zero d within all = (and-both (p x) (list_all p xs) all).0
 all-at p (x ∷ xs) (suc i) d within all = all-at p xs i d (omega (arith, within)) (and-both (p x) (list_all p xs) all).1
 
 -- no order, no call
-pub none-called : (orders : List Order) (old new : List Pending) (told told' : Option (List Entry)) → orders ≡ [] → Carried orders old new told told' → Tells told [] told'
+pub none-called : (orders : List Order) (old new : List Unheard) (told told' : Option (List Entry)) → orders ≡ [] → Carried orders old new told told' → Tells told [] told'
 none-called orders old new told told' none carried = go carried.entries (carried.calls ∙ ap (map call_of) none) carried.tells where
   go : (entries : List Entry) → calls_in entries ≡ [] → Tells told entries told' → Tells told [] told'
   go [] is tells = tells

@@ -14,15 +14,15 @@ use Rattle.history_model.specs.Search.{first}
 use Rattle.history_model.specs.Runs.{is_answer_to}
 use Rattle.history_model.specs.Labels.{Label, is_forbidden, is_label, is_same}
 use Rattle.history_model.specs.Machine.{Job, is_of, past_in}
-use Rattle.history_model.specs.WholeLaws.{labels_of}
+use Rattle.history_model.specs.MachineLaws.{labels_of}
 use Rattle.job_defs.specs.Described.{Described}
 use Rattle.job_table.specs.Tables.{Table, Row, Name, IsOther, IsOnce, is_known, label_of, definition_of_number}
-use Rattle.job_table.specs.Kept.{KeepsJobs, labelled}
+use Rattle.job_table.specs.StandsFor.{KeepsJobs, labelled}
 use Rattle.job_table.specs.Numbers.{name_of, names_of}
 use Rattle.child_edge.specs.declared.plain.Scripted.{Scripted}
 use Rattle.child_edge.specs.declared.plain.Scripted.TheVariants.{Started, Done, Running, Over, Seen, At, Refused, NoMemory}
 use Rattle.child_edge.specs.Calls.{Entry}
-use Rattle.order_edge.specs.declared.pending.Pending.{Pending}
+use Rattle.order_edge.specs.declared.unheard.Unheard.{Unheard}
 use Rattle.order_edge.specs.Calls.{call_by, call_of, calls_in, answers_in, spawn_answer}
 use Rattle.history_model.specs.Turns.{JobOrder, wanting}
 use Rattle.history_model.proofs.LabelOrderLemmas.{same_self}
@@ -172,7 +172,7 @@ same-numbers old new same = λ label before after was is.
 
 -- ---- answers to orders
 
-pub theirs-append : (names : List Name) (xs ys : List JobOrder) (ps qs : List Pending) → AreTheirs names xs ps → AreTheirs names ys qs → AreTheirs names (xs ++ ys) (ps ++ qs)
+pub theirs-append : (names : List Name) (xs ys : List JobOrder) (ps qs : List Unheard) → AreTheirs names xs ps → AreTheirs names ys qs → AreTheirs names (xs ++ ys) (ps ++ qs)
 theirs-append names [] ys [] qs a b = b
 theirs-append names [] ys (p ∷ ps) qs a b = absurd a
 theirs-append names (x ∷ xs) ys [] qs a b = absurd a

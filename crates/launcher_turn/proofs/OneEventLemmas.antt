@@ -11,16 +11,16 @@ use Rattle.history_model.specs.Labels.{Label, is_same}
 use Rattle.history_model.specs.Machine.{State, Event, OfJob}
 use Rattle.history_model.specs.Acceptance.{refusal_in}
 use Rattle.history_model.specs.Step.{outcome, step, step_by, heard_one}
-use Rattle.history_model.specs.WholeLaws.{labels_of}
+use Rattle.history_model.specs.MachineLaws.{labels_of}
 use Rattle.history_model.proofs.StepLemmas.{IsGood}
 use Rattle.job_table.specs.Tables.{Table, Name, IsOnce, is_known, label_of, definition_of_number}
-use Rattle.job_table.specs.Kept.{KeepsState, labelled}
+use Rattle.job_table.specs.StandsFor.{KeepsState, labelled}
 use Rattle.job_table.specs.Outcomes.{IsNext, IsNextUnless, UnlessMemory}
 use Rattle.history_model.specs.declared.Refusal.TheVariants.{NoMemory}
 use Rattle.job_table.specs.Ends.{AreKnown, IsAnswer, Visits, Numbers, names_in}
 use Rattle.job_table.specs.Numbers.{names_of, IsNumbered}
 use Rattle.job_table.specs.declared.Step.{Step}
-use Rattle.order_edge.specs.declared.pending.Pending.{Pending}
+use Rattle.order_edge.specs.declared.unheard.Unheard.{Unheard}
 use Rattle.order_edge.specs.Calls.{answers_in}
 use Rattle.history_model.specs.Turns.{JobOrder, wanting, is_answer}
 use Rattle.history_model.proofs.TurnsLemmas.{IsTurning, turning-step}
@@ -29,7 +29,7 @@ use Rattle.launcher_turn.specs.Turns.{AreNumbered, Carried, orders_lent, IsUntou
 use Rattle.job_table.specs.Loads.{refused_with}
 use Rattle.job_core.specs.Memory.{NeedsNoMemory}
 use Rattle.ctl_protocol.specs.EventWriter.{event_line}
-use Rattle.event_journal.specs.Journals.{Kept, Grows}
+use Rattle.event_journal.specs.Journals.{JournalState, Grows}
 use Rattle.launcher_turn.specs.Lines.{journaled_answer}
 use Rattle.launcher_turn.proofs.CarryLemmas.{none-called}
 use Rattle.launcher_turn.proofs.NumbersLemmas.{AreNamed, label-short, rows-named, label-is, named-next, orders-known, once-number, loaded, keeps-numbers, same-numbers, theirs-append, made-theirs}
@@ -42,7 +42,7 @@ unless (Err NoMemory) holds = tt
 unless (Err _) holds = holds
 
 -- what the table answered, and the orders that were then carried out
-pub happens : (e : Event) (old new : Table) (result : Result Step Refusal) (before after : List Pending) (told told' : Option (List Entry)) →
+pub happens : (e : Event) (old new : Table) (result : Result Step Refusal) (before after : List Unheard) (told told' : Option (List Entry)) →
     IsAnswer e old result → IfOk result AreKnown → IsNext e old new × Visits result old new × Numbers result old new → Carried (orders_lent result) before after told told' →
     Happens e (refused_with result) old new before after told told'
 happens e old new (Ok lent) before after told told' answer known ends carried = λ s keeps.
@@ -92,7 +92,7 @@ happens e old new (Err refusal) before after told told' answer known ends carrie
 }
 
 -- what is handed on: the answer is that of the table
-pub handed-on : (e e' : Event) (old new : Table) (lent : Result Step Refusal) (result : Result (Unit {0}) Refusal) (before after : List Pending) (told told' : Option (List Entry)) → e ≡ e' →
+pub handed-on : (e e' : Event) (old new : Table) (lent : Result Step Refusal) (result : Result (Unit {0}) Refusal) (before after : List Unheard) (told told' : Option (List Entry)) → e ≡ e' →
     refused_with result ≡ refused_with lent → IsAnswer e old lent → IfOk lent AreKnown → IsNext e old new × Visits lent old new × Numbers lent old new →
     Carried (orders_lent lent) before after told told' → UnlessMemory result (Happens e' (refused_with result) old new before after told told')
 handed-on e e' old new lent result before after told told' is same answer known ends carried =
@@ -101,7 +101,7 @@ handed-on e e' old new lent result before after told told' is same answer known 
     (subst (λ x. Happens x (refused_with lent) old new before after told told') is (happens e old new lent before after told told' answer known ends carried)))
 
 -- of a reading, which may find no memory
-pub read-on : (e e' : Event) (old new : Table) (lent : Result Step Refusal) (result : Result (Unit {0}) Refusal) (before after : List Pending) (told told' : Option (List Entry)) → e ≡ e' →
+pub read-on : (e e' : Event) (old new : Table) (lent : Result Step Refusal) (result : Result (Unit {0}) Refusal) (before after : List Unheard) (told told' : Option (List Entry)) → e ≡ e' →
     refused_with result ≡ refused_with lent → UnlessMemory lent (IsAnswer e old lent) → IfOk lent AreKnown → IsNextUnless lent e old new × Visits lent old new × Numbers lent old new →
     Carried (orders_lent lent) before after told told' → UnlessMemory result (Happens e' (refused_with result) old new before after told told')
 read-on e e' old new (Ok lent) result before after told told' is same answer known ends carried = handed-on e e' old new (Ok lent) result before after told told' is same answer known ends carried
@@ -128,7 +128,7 @@ taken-in (Err NoMemory) holds memory = absurd (false≢true (memory refl).0)
 taken-in (Err _) holds memory = holds
 
 -- a reading that found no memory was not taken in
-pub not-read : (e : Event) (old new : Table) (lent : Result Step Refusal) (result : Result (Unit {0}) Refusal) (before after : List Pending) (told told' : Option (List Entry)) →
+pub not-read : (e : Event) (old new : Table) (lent : Result Step Refusal) (result : Result (Unit {0}) Refusal) (before after : List Unheard) (told told' : Option (List Entry)) →
     refused_with result ≡ refused_with lent → IsNextUnless lent e old new → Visits lent old new → Carried (orders_lent lent) before after told told' → result ≡ Err NoMemory → IsUntouched old new told told'
 not-read e old new (Ok lent) result before after told told' same next visits carried is = let none : Some NoMemory ≡ None = ap refused_with (sym is) ∙ same in cc
 not-read e old new (Err refusal) result before after told told' same next visits carried is =
@@ -141,7 +141,7 @@ not-read e old new (Err refusal) result before after told told' same next visits
 pub good : (table : Table) (s : State) → KeepsState table s → IsOrderly s → IsGood s
 good table s keeps orderly = record { range = orderly.range; rests = resting s.reading table.rows s.jobs keeps.jobs keeps.rests }
 
-pub turning : (table : Table) (s : State) (names : List Name) (waits : List JobOrder) (pending : List Pending) → IsWaiting table s names waits pending → IsTurning s waits
+pub turning : (table : Table) (s : State) (names : List Name) (waits : List JobOrder) (pending : List Unheard) → IsWaiting table s names waits pending → IsTurning s waits
 turning table s names waits pending is = record { good = good table s is.keeps is.orderly; order = is.orderly.order; fresh = is.fresh; heavy = is.heavy }
 
 -- an answer leaves the reading, and no label comes
@@ -160,9 +160,9 @@ orderly-next s label x is = record {
   labels None = all-stays IsLabel (heard_one label x s.jobs) (subst (AllByRecursion IsLabel) (sym (heard_one-labels label x s.jobs)) is.labels)
 
 -- the answer goes to its job, and then those that it ordered wait behind the others
-pub handled : (reply : Option Refusal) (old new : Table) (before after : List Pending) (told told' : Option (List Entry)) (written written' : Kept) (pending : Pending) (found said : Label) →
+pub handled : (reply : Option Refusal) (old new : Table) (before after : List Unheard) (told told' : Option (List Entry)) (written written' : JournalState) (pending : Unheard) (found said : Label) →
     found ≡ label_of old.names pending.job → IsNumbered old → (length found ≤ 255 → said ≡ found) → IsUtf8 said → Happens (OfJob said (Answered pending.answer)) reply old new before after told told' → Grows written written' (event_line (journaled_answer said pending.answer)) →
-    (s : State) (names : List Name) (job_order : JobOrder) (waits : List JobOrder) (rest : List Pending) → IsWaiting old s names (job_order ∷ waits) (pending ∷ rest) →
+    (s : State) (names : List Name) (job_order : JobOrder) (waits : List JobOrder) (rest : List Unheard) → IsWaiting old s names (job_order ∷ waits) (pending ∷ rest) →
     Handled s names job_order waits pending rest before after new (trace told written) (trace told' written')
 handled reply old new before after told told' written written' pending found said looked numbered copied text happened noted s names job_order waits rest is =
     let (d, known, label) = is.theirs.0 in

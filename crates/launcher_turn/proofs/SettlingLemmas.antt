@@ -6,19 +6,19 @@ use Rattle.history_model.specs.declared.Order.{Order}
 use Rattle.history_model.specs.Machine.{State, Event}
 use Rattle.history_model.specs.Step.{outcome, step, run, orders_in}
 use Rattle.job_table.specs.Tables.{Table, Name}
-use Rattle.job_table.specs.Kept.{KeepsState, labelled}
+use Rattle.job_table.specs.StandsFor.{KeepsState, labelled}
 use Rattle.child_edge.specs.Calls.{Tells, Entry}
 use Rattle.child_edge.proofs.CallsLemmas.{tells_append, tells_nothing}
-use Rattle.order_edge.specs.declared.pending.Pending.{Pending}
+use Rattle.order_edge.specs.declared.unheard.Unheard.{Unheard}
 use Rattle.order_edge.specs.Calls.{call_of, calls_in, answer_in, answers_in, IsTellablePending}
 use Rattle.std.proofs.lemmas.List.Elements.{filter_map-append}
 use Rattle.std.proofs.lemmas.Grind.{flat_map-append}
 use Rattle.history_model.specs.Turns.{JobOrder, wanting}
-use Rattle.history_model.specs.Waits.{weigh_orders}
+use Rattle.history_model.specs.AwaitedOrders.{weigh_orders}
 use Rattle.history_model.proofs.TurnsLemmas.{weigh-append}
 use Rattle.history_model.proofs.TurnBoundLemmas.{length-heavy}
 use Rattle.launcher_turn.specs.Turns.{IsNamedIn, event_in, AreTheirs, IsWaiting, Handled, Settled, trace}
-use Rattle.event_journal.specs.Journals.{Kept, Grows}
+use Rattle.event_journal.specs.Journals.{JournalState, Grows}
 use Rattle.event_journal.proofs.JournalsLemmas.{grows_nothing, grows_append}
 use Rattle.launcher_turn.specs.Lines.{answer_text, answer_texts}
 use Rattle.history_model.specs.declared.TheConstants.{MAX_JOBS}
@@ -33,7 +33,7 @@ pub orders-snoc : (es : List Event) (e : Event) (s : State) → orders_in (es ++
 orders-snoc [] e s = append-nil (outcome s e).orders
 orders-snoc (x ∷ es) e s = ap (λ os. (outcome s x).orders ++ os) (orders-snoc es e (step s x)) ∙ sym (append_assoc (outcome s x).orders _ _)
 
-pub same-length : (names : List Name) (waits : List JobOrder) (pending : List Pending) → AreTheirs names waits pending → length pending ≡ length waits
+pub same-length : (names : List Name) (waits : List JobOrder) (pending : List Unheard) → AreTheirs names waits pending → length pending ≡ length waits
 same-length names [] [] theirs = refl
 same-length names [] (p ∷ ps) theirs = absurd theirs
 same-length names (w ∷ ws) [] theirs = absurd theirs
@@ -46,7 +46,7 @@ all-more P (y ∷ ys) x all more = (all.0, all-more P ys x all.1 more)
 
 -- ---- the loop
 
-pub record IsSoFar (s : State) (names : List Name) (first answers : List Pending) (k : ℕ) (table : Table) (told told' : Option (List Entry)) (written written' : Kept) : Type 0 where
+pub record IsSoFar (s : State) (names : List Name) (first answers : List Unheard) (k : ℕ) (table : Table) (told told' : Option (List Entry)) (written written' : JournalState) : Type 0 where
   pub made : List Entry
   pub tells : Tells told made told'
   pub all : answers ≡ first ++ answers_in made
@@ -60,7 +60,7 @@ pub record IsSoFar (s : State) (names : List Name) (first answers : List Pending
   pub fits : k + weigh_orders waits ≤ 3 * MAX_JOBS
   pub named : AllByRecursion (IsNamedIn names) (take k answers)
 
-pub so-far-start : (s : State) (names : List Name) (waits : List JobOrder) (first : List Pending) (table : Table) (told : Option (List Entry)) (written : Kept) →
+pub so-far-start : (s : State) (names : List Name) (waits : List JobOrder) (first : List Unheard) (table : Table) (told : Option (List Entry)) (written : JournalState) →
     IsWaiting table s names waits first → weigh_orders waits ≤ 3 * MAX_JOBS → IsSoFar s names first first 0 table told told written written
 so-far-start s names waits first table told written waiting fits = record {
   made = [];
@@ -77,7 +77,7 @@ so-far-start s names waits first table told written waiting fits = record {
   named = tt;
 }
 
-pub so-far-end : (s : State) (names : List Name) (first answers : List Pending) (k : ℕ) (table : Table) (told told' : Option (List Entry)) (written written' : Kept) →
+pub so-far-end : (s : State) (names : List Name) (first answers : List Unheard) (k : ℕ) (table : Table) (told told' : Option (List Entry)) (written written' : JournalState) →
     IsSoFar s names first answers k table told told' written written' → length answers ≤ k → AllByRecursion IsTellablePending answers → Settled s names first answers table (trace told written) (trace told' written')
 so-far-end s names first answers k table told told' written written' far all tellable =
     let whole : take k answers ≡ answers = take_all k answers all in
@@ -97,16 +97,16 @@ so-far-end s names first answers k table told told' written written' far all tel
     }
 
 -- one more answer
-pub so-far-next : (s : State) (names : List Name) (first answers answers' : List Pending) (k : ℕ) (d : Pending) (table table' : Table) (told told' told'' : Option (List Entry)) (written written' written'' : Kept) → k < length answers →
+pub so-far-next : (s : State) (names : List Name) (first answers answers' : List Unheard) (k : ℕ) (d : Unheard) (table table' : Table) (told told' told'' : Option (List Entry)) (written written' written'' : JournalState) → k < length answers →
     IsSoFar s names first answers k table told told' written written' →
-    ((t : State) (ns : List Name) (job_order : JobOrder) (waits : List JobOrder) (rest : List Pending) → IsWaiting table t ns (job_order ∷ waits) (get_or answers k d ∷ rest) →
+    ((t : State) (ns : List Name) (job_order : JobOrder) (waits : List JobOrder) (rest : List Unheard) → IsWaiting table t ns (job_order ∷ waits) (get_or answers k d ∷ rest) →
     Handled t ns job_order waits (get_or answers k d) rest answers answers' table' (trace told' written') (trace told'' written'')) →
     IsSoFar s names first answers' (k + 1) table' told told'' written written''
 so-far-next s names first answers answers' k d table table' told told' told'' written written' written'' in_range far handles = go far.waits far.fits (subst (IsWaiting table t names far.waits) here far.waiting) where
   t : State
   t = run (map (event_in names) (take k answers)) s
 
-  p : Pending
+  p : Unheard
   p = get_or answers k d
 
   e : Event
@@ -152,12 +152,12 @@ so-far-next s names first answers answers' k d table table' told told' told'' wr
         named = subst (AllByRecursion (IsNamedIn names)) (sym taken) (all-more (IsNamedIn names) (take k answers) p far.named did.named);
       }
 
-abbrev pub Handles : Table → Table → List Pending → List Pending → Option (List Entry) → Option (List Entry) → Kept → Kept → Pending → Type 0
+abbrev pub Handles : Table → Table → List Unheard → List Unheard → Option (List Entry) → Option (List Entry) → JournalState → JournalState → Unheard → Type 0
 Handles table table' answers answers' told' told'' written' written'' p =
-    (t : State) (ns : List Name) (job_order : JobOrder) (waits : List JobOrder) (rest : List Pending) → IsWaiting table t ns (job_order ∷ waits) (p ∷ rest) →
+    (t : State) (ns : List Name) (job_order : JobOrder) (waits : List JobOrder) (rest : List Unheard) → IsWaiting table t ns (job_order ∷ waits) (p ∷ rest) →
     Handled t ns job_order waits p rest answers answers' table' (trace told' written') (trace told'' written'')
 
-pub so-far-turn : (s : State) (names : List Name) (first answers answers' : List Pending) (k : ℕ) (p : Pending) (table table' : Table) (told told' told'' : Option (List Entry)) (written written' written'' : Kept) → k < length answers →
+pub so-far-turn : (s : State) (names : List Name) (first answers answers' : List Unheard) (k : ℕ) (p : Unheard) (table table' : Table) (told told' told'' : Option (List Entry)) (written written' written'' : JournalState) → k < length answers →
     p ≡ get_or answers k p → IsSoFar s names first answers k table told told' written written' → Handles table table' answers answers' told' told'' written' written'' p →
     IsSoFar s names first answers' (k + 1) table' told told'' written written''
 so-far-turn s names first answers answers' k p table table' told told' told'' written written' written'' in_range is far handles =

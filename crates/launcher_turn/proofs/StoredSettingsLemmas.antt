@@ -12,18 +12,18 @@ use Rattle.job_defs.specs.Definitions.{has_sockets, given}
 use Rattle.job_defs.specs.Keys.{def_of}
 use Rattle.job_table.specs.Tables.{Name}
 use Rattle.job_table.specs.Loads.{load_of, given_in, refusal_outside}
-use Rattle.order_edge.specs.declared.pending.Pending.{Pending}
+use Rattle.order_edge.specs.declared.unheard.Unheard.{Unheard}
 use Rattle.order_edge.specs.Calls.{answers_in}
 use Rattle.launcher_turn.specs.Turns.{event_in, events_in}
 use Rattle.child_edge.specs.Calls.{Entry}
 
-answer-settings : (names : List Name) (p : Pending) (s : State) → (step s (event_in names p)).settings ≡ s.settings
+answer-settings : (names : List Name) (p : Unheard) (s : State) → (step s (event_in names p)).settings ≡ s.settings
 answer-settings names p s = go (refusal_in s (event_in names p)) where
   go : (o : Option Refusal) → (step_by o s (event_in names p)).settings ≡ s.settings
   go None = refl
   go (Some refusal) = refl
 
-answers-settings : (names : List Name) (ps : List Pending) (s : State) → (run (map (event_in names) ps) s).settings ≡ s.settings
+answers-settings : (names : List Name) (ps : List Unheard) (s : State) → (run (map (event_in names) ps) s).settings ≡ s.settings
 answers-settings names [] s = refl
 answers-settings names (p ∷ ps) s = answers-settings names ps (step s (event_in names p)) ∙ answer-settings names p s
 

@@ -14,27 +14,27 @@ use Rattle.history_model.specs.Labels.{Label}
 use Rattle.history_model.specs.Machine.{State, Job, Event, Unreadable, Load, UnloadJob, Set, ListJobs, PrintJob, ShutDown, Tick, Sight, OfJob}
 use Rattle.history_model.specs.Acceptance.{refusal_in}
 use Rattle.history_model.specs.Step.{outcome, outcome_by, step, step_by, taken, sight_of, run, orders_in}
-use Rattle.history_model.specs.WholeLaws.{labels_of}
+use Rattle.history_model.specs.MachineLaws.{labels_of}
 use Rattle.history_model.proofs.StepLemmas.{good-step}
 use Rattle.job_table.specs.Tables.{Table, Name, label_of}
-use Rattle.job_table.specs.Kept.{KeepsState, labelled}
+use Rattle.job_table.specs.StandsFor.{KeepsState, labelled}
 use Rattle.job_table.specs.Outcomes.{UnlessMemory}
 use Rattle.history_model.specs.declared.Refusal.TheVariants.{NoMemory}
-use Rattle.order_edge.specs.declared.pending.Pending.{Pending}
+use Rattle.order_edge.specs.declared.unheard.Unheard.{Unheard}
 use Rattle.order_edge.specs.Calls.{call_of, answer_in, answers_in, IsTellablePending}
 use Rattle.history_model.specs.Turns.{JobOrder, wanting}
-use Rattle.history_model.specs.Waits.{weigh_orders}
+use Rattle.history_model.specs.AwaitedOrders.{weigh_orders}
 use Rattle.history_model.proofs.LabelOrderLemmas.{heard-labels, heard_one-labels, order-run, all-stays, all-with}
 use Rattle.history_model.proofs.TurnBoundLemmas.{turning-start, within-step, length-heavy}
 use Rattle.launcher_turn.specs.Turns.{event_in, events_in, AreTheirs, IsWaiting, Begins, Happens, Settled, NamesLabel, IsLabel, IsNamedIn, IsLed, TurnsOf, Turns, trace}
 use Rattle.job_table.specs.Loads.{refused_with}
 use Rattle.launcher_turn.specs.Events.{event_of}
 use Rattle.ctl_protocol.specs.EventWriter.{event_line}
-use Rattle.event_journal.specs.Journals.{Kept, Grows}
+use Rattle.event_journal.specs.Journals.{JournalState, Grows}
 use Rattle.event_journal.proofs.JournalsLemmas.{grows_append}
 use Rattle.launcher_turn.specs.Lines.{journaled_by, answer_texts}
-use Rattle.launcher_turn.specs.declared.happening.Happening.{Happening}
-use Rattle.launcher_turn.specs.declared.happening.Happening.TheVariants as happenings
+use Rattle.launcher_turn.specs.declared.event_ref.EventRef.{EventRef}
+use Rattle.launcher_turn.specs.declared.event_ref.EventRef.TheVariants as happenings
 use Rattle.launcher_turn.proofs.CarryLemmas.{none-called}
 use Rattle.launcher_turn.proofs.NumbersLemmas.{keeps-numbers, made-theirs}
 use Rattle.launcher_turn.proofs.OneEventLemmas.{good, orderly-next}
@@ -74,7 +74,7 @@ led-step table s e keeps led is = record {
   go (Some refusal) = led.orderly.labels
   go None = all-stays IsLabel (taken s e).jobs (taken-labels s e is led.orderly.labels)
 
-pub led-answers : (names : List Name) (pending : List Pending) (s : State) → IsLed s → IsLed (run (map (event_in names) pending) s)
+pub led-answers : (names : List Name) (pending : List Unheard) (s : State) → IsLed s → IsLed (run (map (event_in names) pending) s)
 led-answers names [] s led = led
 led-answers names (p ∷ ps) s led =
     led-answers names ps (step s (event_in names p)) (record { orderly = orderly-next s (label_of names p.job) (Answered p.answer) led.orderly; few = within-step s (event_in names p) led.few })
@@ -93,7 +93,7 @@ labelled-none names [] is = refl
 labelled-none names (order ∷ orders) is = cc
 
 -- its orders were carried out, and their answers wait
-pub begun : (s : State) (e : Event) (old new : Table) (after : List Pending) (told told' : Option (List Entry)) → NamesLabel e → IsLed s → KeepsState old s →
+pub begun : (s : State) (e : Event) (old new : Table) (after : List Unheard) (told told' : Option (List Entry)) → NamesLabel e → IsLed s → KeepsState old s →
     (did : Begins s e None new [] after told told') →
     IsWaiting new (step s e) new.names (wanting (outcome s e).orders) after × (weigh_orders (wanting (outcome s e).orders) ≤ 3 * MAX_JOBS) × (after ≡ answers_in did.carried.entries)
 begun s e old new after told told' is led keeps did =
@@ -116,12 +116,12 @@ begun s e old new after told told' is led keeps did =
       kept,
     )
 
-abbrev pub Settles : Table → List Pending → List Pending → Table → Option (List Entry) → Option (List Entry) → Kept → Kept → Type 0
+abbrev pub Settles : Table → List Unheard → List Unheard → Table → Option (List Entry) → Option (List Entry) → JournalState → JournalState → Type 0
 Settles mid first after new b c written written' =
     (s : State) (names : List Name) (waits : List JobOrder) → IsWaiting mid s names waits first → weigh_orders waits ≤ 3 * MAX_JOBS → Settled s names first after new (trace b written) (trace c written')
 
 -- and so the whole turn
-unfoldable pub turned-at : (s : State) (e : Event) (line : List ℕ) (old mid new : Table) (first after : List Pending) (a b c : Option (List Entry)) (k m n : Kept) → NamesLabel e → IsLed s → KeepsState old s →
+unfoldable pub turned-at : (s : State) (e : Event) (line : List ℕ) (old mid new : Table) (first after : List Unheard) (a b c : Option (List Entry)) (k m n : JournalState) → NamesLabel e → IsLed s → KeepsState old s →
     Begins s e None mid [] first a b → Grows k m line → Settles mid first after new b c m n → TurnsOf s e line None new (trace a k) (trace c n)
 turned-at s e line old mid new first after a b c k m n is led keeps did noted settles =
     let start = begun s e old mid first a b is led keeps did in
@@ -150,7 +150,7 @@ turned-at s e line old mid new first after a b c k m n is led keeps did noted se
     }
 
 -- a refused event is the whole turn
-pub refused-turn : (e : Event) (line : List ℕ) (refusal : Refusal) (old new : Table) (first : List Pending) (a b : Option (List Entry)) (k n : Kept) → NamesLabel e → Grows k n line →
+pub refused-turn : (e : Event) (line : List ℕ) (refusal : Refusal) (old new : Table) (first : List Unheard) (a b : Option (List Entry)) (k n : JournalState) → NamesLabel e → Grows k n line →
     Happens e (Some refusal) old new [] first a b → Turns e line (Some refusal) old new (trace a k) (trace b n)
 refused-turn e line refusal old new first a b k n is noted happened = λ s led keeps.
     let happens = happened s keeps in
@@ -181,7 +181,7 @@ refused-turn e line refusal old new first a b k n is noted happened = λ s led k
 -- ---- as the functions have it
 
 -- what happens names no label that comes
-pub label-event : (what : Happening) → NamesLabel (event_of what)
+pub label-event : (what : EventRef) → NamesLabel (event_of what)
 label-event (happenings.Clock at) = tt
 label-event (happenings.Saw path obs) = tt
 label-event (happenings.ToJob label what) = tt
@@ -189,7 +189,7 @@ label-event (happenings.Unload label) = tt
 label-event happenings.Shutdown = tt
 
 -- the answer of the turn is that of its event
-pub turned-from : (what : Happening) (result : Result (Unit {0}) Refusal) (old mid new : Table) (before first after : List Pending) (a b c : Option (List Entry)) (k m n : Kept) → result ≡ Ok tt → before ≡ [] →
+pub turned-from : (what : EventRef) (result : Result (Unit {0}) Refusal) (old mid new : Table) (before first after : List Unheard) (a b c : Option (List Entry)) (k m n : JournalState) → result ≡ Ok tt → before ≡ [] →
     UnlessMemory result (Happens (event_of what) (refused_with result) old mid before first a b) → Grows k m (event_line (journaled_by what)) → Settles mid first after new b c m n → Turns (event_of what) (event_line (journaled_by what)) None old new (trace a k) (trace c n)
 unfolding turned-at
 turned-from what (Err refusal) old mid new before first after a b c k m n ok empty happened noted settles = cc
@@ -207,7 +207,7 @@ unless-memory : {P Q : Type 0} (refusal : Refusal) → (P → Q) → UnlessMemor
 unless-memory NoMemory follows holds = tt
 unless-memory _ follows holds = follows holds
 
-pub refused-from : (what : Happening) (result : Result (Unit {0}) Refusal) (refusal : Refusal) (old new : Table) (before first : List Pending) (a b : Option (List Entry)) (k n : Kept) →
+pub refused-from : (what : EventRef) (result : Result (Unit {0}) Refusal) (refusal : Refusal) (old new : Table) (before first : List Unheard) (a b : Option (List Entry)) (k n : JournalState) →
     result ≡ Err refusal → before ≡ [] → Grows k n (event_line (journaled_by what)) → UnlessMemory result (Happens (event_of what) (refused_with result) old new before first a b) →
     UnlessMemory {A = Unit {0}} (Err refusal) (Turns (event_of what) (event_line (journaled_by what)) (Some refusal) old new (trace a k) (trace b n))
 refused-from what result refusal old new before first a b k n is empty noted happened =

@@ -3,10 +3,10 @@ use Rattle.std.specs.Prelude.{Bool, true, false}
 use Rattle.history_model.specs.declared.Ask.TheVariants as asks
 use Rattle.history_model.specs.Items.{Item, Asked, Answered, Came, Left, RunEnded, WaitRefused}
 use Rattle.history_model.specs.Machine.{Event, UnloadJob, ShutDown, Tick, Sight, OfJob}
-use Rattle.launcher_turn.specs.declared.happening.News.{News}
-use Rattle.launcher_turn.specs.declared.happening.News.TheVariants as news
-use Rattle.launcher_turn.specs.declared.happening.Happening.{Happening}
-use Rattle.launcher_turn.specs.declared.happening.Happening.TheVariants as happenings
+use Rattle.launcher_turn.specs.declared.event_ref.News.{News}
+use Rattle.launcher_turn.specs.declared.event_ref.News.TheVariants as news
+use Rattle.launcher_turn.specs.declared.event_ref.EventRef.{EventRef}
+use Rattle.launcher_turn.specs.declared.event_ref.EventRef.TheVariants as happenings
 
 -- the item that one job's past grows by
 abbrev pub item_heard : News → Item
@@ -20,7 +20,7 @@ item_heard (news.WaitRefused run) = WaitRefused run
 item_heard (news.Answered answer) = Answered answer
 
 -- the event; an unload without -w asks no store
-abbrev pub event_of : Happening → Event
+abbrev pub event_of : EventRef → Event
 event_of (happenings.Clock at) = Tick at
 event_of (happenings.Saw path obs) = Sight path.now obs
 event_of (happenings.ToJob label what) = OfJob label.now (item_heard what)
@@ -28,7 +28,7 @@ event_of (happenings.Unload label) = UnloadJob label.now false true
 event_of happenings.Shutdown = ShutDown
 
 -- what happened is a reading of the clocks
-abbrev pub is_clock : Happening → Bool
+abbrev pub is_clock : EventRef → Bool
 is_clock (happenings.Clock at) = true
 is_clock (happenings.Saw path obs) = false
 is_clock (happenings.ToJob label what) = false

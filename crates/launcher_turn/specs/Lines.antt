@@ -8,11 +8,11 @@ use Rattle.history_model.specs.declared.event.Event.TheVariants as journaled
 use Rattle.history_model.specs.Labels.{Label}
 use Rattle.ctl_protocol.specs.EventWriter.{event_line}
 use Rattle.job_table.specs.Tables.{Name, label_of}
-use Rattle.order_edge.specs.declared.pending.Pending.{Pending}
-use Rattle.launcher_turn.specs.declared.happening.News.{News}
-use Rattle.launcher_turn.specs.declared.happening.News.TheVariants as news
-use Rattle.launcher_turn.specs.declared.happening.Happening.{Happening}
-use Rattle.launcher_turn.specs.declared.happening.Happening.TheVariants as happenings
+use Rattle.order_edge.specs.declared.unheard.Unheard.{Unheard}
+use Rattle.launcher_turn.specs.declared.event_ref.News.{News}
+use Rattle.launcher_turn.specs.declared.event_ref.News.TheVariants as news
+use Rattle.launcher_turn.specs.declared.event_ref.EventRef.{EventRef}
+use Rattle.launcher_turn.specs.declared.event_ref.EventRef.TheVariants as happenings
 
 -- the journal's event of the answer to an order of the label's job
 abbrev pub journaled_answer : Label → Answer → journal.Event
@@ -33,7 +33,7 @@ journaled_of job (news.WaitRefused run) = journaled.WaitRefused job run
 journaled_of job (news.Answered answer) = journaled_answer job answer
 
 -- and of what happens
-abbrev pub journaled_by : Happening → journal.Event
+abbrev pub journaled_by : EventRef → journal.Event
 journaled_by (happenings.Clock at) = journaled.Clock at
 journaled_by (happenings.Saw path obs) = journaled.Saw path.now obs
 journaled_by (happenings.ToJob label what) = journaled_of label.now what
@@ -41,10 +41,10 @@ journaled_by (happenings.Unload label) = journaled.Unload label.now false true
 journaled_by happenings.Shutdown = journaled.Shutdown
 
 -- the line of an answer; a number stands for its job's label
-abbrev pub answer_text : List Name → Pending → List ℕ
+abbrev pub answer_text : List Name → Unheard → List ℕ
 answer_text names pending =
     event_line (journaled_answer (label_of names pending.job) pending.answer)
 
 -- the lines of the answers, in order
-abbrev pub answer_texts : List Name → List Pending → List ℕ
+abbrev pub answer_texts : List Name → List Unheard → List ℕ
 answer_texts names pending = flat_map (answer_text names) pending

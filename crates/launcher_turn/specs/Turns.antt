@@ -10,35 +10,35 @@ use Rattle.history_model.specs.Runs.{is_answer_to}
 use Rattle.history_model.specs.Labels.{Label, is_label, is_same}
 use Rattle.history_model.specs.Machine.{State, Event, Load, OfJob}
 use Rattle.history_model.specs.Step.{outcome, step, run, orders_in}
-use Rattle.history_model.specs.WholeLaws.{AreInOrder, labels_of}
+use Rattle.history_model.specs.MachineLaws.{AreInOrder, labels_of}
 use Rattle.job_defs.specs.Described.{Described}
 use Rattle.job_table.specs.Tables.{Table, Row, Name, IsOnce, is_known, label_of, definition_of_number}
-use Rattle.job_table.specs.Kept.{KeepsState, labelled}
+use Rattle.job_table.specs.StandsFor.{KeepsState, labelled}
 use Rattle.job_table.specs.Outcomes.{IsSameFor}
 use Rattle.job_table.specs.Ends.{AreKnown}
 use Rattle.job_table.specs.declared.Step.{Step}
 use Rattle.child_edge.specs.Calls.{Tells, Entry}
-use Rattle.order_edge.specs.declared.pending.Pending.{Pending}
-use Rattle.event_journal.specs.Journals.{Kept, Grows}
+use Rattle.order_edge.specs.declared.unheard.Unheard.{Unheard}
+use Rattle.event_journal.specs.Journals.{JournalState, Grows}
 use Rattle.launcher_turn.specs.Lines.{answer_text, answer_texts}
 use Rattle.order_edge.specs.Calls.{call_of, calls_in, answers_in, IsTellablePending}
 use Rattle.history_model.specs.Turns.{JobOrder, wanting}
-use Rattle.history_model.specs.Waits.{AreFresh, weight, weigh_orders}
+use Rattle.history_model.specs.AwaitedOrders.{AreFresh, weight, weigh_orders}
 
 -- what a turn leaves behind outside the table: the calls that the edge tells, and the journal
 pub record Trace : Type 0 where
   pub calls : Option (List Entry)
-  pub journal : Kept
+  pub journal : JournalState
 
 -- the trace with these
-abbrev pub trace : Option (List Entry) → Kept → Trace
+abbrev pub trace : Option (List Entry) → JournalState → Trace
 trace calls journal = record { calls = calls; journal = journal }
 
 -- ---- orders that are carried out
 
 -- the orders were carried out one after another, each by its one call, and if there is room for
 -- them the answers are kept
-pub record Carried (orders : List Order) (old new : List Pending)
+pub record Carried (orders : List Order) (old new : List Unheard)
     (told told' : Option (List Entry)) : Type 0 where
   pub entries : List Entry
   pub tells : Tells told entries told'
@@ -59,7 +59,7 @@ AreKnownIn (Err refusal) = Unit {0}
 -- ---- the events of a turn
 
 -- the event that an answer is; a number stands for its job's label
-abbrev pub event_in : List Name → Pending → Event
+abbrev pub event_in : List Name → Unheard → Event
 event_in names pending = OfJob (label_of names pending.job) (Answered pending.answer)
 
 -- the events that the answers of these calls are
@@ -79,7 +79,7 @@ pub record IsTurn (s : State) (input : Event) (names : List Name) (entries : Lis
 -- ---- in the midst of a turn
 
 -- each answer is that to the order at its place, of the job that its number stands for
-abbrev pub AreTheirs : List Name → List JobOrder → List Pending → Type 0
+abbrev pub AreTheirs : List Name → List JobOrder → List Unheard → Type 0
 AreTheirs names [] [] = Unit {0}
 AreTheirs names [] (pending ∷ rest) = ⊥
 AreTheirs names (job_order ∷ waits) [] = ⊥
@@ -113,7 +113,7 @@ abbrev pub IsTextLabel : Label → Type 0
 IsTextLabel name = IsLabel name × IsUtf8 name
 
 -- the number of the answer's job stands for such a label
-abbrev pub IsNamedIn : List Name → Pending → Type 0
+abbrev pub IsNamedIn : List Name → Unheard → Type 0
 IsNamedIn names pending = IsTextLabel (label_of names pending.job)
 
 -- the machine as events lead to it
@@ -125,7 +125,7 @@ pub record IsOrderly (s : State) : Type 0 where
 -- the table stands for a machine that has given these orders, whose answers are still to be made
 -- events
 pub record IsWaiting (table : Table) (s : State) (names : List Name) (waits : List JobOrder)
-    (pending : List Pending) : Type 0 where
+    (pending : List Unheard) : Type 0 where
   pub keeps : KeepsState table s
   pub orderly : IsOrderly s
   pub fresh : AreFresh s.jobs waits
@@ -136,7 +136,7 @@ pub record IsWaiting (table : Table) (s : State) (names : List Name) (waits : Li
 -- One event happened, and this was its answer: its orders, by number, were carried out. If it
 -- was accepted, the table's own names stand for the jobs after it, and for those that went at it.
 pub record Begins (s : State) (e : Event) (reply : Option Refusal) (new : Table)
-    (before after : List Pending) (told told' : Option (List Entry)) : Type 0 where
+    (before after : List Unheard) (told told' : Option (List Entry)) : Type 0 where
   pub orders : List Order
   pub carried : Carried orders before after told told'
   pub kept : KeepsState new (step s e)
@@ -148,7 +148,7 @@ pub record Begins (s : State) (e : Event) (reply : Option Refusal) (new : Table)
 -- one event happened to jobs that were loaded: names that stand for the jobs before it do so after
 -- it, and the table's own are such
 pub record HappensTo (s : State) (e : Event) (reply : Option Refusal) (old new : Table)
-    (before after : List Pending) (told told' : Option (List Entry)) : Type 0 where
+    (before after : List Unheard) (told told' : Option (List Entry)) : Type 0 where
   pub begins : Begins s e reply new before after told told'
   pub loaded : reply ≡ None → AreNumbered new.names old
   pub stays : KeepsNumbers old new
@@ -157,14 +157,14 @@ pub record HappensTo (s : State) (e : Event) (reply : Option Refusal) (old new :
       × (list_all (is_known names) begins.orders ≡ true)
 
 -- so it is for each machine that the table stood for
-abbrev pub Happens : Event → Option Refusal → Table → Table → List Pending → List Pending →
+abbrev pub Happens : Event → Option Refusal → Table → Table → List Unheard → List Unheard →
     Option (List Entry) → Option (List Entry) → Type 0
 Happens e reply old new before after told told' =
     (s : State) → KeepsState old s → HappensTo s e reply old new before after told told'
 
 -- one answer was made an event, and what it ordered waits behind the others
 pub record Handled (s : State) (names : List Name) (job_order : JobOrder) (waits : List JobOrder)
-    (pending : Pending) (rest answers answers' : List Pending) (new : Table)
+    (pending : Unheard) (rest answers answers' : List Unheard) (new : Table)
     (before after : Trace) : Type 0 where
   pub orders : List Order
   pub carried : Carried orders answers answers' before.calls after.calls
@@ -178,7 +178,7 @@ pub record Handled (s : State) (names : List Name) (job_order : JobOrder) (waits
       < weight job_order.1
 
 -- each answer was made an event, and none remains; `made` are the calls of these events
-pub record Settled (s : State) (names : List Name) (waited settled : List Pending) (new : Table)
+pub record Settled (s : State) (names : List Name) (waited settled : List Unheard) (new : Table)
     (before after : Trace) : Type 0 where
   pub made : List Entry
   pub tells : Tells before.calls made after.calls

@@ -8,7 +8,7 @@ ghost use Rattle.launcher_turn.specs.Turns.{Happens, IsUntouched};
 ghost use Rattle.job_table.specs.Loads.{refused_with};
 
 use crate::carrying::carry_step;
-use crate::happening::{Happening, job_event};
+use crate::event_ref::{EventRef, job_event};
 use crate::room::AnswerQueue;
 use child_edge::{ChildEdge, SocketEdge};
 use history_model::Refusal;
@@ -21,7 +21,7 @@ pub(crate) fn hear<E: ChildEdge + SocketEdge>(
     table: &mut JobTable,
     edge: &mut E,
     alloc: Global,
-    what: Happening<'_>,
+    what: EventRef<'_>,
     answers: &mut AnswerQueue,
 ) -> Result<(), Refusal>
     ensures happens { UnlessMemory result
@@ -32,12 +32,12 @@ pub(crate) fn hear<E: ChildEdge + SocketEdge>(
         (E.told edge.old) (E.told edge.new) }
 {
     match what {
-        Happening::Clock(at) => carry_step(edge, table.clock(alloc, at), answers),
-        Happening::Saw(path, obs) => carry_step(edge, table.saw(path, obs), answers),
-        Happening::ToJob(label, news) => {
+        EventRef::Clock(at) => carry_step(edge, table.clock(alloc, at), answers),
+        EventRef::Saw(path, obs) => carry_step(edge, table.saw(path, obs), answers),
+        EventRef::ToJob(label, news) => {
             carry_step(edge, table.hear(label, job_event(news)), answers)
         }
-        Happening::Unload(label) => carry_step(edge, table.unload(label), answers),
-        Happening::Shutdown => carry_step(edge, table.shutdown(), answers),
+        EventRef::Unload(label) => carry_step(edge, table.unload(label), answers),
+        EventRef::Shutdown => carry_step(edge, table.shutdown(), answers),
     }
 }

@@ -2,7 +2,7 @@
 #![tactic(auto)]
 
 mod carrying;
-mod happening;
+mod event_ref;
 mod hearing;
 pub mod laws;
 mod lines;
@@ -12,7 +12,7 @@ mod settling;
 mod turns;
 
 pub use carrying::carry_all;
-pub use happening::{Happening, News};
+pub use event_ref::{EventRef, News};
 pub use questions::{list, print};
 pub use room::{AnswerQueue, LabelRoom, Room};
 pub use settling::settle;

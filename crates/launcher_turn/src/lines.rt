@@ -5,7 +5,7 @@ ghost use Rattle.ctl_protocol.specs.EventWriter.{event_line};
 ghost use Rattle.event_journal.specs.Journals.{Grows};
 ghost use Rattle.launcher_turn.specs.Lines.{journaled_by, journaled_of, journaled_answer};
 
-use crate::happening::{Happening, News};
+use crate::event_ref::{EventRef, News};
 use event_journal::Journal;
 use history_model::{Answer, Event, Text};
 use std::alloc::{AllocError, Global};
@@ -40,20 +40,20 @@ fn job_line(job: Text, news: News) -> Event
 }
 
 /// The event of the journal that says what happens. `AllocError` if memory for a copy of its label or path was refused.
-fn event_made(alloc: Global, what: Happening<'_>) -> Result<Event, AllocError>
+fn event_made(alloc: Global, what: EventRef<'_>) -> Result<Event, AllocError>
     ensures { IfOk result (λ event. event ≡ journaled_by what.entry) }
 {
     match what {
-        Happening::Clock(at) => Ok(Event::Clock(at)),
-        Happening::Saw(path, obs) => {
+        EventRef::Clock(at) => Ok(Event::Clock(at)),
+        EventRef::Saw(path, obs) => {
             let path = Text::copy_of(alloc, path)?;
             Ok(Event::Saw { path, obs })
         }
-        Happening::ToJob(label, news) => {
+        EventRef::ToJob(label, news) => {
             let job = Text::copy_of(alloc, label)?;
             Ok(job_line(job, news))
         }
-        Happening::Unload(label) => {
+        EventRef::Unload(label) => {
             let job = Text::copy_of(alloc, label)?;
             Ok(Event::Unload {
                 job,
@@ -61,12 +61,12 @@ fn event_made(alloc: Global, what: Happening<'_>) -> Result<Event, AllocError>
                 store: true,
             })
         }
-        Happening::Shutdown => Ok(Event::Shutdown),
+        EventRef::Shutdown => Ok(Event::Shutdown),
     }
 }
 
 /// Writes the line of what happens. If no line is written, its event is not even made; want of memory for it closes the journal.
-pub(crate) fn note<W: Write>(journal: &mut Journal<W>, alloc: Global, what: Happening<'_>)
+pub(crate) fn note<W: Write>(journal: &mut Journal<W>, alloc: Global, what: EventRef<'_>)
     ensures { Grows journal.old journal.new (event_line (journaled_by what.entry)) }
 {
     if !journal.is_writing() {

@@ -7,7 +7,7 @@ ghost use Rattle.history_model.specs.declared.event.Event.TheVariants as journal
 ghost use Rattle.history_model.specs.Acceptance.{refusal_in};
 ghost use Rattle.history_model.specs.Machine.{State, ListJobs, PrintJob};
 ghost use Rattle.ctl_protocol.specs.EventWriter.{event_line};
-ghost use Rattle.job_table.specs.Kept.{KeepsState};
+ghost use Rattle.job_table.specs.StandsFor.{KeepsState};
 ghost use Rattle.job_table.specs.Outcomes.{UnlessMemory, IsReplyText, Means};
 ghost use Rattle.event_journal.specs.Journals.{Grows};
 

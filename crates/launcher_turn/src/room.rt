@@ -5,11 +5,11 @@ ghost use Rattle.std.specs.Vec.{vec_capacity};
 ghost use Rattle.std.specs.String.{string_bytes, string_capacity};
 ghost use Rattle.history_model.specs.declared.TheConstants.{MAX_JOBS};
 ghost use Rattle.std.specs.List.{AllByRecursion};
-ghost use Rattle.order_edge.specs.declared.pending.Pending.{Pending as Answered};
+ghost use Rattle.order_edge.specs.declared.unheard.Unheard.{Unheard as Answered};
 ghost use Rattle.order_edge.specs.Calls.{IsTellablePending};
 
 use history_model::MAX_JOBS;
-use order_edge::Pending;
+use order_edge::Unheard;
 use std::alloc::{AllocError, Global};
 use std::marker::Model;
 
@@ -22,7 +22,7 @@ const LONGEST_LABEL: usize = 255;
 /// The answers of a turn, oldest first, with room for as many as a turn has. A line can say each. To a contract, their list.
 #[derive(Drop)]
 pub struct AnswerQueue {
-    answers: Vec<Pending>,
+    answers: Vec<Unheard>,
 }
 
 impl Model for AnswerQueue {
@@ -59,7 +59,7 @@ impl AnswerQueue {
     }
 
     /// The answer at a place, counted from 0. The caller's condition: the place is below the queue's length.
-    pub(crate) fn at(&self, place: usize) -> Pending
+    pub(crate) fn at(&self, place: usize) -> Unheard
         requires { place < length self.now }
         ensures { result ≡ slice_index_or self.now place result }
     {
@@ -67,7 +67,7 @@ impl AnswerQueue {
     }
 
     /// Puts an answer behind the others, if there is room for it. Takes no memory. The caller's condition: a line can say it.
-    pub(crate) fn keep(&mut self, answer: Pending)
+    pub(crate) fn keep(&mut self, answer: Unheard)
         requires { IsTellablePending answer }
         ensures { length self.old < 3 * MAX_JOBS → self.new ≡ self.old ++ answer ∷ [] }
     {

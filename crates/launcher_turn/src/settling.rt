@@ -4,19 +4,19 @@ ghost use Rattle.std.specs.Prelude.{◌≤◌, ◌*◌, List, ◌∷◌};
 ghost use Rattle.history_model.specs.declared.TheConstants.{MAX_JOBS};
 ghost use Rattle.history_model.specs.Machine.{State};
 ghost use Rattle.history_model.specs.Turns.{JobOrder};
-ghost use Rattle.history_model.specs.Waits.{weigh_orders};
+ghost use Rattle.history_model.specs.AwaitedOrders.{weigh_orders};
 ghost use Rattle.job_table.specs.Tables.{Name};
-ghost use Rattle.order_edge.specs.declared.pending.Pending.{Pending as Answered};
+ghost use Rattle.order_edge.specs.declared.unheard.Unheard.{Unheard as Answered};
 ghost use Rattle.launcher_turn.specs.Turns.{IsWaiting, Handled, Settled, trace};
 
-use crate::happening::{Happening, News};
+use crate::event_ref::{EventRef, News};
 use crate::hearing::hear;
 use crate::lines::note;
 use crate::room::Room;
 use child_edge::{ChildEdge, SocketEdge};
 use event_journal::Journal;
 use job_table::JobTable;
-use order_edge::Pending;
+use order_edge::Unheard;
 use std::alloc::Global;
 use std::io::Write;
 
@@ -26,7 +26,7 @@ fn handle<E: ChildEdge + SocketEdge, W: Write>(
     edge: &mut E,
     journal: &mut Journal<W>,
     alloc: Global,
-    pending: Pending,
+    pending: Unheard,
     room: &mut Room,
 )
     ensures { (s : State) (names : List Name) (job_order : JobOrder) (waits : List JobOrder)
@@ -36,7 +36,7 @@ fn handle<E: ChildEdge + SocketEdge, W: Write>(
         (trace (E.told edge.old) journal.old) (trace (E.told edge.new) journal.new) }
 {
     room.label.copy(table.last_step().label(pending.job));
-    let told = Happening::ToJob(room.label.as_str(), News::Answered(pending.answer));
+    let told = EventRef::ToJob(room.label.as_str(), News::Answered(pending.answer));
     let _accepted = hear(table, edge, alloc, told, &mut room.answers);
     note(journal, alloc, told);
 }

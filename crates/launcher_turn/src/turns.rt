@@ -9,7 +9,7 @@ ghost use Rattle.launcher_turn.specs.Lines.{journaled_by};
 ghost use Rattle.launcher_turn.specs.Turns.{Turns, IsUntouched, trace};
 ghost use Rattle.job_table.specs.Loads.{refused_with};
 
-use crate::happening::Happening;
+use crate::event_ref::EventRef;
 use crate::hearing::hear;
 use crate::lines::note;
 use crate::room::Room;
@@ -32,7 +32,7 @@ pub fn turn<E: ChildEdge + SocketEdge, W: Write>(
     journal: &mut Journal<W>,
     alloc: Global,
     room: &mut Room,
-    what: Happening<'_>,
+    what: EventRef<'_>,
 ) -> Result<(), Refusal>
     ensures turn { UnlessMemory result
         (Turns (event_of what.entry) (event_line (journaled_by what.entry))

@@ -8,7 +8,7 @@ use history_model::{JobNo, MAX_JOBS};
 use launcher::Input;
 use launcher_turn::LabelRoom;
 use load_asking::SettingStore;
-use round_findings::Inputs;
+use round_findings::RoundLauncher;
 use std::alloc::Global;
 use std::io::Write;
 
@@ -17,7 +17,7 @@ use std::io::Write;
 /// some were left.
 pub(crate) fn poll_children<T: SettingStore, R: System, W: Write>(
     alloc: Global,
-    inputs: &mut Inputs<T, OsEdge<R>, W>,
+    inputs: &mut RoundLauncher<T, OsEdge<R>, W>,
     label: &mut LabelRoom,
     first: JobNo,
     time: &mut RoundTime<'_, R>,
@@ -39,7 +39,7 @@ pub(crate) fn poll_children<T: SettingStore, R: System, W: Write>(
 // The table can't lend the label while the child is polled.
 fn poll_child<T: SettingStore, R: System, W: Write>(
     alloc: Global,
-    inputs: &mut Inputs<T, OsEdge<R>, W>,
+    inputs: &mut RoundLauncher<T, OsEdge<R>, W>,
     label: &mut LabelRoom,
     job: JobNo,
     run: u64,

@@ -13,7 +13,7 @@ use launcher::Input;
 use launcher_turn::LabelRoom;
 use load_asking::SettingStore;
 use mio::{Registry, Token};
-use round_findings::Inputs;
+use round_findings::RoundLauncher;
 use std::alloc::{AllocError, Global};
 use std::io::Write;
 
@@ -93,7 +93,7 @@ impl JobSockets {
     pub(crate) fn accept<T: SettingStore, R: System, W: Write>(
         &mut self,
         registry: &Registry,
-        inputs: &mut Inputs<T, OsEdge<R>, W>,
+        inputs: &mut RoundLauncher<T, OsEdge<R>, W>,
         time: &mut RoundTime<'_, R>,
     ) {
         // Sockets that the poll refuses are tried in each round.
@@ -125,7 +125,7 @@ impl JobSockets {
     fn accept_for<T: SettingStore, R: System, W: Write>(
         &mut self,
         registry: &Registry,
-        inputs: &mut Inputs<T, OsEdge<R>, W>,
+        inputs: &mut RoundLauncher<T, OsEdge<R>, W>,
         job: JobNo,
     ) -> bool {
         let Some(bind) = inputs.host.edge().bind_of(job) else {
@@ -150,7 +150,7 @@ impl JobSockets {
     fn welcome<T: SettingStore, R: System, W: Write>(
         &mut self,
         registry: &Registry,
-        inputs: &mut Inputs<T, OsEdge<R>, W>,
+        inputs: &mut RoundLauncher<T, OsEdge<R>, W>,
         origin: Origin,
         client: Client,
         place: Place,
@@ -171,7 +171,7 @@ impl JobSockets {
 
     fn let_go<T: SettingStore, R: System, W: Write>(
         &mut self,
-        inputs: &mut Inputs<T, OsEdge<R>, W>,
+        inputs: &mut RoundLauncher<T, OsEdge<R>, W>,
         key: usize,
         loss: Option<Loss>,
     ) {
@@ -186,7 +186,7 @@ impl JobSockets {
     // A loss is told of a job that has its sockets still.
     fn tell<T: SettingStore, R: System, W: Write>(
         &mut self,
-        inputs: &mut Inputs<T, OsEdge<R>, W>,
+        inputs: &mut RoundLauncher<T, OsEdge<R>, W>,
         origin: Origin,
         loss: Loss,
     ) {
@@ -202,7 +202,7 @@ impl JobSockets {
     pub(crate) fn gather<T: SettingStore, R: System, W: Write>(
         &mut self,
         alloc: Global,
-        inputs: &mut Inputs<T, OsEdge<R>, W>,
+        inputs: &mut RoundLauncher<T, OsEdge<R>, W>,
         time: &mut RoundTime<'_, R>,
     ) -> bool {
         if self.callers.is_empty() {
@@ -230,7 +230,7 @@ impl JobSockets {
     // ones.
     fn gathered<T: SettingStore, R: System, W: Write>(
         &mut self,
-        inputs: &mut Inputs<T, OsEdge<R>, W>,
+        inputs: &mut RoundLauncher<T, OsEdge<R>, W>,
         key: usize,
     ) -> Gathered {
         let Some(caller) = self.callers.get_mut(key) else {
@@ -251,7 +251,7 @@ impl JobSockets {
     fn hand_in<T: SettingStore, R: System, W: Write>(
         &mut self,
         alloc: Global,
-        inputs: &mut Inputs<T, OsEdge<R>, W>,
+        inputs: &mut RoundLauncher<T, OsEdge<R>, W>,
         key: usize,
     ) {
         let Some(caller) = self.callers.remove(key) else {
@@ -286,7 +286,7 @@ impl JobSockets {
 
 // Whether the job has the same sockets still.
 fn has_sockets<T: SettingStore, R: System, W: Write>(
-    inputs: &mut Inputs<T, OsEdge<R>, W>,
+    inputs: &mut RoundLauncher<T, OsEdge<R>, W>,
     origin: Origin,
 ) -> bool {
     inputs.host.edge().bind_of(origin.job) == Some(origin.bind)
@@ -294,7 +294,7 @@ fn has_sockets<T: SettingStore, R: System, W: Write>(
 
 fn came<T: SettingStore, R: System, W: Write>(
     alloc: Global,
-    inputs: &mut Inputs<T, OsEdge<R>, W>,
+    inputs: &mut RoundLauncher<T, OsEdge<R>, W>,
     label: &str,
     conn: u64,
 ) -> Option<Refusal> {

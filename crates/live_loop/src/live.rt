@@ -14,7 +14,7 @@ use launcher::Host;
 use launcher_turn::LabelRoom;
 use load_asking::SettingStore;
 use mio::{Events, Poll, Token};
-use round_findings::{Inputs, Sights};
+use round_findings::{RoundLauncher, Sights};
 use std::alloc::{AllocError, Global};
 use std::io::Write;
 use std::net::Net;
@@ -29,7 +29,7 @@ const EVENTS: usize = 128;
 /// another.
 #[derive(Drop)]
 pub struct Live<R: System, T: SettingStore, W: Write> {
-    pub(crate) inputs: Inputs<T, OsEdge<R>, W>,
+    pub(crate) inputs: RoundLauncher<T, OsEdge<R>, W>,
     pub(crate) control: ControlSocket,
     pub(crate) poll: Poll,
     pub(crate) events: Events,
@@ -104,7 +104,7 @@ impl<R: System, T: SettingStore + Drop, W: Write + Drop> Live<R, T, W> {
         let Ok(rooms) = make_rooms(rt, alloc) else {
             return Err(ServeFault::NoMemory);
         };
-        let Ok(inputs) = Inputs::new(alloc, host) else {
+        let Ok(inputs) = RoundLauncher::new(alloc, host) else {
             return Err(ServeFault::NoMemory);
         };
         let Rooms {
@@ -148,7 +148,7 @@ impl<R: System, T: SettingStore, W: Write> Live<R, T, W> {
         ensures { result ≡ self.inputs.host }
     {
         let Live { inputs, .. } = self;
-        let Inputs { host, .. } = inputs;
+        let RoundLauncher { host, .. } = inputs;
         host
     }
 

@@ -10,7 +10,7 @@ use Rattle.history_model.specs.Demands.{interval_fires}
 use Rattle.history_model.specs.Due.{is_wanted, is_throttled}
 use Rattle.history_model.specs.Calendar.{Zone, calendar_fires}
 use Rattle.history_model.specs.Moments.{HasPeriod}
-use Rattle.history_model.specs.Coming.{is_from}
+use Rattle.history_model.specs.NextMomentByFacts.{has_come}
 use Rattle.history_model.specs.Reasons.{reasons_of, needs_event, free_from, throttled_until, spawns_from}
 use Rattle.history_model.specs.NextRun.{later, spawns_after, IsNextRun}
 use Rattle.history_model.proofs.ReasonsLemmas.{free-at, reading-due, moment-due}
@@ -38,7 +38,7 @@ free-told t up rising = go (is_throttled t) (free-at (now t).up t) where
   go false e = grind (arith, nat_tests, e, rising)
 
 pub spawns-after : (zone : Zone) (t : History) → HasPeriod t → (d : ℕ) → spawns_after zone t d
-    ≡ (is_from (spawns_from t) ((now t).up + SECOND * d)
+    ≡ (has_come (spawns_from t) ((now t).up + SECOND * d)
     || (not (needs_event (reasons_of t)) && calendar_fires zone (definition_of t).calendar (now t).wall ((now t).wall + d)
     && nat_le (unwrap_or (throttled_until t) 0) ((now t).up + SECOND * d)))
 spawns-after zone t period d =
@@ -50,7 +50,7 @@ spawns-after zone t period d =
     || (not (needs_event (reasons_of t)) && fires && free-told t at.up (let rising : (now t).up ≤ (now t).up + SECOND * d = omega arith in rising) i))
 
 -- a number from which on it holds is the least
-pub least-run : (zone : Zone) (t : History) (ahead : ℕ) (o : Option ℕ) → IfSome o (λ d. d ≤ ahead) → ((d : ℕ) → d ≤ ahead → spawns_after zone t d ≡ is_from o d) → IsNextRun zone t ahead o
+pub least-run : (zone : Zone) (t : History) (ahead : ℕ) (o : Option ℕ) → IfSome o (λ d. d ≤ ahead) → ((d : ℕ) → d ≤ ahead → spawns_after zone t d ≡ has_come o d) → IsNextRun zone t ahead o
 least-run zone t ahead None bound from = from
 least-run zone t ahead (Some d) bound from = (bound, there, none) where
   there : spawns_after zone t d ≡ true

@@ -5,7 +5,7 @@ ghost use Rattle.std.specs.Prelude.{◌≡◌, ◌≤◌, ◌+◌, ◌*◌, ℕ,
 ghost use Rattle.history_model.specs.declared.TheConstants.{MAX_UP, MAX_WALL, SECOND};
 ghost use Rattle.history_model.specs.Items.{History};
 ghost use Rattle.history_model.specs.Calendar.{calendar_fires};
-ghost use Rattle.history_model.specs.Coming.{is_from, sooner};
+ghost use Rattle.history_model.specs.NextMomentByFacts.{has_come, sooner};
 ghost use Rattle.history_model.specs.Reasons.{needs_event};
 ghost use Rattle.history_model.specs.NextRun.{spawns_after, looked_ahead, IsNextRun};
 ghost use Rattle.calendar_due.specs.Rules.{minute_at};
@@ -38,7 +38,7 @@ pub fn next_run(
     // A later reading, of those that are looked ahead to, makes it due too.
     ensures from { (past : History) → IsTold reasons.now spawns_from entries.now now past →
         (d : ℕ) → d ≤ looked_ahead now within →
-        spawns_after (minute_at zone.now) past d ≡ is_from result d }
+        spawns_after (minute_at zone.now) past d ≡ has_come result d }
 {
     let ahead = looked_ahead(now, within);
     let found = first_second(reasons, spawns_from, entries, zone, now, ahead);
@@ -47,7 +47,7 @@ pub fn next_run(
 
 /// The number, if it is no greater than the bound.
 fn at_most(found: Option<u64>, bound: u64) -> Option<u64>
-    ensures from { (d : ℕ) → d ≤ bound → is_from result d ≡ is_from found d }
+    ensures from { (d : ℕ) → d ≤ bound → has_come result d ≡ has_come found d }
     ensures bound { IfSome result (λ d. d ≤ bound) }
 {
     match found {
@@ -68,8 +68,8 @@ fn first_second(
     requires days { ahead ≤ 34560000 }
     requires in_range { now.wall + ahead ≤ MAX_WALL }
     ensures { (d : ℕ) → d ≤ ahead →
-        is_from result d
-        ≡ (is_from spawns_from (now.up + SECOND * d)
+        has_come result d
+        ≡ (has_come spawns_from (now.up + SECOND * d)
         || (not (needs_event reasons.now)
         && calendar_fires (minute_at zone.now) entries.now now.wall (now.wall + d)
         && nat_le (unwrap_or reasons.now.throttled_until 0) (now.up + SECOND * d))) }
@@ -81,7 +81,7 @@ fn first_second(
 
 /// The least number of seconds after which the moment is over, if there is one.
 fn by_clock(moment: Option<u64>, up: u64) -> Option<u64>
-    ensures { (d : ℕ) → is_from result d ≡ is_from moment (up + SECOND * d) }
+    ensures { (d : ℕ) → has_come result d ≡ has_come moment (up + SECOND * d) }
 {
     match moment {
         None => None,
@@ -125,7 +125,7 @@ fn by_calendar(
     requires days { ahead ≤ 34560000 }
     requires in_range { now.wall + ahead ≤ MAX_WALL }
     ensures { (d : ℕ) → d ≤ ahead →
-        is_from result d
+        has_come result d
         ≡ (not (needs_event reasons.now)
         && calendar_fires (minute_at zone.now) entries.now now.wall (now.wall + d)
         && nat_le (unwrap_or reasons.now.throttled_until 0) (now.up + SECOND * d)) }

@@ -12,10 +12,10 @@ use Rattle.child_edge.specs.declared.plain.EdgeFault.{EdgeFault}
 use Rattle.child_edge.specs.declared.plain.EdgeFault.TheVariants as Fault
 use Rattle.child_edge.specs.declared.plain.Scripted.{Scripted}
 use Rattle.child_edge.specs.declared.plain.Scripted.TheVariants.{Done}
-use Rattle.order_edge.specs.declared.pending.Pending.{Pending}
+use Rattle.order_edge.specs.declared.unheard.Unheard.{Unheard}
 use Rattle.order_edge.specs.Calls.{call_by, answer_in, spawn_answer, Carries}
 
-made : (order : Order) (act : Act) (a : Scripted) (pending : Option Pending) (old new : Option (List Entry)) → order.act ≡ act →
+made : (order : Order) (act : Act) (a : Scripted) (pending : Option Unheard) (old new : Option (List Entry)) → order.act ≡ act →
     Tells old ((call_by order.job act, a) ∷ []) new → pending ≡ answer_in (call_by order.job act, a) → Carries order pending old new
 made order act a pending old new is tells gives = record {
   answer = a;

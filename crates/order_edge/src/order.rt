@@ -5,7 +5,7 @@ ghost use Rattle.child_edge.specs.Calls.{start_answer};
 ghost use Rattle.std.specs.Prelude.{◌≡◌, ◌<◌, IfSome};
 ghost use Rattle.std.specs.Result.{ForOk};
 
-use crate::Pending;
+use crate::Unheard;
 use child_edge::{ChildEdge, EdgeFault, SocketEdge};
 use history_model::{Act, Answer, Order};
 use job_defs::Def;
@@ -25,7 +25,7 @@ fn spawn_answer(run: u64, started: Result<u32, EdgeFault>) -> Answer
 /// Carries out the order by the one call that it asks for: `start`, `term` or `kill`; `close` for a connection, and
 /// `release` for a job that is gone, which have no answer. `def` is the definition of the order's job.
 #[tactic(auto, using(crate::proofs::CallsLemmas::made_start, crate::proofs::CallsLemmas::made_term, crate::proofs::CallsLemmas::made_kill, crate::proofs::CallsLemmas::made_close, crate::proofs::CallsLemmas::made_release))]
-pub fn carry<E: ChildEdge + SocketEdge>(edge: &mut E, order: Order, def: &Def) -> Option<Pending>
+pub fn carry<E: ChildEdge + SocketEdge>(edge: &mut E, order: Order, def: &Def) -> Option<Unheard>
     ensures carries { Carries order result (E.told edge.old) (E.told edge.new) }
     ensures tellable { IfSome result IsTellablePending }
 {
@@ -33,18 +33,18 @@ pub fn carry<E: ChildEdge + SocketEdge>(edge: &mut E, order: Order, def: &Def) -
     match order.act {
         Act::Spawn { run, conn } => {
             let answer = spawn_answer(run, edge.start(job, run, def, conn));
-            Some(Pending { job, answer })
+            Some(Unheard { job, answer })
         }
         Act::Term { run } => {
             let ok = edge.term(job, run).is_ok();
-            Some(Pending {
+            Some(Unheard {
                 job,
                 answer: Answer::Termed { run, ok },
             })
         }
         Act::Kill { run } => {
             let ok = edge.kill(job, run).is_ok();
-            Some(Pending {
+            Some(Unheard {
                 job,
                 answer: Answer::Killed { run, ok },
             })

@@ -4,7 +4,7 @@ use Rattle.std.proofs.lemmas.Bool.Decides.{nat_tests}
 use Rattle.std.proofs.Math.Nat.{div-lt_iff_lt-mul, le-div_iff_mul-le, div-mul-le_self, mul-le-mul_right}
 use Rattle.history_model.specs.Clock.{periods, crosses_interval}
 use Rattle.history_model.specs.Moments.{IsPeriod}
-use Rattle.pace.specs.Next.{IsNext}
+use Rattle.pace.specs.PaceMoments.{IsNext}
 use Rattle.history_model.specs.declared.TheConstants.{SECOND}
 
 -- a multiple of a period is not 0

@@ -6,8 +6,8 @@ ghost use Rattle.history_model.specs.Items.{History};
 ghost use Rattle.history_model.specs.Clock as clock;
 ghost use Rattle.history_model.specs.Search.{or_else};
 ghost use Rattle.history_model.specs.Refusals.{IsLawful};
-ghost use Rattle.history_model.specs.Coming.{sooner, coming_after, is_from};
-ghost use Rattle.pace.specs.Next.{IsNext};
+ghost use Rattle.history_model.specs.NextMomentByFacts.{sooner, coming_after, has_come};
+ghost use Rattle.pace.specs.PaceMoments.{IsNext};
 
 use crate::{coming_after, sooner};
 use history_model::{MAX_UP, SECOND};
@@ -56,9 +56,9 @@ impl Model for Ending {
 
 impl Ending {
     ghost use Rattle.pace.specs.Paces.{Ends, no_ends};
-    ghost use Rattle.pace.specs.Done.{done_after};
-    ghost use Rattle.pace.specs.Next.{IsEndMoment};
-    ghost use Rattle.pace.specs.Free.{may_term_of, may_kill_of, next_end_of};
+    ghost use Rattle.pace.specs.AnsweredEnds.{done_after};
+    ghost use Rattle.pace.specs.PaceMoments.{IsEndMoment};
+    ghost use Rattle.pace.specs.PaceByFacts.{may_term_of, may_kill_of, next_end_of};
     ghost use Rattle.pace.specs.OfPast.{ends_of, may_term_at, may_kill_at, end_moments, least_after};
 
     /// The end of a run for which nothing was ordered. The timeout is in seconds from TERM to KILL; 0 means no KILL.
@@ -142,16 +142,16 @@ impl Ending {
     /// The least moment from which TERM may be ordered for a run that is being stopped; none if it was answered ok,
     /// or KILL was, or a kickstart asks for KILL. That KILL may be due too is left aside.
     pub fn term_at(&self) -> Option<u64>
-        ensures step { (up : ℕ) → is_from result up ≡ may_term_of self.now up }
+        ensures step { (up : ℕ) → has_come result up ≡ may_term_of self.now up }
         ensures past { (past : History) → IsLawful past → self.now ≡ ends_of past → (up : ℕ) →
-            is_from result up ≡ may_term_at up past }
+            has_come result up ≡ may_term_at up past }
     {
         self.term_from()
     }
 
     /// That moment, by what is kept.
     fn term_from(&self) -> Option<u64>
-        ensures { (up : ℕ) → is_from result up ≡ may_term_of self.now up }
+        ensures { (up : ℕ) → has_come result up ≡ may_term_of self.now up }
     {
         if self.is_struck || self.is_term_done || self.is_kill_done {
             return None;
@@ -162,16 +162,16 @@ impl Ending {
     /// The least moment from which KILL may be ordered for a run that is being stopped, or that a kickstart struck; none
     /// if it was answered ok, or if no time to end runs.
     pub fn kill_at(&self) -> Option<u64>
-        ensures step { (up : ℕ) → is_from result up ≡ may_kill_of self.now up }
+        ensures step { (up : ℕ) → has_come result up ≡ may_kill_of self.now up }
         ensures past { (past : History) → IsLawful past → self.now ≡ ends_of past → (up : ℕ) →
-            is_from result up ≡ may_kill_at up past }
+            has_come result up ≡ may_kill_at up past }
     {
         self.kill_from()
     }
 
     /// That moment, by what is kept.
     fn kill_from(&self) -> Option<u64>
-        ensures { (up : ℕ) → is_from result up ≡ may_kill_of self.now up }
+        ensures { (up : ℕ) → has_come result up ≡ may_kill_of self.now up }
     {
         if self.is_kill_done {
             return None;

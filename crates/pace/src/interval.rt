@@ -7,8 +7,8 @@ ghost use Rattle.history_model.specs.Items.{History};
 ghost use Rattle.history_model.specs.Clock as clock;
 ghost use Rattle.history_model.specs.Clock.{crosses_interval};
 ghost use Rattle.history_model.specs.Demands.{interval_fires};
-ghost use Rattle.history_model.specs.Coming.{coming_period};
-ghost use Rattle.pace.specs.Next.{IsNext};
+ghost use Rattle.history_model.specs.NextMomentByFacts.{coming_period};
+ghost use Rattle.pace.specs.PaceMoments.{IsNext};
 
 use history_model::{MAX_UP, SECOND};
 use std::marker::Model;
@@ -34,7 +34,7 @@ impl Model for Interval {
 }
 
 impl Interval {
-    ghost use Rattle.pace.specs.Next.{IsPeriodEnd};
+    ghost use Rattle.pace.specs.PaceMoments.{IsPeriodEnd};
     ghost use Rattle.pace.specs.OfPast.{every_of};
 
     /// The interval of a job that was loaded at this moment. None: no demand ever.

@@ -5,7 +5,7 @@
 
 ghost use Rattle.std.specs.Prelude.{◌≡◌, ◌≤◌, ◌+◌, ◌^◌, ◌<◌};
 ghost use Rattle.std.specs.Option.{ForSome};
-ghost use Rattle.history_model.specs.Coming.{sooner, coming_after};
+ghost use Rattle.history_model.specs.NextMomentByFacts.{sooner, coming_after};
 
 mod ending;
 mod interval;

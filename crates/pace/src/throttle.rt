@@ -4,8 +4,8 @@ ghost use Rattle.std.specs.Prelude.{◌≡◌, ◌≤◌, ℕ, ◌*◌, ◌||◌
 ghost use Rattle.history_model.specs.Items.{History};
 ghost use Rattle.history_model.specs.Clock as clock;
 ghost use Rattle.history_model.specs.Refusals.{IsLawful};
-ghost use Rattle.history_model.specs.Coming.{sooner, coming_after};
-ghost use Rattle.pace.specs.Next.{IsNext};
+ghost use Rattle.history_model.specs.NextMomentByFacts.{sooner, coming_after};
+ghost use Rattle.pace.specs.PaceMoments.{IsNext};
 
 use crate::{coming_after, sooner};
 use history_model::{MAX_UP, SECOND};
@@ -35,8 +35,8 @@ impl Model for Throttle {
 }
 
 impl Throttle {
-    ghost use Rattle.pace.specs.Next.{IsSpawnMoment};
-    ghost use Rattle.pace.specs.Free.{is_throttled_of, next_spawn_of};
+    ghost use Rattle.pace.specs.PaceMoments.{IsSpawnMoment};
+    ghost use Rattle.pace.specs.PaceByFacts.{is_throttled_of, next_spawn_of};
     ghost use Rattle.history_model.specs.Due.{is_throttled_at};
     ghost use Rattle.history_model.specs.Moments.{spawn_moments};
     ghost use Rattle.pace.specs.OfPast.{spacing_of, least_after};

@@ -2,10 +2,10 @@
 //! only if they may change something, and all else as it comes. Over any edge, so that a test can hand in a clock.
 #![tactic(auto)]
 
-mod inputs;
 mod paths;
 mod quiet;
+mod round_launcher;
 
-pub use inputs::Inputs;
 pub use paths::Sights;
 pub use quiet::is_news;
+pub use round_launcher::RoundLauncher;

@@ -1,6 +1,6 @@
 //! The paths that jobs list, each looked at once a second.
 
-use crate::inputs::Inputs;
+use crate::round_launcher::RoundLauncher;
 use child_edge::{ChildEdge, PathEdge, SocketEdge};
 use history_model::{Obs, SECOND};
 use job_table::JobTable;
@@ -53,7 +53,7 @@ impl Sights {
     pub fn look<T: SettingStore, E: ChildEdge + SocketEdge + PathEdge, W: Write>(
         &mut self,
         alloc: Global,
-        inputs: &mut Inputs<T, E, W>,
+        inputs: &mut RoundLauncher<T, E, W>,
     ) -> bool {
         let up = inputs.at().up;
         if up < self.next {
@@ -85,7 +85,7 @@ impl Sights {
     fn look_here<T: SettingStore, E: ChildEdge + SocketEdge + PathEdge, W: Write>(
         &mut self,
         alloc: Global,
-        inputs: &mut Inputs<T, E, W>,
+        inputs: &mut RoundLauncher<T, E, W>,
     ) {
         let path = self.path.as_str();
         let Ok(obs) = inputs.host.edge().look(path) else {

@@ -97,7 +97,7 @@ pub(crate) fn bar_of(run: &Run, now: u64) -> Option<Bar>
         RunEnd::Awaited | RunEnd::Refused => return None,
         RunEnd::Lives => (now, End::Lives),
         RunEnd::Signal(signal) if run.is_crash => (run.ended.wall, End::Crash(signal)),
-        _ if run.is_told => (run.ended.wall, End::Stopped),
+        _ if run.is_ordered_to_end => (run.ended.wall, End::Stopped),
         RunEnd::Signal(signal) => (run.ended.wall, End::Signal(signal)),
         RunEnd::Code(code) => (run.ended.wall, End::Code(code)),
     };

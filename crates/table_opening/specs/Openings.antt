@@ -12,7 +12,7 @@ use Rattle.calendar_due.specs.Rules.{offsets}
 use Rattle.calendar_due.specs.Zone.{IsOfRule, IsOfTable, IsBadFile}
 use Rattle.calendar_due.specs.declared.zone.TheConstants.{LONGEST_FILE}
 use Rattle.job_table.specs.Tables.{Table}
-use Rattle.job_table.specs.Kept.{KeepsState}
+use Rattle.job_table.specs.StandsFor.{KeepsState}
 use Rattle.job_table.specs.Opening.{opening_refusal}
 use Rattle.ctl_protocol.specs.declared.header.Header.{Header}
 use Rattle.ctl_protocol.specs.declared.header.ZoneText.{ZoneText}

@@ -9,7 +9,7 @@ use history_model::{Reading, Refusal, Reply};
 use launcher::{Host, Input};
 use load_asking::SettingStore;
 use memory_stage::{MemoryStore, Sink, edge, header, reading, store};
-use round_findings::{Inputs, Sights};
+use round_findings::{RoundLauncher, Sights};
 use std::alloc::Global;
 use std::io::Write;
 
@@ -18,7 +18,7 @@ const LINES: usize = 1_000;
 
 #[derive(Drop)]
 struct Pair<T: SettingStore, E: Handed, W: Write> {
-    spared: Inputs<T, E, W>,
+    spared: RoundLauncher<T, E, W>,
     looks: Sights,
     whole: Host<T, E, W>,
     at: Reading,
@@ -142,7 +142,7 @@ fn set_pair(
 ) -> Result<Pair<MemoryStore, HandedEdge, Sink>, Refusal> {
     let host = set_stage(alloc, orders)?;
     let whole = set_stage(alloc, orders)?;
-    let (Ok(spared), Ok(looks)) = (Inputs::new(alloc, host), Sights::new(alloc)) else {
+    let (Ok(spared), Ok(looks)) = (RoundLauncher::new(alloc, host), Sights::new(alloc)) else {
         return Err(Refusal::NoMemory);
     };
     Ok(Pair {
@@ -162,6 +162,6 @@ pub fn is_spared(alloc: Global, stream: &Stream) -> Result<bool, Refusal> {
         return Ok(false);
     }
     let Pair { spared, whole, .. } = pair;
-    let Inputs { host, .. } = spared;
+    let RoundLauncher { host, .. } = spared;
     Ok(lines_left(host) == lines_left(whole).saturating_add(stream.left_out))
 }

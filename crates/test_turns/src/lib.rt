@@ -18,12 +18,12 @@ mod tests {
     use crate::turns::*;
     use child_edge::Scripted;
     use history_model::Ended;
-    use launcher_turn::{Happening, News};
+    use launcher_turn::{EventRef, News};
 
     const STARTED: Scripted = Scripted::Started(812);
 
-    fn told(news: News) -> Happening<'static> {
-        Happening::ToJob("a", news)
+    fn told(news: News) -> EventRef<'static> {
+        EventRef::ToJob("a", news)
     }
 
     /// The job of a load is started at once if it has RunAtLoad, and the answer has its line.

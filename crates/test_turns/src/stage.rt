@@ -8,7 +8,7 @@ use event_journal::Journal;
 use history_model::{JobNo, Reading, Refusal, Text};
 use job_table::JobTable;
 use launcher_load::{Loaded, load};
-use launcher_turn::{Happening, Room, turn};
+use launcher_turn::{EventRef, Room, turn};
 use memory_stage::Sink;
 use std::alloc::Global;
 
@@ -110,7 +110,7 @@ pub fn load_on(alloc: Global, stage: &mut Stage, definition: &str, writes_settin
 }
 
 /// A turn of the launcher.
-pub fn turn_on(alloc: Global, stage: &mut Stage, what: Happening<'_>) -> Result<(), Refusal> {
+pub fn turn_on(alloc: Global, stage: &mut Stage, what: EventRef<'_>) -> Result<(), Refusal> {
     turn(
         &mut stage.table,
         &mut stage.edge,

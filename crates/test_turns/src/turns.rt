@@ -3,15 +3,15 @@
 use crate::stage::{FIRST, Stage, load_on, reading, set_stage, turn_on};
 use child_edge::{EdgeCall, Scripted};
 use history_model::Refusal;
-use launcher_turn::{Happening, News};
+use launcher_turn::{EventRef, News};
 use std::alloc::Global;
 
 /// A job that is started once it is loaded, and is not throttled.
 const AT_ONCE: &str =
     r#"{"Label":"a","ProgramArguments":["/bin/a"],"RunAtLoad":true,"ThrottleInterval":0}"#;
 
-pub fn at(up: u64) -> Happening<'static> {
-    Happening::Clock(reading(up))
+pub fn at(up: u64) -> EventRef<'static> {
+    EventRef::Clock(reading(up))
 }
 
 pub fn start(run: u64) -> EdgeCall {
@@ -47,7 +47,7 @@ fn loaded(alloc: Global, calls: &[(EdgeCall, Scripted)], writes: usize) -> Resul
 fn has_made(
     alloc: Global,
     stage: &mut Stage,
-    what: Happening<'_>,
+    what: EventRef<'_>,
     made: usize,
 ) -> Result<bool, Refusal> {
     turn_on(alloc, stage, what)?;
@@ -58,7 +58,7 @@ fn has_made(
 /// load. Beside each event stands how many calls were then made in all.
 pub fn is_called(
     alloc: Global,
-    events: &[(Happening<'_>, usize)],
+    events: &[(EventRef<'_>, usize)],
     calls: &[(EdgeCall, Scripted)],
 ) -> Result<bool, Refusal> {
     let mut stage = loaded(alloc, calls, 1000)?;
@@ -77,7 +77,7 @@ pub fn is_closed_once(alloc: Global) -> Result<bool, Refusal> {
         (term(1), Scripted::Done),
     ];
     let mut stage = loaded(alloc, &calls, 1)?;
-    let stop = Happening::ToJob("a", News::Stop);
+    let stop = EventRef::ToJob("a", News::Stop);
     let goes_on = has_made(alloc, &mut stage, stop, 2)?;
     let first = stage.journal.report_closing();
     let second = stage.journal.report_closing();

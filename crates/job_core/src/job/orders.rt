@@ -4,7 +4,7 @@ ghost use Rattle.std.specs.Prelude.{◌≡◌, ◌≤◌};
 ghost use Rattle.history_model.specs.Items.{Ordered};
 ghost use Rattle.history_model.specs.ByFacts.{facts_after, facts_after_order};
 ghost use Rattle.history_model.specs.DueByFacts.{is_throttled_by, level_by, is_wanted_by, may_spawn_by, may_kill_by, may_term_by, due_by};
-ghost use Rattle.history_model.specs.Coming.{is_from, next_by};
+ghost use Rattle.history_model.specs.NextMomentByFacts.{has_come, next_by};
 
 use super::Job;
 use history_model::{Act, MAX_UP};
@@ -50,13 +50,13 @@ impl Job {
     fn may_kill(&self, up: u64) -> bool
         ensures { result ≡ may_kill_by (facts self.now) up }
     {
-        (self.ending.is_struck() || self.stops) && is_from(self.ending.kill_at(), up)
+        (self.ending.is_struck() || self.stops) && has_come(self.ending.kill_at(), up)
     }
 
     fn may_term(&self, up: u64) -> bool
         ensures { result ≡ may_term_by (facts self.now) up }
     {
-        self.stops && is_from(self.ending.term_at(), up)
+        self.stops && has_come(self.ending.term_at(), up)
     }
 
     fn due(&self, up: u64) -> Option<Act>
@@ -128,8 +128,8 @@ impl Job {
 }
 
 /// Whether a moment is there, and is over.
-fn is_from(moment: Option<u64>, up: u64) -> bool
-    ensures { result ≡ is_from moment up }
+fn has_come(moment: Option<u64>, up: u64) -> bool
+    ensures { result ≡ has_come moment up }
 {
     match moment {
         None => false,

@@ -3,7 +3,7 @@ use Rattle.std.proofs.Common.{◌+◌, ◌*◌, ◌≤◌, not, ◌&&◌, ◌||�
 use Rattle.std.specs.Prelude.{IfSome}
 use Rattle.history_model.specs.declared.TheConstants.{SECOND}
 use Rattle.history_model.specs.Calendar.{calendar_fires}
-use Rattle.history_model.specs.Coming.{is_from}
+use Rattle.history_model.specs.NextMomentByFacts.{has_come}
 use Rattle.history_model.specs.Reasons.{needs_event}
 use Rattle.history_model.specs.NextRun.{looked_ahead}
 use Rattle.calendar_due.specs.Rules.{minute_at}
@@ -15,7 +15,7 @@ returns-clause-from c = λ past told d within.
     let zone = minute_at c.args.zone.now in
     let near : d ≤ c.looked_ahead-ahead.result = subst (λ n. d ≤ n) (sym c.looked_ahead-ahead.ensures.value) within in
     spawns-after zone past told.period d
-    ∙ (λ i. is_from (sym told.moment i) ((sym told.present i).up + SECOND * d)
+    ∙ (λ i. has_come (sym told.moment i) ((sym told.present i).up + SECOND * d)
     || (not (needs_event (sym told.reasons_are i)) && calendar_fires zone (sym told.calendar i) (sym told.present i).wall ((sym told.present i).wall + d)
     && nat_le (unwrap_or (sym told.reasons_are i).throttled_until 0) ((sym told.present i).up + SECOND * d)))
     ∙ sym (c.first_second-found.ensures d near)

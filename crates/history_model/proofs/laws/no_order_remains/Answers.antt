@@ -6,7 +6,7 @@ use Rattle.history_model.specs.Machine.{Job, opened}
 use Rattle.history_model.specs.Step.{run}
 use Rattle.history_model.proofs.StepLemmas.{Rests, all-implied, resting}
 use Rattle.history_model.proofs.LiftedLemmas.{lifted, held-back, stays-fired, waits}
-use Rattle.history_model.specs.WholeLaws.{carried, IsFalling}
+use Rattle.history_model.specs.MachineLaws.{carried, IsFalling}
 use Rattle.history_model.proofs.CarriedLemmas.{in_turn}
 use Rattle.history_model.proofs.ConnectionNumbersLemmas.{numbers}
 use Rattle.std.specs.List.{filter_map}

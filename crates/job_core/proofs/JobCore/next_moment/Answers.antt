@@ -1,6 +1,6 @@
 -- The facts give the least moment to come of each past that they stand for.
 use Rattle.std.proofs.Common.{sym, ap, ◌∙◌}
-use Rattle.history_model.specs.Coming.{next_by}
+use Rattle.history_model.specs.NextMomentByFacts.{next_by}
 use Rattle.history_model.proofs.ComingLemmas.{next-by}
 use Rattle.job_core.specs.State.{CoreState}
 use Rattle.job_core.proofs.JobCore.next_moment.Goals as goal

@@ -1,7 +1,7 @@
 -- The index's least moment is that of the machine's jobs.
 use Rattle.std.proofs.Common.{◌≡◌, ap, sym, subst, ◌∙◌}
 use Rattle.history_model.specs.Machine.{State}
-use Rattle.job_table.specs.Kept.{KeepsJobs, KeepsState}
+use Rattle.job_table.specs.StandsFor.{KeepsJobs, KeepsState}
 use Rattle.job_table.specs.Entries.{rows}
 use Rattle.job_table.specs.Index.{AreTimed}
 use Rattle.job_table.specs.Moments.{IsNextUp}

@@ -5,7 +5,7 @@ use Rattle.std.proofs.lemmas.Bool.{false≢true}
 use Rattle.history_model.specs.declared.Refusal.TheVariants.{NoMemory}
 use Rattle.history_model.specs.Machine.{State}
 use Rattle.history_model.specs.Acceptance.{refusal_in}
-use Rattle.job_table.specs.Kept.{KeepsState}
+use Rattle.job_table.specs.StandsFor.{KeepsState}
 use Rattle.job_table.specs.Loads.{IsAdmitted, load_of, described_in, refused_with}
 use Rattle.launcher_load.specs.declared.loading.Loaded.{Loaded}
 use Rattle.launcher_load.specs.LoadTurns.{LoadTurnOf, is_memory, label_written, load_request, settings_after, stamps_after, standing}

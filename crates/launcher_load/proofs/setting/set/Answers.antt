@@ -3,7 +3,7 @@ use Rattle.std.proofs.Common.{◌≡◌, Bool, true, Some, refl, sym, ap, subst,
 use Rattle.history_model.specs.declared.Refusal.TheVariants.{BadRequest, StoreRefused}
 use Rattle.history_model.specs.Machine.{State}
 use Rattle.history_model.specs.Acceptance.{refusal_in, refusal_stored}
-use Rattle.job_table.specs.Kept.{KeepsState}
+use Rattle.job_table.specs.StandsFor.{KeepsState}
 use Rattle.job_table.specs.Changes.{set_of}
 use Rattle.launcher_turn.specs.Turns.{AreNumbered, trace}
 use Rattle.launcher_turn.proofs.NumbersLemmas.{keeps-numbers, same-numbers}

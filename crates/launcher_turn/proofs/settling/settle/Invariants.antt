@@ -2,7 +2,7 @@
 use Rattle.std.proofs.Common.{◌≤◌, ◌*◌, ◌-◌, List}
 use Rattle.history_model.specs.Machine.{State}
 use Rattle.history_model.specs.Turns.{JobOrder}
-use Rattle.history_model.specs.Waits.{weigh_orders}
+use Rattle.history_model.specs.AwaitedOrders.{weigh_orders}
 use Rattle.job_table.specs.Tables.{Name}
 use Rattle.launcher_turn.specs.Turns.{IsWaiting}
 use Rattle.launcher_turn.proofs.SettlingLemmas.{IsSoFar}

@@ -1,7 +1,7 @@
 -- The goals of `Conditions::new` that the prover leaves open.
 use Rattle.std.proofs.Common.{◌∙◌, ap, map, None, [], ◌∷◌}
 use Rattle.job_defs.specs.Definitions.{definition, path_wish}
-use Rattle.conditions.specs.Kept.{kept_of}
+use Rattle.conditions.specs.ConditionFacts.{kept_of}
 use Rattle.history_model.specs.Items.{Loaded}
 use Rattle.conditions.proofs.SightsLemmas.{unseen}
 use Rattle.conditions.proofs.levels.Conditions.new.Goals as goal

@@ -1,7 +1,7 @@
 -- Wanted at once, or from the end of the interval's period; and not before the throttle's end.
 use Rattle.std.proofs.Common.{◌≡◌, ℕ, Bool, true, false, Option, Some, None, cond, max, sym, ap, ◌∙◌, arith}
 use Rattle.history_model.specs.DueByFacts.{is_wanted_by}
-use Rattle.history_model.specs.Coming.{coming_period}
+use Rattle.history_model.specs.NextMomentByFacts.{coming_period}
 use Rattle.history_model.specs.Reasons.{not_before}
 use Rattle.history_model.specs.ReasonsByFacts.{free_by, needs_by, spawns_from_by}
 use Rattle.history_model.specs.Facts.{Facts}

@@ -16,7 +16,7 @@ use Rattle.history_model.specs.Machine.{State, Job, Tick}
 use Rattle.history_model.specs.Step.{heard, stays}
 use Rattle.job_table.specs.Periods.{HavePeriods}
 use Rattle.job_table.specs.Tables.{IsOnce, is_known, labels_in}
-use Rattle.job_table.specs.Kept.{KeepsJobs, KeepsState, numbered_all}
+use Rattle.job_table.specs.StandsFor.{KeepsJobs, KeepsState, numbered_all}
 use Rattle.job_table.specs.Counts.{counts, count_in, IsCounted}
 use Rattle.job_table.specs.Triggers.{AreListed, AreOrdered}
 use Rattle.job_table.proofs.MinutesLemmas.{have-marks}
@@ -40,7 +40,7 @@ use Rattle.job_table.proofs.AdvanceLemmas.{have-places, is-spare, spare-timed, a
 use Rattle.job_table.proofs.NumbersLemmas.{names-begun}
 use Rattle.job_table.proofs.IndexGrowthLemmas.{named-of}
 use Rattle.job_table.proofs.TouchingLemmas.{spared-count, marks-touch}
-use Rattle.history_model.specs.WholeLaws.{AreInOrder}
+use Rattle.history_model.specs.MachineLaws.{AreInOrder}
 use Rattle.history_model.proofs.BooleanLemmas.{or-false-first, or-false-second}
 use Rattle.job_table.proofs.jobs.Jobs.advance.Goals as goal
 

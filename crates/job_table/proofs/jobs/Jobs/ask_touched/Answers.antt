@@ -5,7 +5,7 @@ use Rattle.std.specs.List.{list_all, filter_map}
 use Rattle.history_model.specs.Step.{heard, stays}
 use Rattle.job_table.specs.Periods.{HavePeriods}
 use Rattle.job_table.specs.Tables.{IsOnce, is_known, labels_in}
-use Rattle.job_table.specs.Kept.{KeepsJobs, numbered_all}
+use Rattle.job_table.specs.StandsFor.{KeepsJobs, numbered_all}
 use Rattle.job_table.specs.Counts.{counts, count_in, IsCounted}
 use Rattle.job_table.specs.Triggers.{AreListed}
 use Rattle.job_table.specs.Index.{ArePlaced, IsIndexOf, AreTimed, AreAlone, HaveRoom, place_in}
@@ -25,7 +25,7 @@ use Rattle.job_table.proofs.HeldNumbersLemmas.{held-names}
 use Rattle.job_table.proofs.AdvanceLemmas.{heard-labelled, visits-counted, name-get}
 use Rattle.job_table.proofs.IndexGrowthLemmas.{named-of}
 use Rattle.job_table.proofs.TouchedLemmas.{spared-all, rest-all, spared-count, not-true, marked-at}
-use Rattle.history_model.specs.WholeLaws.{AreInOrder}
+use Rattle.history_model.specs.MachineLaws.{AreInOrder}
 use Rattle.job_table.proofs.jobs.Jobs.ask_touched.Goals as goal
 use Rattle.std.proofs.lemmas.List.{length-map}
 

@@ -1,6 +1,6 @@
 -- The others stand in byte order of labels.
 use Rattle.std.proofs.Common.{map, sym, subst}
-use Rattle.history_model.specs.WholeLaws.{AreInOrder}
+use Rattle.history_model.specs.MachineLaws.{AreInOrder}
 use Rattle.job_table.specs.Tables.{labels_in}
 use Rattle.job_table.specs.Entries.{name}
 use Rattle.job_table.proofs.jobs.Jobs.enter.Goals as goal

@@ -7,7 +7,7 @@ use Rattle.history_model.specs.Labels.{is_label}
 use Rattle.history_model.specs.Acceptance.{refusal_in, is_heard}
 use Rattle.history_model.specs.Step.{taken, refused}
 use Rattle.job_core.specs.Events.{item_of}
-use Rattle.job_table.specs.Kept.{KeepsState}
+use Rattle.job_table.specs.StandsFor.{KeepsState}
 use Rattle.job_table.specs.Outcomes.{plain_outcome}
 use Rattle.job_table.specs.Counts.{counts, count_in}
 use Rattle.job_table.specs.Index.{ArePlaced}

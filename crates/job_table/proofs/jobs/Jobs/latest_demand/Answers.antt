@@ -2,10 +2,10 @@
 use Rattle.std.proofs.Common.{◌≡◌, ap, sym, ◌∙◌, subst, map}
 use Rattle.std.specs.List.{position}
 use Rattle.history_model.specs.Search.{first}
-use Rattle.history_model.specs.Keeps.{Keeps}
+use Rattle.history_model.specs.FactsOfPast.{Keeps}
 use Rattle.history_model.specs.Machine.{past_in}
 use Rattle.job_table.specs.Waking.{demanding}
-use Rattle.history_model.specs.WholeLaws.{AreInOrder}
+use Rattle.history_model.specs.MachineLaws.{AreInOrder}
 use Rattle.job_table.specs.Tables.{labels_in}
 use Rattle.job_table.specs.Entries.{name, is_here}
 use Rattle.job_table.proofs.FirstLemmas.{first-where, none-where}

@@ -1,7 +1,7 @@
 -- The unload is an event to its job; without one no job is touched.
 use Rattle.std.proofs.Common.{true, sym, ◌∙◌}
 use Rattle.history_model.specs.Machine.{State}
-use Rattle.job_table.specs.Kept.{KeepsState}
+use Rattle.job_table.specs.StandsFor.{KeepsState}
 use Rattle.job_table.specs.Changes.{withdrawn}
 use Rattle.job_table.specs.Sound.{seen}
 use Rattle.job_table.proofs.ChangesLemmas.{IsWithdrawn, none-withdrawn, one-withdrawn, never-refused}

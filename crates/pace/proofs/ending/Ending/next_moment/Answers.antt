@@ -1,7 +1,7 @@
 -- Only the newest refusals can have a moment to come.
 use Rattle.std.proofs.Common.{◌*◌, nat_lt, cond, None, sym, ap, ◌∙◌}
 use Rattle.history_model.specs.Runs.{runs}
-use Rattle.history_model.specs.Coming.{sooner, coming_after}
+use Rattle.history_model.specs.NextMomentByFacts.{sooner, coming_after}
 use Rattle.history_model.proofs.ComingLemmas.{next-end}
 use Rattle.pace.specs.Paces.{Ends}
 use Rattle.pace.proofs.ending.Ending.next_moment.Goals as goal

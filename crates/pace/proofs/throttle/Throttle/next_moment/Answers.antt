@@ -1,6 +1,6 @@
 -- Only the newest order and the newest refusal can have a moment to come.
 use Rattle.std.proofs.Common.{◌*◌, sym, ap, ◌∙◌}
-use Rattle.history_model.specs.Coming.{sooner, coming_after}
+use Rattle.history_model.specs.NextMomentByFacts.{sooner, coming_after}
 use Rattle.history_model.proofs.ComingLemmas.{next-spawn}
 use Rattle.pace.specs.Paces.{Spacing}
 use Rattle.pace.proofs.throttle.Throttle.next_moment.Goals as goal

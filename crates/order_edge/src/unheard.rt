@@ -4,7 +4,7 @@ use history_model::{Answer, JobNo};
 
 /// What the outside answered to an order of the job with this number.
 #[derive(Clone, Copy)]
-pub struct Pending {
+pub struct Unheard {
     pub job: JobNo,
     pub answer: Answer,
 }

@@ -2,7 +2,7 @@
 use Rattle.std.specs.Prelude.{ℕ, ◌*◌, Bool, not, ◌&&◌, ◌||◌, nat_lt, Option, None, if◌then◌else◌}
 use Rattle.history_model.specs.Due.{is_over}
 use Rattle.history_model.specs.DueByFacts.{is_newest_within}
-use Rattle.history_model.specs.Coming.{sooner, coming_after}
+use Rattle.history_model.specs.NextMomentByFacts.{sooner, coming_after}
 use Rattle.pace.specs.Paces.{Spacing, Ends}
 use Rattle.history_model.specs.declared.TheConstants.{SECOND}
 

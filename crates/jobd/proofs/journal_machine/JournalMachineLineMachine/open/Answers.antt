@@ -1,4 +1,4 @@
--- What the check of `launcher::Launcher::open` does not find by itself.
+-- What the check of `journal_machine::JournalMachine::open` does not find by itself.
 use Rattle.jobd.proofs.LauncherLemmas.{opened_writes}
 use Rattle.jobd.proofs.launcher.LauncherLineMachine.open.Goals as goal
 

@@ -13,7 +13,7 @@ use std::io::Write;
 /// A launcher at the reading of the present round. That reading is handed to it before any other input of the round, and
 /// else only if it may change something.
 #[derive(Drop)]
-pub struct Inputs<T: SettingStore, E: ChildEdge + SocketEdge, W: Write> {
+pub struct RoundLauncher<T: SettingStore, E: ChildEdge + SocketEdge, W: Write> {
     pub host: Host<T, E, W>,
     at: Reading,
     // The launcher did not take the reading.
@@ -35,9 +35,9 @@ enum Asked {
     Other,
 }
 
-impl<T: SettingStore, E: ChildEdge + SocketEdge, W: Write> Inputs<T, E, W> {
+impl<T: SettingStore, E: ChildEdge + SocketEdge, W: Write> RoundLauncher<T, E, W> {
     /// The launcher at its own last reading.
-    pub fn new(alloc: Global, host: Host<T, E, W>) -> Result<Inputs<T, E, W>, AllocError>
+    pub fn new(alloc: Global, host: Host<T, E, W>) -> Result<RoundLauncher<T, E, W>, AllocError>
     where
         T: Drop,
         E: Drop,
@@ -45,7 +45,7 @@ impl<T: SettingStore, E: ChildEdge + SocketEdge, W: Write> Inputs<T, E, W> {
     {
         let reader = LineReader::new(alloc)?;
         let at = host.table().reading();
-        Ok(Inputs {
+        Ok(RoundLauncher {
             host,
             at,
             is_refused: false,
@@ -153,7 +153,7 @@ impl<T: SettingStore, E: ChildEdge + SocketEdge, W: Write> Inputs<T, E, W> {
     }
 }
 
-impl<T: SettingStore, E: ChildEdge + SocketEdge, W: Write> Answers for Inputs<T, E, W> {
+impl<T: SettingStore, E: ChildEdge + SocketEdge, W: Write> Answers for RoundLauncher<T, E, W> {
     fn answer(&mut self, alloc: Global, line: &[u8]) -> Reply {
         let Ok(asked) = self.asked(alloc, line) else {
             return no_memory(alloc);

@@ -32,7 +32,7 @@ pub enum News {
 /// What happens to the launcher: to the job of a label, or to all jobs. Loads and settings are not among these, since the
 /// outside is first asked for them.
 #[derive(Clone, Copy)]
-pub enum Happening<'a> {
+pub enum EventRef<'a> {
     /// The clocks were read.
     Clock(Reading),
     /// A look at a path.

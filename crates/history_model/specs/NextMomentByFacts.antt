@@ -26,9 +26,9 @@ abbrev pub coming_period : Option ℕ → ℕ → ℕ → Option ℕ
 coming_period seconds load up = first (next_period seconds load up)
 
 -- the moment is there, and is over
-abbrev pub is_from : Option ℕ → ℕ → Bool
-is_from None up = false
-is_from (Some moment) up = nat_le moment up
+abbrev pub has_come : Option ℕ → ℕ → Bool
+has_come None up = false
+has_come (Some moment) up = nat_le moment up
 
 -- the next moment of a run's end: the time after the first TERM, and a second after a refused TERM
 -- or KILL

@@ -1,4 +1,4 @@
--- What the check of `launcher::Launcher::handle` does not find by itself.
+-- What the check of `journal_machine::JournalMachine::handle` does not find by itself.
 use Rattle.jobd.proofs.LauncherLemmas.{answered_goes_on}
 use Rattle.jobd.proofs.launcher.LauncherLineMachine.handle.Goals as goal
 

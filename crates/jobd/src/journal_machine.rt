@@ -15,7 +15,7 @@ use std::alloc::{AllocError, Global};
 
 /// The table of jobs, driven by the lines of a journal.
 #[derive(Drop)]
-pub(crate) struct Launcher {
+pub(crate) struct JournalMachine {
     table: JobTable,
     reader: LineReader,
 }
@@ -131,14 +131,14 @@ fn answer(
     }
 }
 
-impl LineMachine for Launcher {
+impl LineMachine for JournalMachine {
     ghost output = { IsOutput };
 
     ghost will_write = { λ launcher future. WillWrite launcher.table future };
 
-    fn open(alloc: Global, header: &[u8]) -> Result<Option<Launcher>, AllocError> {
+    fn open(alloc: Global, header: &[u8]) -> Result<Option<JournalMachine>, AllocError> {
         match opening::open(alloc, header) {
-            Ok(Some(table)) => Ok(Some(Launcher {
+            Ok(Some(table)) => Ok(Some(JournalMachine {
                 table,
                 reader: LineReader::new(alloc)?,
             })),
