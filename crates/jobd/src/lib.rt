@@ -1,16 +1,72 @@
-//! The launcher: replays a journal through the table of jobs.
+//! The program `jobd` by its words: the launcher, the replay of a journal, and the list of the stored overrides. What the launcher is
+//! made of is had from here too: the host of its turns, its inputs, the loop of its rounds, and the replay.
 #![tactic(auto)]
 
-mod events;
-mod journal_machine;
-pub mod laws;
-mod lines;
-mod loads;
-mod opening;
-mod replaying;
-mod status;
-mod whole;
+mod journal;
+mod looking;
+mod overrides;
+mod places;
+mod plan;
+mod reporting;
+mod serving;
+mod spool;
+mod standing;
+mod store;
+mod words;
+mod zone;
 
-pub use replay_loop::{LINE_LIMIT, ReplayFault};
-pub use replaying::{replay, replay_within};
-pub use status::status_of;
+use crate::plan::Places;
+use crate::reporting::NO_MEMORY;
+use launchctl_words::{DaemonCommand, WordFault, read_daemon_words};
+pub use launcher::{Host, HostFault, Input};
+use live_loop::System;
+pub use live_loop::{Live, ServeFault, round, serve};
+pub use replay::{ReplayFault, replay};
+use replay_streams::replay_input;
+use std::alloc::Global;
+use std::sync::Wait;
+
+/// Does what the words ask for, the program's own name being the first, and gives the exit status. Both `host` and `rt` are
+/// the runtime of `main`: only what takes it as `rt` may wait.
+///
+/// `replay`: the statuses of `replay::status_of`. `overrides`: 0, 1 for want of memory, 3 if the output is refused, 5 if
+/// the store can't be read. `serve`: 0 once a shutdown was accepted and no job is left; 1 for want of memory at the start,
+/// 5 the store, 6 the control socket, 7 the zone, 8 the journal, 9 the clock or waiting. Any of them: 64 for words that are
+/// no command. Each fault but want of memory is told on standard error, those of `replay` by the status alone. A call for
+/// help prints it, with 0.
+pub fn jobd<R: System + Wait>(host: &HostRuntime, rt: &R, alloc: Global, words: &[String]) -> u8 {
+    match read_daemon_words(alloc, words) {
+        Ok(DaemonCommand::Replay) => replay_input(host),
+        Ok(DaemonCommand::Overrides { store }) => {
+            overrides::list_store(host, alloc, store.as_str())
+        }
+        Ok(
+            DaemonCommand::Serve {
+                socket,
+                store,
+                spool,
+                journal,
+                zone,
+            },
+        ) => {
+            let places = Places {
+                socket,
+                store,
+                spool,
+                journal,
+            };
+            serving::serve_at(host, rt, alloc, places, zone)
+        }
+        Err(WordFault::Usage) => words::explain(host, alloc, words),
+        Err(WordFault::NoMemory) => NO_MEMORY,
+    }
+}
+
+/// As `jobd`, by the words that this program was started with. Words that are not all UTF-8 are no command.
+pub fn jobd_by_own_words<R: System + Wait>(host: &HostRuntime, rt: &R) -> u8 {
+    match words::own_words(host) {
+        Ok(Some(words)) => jobd(host, rt, host.alloc(), words.as_slice()),
+        Ok(None) => words::refuse_bytes(host),
+        Err(_) => NO_MEMORY,
+    }
+}

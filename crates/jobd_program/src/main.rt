@@ -1,7 +1,7 @@
 //! The program `jobd`: the launcher, the replay of a journal, and the list of the stored overrides.
 #![tactic(auto)]
 
-use daemon::jobd_by_own_words;
+use jobd::jobd_by_own_words;
 use std::net::{TcpListener, TcpStream};
 use std::process::ExitCode;
 

@@ -12,7 +12,7 @@ use Rattle.ctl_protocol.specs.EventWriter.{event_line}
 use Rattle.ctl_protocol.specs.HeaderLines.{header_line}
 use Rattle.ctl_protocol.specs.Outcomes.{outcome_line}
 use Rattle.replay_loop.specs.Outcomes.{input_lines}
-use Rattle.jobd.proofs.OneOutputLemmas.{one_output}
+use Rattle.replay.proofs.OneOutputLemmas.{one_output}
 use Rattle.load_asking.specs.Stores.{StoreCall}
 use Rattle.event_journal.specs.declared.journal.Phase.TheVariants.{Open}
 use Rattle.event_journal.specs.Journals.{fresh}

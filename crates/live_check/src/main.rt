@@ -15,7 +15,7 @@ mod stage;
 mod step;
 
 use control_client::jobctl;
-use daemon::jobd;
+use jobd::jobd;
 use live_loop::System;
 use stage::PLAY;
 use std::net::{TcpListener, TcpStream};

@@ -2,7 +2,7 @@
 //! line for each event.
 #![tactic(auto)]
 
-use jobd::{ReplayFault, replay, status_of};
+use replay::{ReplayFault, replay, status_of};
 use std::io;
 use std::io::{BufWriter, Write};
 

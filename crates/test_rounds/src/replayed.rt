@@ -1,6 +1,6 @@
 //! A journal in memory, replayed.
 
-use jobd::replay;
+use replay::replay;
 use std::alloc::Global;
 
 /// The requests of scenes, as a journal's lines tell them.

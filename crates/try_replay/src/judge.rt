@@ -1,6 +1,6 @@
 //! Judges one replay.
 
-use jobd::{replay, status_of};
+use replay::{replay, status_of};
 use std::io;
 
 /// Replays the input, and tells the name if it wrote what is wanted and ended with the status that is wanted.

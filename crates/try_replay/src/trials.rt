@@ -3,7 +3,7 @@
 use crate::journal::{HEADER, JOURNAL, OUTCOMES, outcomes_of, wanted_of};
 use crate::sink::Sink;
 use crate::source::Source;
-use jobd::{ReplayFault, replay, replay_within};
+use replay::{ReplayFault, replay, replay_within};
 use std::alloc::Global;
 use std::io;
 use std::io::ErrorKind;

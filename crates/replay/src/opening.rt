@@ -1,6 +1,6 @@
 //! Opens the table of jobs that a header's line tells.
 ghost use Rattle.std.specs.Prelude.{IfOk};
-ghost use Rattle.jobd.specs.Answers.{IsOpenedFrom, IsOpened};
+ghost use Rattle.replay.specs.Answers.{IsOpenedFrom, IsOpened};
 
 use ctl_protocol::{Header, ReadFault, read_header};
 use job_table::JobTable;

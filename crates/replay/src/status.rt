@@ -1,6 +1,6 @@
 //! The exit status of a replay.
 ghost use Rattle.std.specs.Prelude.{◌≡◌};
-ghost use Rattle.jobd.specs.Status.{exit_status};
+ghost use Rattle.replay.specs.Status.{exit_status};
 
 use replay_loop::ReplayFault;
 

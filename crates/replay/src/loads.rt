@@ -3,7 +3,7 @@ ghost use Rattle.std.specs.Prelude.{◌≡◌, IfOk};
 ghost use Rattle.history_model.specs.Machine.{Set, UnloadJob};
 ghost use Rattle.job_table.specs.Changes.{set_of};
 ghost use Rattle.job_table.specs.Loads.{load_of, refusal_outside};
-ghost use Rattle.jobd.specs.Answers.{IsReplied};
+ghost use Rattle.replay.specs.Answers.{IsReplied};
 
 use crate::lines::{accepted_line, answer_line, refused_line};
 use history_model::{Refusal, Text};

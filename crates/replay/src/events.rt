@@ -3,7 +3,7 @@ ghost use Rattle.std.specs.Prelude.{◌≡◌, IfOk, None};
 ghost use Rattle.history_model.specs.Clock.{reading_in};
 ghost use Rattle.history_model.specs.Machine.{OfJob};
 ghost use Rattle.job_core.specs.Events.{item_of};
-ghost use Rattle.jobd.specs.Answers.{IsReplied};
+ghost use Rattle.replay.specs.Answers.{IsReplied};
 
 use crate::lines::answer_line;
 use job_table::{JobEvent, JobTable};

@@ -1,6 +1,6 @@
 //! The launcher as a machine that reads lines: a header opens the table of jobs, and each later line is an event.
 ghost use Rattle.std.specs.Prelude.{IfOk};
-ghost use Rattle.jobd.specs.Answers.{IsReplied, WillWrite};
+ghost use Rattle.replay.specs.Answers.{IsReplied, WillWrite};
 ghost use Rattle.table_opening.specs.Events.{event_of, event_in};
 ghost use Rattle.table_opening.specs.Output.{IsOutput};
 

@@ -12,7 +12,7 @@ use Rattle.job_table.specs.Outcomes.{IsSameFor}
 use Rattle.job_table.specs.Changes.{set_of, IsChanged, Changes}
 use Rattle.job_table.specs.declared.changing.NewSetting.{NewSetting}
 use Rattle.ctl_protocol.specs.Outcomes.{outcome_line}
-use Rattle.jobd.specs.Answers.{IsReplied}
+use Rattle.replay.specs.Answers.{IsReplied}
 use Rattle.job_table.proofs.ChangesLemmas.{set_same}
 
 ready_set : (ready : NewSetting) (label : Label) (disabled unload store : Bool) → ready.setting.label ≡ label → ready.setting.disabled ≡ (disabled || unload) → ready.unload ≡ unload

@@ -1,7 +1,7 @@
 //! Events of the whole launcher, and the questions.
 ghost use Rattle.std.specs.Prelude.{IfOk};
 ghost use Rattle.history_model.specs.Machine.{Unreadable, ShutDown, Tick, Sight, ListJobs, PrintJob};
-ghost use Rattle.jobd.specs.Answers.{IsReplied};
+ghost use Rattle.replay.specs.Answers.{IsReplied};
 
 use crate::lines::{answer_line, refused_line, text_line};
 use history_model::{Obs, Reading, Refusal};

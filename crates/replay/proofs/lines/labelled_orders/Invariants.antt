@@ -3,7 +3,7 @@ use Rattle.std.proofs.Common.{◌≡◌, take}
 use Rattle.ctl_protocol.specs.Outcomes.{orders_of}
 use Rattle.job_table.specs.Ends.{names_in}
 use Rattle.job_table.specs.StandsFor.{labelled}
-use Rattle.jobd.proofs.lines.labelled_orders.Given as goal
+use Rattle.replay.proofs.lines.labelled_orders.Given as goal
 
 -- the orders before are told
 abbrev pub invariant-loop-order : goal.invariant-loop-order

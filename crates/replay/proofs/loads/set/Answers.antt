@@ -1,7 +1,7 @@
 -- What the check of `loads::set` does not find by itself.
 use Rattle.std.proofs.Common.{◌∙◌}
-use Rattle.jobd.proofs.SettingLineLemmas.{changed_line}
-use Rattle.jobd.proofs.loads.set.Goals as goal
+use Rattle.replay.proofs.SettingLineLemmas.{changed_line}
+use Rattle.replay.proofs.loads.set.Goals as goal
 
 pub returns-else-not-store : goal.returns-else-not-store
 returns-else-not-store c =

@@ -1,0 +1,16 @@
+//! The replay of a journal: each of its lines through the table of jobs, and a line of outcome for each.
+#![tactic(auto)]
+
+mod events;
+mod journal_machine;
+pub mod laws;
+mod lines;
+mod loads;
+mod opening;
+mod replaying;
+mod status;
+mod whole;
+
+pub use replay_loop::{LINE_LIMIT, ReplayFault};
+pub use replaying::{replay, replay_within};
+pub use status::status_of;
