@@ -70,7 +70,7 @@ static PYONGYANG: [u8; 237] = [
     84, 0, 10, 75, 83, 84, 45, 57, 10,
 ];
 
-/// A second at which a clock in Pyongyang shows 23:59 since it is set back by half an hour a minute later.
+/// The minute before clocks in Pyongyang were set back by half an hour: 23:59 of 14 August 2015.
 const BEFORE_THE_CHANGE: u64 = 1_439_564_340;
 
 /// A call that is handed a text, and leaves nothing if it is refused: with memory it makes what it was to make.
