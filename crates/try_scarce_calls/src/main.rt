@@ -1,17 +1,23 @@
-//! Makes calls of one job, of the store and of a launcher with no memory left, and then with more and more, until each
+//! Makes calls of one job, of lines and words, of the store and of a launcher with no memory left, and then with more and more, until each
 //! is made. The program runs itself once more for that, with its memory limited by the shell: `try_scarce_calls`, and within
 //! `try_scarce_calls short`. It writes a line for each call.
 #![tactic(auto)]
 
+mod feeding;
 mod job;
 mod launching;
+mod lines;
 mod opening;
+mod replaying;
 mod store;
 mod turning;
 
+use crate::feeding::Feeding;
 use crate::job::{DEFINITION, Making, Part};
 use crate::launching::Launching;
+use crate::lines::{CALLS, Telling};
 use crate::opening::{Opening, OwnFile, Place, State};
+use crate::replaying::Replaying;
 use crate::store::{Call, Using};
 use crate::turning::{TURNS, Turning};
 use anyhow::{Result, bail};
@@ -35,6 +41,23 @@ fn parts(rt: &impl Print, alloc: Global, hoard: &mut Hoard) -> Result<()> {
         show_run(rt, alloc, hoard, name, &mut Making { part, def })?;
     }
     Ok(())
+}
+
+fn texts(rt: &impl Print, alloc: Global, hoard: &mut Hoard) -> Result<()> {
+    for (name, call) in CALLS {
+        show_run(rt, alloc, hoard, name, &mut Telling::new(alloc, *call)?)?;
+    }
+    Ok(())
+}
+
+fn streams(rt: &impl Print, alloc: Global, hoard: &mut Hoard) -> Result<()> {
+    let listed = [("LineFeed::feed", false), ("LineFeed::next_line", true)];
+    for (name, is_taking) in listed {
+        let feed = None;
+        show_run(rt, alloc, hoard, name, &mut Feeding { is_taking, feed })?;
+    }
+    let written = Vec::new(alloc);
+    show_run(rt, alloc, hoard, "replay", &mut Replaying { written })
 }
 
 fn try_opening<R: Print, S: Alter + Drop, P: Place<S> + Drop>(
@@ -81,6 +104,8 @@ fn launchers(rt: &impl Print, alloc: Global, hoard: &mut Hoard) -> Result<()> {
 fn short(rt: &HostRuntime) -> Result<()> {
     let mut hoard = Hoard::new(rt.alloc())?;
     parts(rt, rt.alloc(), &mut hoard)?;
+    texts(rt, rt.alloc(), &mut hoard)?;
+    streams(rt, rt.alloc(), &mut hoard)?;
     openings(rt, &mut hoard)?;
     open_stores(rt, rt.alloc(), &mut hoard)?;
     launchers(rt, rt.alloc(), &mut hoard)
