@@ -24,10 +24,11 @@ pub fn are_apart(rt: &HostRuntime, stage: &mut Stage) -> Option<bool> {
     let is_bound = binds(edge, 0, &def);
     let first = edge.bind_of(0)?;
     edge.release(0);
-    let between = edge.bind_of(0).is_some() || edge.accept(0).is_some();
+    let between = edge.bind_of(0).is_some();
+    let is_called = edge.accept(0).is_some();
     let is_bound_again = binds(edge, 0, &def);
     let second = edge.bind_of(0)?;
-    Some(!before && is_bound && !between && is_bound_again && first != second)
+    Some(!before && is_bound && !between && !is_called && is_bound_again && first != second)
 }
 
 /// Somebody calls the port and half-closes.

@@ -54,14 +54,15 @@ fn has_failed(edge: &System, count: u64) -> bool {
 pub fn is_over_alone(rt: &HostRuntime, stage: &mut Stage) -> Option<bool> {
     let long = job_of(rt, stage, "exec sleep 60")?;
     let short = job_of(rt, stage, "exit 3")?;
-    let both = starts(&mut stage.edge, 0, 1, &long) && starts(&mut stage.edge, 7, 2, &short);
+    let goes_on = starts(&mut stage.edge, 0, 1, &long);
+    let ends = starts(&mut stage.edge, 7, 2, &short);
     let first = over(rt, &mut stage.edge) == Some((7, 2));
     let further = stage.edge.over_from(8).is_some();
     let told = stage.edge.poll(7, 2).ok()? == Some(Ended::Code(3));
     let again = stage.edge.over_from(0).is_some();
     let kills = kills(&mut stage.edge, 1);
     let killed = end_of(rt, &mut stage.edge, 1) == Some(Ended::Signal(9));
-    Some(both && first && !further && told && !again && kills && killed)
+    Some(goes_on && ends && first && !further && told && !again && kills && killed)
 }
 
 /// Whether a run that has ended has no child any more, and one that goes on is not started twice.
