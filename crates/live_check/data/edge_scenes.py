@@ -4,8 +4,9 @@
     edge_scenes.py [--jobd WORDS] [--jobctl WORDS] [--before WORDS] [--at-once N] [--times] [SCENE..]
 
 WORDS start a program; blanks part them. The program of --before is run to its end first, and nothing is played if it fails.
-Without scenes all are played, N at a time. Each prints `ok NAME` or `FAILED NAME: why`, and the last line counts; --times adds how long
-it took. The status is 1 if one failed. Each scene has a folder of its own below TMPDIR, and every process that it started is ended.
+Without scenes all are played, those of job_scenes.py too, N at a time. Each prints `ok NAME` or `FAILED NAME: why`, and the last line
+counts; --times adds how long it took. The status is 1 if one failed. Each scene has a folder of its own below TMPDIR, and every
+process that it started is ended.
 
 A scene waits for facts; no user and no network is needed. BOUND in the environment is for how many seconds a fact is waited
 for, 10 if it is not set: a slow machine, or programs that were built without a proof, need more.
@@ -57,8 +58,10 @@ def comes(fact, bound=BOUND):
 
 
 def wait_for(fact, why, bound=BOUND):
+    """As `comes`, but a Fault where the bound is over: `why`, or what it returns then."""
     value = comes(fact, bound)
-    check(value, f"{why}, in {bound:.0f} s")
+    if not value:
+        raise Fault(f"{why() if callable(why) else why}, in {bound:.0f} s")
     return value
 
 
@@ -1129,4 +1132,9 @@ def main():
 
 
 if __name__ == "__main__":
-    sys.exit(main())
+    # By its name, so that the scenes of both files have one `Fault` and one `Stage`. Nothing is written beside them.
+    sys.dont_write_bytecode = True
+    import edge_scenes
+    import job_scenes
+    edge_scenes.SCENES += job_scenes.SCENES
+    sys.exit(edge_scenes.main())

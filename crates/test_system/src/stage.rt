@@ -17,19 +17,20 @@ pub struct Stage {
     pub edge: System,
 }
 
-/// 127.0.0.`last` with the port.
-pub fn address(last: u8, port: u16) -> SocketAddr {
-    SocketAddr::from((Ipv4Addr::new(127, 0, 0, last), port))
+/// 127.0.0.1 with the port.
+pub fn address(port: u16) -> SocketAddr {
+    SocketAddr::from((Ipv4Addr::LOCALHOST, port))
 }
 
-// A port that nobody listens on.
-fn free_port(rt: &HostRuntime) -> Option<u16> {
-    let listener = TcpListener::bind(rt, address(1, 0)).ok()?;
+/// A port that nobody listens on.
+pub fn free_port(rt: &HostRuntime) -> Option<u16> {
+    let listener = TcpListener::bind(rt, address(0)).ok()?;
     let own = listener.local_addr().ok()?;
     Some(own.port())
 }
 
-fn folder_name(rt: &HostRuntime, name: &str) -> Option<String> {
+/// The name of a test's folder.
+pub fn folder_name(rt: &HostRuntime, name: &str) -> Option<String> {
     let id = process::id(rt.process());
     format!(in rt.alloc(); "/tmp/test_system-{id}-{name}").ok()
 }
@@ -56,17 +57,17 @@ pub fn leave(rt: &HostRuntime, stage: Stage) -> bool {
     is_gone
 }
 
-/// A job of a shell that runs the script in the folder, with a socket on this node at the stage's port.
-pub fn job_of(rt: &HostRuntime, stage: &Stage, node: &str, script: &str) -> Option<Def> {
+/// A job of a shell that runs the script in the folder, with a socket at `s` in it, and one at the stage's port.
+pub fn job_of(rt: &HostRuntime, stage: &Stage, script: &str) -> Option<Def> {
     let folder = stage.folder.as_str();
     let port = stage.port;
     let text = format!(in rt.alloc();
-        "{{\"Label\":\"a\",\"ProgramArguments\":[\"/bin/sh\",\"-c\",\"{script}\"],\"WorkingDirectory\":\"{folder}\",\"inetdCompatibility\":{{\"Wait\":false}},\"Sockets\":{{\"s\":{{\"SockNodeName\":\"{node}\",\"SockServiceName\":{port}}}}}}}"
+        "{{\"Label\":\"a\",\"ProgramArguments\":[\"/bin/sh\",\"-c\",\"{script}\"],\"WorkingDirectory\":\"{folder}\",\"inetdCompatibility\":{{\"Wait\":false}},\"Sockets\":{{\"s\":{{\"SockPathName\":\"{folder}/s\"}},\"t\":{{\"SockNodeName\":\"localhost\",\"SockServiceName\":{port}}}}}}}"
     ).ok()?;
     read_def(rt.alloc(), text.as_bytes()).ok()
 }
 
-/// The name of a file in the folder.
+/// The path of a file in the folder.
 pub fn path_of(rt: &HostRuntime, stage: &Stage, name: &str) -> Option<String> {
     let folder = stage.folder.as_str();
     format!(in rt.alloc(); "{folder}/{name}").ok()

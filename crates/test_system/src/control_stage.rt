@@ -1,17 +1,16 @@
 //! Plays the steps of a test on a socket in the folder for temporary files.
 
 use crate::budget::Budget;
+use crate::control_steps::Step;
 use crate::echo::Echo;
-use crate::steps::Step;
 use control_socket::ControlSocket;
 use mio::{Events, Poll, Token};
-use std::alloc::{AllocError, Global};
+use std::alloc::Global;
 use std::io::{ErrorKind, Read, Write};
 use std::net::Shutdown;
 use std::os::unix::net::UnixStream;
-use std::test::Fail;
 use std::time::Duration;
-use std::{env, io, process};
+use std::{io, process};
 
 /// The socket with its poll, who answers and for how long, and the clients.
 #[derive(Drop)]
@@ -25,35 +24,40 @@ struct Stage {
 }
 
 /// The path of the test of this name, at which nothing is yet.
-pub fn path_of(rt: &HostRuntime, name: &str) -> Result<String, Fail> {
-    let above = env::temp_dir(rt)?;
-    let above = above.as_path().to_str().ok_or("a folder's name")?;
+fn path_of(rt: &HostRuntime, name: &str) -> Option<String> {
     let id = process::id(rt.process());
-    Ok(path_in(rt.alloc(), above, id, name)?)
+    format!(in rt.alloc(); "/tmp/test_system-{id}-{name}").ok()
 }
 
-fn path_in(alloc: Global, above: &str, id: u32, name: &str) -> Result<String, AllocError> {
-    format!(in alloc; "{above}/control-{id}-{name}")
-}
-
-/// Plays the steps, and fails with the number of the first that goes wrong.
-pub fn play_steps(rt: &HostRuntime, name: &str, steps: &[Step]) -> Result<(), Fail> {
-    let path = path_of(rt, name)?;
-    let mut stage = new_stage(rt, path.as_str())?;
-    let fault = play_all(rt, path.as_str(), &mut stage, steps);
-    stage.socket.remove(rt);
-    passed(fault?)
-}
-
-/// A test passes unless this step of it, which is counted from 0, goes wrong.
-pub fn passed(fault: Option<usize>) -> Result<(), Fail> {
-    match fault {
-        None => Ok(()),
-        Some(number) => Err(Fail::new(format_args!("step {number} goes wrong"))),
+/// Plays the steps. The number of the first that goes wrong, or of none; or that the system refused one.
+pub fn played(rt: &HostRuntime, name: &str, steps: &[Step]) -> Option<usize> {
+    let Some(path) = path_of(rt, name) else {
+        return Some(0);
+    };
+    match new_stage(rt, path.as_str()) {
+        Ok(stage) => played_on(rt, path.as_str(), stage, steps),
+        Err(_) => Some(0),
     }
 }
 
-fn new_stage(rt: &HostRuntime, path: &str) -> Result<Stage, Fail> {
+fn played_on(rt: &HostRuntime, path: &str, stage: Stage, steps: &[Step]) -> Option<usize> {
+    let mut stage = stage;
+    let fault = first_fault(rt, path, &mut stage, steps);
+    stage.socket.remove(rt);
+    fault
+}
+
+fn first_fault(rt: &HostRuntime, path: &str, stage: &mut Stage, steps: &[Step]) -> Option<usize> {
+    for (number, step) in steps.iter().enumerate() {
+        let is_so = play(rt, path, stage, *step);
+        if !is_so.unwrap_or(false) {
+            return Some(number);
+        }
+    }
+    None
+}
+
+fn new_stage(rt: &HostRuntime, path: &str) -> io::Result<Stage> {
     let poll = Poll::new(rt)?;
     let events = Events::with_capacity(rt.alloc(), 8)?;
     let mut socket = ControlSocket::open(rt, rt.alloc(), path)?;
@@ -68,20 +72,6 @@ fn new_stage(rt: &HostRuntime, path: &str) -> Result<Stage, Fail> {
     })
 }
 
-fn play_all(
-    rt: &HostRuntime,
-    path: &str,
-    stage: &mut Stage,
-    steps: &[Step],
-) -> io::Result<Option<usize>> {
-    for (number, step) in steps.iter().enumerate() {
-        if !play(rt, path, stage, *step)? {
-            return Ok(Some(number));
-        }
-    }
-    Ok(None)
-}
-
 fn play(rt: &HostRuntime, path: &str, stage: &mut Stage, step: Step) -> io::Result<bool> {
     let alloc = rt.alloc();
     match step {
@@ -90,12 +80,10 @@ fn play(rt: &HostRuntime, path: &str, stage: &mut Stage, step: Step) -> io::Resu
         Step::SendsTimes(number, text, count) => stage.sends(number, text, count),
         Step::OthersSend(number, text) => stage.others_send(number, text),
         Step::SendsBlocks(number, count) => stage.sends_blocks(number, count),
-        Step::SendsLetters(number, count) => stage.sends_letters(alloc, number, count),
         Step::HalfCloses(number) => Ok(stage.client(number)?.shutdown(Shutdown::Write).is_ok()),
         Step::Hears(number, text) => stage.hears(alloc, number, text, false),
         Step::HearsLast(number, text) => stage.hears(alloc, number, text, true),
         Step::IsLetGo(number) => read_all(stage.client(number)?, &mut Vec::new(alloc)),
-        Step::Gets(number, count) => stage.gets(alloc, number, count),
         Step::Woken(is_woken) => stage.is_woken(is_woken),
         _ => Ok(stage.play_plain(alloc, step)),
     }
@@ -117,7 +105,6 @@ impl Stage {
             Step::Rounds(count) => self.rounds(alloc, count),
             Step::Busy(is_busy) => self.round(alloc) == is_busy,
             Step::Asked(lines) => self.was_asked(lines),
-            Step::AskedAtMost(count) => 0 < self.echo.count && self.echo.count <= count,
             Step::Quiet(is_quiet) => self.socket.is_quiet() == is_quiet,
             _ => false,
         }
@@ -193,20 +180,6 @@ impl Stage {
         Ok(true)
     }
 
-    fn sends_letters(&mut self, alloc: Global, number: usize, count: usize) -> io::Result<bool> {
-        let letters = [b'n'; 4096];
-        let mut left = count;
-        for _ in 0..10_000u32 {
-            if left == 0 {
-                return Ok(true);
-            }
-            let piece = letters.get(..left).unwrap_or(&letters);
-            left = left.saturating_sub(sent(self.client(number)?, piece)?);
-            let _ = self.round(alloc);
-        }
-        Ok(false)
-    }
-
     // Takes the lines that were asked so far.
     fn was_asked(&mut self, lines: &str) -> bool {
         let is_same = self.echo.asked.as_slice() == lines.as_bytes();
@@ -224,19 +197,6 @@ impl Stage {
         let mut heard = Vec::new(alloc);
         let is_end = read_all(self.client(number)?, &mut heard)?;
         Ok(heard.as_slice() == text.as_bytes() && is_end == is_last)
-    }
-
-    fn gets(&mut self, alloc: Global, number: usize, count: usize) -> io::Result<bool> {
-        let mut heard = Vec::new(alloc);
-        for _ in 0..10_000u32 {
-            if heard.len() >= count {
-                break;
-            }
-            let _ = read_all(self.client(number)?, &mut heard)?;
-            let _ = self.round(alloc);
-        }
-        let _ = read_all(self.client(number)?, &mut heard)?;
-        Ok(heard.len() == count)
     }
 
     fn is_woken(&mut self, is_woken: bool) -> io::Result<bool> {

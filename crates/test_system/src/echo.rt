@@ -10,19 +10,16 @@ use std::alloc::{AllocError, Global};
 pub struct Echo {
     /// The lines, each with a newline behind it.
     pub asked: Vec<u8>,
-    pub count: usize,
 }
 
 impl Echo {
     pub fn new(alloc: Global) -> Echo {
         Echo {
             asked: Vec::new(alloc),
-            count: 0,
         }
     }
 
     fn keep(&mut self, line: &str) -> Result<(), AllocError> {
-        self.count = self.count.saturating_add(1);
         self.asked.extend_from_slice(line.as_bytes())?;
         self.asked.push(b'\n')?;
         Ok(())

@@ -52,7 +52,7 @@ const AT: Scripted = Scripted::At(Reading {
 const OVER: Scripted = Scripted::Over(Ended::Signal(15));
 
 /// Each kind of call; a close and a release take no answer of the script.
-static EACH_KIND: Case = Case {
+const EACH_KIND: Case = Case {
     script: &[
         Scripted::Started(812),
         Scripted::Done,
@@ -81,7 +81,7 @@ static EACH_KIND: Case = Case {
 };
 
 /// Each call is refused, and has no memory.
-static EACH_FAULT: Case = Case {
+const EACH_FAULT: Case = Case {
     script: &[
         Scripted::Refused,
         Scripted::Refused,
@@ -120,7 +120,7 @@ static EACH_FAULT: Case = Case {
 };
 
 /// Answers of another kind than the calls', and a child with the process id 0, are refusals. Each takes its answer.
-static ANOTHER_KIND: Case = Case {
+const ANOTHER_KIND: Case = Case {
     script: &[
         Scripted::Done,
         Scripted::Started(0),
@@ -149,7 +149,7 @@ static ANOTHER_KIND: Case = Case {
 };
 
 /// A script that has ended refuses each call; a close and a release are still done.
-static ENDED: Case = Case {
+const ENDED: Case = Case {
     script: &[Scripted::Started(812)],
     room: 20,
     calls: &[
@@ -168,7 +168,7 @@ static ENDED: Case = Case {
 };
 
 /// Past the room each call is refused and not listed. A close and a release are done, and not listed.
-static PAST_THE_ROOM: Case = Case {
+const PAST_THE_ROOM: Case = Case {
     script: &[
         Scripted::Started(812),
         Scripted::Running,
@@ -288,27 +288,20 @@ fn passes(alloc: Global, case: &Case) -> bool {
     is_answered && is_listed && is_counted
 }
 
-#[test]
-fn each_kind_of_call_is_answered_by_the_script(rt: HostRuntime) {
-    assert!(rt; passes(rt.alloc(), &EACH_KIND));
+static CASES: &[Case] = &[EACH_KIND, EACH_FAULT, ANOTHER_KIND, ENDED, PAST_THE_ROOM];
+
+/// The number of the first case that goes wrong.
+fn first_fault(alloc: Global) -> Option<usize> {
+    for (number, case) in CASES.iter().enumerate() {
+        if !passes(alloc, case) {
+            return Some(number);
+        }
+    }
+    None
 }
 
 #[test]
-fn each_kind_of_call_is_refused_by_the_script(rt: HostRuntime) {
-    assert!(rt; passes(rt.alloc(), &EACH_FAULT));
-}
-
-#[test]
-fn an_answer_of_another_kind_is_a_refusal(rt: HostRuntime) {
-    assert!(rt; passes(rt.alloc(), &ANOTHER_KIND));
-}
-
-#[test]
-fn a_script_that_ended_refuses(rt: HostRuntime) {
-    assert!(rt; passes(rt.alloc(), &ENDED));
-}
-
-#[test]
-fn calls_past_the_room_are_refused(rt: HostRuntime) {
-    assert!(rt; passes(rt.alloc(), &PAST_THE_ROOM));
+fn the_edge_in_memory_answers_by_its_script(rt: HostRuntime) {
+    let fault = first_fault(rt.alloc());
+    assert_eq!(rt; fault, None);
 }

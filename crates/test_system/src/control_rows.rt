@@ -1,12 +1,11 @@
-//! What is expected of the control socket where its clients are many, greedy or still.
+//! What is expected of the control socket in each round, where its clients are many, greedy or still.
 
-use crate::stage::play_steps;
-use crate::steps::Step;
-use crate::steps::Step::*;
-use std::test::Fail;
+use crate::control_stage::played;
+use crate::control_steps::Step;
+use crate::control_steps::Step::*;
 
 /// The first line of each client is answered before the second of any, and the 17th of a client in the next round.
-static A_CLIENT_HAS_16_LINES_A_ROUND: &[Step] = &[
+const A_CLIENT_HAS_16_LINES_A_ROUND: &[Step] = &[
     Connect(2),
     Round,
     SendsTimes(0, "a\n", 17),
@@ -22,14 +21,9 @@ static A_CLIENT_HAS_16_LINES_A_ROUND: &[Step] = &[
     Asked(""),
 ];
 
-#[test]
-fn a_client_has_16_lines_a_round(rt: HostRuntime) -> Result<(), Fail> {
-    play_steps(&rt, "lines", A_CLIENT_HAS_16_LINES_A_ROUND)
-}
-
 /// A round in which there is time for two lines ends with the second. The next one begins with the client behind, also where the
 /// time ended among further lines.
-static A_ROUND_ENDS_WITH_ITS_TIME: &[Step] = &[
+const A_ROUND_ENDS_WITH_ITS_TIME: &[Step] = &[
     Connect(3),
     Round,
     Time(2),
@@ -55,13 +49,8 @@ static A_ROUND_ENDS_WITH_ITS_TIME: &[Step] = &[
     Asked("a\n"),
 ];
 
-#[test]
-fn a_round_ends_with_its_time(rt: HostRuntime) -> Result<(), Fail> {
-    play_steps(&rt, "time", A_ROUND_ENDS_WITH_ITS_TIME)
-}
-
 /// A round answers one line also where the limit never has time, and each client has its turn.
-static A_ROUND_WITHOUT_TIME_ANSWERS_A_LINE: &[Step] = &[
+const A_ROUND_WITHOUT_TIME_ANSWERS_A_LINE: &[Step] = &[
     Connect(3),
     Round,
     Time(0),
@@ -77,13 +66,8 @@ static A_ROUND_WITHOUT_TIME_ANSWERS_A_LINE: &[Step] = &[
     Busy(false),
 ];
 
-#[test]
-fn a_round_without_time_answers_a_line(rt: HostRuntime) -> Result<(), Fail> {
-    play_steps(&rt, "least", A_ROUND_WITHOUT_TIME_ANSWERS_A_LINE)
-}
-
 /// At 64 clients the one that has been silent for longest gives way to a new one, also with half a line.
-static THE_LONGEST_SILENT_CLIENT_GIVES_WAY: &[Step] = &[
+const THE_LONGEST_SILENT_CLIENT_GIVES_WAY: &[Step] = &[
     Connect(64),
     Round,
     Sends(7, "ha"),
@@ -103,13 +87,8 @@ static THE_LONGEST_SILENT_CLIENT_GIVES_WAY: &[Step] = &[
     Hears(6, "{\"code\":0,\"text\":\"c\"}\n"),
 ];
 
-#[test]
-fn the_longest_silent_client_gives_way(rt: HostRuntime) -> Result<(), Fail> {
-    play_steps(&rt, "silent", THE_LONGEST_SILENT_CLIENT_GIVES_WAY)
-}
-
 /// Of 65 that come at once the last waits until a round looked at the others. The first of them is then the longest silent.
-static CLIENTS_THAT_COME_AT_ONCE_GET_IN: &[Step] = &[
+const CLIENTS_THAT_COME_AT_ONCE_GET_IN: &[Step] = &[
     Connect(65),
     Round,
     Hears(0, ""),
@@ -122,13 +101,8 @@ static CLIENTS_THAT_COME_AT_ONCE_GET_IN: &[Step] = &[
     Hears(1, ""),
 ];
 
-#[test]
-fn clients_that_come_at_once_get_in(rt: HostRuntime) -> Result<(), Fail> {
-    play_steps(&rt, "burst", CLIENTS_THAT_COME_AT_ONCE_GET_IN)
-}
-
 /// In the round in which a client leaves, another takes its place. A further one is turned away if all 64 ask.
-static A_CLIENT_BEHIND_64_IS_TURNED_AWAY: &[Step] = &[
+const A_CLIENT_BEHIND_64_IS_TURNED_AWAY: &[Step] = &[
     Connect(64),
     Round,
     OthersSend(5, "a\n"),
@@ -147,13 +121,8 @@ static A_CLIENT_BEHIND_64_IS_TURNED_AWAY: &[Step] = &[
     ),
 ];
 
-#[test]
-fn a_client_behind_64_is_turned_away(rt: HostRuntime) -> Result<(), Fail> {
-    play_steps(&rt, "many", A_CLIENT_BEHIND_64_IS_TURNED_AWAY)
-}
-
 /// Where no client is silent, one that takes nothing of its replies gives way after a second, and not before.
-static A_CLIENT_THAT_TAKES_NOTHING_GIVES_WAY: &[Step] = &[
+const A_CLIENT_THAT_TAKES_NOTHING_GIVES_WAY: &[Step] = &[
     Connect(64),
     Round,
     SendsTimes(9, "long\n", 60),
@@ -176,13 +145,8 @@ static A_CLIENT_THAT_TAKES_NOTHING_GIVES_WAY: &[Step] = &[
     Hears(65, "{\"code\":0,\"text\":\"b\"}\n"),
 ];
 
-#[test]
-fn a_client_that_takes_nothing_gives_way(rt: HostRuntime) -> Result<(), Fail> {
-    play_steps(&rt, "stuck", A_CLIENT_THAT_TAKES_NOTHING_GIVES_WAY)
-}
-
 /// Who may give way is known only once a round looked at every client. Until then a new one waits.
-static A_NEW_CLIENT_WAITS_FOR_A_WHOLE_ROUND: &[Step] = &[
+const A_NEW_CLIENT_WAITS_FOR_A_WHOLE_ROUND: &[Step] = &[
     Connect(64),
     Round,
     OthersSend(64, "a\n"),
@@ -201,7 +165,81 @@ static A_NEW_CLIENT_WAITS_FOR_A_WHOLE_ROUND: &[Step] = &[
     ),
 ];
 
+/// What is not yet sent to a client that leaves goes with it, and who waits for its client has nothing to do.
+const A_CLIENT_THAT_NEVER_READ_MAY_LEAVE: &[Step] = &[
+    Connect(2),
+    Round,
+    SendsTimes(0, "long\n", 60),
+    SendsTimes(1, "some\n", 23),
+    HalfCloses(1),
+    Rounds(100),
+    Quiet(false),
+    Busy(false),
+    Leaves(0),
+    Leaves(1),
+    Round,
+    Quiet(true),
+];
+
+/// At most 65,536 bytes of a client are read in a round, so that the next one has its turn.
+const A_CLIENT_WITH_MUCH_TO_SAY_HOLDS_UP_NOBODY: &[Step] = &[
+    Connect(2),
+    Round,
+    SendsBlocks(0, 20),
+    Sends(1, "a\n"),
+    Busy(true),
+    Hears(1, "{\"code\":0,\"text\":\"a\"}\n"),
+    Busy(false),
+];
+
+/// Half a line asks nothing. Where a client left, its last request is asked all the same.
+const CLIENTS_WAKE_THE_POLL: &[Step] = &[
+    Woken(false),
+    Connect(1),
+    Woken(true),
+    Round,
+    Round,
+    Woken(true),
+    Woken(false),
+    Sends(0, "li"),
+    Woken(true),
+    Round,
+    Asked(""),
+    Sends(0, "st\n"),
+    Woken(true),
+    Leaves(0),
+    Round,
+    Asked("list\n"),
+    Quiet(true),
+];
+
+/// Their names are those of their sockets.
+static ROWS: &[(&str, &[Step])] = &[
+    ("lines", A_CLIENT_HAS_16_LINES_A_ROUND),
+    ("time", A_ROUND_ENDS_WITH_ITS_TIME),
+    ("least", A_ROUND_WITHOUT_TIME_ANSWERS_A_LINE),
+    ("silent", THE_LONGEST_SILENT_CLIENT_GIVES_WAY),
+    ("burst", CLIENTS_THAT_COME_AT_ONCE_GET_IN),
+    ("many", A_CLIENT_BEHIND_64_IS_TURNED_AWAY),
+    ("stuck", A_CLIENT_THAT_TAKES_NOTHING_GIVES_WAY),
+    ("waits", A_NEW_CLIENT_WAITS_FOR_A_WHOLE_ROUND),
+    ("unread", A_CLIENT_THAT_NEVER_READ_MAY_LEAVE),
+    ("turns", A_CLIENT_WITH_MUCH_TO_SAY_HOLDS_UP_NOBODY),
+    ("wakes", CLIENTS_WAKE_THE_POLL),
+];
+
+/// The row that goes wrong first, and at which step.
+fn first_fault(rt: &HostRuntime) -> Option<(&'static str, usize)> {
+    for (name, steps) in ROWS {
+        if let Some(step) = played(rt, name, steps) {
+            return Some((*name, step));
+        }
+    }
+    None
+}
+
 #[test]
-fn a_new_client_waits_for_a_whole_round(rt: HostRuntime) -> Result<(), Fail> {
-    play_steps(&rt, "waits", A_NEW_CLIENT_WAITS_FOR_A_WHOLE_ROUND)
+fn each_round_serves_each_client(rt: HostRuntime) {
+    let fault = first_fault(&rt);
+    assert_eq!(rt; fault, None);
 }

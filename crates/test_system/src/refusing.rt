@@ -1,8 +1,7 @@
 //! A system that refuses each call, by a runtime of the tests' own: what the edge answers, counts, keeps and tells. And one
 //! whose clock goes a hundred times as fast.
 
-use crate::files::{is_there, pause};
-use crate::stage::{free_port, new_folder};
+use crate::stage::{folder_name, free_port, pause};
 use child_edge::{ChildEdge, Client, ClockEdge, EdgeFault, OsEdge, PathEdge, SocketEdge};
 use history_model::Reading;
 use job_defs::{Def, read_def};
@@ -14,7 +13,6 @@ use std::io::{ErrorKind, PipeReader, PipeWriter};
 use std::net::{Net, SocketAddr, TcpListener, TcpStream};
 use std::process::{Child, Command, ExitStatus, OpenProcess, Processes, Stdio};
 use std::rt::Clock;
-use std::test::Fail;
 use std::time::Duration;
 use std::{fs, io};
 
@@ -175,28 +173,26 @@ impl Net for Refusing {
     }
 }
 
-/// A job with a stream file if one is asked for, and a socket.
-fn job(alloc: Global, more: &str) -> Result<Def, Fail> {
-    let mut text = String::from_str(alloc, "{\"Label\":\"a\",\"Program\":\"/bin/x\"")?;
-    text.push_str(more)?;
-    text.push_str(
-        ",\"inetdCompatibility\":{\"Wait\":false},\"Sockets\":{\"s\":{\"SockServiceName\":7}}}",
-    )?;
-    match read_def(alloc, text.as_bytes()) {
-        Ok(def) => Ok(def),
-        Err(_) => Err(Fail::from("a definition was refused")),
-    }
+/// A job with this stream file if it has one, and a socket.
+fn job(alloc: Global, more: &str) -> Option<Def> {
+    let text = format!(in alloc;
+        "{{\"Label\":\"a\",\"Program\":\"/bin/x\"{more},\"inetdCompatibility\":{{\"Wait\":false}},\"Sockets\":{{\"s\":{{\"SockServiceName\":7}}}}}}"
+    ).ok()?;
+    read_def(alloc, text.as_bytes()).ok()
 }
 
-fn edge(alloc: Global, kind: ErrorKind, pid: Option<u32>) -> Result<OsEdge<Refusing>, Fail> {
-    let folder = String::from_str(alloc, "/none")?;
-    let system = Refusing {
+fn system(alloc: Global, kind: ErrorKind, pid: Option<u32>) -> Refusing {
+    Refusing {
         alloc,
         kind,
         pid,
         host: None,
-    };
-    Ok(OsEdge::new(system, alloc, folder)?)
+    }
+}
+
+fn edge(alloc: Global, kind: ErrorKind, pid: Option<u32>) -> Option<OsEdge<Refusing>> {
+    let folder = String::from_str(alloc, "/none").ok()?;
+    OsEdge::new(system(alloc, kind, pid), alloc, folder).ok()
 }
 
 fn starts(edge: &mut OsEdge<Refusing>, run: u64, def: &Def) -> Result<u32, EdgeFault> {
@@ -269,11 +265,11 @@ fn refuses_all(edge: &mut OsEdge<Refusing>, plain: &Def, filed: &Def, fault: Edg
     no_child && no_stream && no_socket && no_look && no_reading && is_counted && is_kept
 }
 
-fn refused(rt: &HostRuntime, kind: ErrorKind, fault: EdgeFault) -> Result<bool, Fail> {
-    let plain = job(rt.alloc(), "")?;
-    let filed = job(rt.alloc(), ",\"StandardInPath\":\"/in\"")?;
-    let mut edge = edge(rt.alloc(), kind, None)?;
-    Ok(refuses_all(&mut edge, &plain, &filed, fault))
+fn refused(alloc: Global, kind: ErrorKind, fault: EdgeFault) -> Option<bool> {
+    let plain = job(alloc, "")?;
+    let filed = job(alloc, ",\"StandardInPath\":\"/in\"")?;
+    let mut edge = edge(alloc, kind, None)?;
+    Some(refuses_all(&mut edge, &plain, &filed, fault))
 }
 
 /// Whether the child of run 1, that can't be waited for, is kept, and another is started beside it.
@@ -295,24 +291,6 @@ fn has_no_child(edge: &mut OsEdge<Refusing>, plain: &Def) -> bool {
     no_start && no_poll && is_counted
 }
 
-#[test]
-fn each_refusal_is_counted(rt: HostRuntime) -> Result<(), Fail> {
-    assert!(rt; refused(&rt, ErrorKind::OutOfMemory, EdgeFault::NoMemory)?);
-    assert!(rt; refused(&rt, ErrorKind::PermissionDenied, EdgeFault::Refused)?);
-    Ok(())
-}
-
-#[test]
-fn a_child_that_cannot_be_waited_for_is_kept(rt: HostRuntime) -> Result<(), Fail> {
-    let plain = job(rt.alloc(), "")?;
-    let mut edge = edge(rt.alloc(), ErrorKind::PermissionDenied, Some(7))?;
-    let is_kept = keeps_the_child(&mut edge, &plain);
-    assert!(rt; is_kept);
-    let is_told = tells(&mut edge, LOST);
-    assert!(rt; is_told);
-    Ok(())
-}
-
 /// What is told of a child that can't be waited for.
 static LOST: &[&str] = &[
     "a: run 1: cannot wait for its end: permission denied",
@@ -321,62 +299,61 @@ static LOST: &[&str] = &[
     "a: run 1: cannot start /bin/x: entity already exists",
 ];
 
-#[test]
-fn a_process_id_of_0_is_no_child(rt: HostRuntime) -> Result<(), Fail> {
-    let plain = job(rt.alloc(), "")?;
-    let mut edge = edge(rt.alloc(), ErrorKind::PermissionDenied, Some(0))?;
-    let is_none = has_no_child(&mut edge, &plain);
-    assert!(rt; is_none);
-    Ok(())
+/// Whether a child with the process id 7 is kept that can't be waited for, and what is told of it.
+fn keeps_a_lost_child(alloc: Global) -> Option<bool> {
+    let plain = job(alloc, "")?;
+    let mut edge = edge(alloc, ErrorKind::PermissionDenied, Some(7))?;
+    let is_kept = keeps_the_child(&mut edge, &plain);
+    Some(is_kept && tells(&mut edge, LOST))
+}
+
+/// Whether a process id of 0 is no child.
+fn has_no_child_0(alloc: Global) -> Option<bool> {
+    let plain = job(alloc, "")?;
+    let mut edge = edge(alloc, ErrorKind::PermissionDenied, Some(0))?;
+    Some(has_no_child(&mut edge, &plain))
 }
 
 /// A job with a socket at the port.
-fn port_job(alloc: Global, port: &str) -> Result<Def, Fail> {
+fn port_job(alloc: Global, port: u16) -> Option<Def> {
     let text = format!(in alloc;
         "{{\"Label\":\"a\",\"Program\":\"/bin/x\",\"inetdCompatibility\":{{\"Wait\":false}},\"Sockets\":{{\"s\":{{\"SockNodeName\":\"localhost\",\"SockServiceName\":{port}}}}}}}"
-    )?;
-    match read_def(alloc, text.as_bytes()) {
-        Ok(def) => Ok(def),
-        Err(_) => Err(Fail::from("a definition was refused")),
-    }
+    ).ok()?;
+    read_def(alloc, text.as_bytes()).ok()
 }
 
-/// An edge with the host's files and a fast clock, that spools in the folder, and a socket of job 0.
-fn fast_edge(rt: &HostRuntime, folder: &str) -> Result<OsEdge<Refusing>, Fail> {
-    let alloc = rt.alloc();
-    let port = free_port(rt)?;
-    let def = port_job(alloc, port.as_str())?;
-    let system = Refusing {
-        alloc,
+/// A system with the host's files and a fast clock.
+fn fast_system(rt: &HostRuntime) -> Option<Refusing> {
+    Some(Refusing {
+        alloc: rt.alloc(),
         kind: ErrorKind::PermissionDenied,
         pid: None,
-        host: Some(rt.clone()?),
-    };
-    let mut edge = OsEdge::new(system, alloc, String::from_str(alloc, folder)?)?;
-    match binds(&mut edge, &def) {
-        None => Ok(edge),
-        Some(_) => Err(Fail::from("a socket was refused")),
+        host: Some(rt.clone().ok()?),
+    })
+}
+
+/// An edge over it that spools in the folder.
+fn fast_edge(rt: &HostRuntime, folder: &str) -> Option<OsEdge<Refusing>> {
+    let spool = String::from_str(rt.alloc(), folder).ok()?;
+    let system = fast_system(rt)?;
+    OsEdge::new(system, rt.alloc(), spool).ok()
+}
+
+/// Holds a client of job 0 under number 1, and answers its far end.
+fn holds(rt: &HostRuntime, edge: &mut OsEdge<Refusing>) -> Option<UnixStream> {
+    let (near, far) = UnixStream::pair(rt).ok()?;
+    let exchange = Exchange::new(rt.alloc()).ok()?;
+    match edge.take(0, 1, Client::Unix(near), exchange) {
+        Ok(()) => Some(far),
+        Err(_) => None,
     }
 }
 
-/// Holds a client of job 0 under number 1, whose reply is so many bytes long, and answers its far end.
-fn holds(
-    rt: &HostRuntime,
-    edge: &mut OsEdge<Refusing>,
-    reply: &str,
-    length: u64,
-) -> Result<UnixStream, Fail> {
-    let (near, far) = UnixStream::pair(rt)?;
-    let exchange = Exchange::new(rt.alloc())?;
-    let is_held = edge.take(0, 1, Client::Unix(near), exchange).is_ok();
-    OpenOptions::new()
-        .write(true)
-        .open(rt, reply)?
-        .set_len(length)?;
-    if is_held {
-        Ok(far)
-    } else {
-        Err(Fail::from("a client was not held"))
+/// Makes a reply longer than the system takes for a client that reads none.
+fn lengthen(rt: &HostRuntime, reply: &str) -> bool {
+    match OpenOptions::new().write(true).open(rt, reply) {
+        Ok(file) => file.set_len(400_000).is_ok(),
+        Err(_) => false,
     }
 }
 
@@ -392,22 +369,39 @@ fn comes_to_tell(rt: &HostRuntime, edge: &mut OsEdge<Refusing>, line: &str) -> b
     false
 }
 
-/// More bytes than the system takes for a client that reads none.
-const LONG: u64 = 400_000;
-
 const STILL: &str = "a: a client was let go: it took nothing of its reply for a minute";
 
-/// Somebody takes nothing of a long reply, and is let go after a minute of the edge's clock, with both files.
+/// Whether a client that takes nothing of a long reply is told to be let go.
+fn tells_of_one_who_takes_nothing(rt: &HostRuntime, folder: &str, reply: &str) -> Option<bool> {
+    let port = free_port(rt)?;
+    let def = port_job(rt.alloc(), port)?;
+    let mut edge = fast_edge(rt, folder)?;
+    let is_bound = binds(&mut edge, &def).is_none();
+    let _far = holds(rt, &mut edge)?;
+    let is_long = lengthen(rt, reply);
+    Some(is_bound && is_long && comes_to_tell(rt, &mut edge, STILL))
+}
+
+/// Whether that client is let go after a minute of the edge's clock, with both files.
+fn lets_go_one_who_takes_nothing(rt: &HostRuntime) -> Option<bool> {
+    let folder = folder_name(rt, "minute")?;
+    let reply = format!(in rt.alloc(); "{folder}/0-1.reply").ok()?;
+    fs::create_dir(rt, folder.as_str()).ok()?;
+    let is_told = tells_of_one_who_takes_nothing(rt, folder.as_str(), reply.as_str())?;
+    let is_empty = fs::remove_dir(rt, folder.as_str()).is_ok();
+    Some(is_told && is_empty)
+}
+
 #[test]
-fn a_reply_without_progress_is_closed(rt: HostRuntime) -> Result<(), Fail> {
-    let folder = new_folder(&rt, "minute")?;
-    let reply = format!(in rt.alloc(); "{folder}/0-1.reply")?;
-    let mut edge = fast_edge(&rt, folder.as_str())?;
-    let _far = holds(&rt, &mut edge, reply.as_str(), LONG)?;
-    let is_told = comes_to_tell(&rt, &mut edge, STILL);
-    assert!(rt; is_told);
-    let is_left = is_there(&rt, reply.as_str());
-    assert!(rt; !is_left);
-    fs::remove_dir(&rt, folder.as_str())?;
-    Ok(())
+fn what_a_system_refuses_is_counted_kept_and_told(rt: HostRuntime) {
+    let no_memory = refused(rt.alloc(), ErrorKind::OutOfMemory, EdgeFault::NoMemory);
+    let no_right = refused(rt.alloc(), ErrorKind::PermissionDenied, EdgeFault::Refused);
+    let is_kept = keeps_a_lost_child(rt.alloc());
+    let is_none = has_no_child_0(rt.alloc());
+    let is_let_go = lets_go_one_who_takes_nothing(&rt);
+    assert_eq!(rt; no_memory, Some(true));
+    assert_eq!(rt; no_right, Some(true));
+    assert_eq!(rt; is_kept, Some(true));
+    assert_eq!(rt; is_none, Some(true));
+    assert_eq!(rt; is_let_go, Some(true));
 }

@@ -13,8 +13,6 @@ pub enum Step {
     OthersSend(usize, &'static str),
     /// The client sends so many blocks of 4,096 letters, which are taken whole.
     SendsBlocks(usize, usize),
-    /// The client sends so many letters, while rounds go on.
-    SendsLetters(usize, usize),
     /// The client sends no more, and goes on reading.
     HalfCloses(usize),
     /// The client goes away.
@@ -31,16 +29,12 @@ pub enum Step {
     Busy(bool),
     /// These lines were asked since the last such step, each told with a newline.
     Asked(&'static str),
-    /// At most so many lines were asked since the beginning, and one at least.
-    AskedAtMost(usize),
     /// The client has got this since the last such step, and no end.
     Hears(usize, &'static str),
     /// The client has got this since the last such step, and then the end.
     HearsLast(usize, &'static str),
     /// The client gets the end, whatever comes before it.
     IsLetGo(usize),
-    /// The client gets so many bytes, while rounds go on, and no more.
-    Gets(usize, usize),
     /// Whether no reply waits to be sent.
     Quiet(bool),
     /// A poll is woken under the socket's token, or is not.
