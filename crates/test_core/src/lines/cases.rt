@@ -1,4 +1,5 @@
-//! Lines as other programs write them, one to a line: by the rows of the tables, and not from what `ctl_protocol` writes.
+//! Lines as other programs write them, one to a line: by the rows of the tables, and not from what `ctl_protocol` writes. An `@`
+//! stands for a label of 255 bytes, the longest that there are. Lines of a journal that tell no event lie in `data/` of `try_replay`.
 
 /// Lines of a journal as they are written. Each is read, and written again.
 pub const EVENTS: &str = r#"{"F":false,"bind":true,"def":"..","ev":"load","store":true,"w":false}
@@ -31,101 +32,6 @@ pub const SHORT_EVENTS: &str =
 {"ev":"kickstart","job":"system/a"} = {"ev":"kickstart","job":"a","k":false}
 {"ev":"enable","job":"gui/501/a"} = {"ev":"enable","job":"a","store":true}
 {"ev":"disable","job":"user/0123456789/a"} = {"ev":"disable","job":"a","store":true}"#;
-
-/// Lines that tell no event.
-pub const BAD_EVENTS: &str = r#"[]
-{}
-{"ev":"list"
-{"ev":"list"}{}
-{"ev":5}
-{"ev":"lists"}
-{"ev":"list","job":"a"}
-{"req":"list"}
-{"ev":"clock","up":1}
-{"ev":"clock","up":1,"wall":1,"ms":1}
-{"ev":"clock","up":1.5,"wall":1}
-{"ev":"clock","up":1e3,"wall":1}
-{"ev":"clock","up":-1,"wall":1}
-{"ev":"clock","up":-0,"wall":1}
-{"ev":"clock","up":18446744073709551616,"wall":1}
-{"ev":"clock","up":"1","wall":1}
-{"ev":"start"}
-{"ev":"start","job":""}
-{"ev":"start","job":"a/b"}
-{"ev":"start","job":"system/a"}
-{"ev":"start","job":"a\u007f"}
-{"ev":"start","job":"\ud800"}
-{"ev":"print","job":"gui/x/a"}
-{"ev":"print","job":"user/12345678901/a"}
-{"ev":"print","job":"gui//a"}
-{"ev":"spawned","job":"a","run":1,"pid":0}
-{"ev":"spawned","job":"a","run":1,"pid":4294967296}
-{"ev":"ended","job":"a","run":1}
-{"ev":"ended","job":"a","run":1,"code":0,"signal":0}
-{"ev":"ended","job":"a","run":1,"code":256}
-{"ev":"termed","job":"a","run":1,"ok":1}
-{"ev":"load","def":"..","w":null}
-{"ev":"saw","path":"/w","exists":true,"stamp":5}
-{"ev":"load"}
-{"ev":"load","def":1}
-{"ev":"load","def":"..","F":0}
-{"ev":"load","def":"..","bind":1}
-{"ev":"load","def":"..","store":"true"}
-{"ev":"load","def":"..","k":true}
-{"ev":"unload","w":true}
-{"ev":"unload","job":"gui/501/a"}
-{"ev":"unload","job":"a","w":1}
-{"ev":"unload","job":"a","bind":true}
-{"ev":"start","job":1}
-{"ev":"start","job":"a","store":true}
-{"ev":"stop"}
-{"ev":"stop","job":"user/0/a"}
-{"ev":"stop","job":"a","w":false}
-{"ev":"kickstart","k":true}
-{"ev":"kickstart","job":"a","k":1}
-{"ev":"kickstart","job":"a","w":false}
-{"ev":"enable"}
-{"ev":"enable","job":"system/"}
-{"ev":"enable","job":"a","store":0}
-{"ev":"disable","store":true}
-{"ev":"disable","job":"gui/a"}
-{"ev":"disable","job":"a","w":true}
-{"ev":"print"}
-{"ev":"print","job":["a"]}
-{"ev":"print","job":"a","k":true}
-{"ev":"shutdown","job":"a"}
-{"ev":"clock","wall":1}
-{"ev":"clock","up":1,"wall":null}
-{"ev":"saw","exists":true,"nonempty":false,"stamp":5}
-{"ev":"saw","path":1,"exists":true,"nonempty":false,"stamp":5}
-{"ev":"saw","path":"/w","exists":1,"nonempty":false,"stamp":5}
-{"ev":"saw","path":"/w","exists":true,"nonempty":"no","stamp":5}
-{"ev":"saw","path":"/w","exists":true,"nonempty":false,"stamp":-5}
-{"ev":"saw","path":"/w","exists":true,"nonempty":false,"stamp":5,"job":"a"}
-{"ev":"came","job":"a"}
-{"ev":"came","conn":1}
-{"ev":"came","job":"a","conn":-1}
-{"ev":"left","job":"a","conn":true}
-{"ev":"left","job":"a","conn":1,"run":1}
-{"ev":"spawned","job":"a","run":1}
-{"ev":"spawned","job":"a","pid":1}
-{"ev":"spawned","job":"a","run":1.0,"pid":1}
-{"ev":"spawned","job":"a","run":1,"pid":1,"ok":true}
-{"ev":"spawn_refused","job":"a"}
-{"ev":"spawn_refused","job":"a","run":"1"}
-{"ev":"spawn_refused","job":"a","run":1,"pid":1}
-{"ev":"wait_refused","run":1}
-{"ev":"wait_refused","job":"a","run":null}
-{"ev":"wait_refused","job":"a","run":1,"ok":false}
-{"ev":"termed","job":"a","run":1}
-{"ev":"termed","job":"a","run":1,"ok":true,"pid":1}
-{"ev":"killed","job":"a","ok":true}
-{"ev":"killed","job":"a","run":1,"ok":"true"}
-{"ev":"ended","job":"a","code":0}
-{"ev":"ended","job":"a","run":1,"code":-1}
-{"ev":"ended","job":"a","run":1,"signal":256}
-{"ev":"ended","job":"a","run":1,"signal":"9"}
-{"ev":"ended","job":"a","run":1,"code":0,"pid":1}"#;
 
 /// Requests as they are written. Each is read, and written again.
 pub const REQUESTS: &str = r#"{"F":false,"def":"..","req":"load","w":true}
@@ -162,7 +68,8 @@ pub const BAD_REQUESTS: &str = r#"{"ev":"list"}
 /// Headers as they are written. Each is read, and written again.
 pub const HEADERS: &str = r#"{"overrides":{},"up":0,"wall":1700000000,"zone":"UTC0"}
 {"offset":-3600,"overrides":{"a":true,"b":false},"up":9000000000000000,"wall":250000000000}
-{"overrides":{},"up":0,"wall":0,"zonefile":"545a00ff"}"#;
+{"overrides":{},"up":0,"wall":0,"zonefile":"545a00ff"}
+{"overrides":{"@":true},"up":0,"wall":1700000000,"zone":"UTC0"}"#;
 
 /// Lines that are no header.
 pub const BAD_HEADERS: &str = r#"{}
@@ -187,4 +94,77 @@ pub const BAD_HEADERS: &str = r#"{}
 {"up":0,"wall":0,"zonefile":"FF"}
 {"up":0,"wall":0,"zone":"UTC0","overrides":{"a/b":true}}
 {"up":0,"wall":0,"zone":"UTC0","overrides":{"a":1}}
-{"up":0,"wall":0,"zone":"UTC0","ev":"list"}"#;
+{"up":0,"wall":0,"zone":"UTC0","ev":"list"}
+{"overrides":{"@b":true},"up":0,"wall":1700000000,"zone":"UTC0"}"#;
+
+/// Each event that names a job, with the longest label; two with a target.
+pub const LONG_EVENTS: &str = r#"{"ev":"unload","job":"@","store":false,"w":true}
+{"ev":"start","job":"@"}
+{"ev":"stop","job":"@"}
+{"ev":"kickstart","job":"@","k":true}
+{"ev":"enable","job":"@","store":true}
+{"ev":"disable","job":"@","store":false}
+{"ev":"print","job":"@"}
+{"conn":0,"ev":"came","job":"@"}
+{"conn":3,"ev":"left","job":"@"}
+{"ev":"spawned","job":"@","pid":4294967295,"run":1}
+{"ev":"spawn_refused","job":"@","run":0}
+{"ev":"termed","job":"@","ok":true,"run":1}
+{"ev":"killed","job":"@","ok":false,"run":1}
+{"code":255,"ev":"ended","job":"@","run":1}
+{"ev":"ended","job":"@","run":1,"signal":0}
+{"ev":"wait_refused","job":"@","run":1}
+{"ev":"kickstart","job":"gui/501/@"} = {"ev":"kickstart","job":"@","k":false}
+{"ev":"enable","job":"system/@"} = {"ev":"enable","job":"@","store":true}"#;
+
+/// Each of them with a label that is longer by a byte.
+pub const LONGER_EVENTS: &str = r#"{"ev":"unload","job":"@b","store":false,"w":true}
+{"ev":"start","job":"@b"}
+{"ev":"stop","job":"@b"}
+{"ev":"kickstart","job":"@b","k":true}
+{"ev":"enable","job":"@b","store":true}
+{"ev":"disable","job":"@b","store":false}
+{"ev":"print","job":"@b"}
+{"conn":0,"ev":"came","job":"@b"}
+{"conn":3,"ev":"left","job":"@b"}
+{"ev":"spawned","job":"@b","pid":4294967295,"run":1}
+{"ev":"spawn_refused","job":"@b","run":0}
+{"ev":"termed","job":"@b","ok":true,"run":1}
+{"ev":"killed","job":"@b","ok":false,"run":1}
+{"code":255,"ev":"ended","job":"@b","run":1}
+{"ev":"ended","job":"@b","run":1,"signal":0}
+{"ev":"wait_refused","job":"@b","run":1}"#;
+
+/// Each request that names a job, with the longest label.
+pub const LONG_REQUESTS: &str = r#"{"job":"@","req":"unload","w":false}
+{"job":"@","req":"start"}
+{"job":"@","req":"stop"}
+{"job":"@","k":false,"req":"kickstart"}
+{"job":"@","req":"enable"}
+{"job":"@","req":"disable"}
+{"job":"@","req":"print"}"#;
+
+/// Each of them with a label that is longer by a byte.
+pub const LONGER_REQUESTS: &str = r#"{"job":"@b","req":"unload","w":false}
+{"job":"@b","req":"start"}
+{"job":"@b","req":"stop"}
+{"job":"@b","k":false,"req":"kickstart"}
+{"job":"@b","req":"enable"}
+{"job":"@b","req":"disable"}
+{"job":"@b","req":"print"}"#;
+
+/// Targets, and behind ` = ` the label that they name.
+pub const TARGETS: &str = "gui/501/a = a\n\
+@ = @\n\
+system/@ = @\n\
+user/501/@ = @\n\
+user/0123456789/@ = @\n\
+gui/4294967295/@ = @";
+
+/// Texts that are no target.
+pub const BAD_TARGETS: &str = "gui/a\n\
+@b\n\
+system/@b\n\
+user/501/@b\n\
+user/0123456789/@b\n\
+gui/4294967295/@b";

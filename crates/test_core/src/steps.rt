@@ -16,9 +16,6 @@ const IDLE: &str = r#"{"Label":"a","ProgramArguments":["/bin/x"]}"#;
 const WATCHING: &str =
     r#"{"Label":"w","ProgramArguments":["/bin/x"],"WatchPaths":["/v","/t"],"QueueDirectories":["/u"]}"#;
 
-const HOURLY: &str =
-    r#"{"Label":"h","ProgramArguments":["/bin/x"],"StartCalendarInterval":{"Minute":14}}"#;
-
 /// A table with no job, whose clock shows UTC.
 pub fn empty_table(alloc: Global) -> Result<JobTable, Refusal> {
     let Ok(zone) = Zone::fixed(0) else {
@@ -95,43 +92,6 @@ pub fn paths_follow(alloc: Global) -> Result<bool, Refusal> {
             && table.path_after("/u") == Some("/v")
             && table.path_after("/v").is_none(),
     )
-}
-
-/// Says whether the list of two jobs, the first of which runs, and the text of the second are these.
-pub fn is_written(alloc: Global, list: &str, job: &str) -> Result<bool, Refusal> {
-    let mut table = empty_table(alloc)?;
-    load(alloc, &mut table, B)?;
-    load(alloc, &mut table, A)?;
-    table.spawned("a", 1, 812)?;
-    Ok(table.list(alloc)?.as_str() == list && table.print(alloc, "b")?.as_str() == job)
-}
-
-/// Says whether a label that was disabled is not loaded, and is once it is enabled.
-pub fn is_disabled(alloc: Global) -> Result<bool, Refusal> {
-    let mut table = empty_table(alloc)?;
-    set(alloc, &mut table, true)?;
-    let refused = load(alloc, &mut table, A).err();
-    set(alloc, &mut table, false)?;
-    load(alloc, &mut table, A)?;
-    Ok(refused == Some(Refusal::Disabled))
-}
-
-fn set(alloc: Global, table: &mut JobTable, disabled: bool) -> Result<(), Refusal> {
-    let ready = table.prepare_set(alloc, "a", disabled, false)?;
-    table.commit_set(ready);
-    Ok(())
-}
-
-/// Says whether the job of minute 14 is started when the clock comes to 22:14 on 14 November 2023, and not before.
-pub fn is_started(alloc: Global) -> Result<bool, Refusal> {
-    let mut table = empty_table(alloc)?;
-    let job = load(alloc, &mut table, HOURLY)?;
-    let early = table.clock(alloc, at(39_000, 1_700_000_039))?.orders.len();
-    let step = table.clock(alloc, at(40_000, 1_700_000_040))?;
-    let [order] = step.orders else {
-        return Ok(false);
-    };
-    Ok(early == 0 && order.job == job && step.def(order.job).label() == "h")
 }
 
 /// Says whether an override of an empty label is refused.

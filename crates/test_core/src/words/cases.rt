@@ -1,6 +1,7 @@
 //! Lines of words, with what an administrator means by them.
 
-/// A line, the socket and the command that it means: flags as true or false, then labels or paths.
+/// A line, the socket and the command that it means: flags as true or false, then labels or paths. Behind `beside` the default socket
+/// is `/run/s`.
 pub const COMMANDS: &str = "jobctl load -w x.json | jobd.sock | load true false x.json
 jobctl load x.json | jobd.sock | load false false x.json
 jobctl load -F x.json | jobd.sock | load false true x.json
@@ -30,7 +31,9 @@ jobctl print gui/501/a | jobd.sock | print a
 jobctl list | jobd.sock | list
 jobctl --socket x list | x | list
 jobctl shutdown | jobd.sock | shutdown
-jobctl --socket=x shutdown | x | shutdown";
+jobctl --socket=x shutdown | x | shutdown
+beside jobctl list | /run/s | list
+beside jobctl --socket t list | t | list";
 
 /// Lines that are no command of the control program.
 pub const MISTAKES: &str = "jobctl
@@ -131,60 +134,71 @@ jobd overrides --store
 jobd overrides --store a --store b
 jobd overrides --store a b";
 
-/// Lines that are explained, whether they ask for help, and a part of the text.
-pub static HELP: [(&str, bool, &str); 8] = [
-    ("jobctl --help", true, "kickstart"),
-    ("jobctl help load", true, "disabled definition"),
-    ("jobctl load --help", true, "-F"),
-    ("jobctl start --help", true, "3 no such job"),
-    ("jobctl list --help", true, "69 no answer"),
-    ("jobctl --help", true, "\nKivgrond 0.2.0\n"),
-    ("jobctl start", false, "LABEL"),
-    ("jobctl lis", false, "list"),
-];
+/// A line that is explained, whether it asks for help, and the text: the whole of it but for the newline, or a part.
+pub type Help = (&'static str, bool, bool, &'static str);
 
-/// Lines that clap takes and that are no command, each with its whole explanation but for the newline.
-pub static REASONS: [(&str, &str); 8] = [
+/// Lines that ask for help or are no command.
+pub static HELP: [Help; 22] = [
+    ("jobctl --help", true, false, "kickstart"),
+    ("jobctl help load", true, false, "disabled definition"),
+    ("jobctl load --help", true, false, "-F"),
+    ("jobctl start --help", true, false, "3 no such job"),
+    ("jobctl list --help", true, false, "69 no answer"),
+    ("jobctl --help", true, false, "\nKivgrond 0.2.0\n"),
+    ("jobctl start", false, false, "LABEL"),
+    ("jobctl lis", false, false, "list"),
+    ("jobd --help", true, false, "overrides"),
+    ("jobd replay --help", true, false, "4 a line too long"),
+    ("jobd serve --help", true, false, "--zone-file"),
+    ("jobd help overrides", true, false, "--store"),
+    ("jobd --help", true, false, "\nKivgrond 0.2.0\n"),
+    ("jobd serve", false, false, "--spool"),
     (
         "jobctl start gui/501/a",
+        false,
+        true,
         "jobctl: gui/501/a is no label (start takes a label; kickstart and print take a target)",
     ),
     (
         "jobctl stop system/a",
+        false,
+        true,
         "jobctl: system/a is no label (stop takes a label; kickstart and print take a target)",
     ),
     (
         "jobctl start ''",
+        false,
+        true,
         "jobctl: \"\" is no label (a label has 1 to 255 bytes, no / and no control character)",
     ),
     (
         "jobctl --socket s stop a/b",
+        false,
+        true,
         "jobctl: a/b is no label (a label has 1 to 255 bytes, no / and no control character)",
     ),
     (
         "jobctl enable a/b",
+        false,
+        true,
         "jobctl: a/b is no target (a target is LABEL, system/LABEL, user/UID/LABEL or gui/UID/LABEL)",
     ),
     (
         "jobctl enable gui/x/a",
+        false,
+        true,
         "jobctl: gui/x/a is no target (a target is LABEL, system/LABEL, user/UID/LABEL or gui/UID/LABEL)",
     ),
     (
         "jobctl kickstart -k user/0",
+        false,
+        true,
         "jobctl: user/0 is no target (a target is LABEL, system/LABEL, user/UID/LABEL or gui/UID/LABEL)",
     ),
     (
         "jobd serve --socket s --store o --spool d --zone a --zone-file b",
+        false,
+        true,
         "jobd: --zone and --zone-file can't stand together",
     ),
-];
-
-/// The same of the daemon.
-pub static DAEMON_HELP: [(&str, bool, &str); 6] = [
-    ("jobd --help", true, "overrides"),
-    ("jobd replay --help", true, "4 a line too long"),
-    ("jobd serve --help", true, "--zone-file"),
-    ("jobd help overrides", true, "--store"),
-    ("jobd --help", true, "\nKivgrond 0.2.0\n"),
-    ("jobd serve", false, "--spool"),
 ];

@@ -1,8 +1,8 @@
 //! What no contract says: that the texts of clap's command are read as an administrator means them, and that each call
 //! succeeds. The wanted meanings were written by hand from launchctl(1) and the programs' own help.
 use launchctl_words::{
-    Command, DaemonCommand, Explanation, Paths, WordFault, ZoneWords, explain, explain_daemon,
-    read_daemon_words, read_words, read_words_beside,
+    Command, DaemonCommand, Explanation, Paths, WordFault, Words, ZoneWords, explain,
+    explain_daemon, read_daemon_words, read_words, read_words_beside,
 };
 use std::alloc::{AllocError, Global};
 use std::test::Fail;
@@ -65,14 +65,6 @@ fn told(alloc: Global, command: &Command) -> Result<String, AllocError> {
     }
 }
 
-fn zone_told(zone: &ZoneWords) -> &str {
-    match zone {
-        ZoneWords::Default => "none",
-        ZoneWords::Rule(text) => text.as_str(),
-        ZoneWords::File(path) => path.as_str(),
-    }
-}
-
 fn served_told(alloc: Global, command: &DaemonCommand) -> Result<String, AllocError> {
     match command {
         DaemonCommand::Replay => String::from_str(alloc, "replay"),
@@ -88,16 +80,20 @@ fn served_told(alloc: Global, command: &DaemonCommand) -> Result<String, AllocEr
                 Some(path) => path.as_str(),
                 None => "none",
             };
+            let zone = match zone {
+                ZoneWords::Default => "none",
+                ZoneWords::Rule(text) => text.as_str(),
+                ZoneWords::File(path) => path.as_str(),
+            };
             let (socket, store, spool) = (socket.as_str(), store.as_str(), spool.as_str());
-            let zone = zone_told(zone);
             format!(in alloc; "serve {socket} {store} {spool} {journal} {zone}")
         }
     }
 }
 
-/// What a line means to the control program.
-fn meaning_of(alloc: Global, words: &[String]) -> Result<String, AllocError> {
-    match read_words(alloc, words) {
+/// What words mean to the control program.
+fn meaning_of(alloc: Global, read: Result<Words, WordFault>) -> Result<String, AllocError> {
+    match read {
         Ok(read) => {
             let command = told(alloc, &read.command)?;
             let (socket, command) = (read.socket.as_str(), command.as_str());
@@ -108,43 +104,53 @@ fn meaning_of(alloc: Global, words: &[String]) -> Result<String, AllocError> {
     }
 }
 
-/// What a line means to the daemon's program.
-fn daemon_meaning_of(alloc: Global, words: &[String]) -> Result<String, AllocError> {
-    match read_daemon_words(alloc, words) {
+/// What words mean to the daemon's program.
+fn daemon_meaning_of(
+    alloc: Global,
+    read: Result<DaemonCommand, WordFault>,
+) -> Result<String, AllocError> {
+    match read {
         Ok(command) => served_told(alloc, &command),
         Err(WordFault::Usage) => String::from_str(alloc, "usage"),
         Err(WordFault::NoMemory) => Err(AllocError),
     }
 }
 
-/// The first line that does not mean what stands behind it, or that is no usage fault if nothing stands there.
-fn misread(alloc: Global, cases: &str) -> Result<Option<&str>, AllocError> {
-    for case in cases.lines() {
-        let (line, wanted) = case.split_once(" | ").unwrap_or((case, "usage"));
-        let words = words_of(alloc, line)?;
-        let meaning = if line.starts_with("jobctl") {
-            meaning_of(alloc, words.as_slice())?
-        } else {
-            daemon_meaning_of(alloc, words.as_slice())?
-        };
-        if meaning.as_str() != wanted {
-            return Ok(Some(case));
-        }
+/// What the line means. Behind `beside` it is a line of the control program whose default socket is `/run/s`.
+fn read_line(alloc: Global, line: &str) -> Result<String, AllocError> {
+    let (is_beside, line) = match line.strip_prefix("beside ") {
+        Some(line) => (true, line),
+        None => (false, line),
+    };
+    let words = words_of(alloc, line)?;
+    let words = words.as_slice();
+    if is_beside {
+        meaning_of(alloc, read_words_beside(alloc, words, "/run/s"))
+    } else if line.starts_with("jobctl") {
+        meaning_of(alloc, read_words(alloc, words))
+    } else {
+        daemon_meaning_of(alloc, read_daemon_words(alloc, words))
     }
-    Ok(None)
+}
+
+/// Whether the line means what stands behind it, or is a usage fault if nothing stands there.
+fn is_meant(alloc: Global, case: &str) -> Result<bool, AllocError> {
+    let (line, wanted) = case.split_once(" | ").unwrap_or((case, "usage"));
+    Ok(read_line(alloc, line)?.as_str() == wanted)
 }
 
 #[test]
 fn reads_what_the_words_mean(rt: HostRuntime) -> Result<(), Fail> {
-    assert_eq!(rt; misread(rt.alloc(), cases::COMMANDS)?, None);
-    assert_eq!(rt; misread(rt.alloc(), cases::MISTAKES)?, None);
-    Ok(())
-}
-
-#[test]
-fn reads_the_daemons_words(rt: HostRuntime) -> Result<(), Fail> {
-    assert_eq!(rt; misread(rt.alloc(), cases::DAEMON_COMMANDS)?, None);
-    assert_eq!(rt; misread(rt.alloc(), cases::DAEMON_MISTAKES)?, None);
+    for cases in [
+        cases::COMMANDS,
+        cases::MISTAKES,
+        cases::DAEMON_COMMANDS,
+        cases::DAEMON_MISTAKES,
+    ] {
+        for case in cases.lines() {
+            assert!(rt; is_meant(rt.alloc(), case)?, "{case}");
+        }
+    }
     Ok(())
 }
 
@@ -159,57 +165,21 @@ fn explained(alloc: Global, line: &str) -> Result<Explanation, AllocError> {
 }
 
 /// Whether the line is explained so.
-fn is_explained(alloc: Global, help: &(&str, bool, &str)) -> Result<bool, AllocError> {
-    let (line, is_help, part) = *help;
+fn is_explained(alloc: Global, help: &cases::Help) -> Result<bool, AllocError> {
+    let (line, is_help, is_whole, part) = *help;
     let given = explained(alloc, line)?;
-    let is_told = given.text.contains(part);
+    let is_told = if is_whole {
+        given.text.strip_suffix('\n') == Some(part)
+    } else {
+        given.text.contains(part)
+    };
     Ok(given.is_help == is_help && is_told)
 }
 
 #[test]
-fn helps(rt: HostRuntime) -> Result<(), Fail> {
+fn helps_and_says_which_word_is_none(rt: HostRuntime) -> Result<(), Fail> {
     for help in &cases::HELP {
         assert!(rt; is_explained(rt.alloc(), help)?, "{}", help.0);
     }
-    for help in &cases::DAEMON_HELP {
-        assert!(rt; is_explained(rt.alloc(), help)?, "{}", help.0);
-    }
-    Ok(())
-}
-
-/// Whether the explanation of the line is this one line, and no help.
-fn is_reasoned(alloc: Global, line: &str, wanted: &str) -> Result<bool, AllocError> {
-    let given = explained(alloc, line)?;
-    Ok(!given.is_help && given.text.strip_suffix('\n') == Some(wanted))
-}
-
-#[test]
-fn says_which_word_is_none(rt: HostRuntime) -> Result<(), Fail> {
-    for (line, wanted) in &cases::REASONS {
-        assert!(rt; is_reasoned(rt.alloc(), line, wanted)?, "{line}");
-    }
-    Ok(())
-}
-
-/// The socket of the line beside this default one.
-fn socket_beside(alloc: Global, line: &str, default: &str) -> Result<String, Fail> {
-    let words = words_of(alloc, line)?;
-    match read_words_beside(alloc, words.as_slice(), default) {
-        Ok(read) => Ok(String::from_str(alloc, read.socket.as_str())?),
-        Err(_) => Err(Fail::from("no words")),
-    }
-}
-
-#[test]
-fn takes_the_default_socket_if_none_is_named(rt: HostRuntime) -> Result<(), Fail> {
-    let alloc = rt.alloc();
-    assert_eq!(rt;
-        socket_beside(alloc, "jobctl list", "/run/s")?.as_str(),
-        "/run/s"
-    );
-    assert_eq!(rt;
-        socket_beside(alloc, "jobctl --socket t list", "/run/s")?.as_str(),
-        "t"
-    );
     Ok(())
 }

@@ -1,6 +1,7 @@
 //! How many jobs one event asks for their order. A reading asks those whose next moment it reaches and those with a calendar
 //! entry of a crossed minute, a sight those that list its path, an event of one job that job, a load the loaded job, a setting
-//! the job that it unloads, a shutdown each job. One that leaves is not asked, and a refused event asks none.
+//! the job that it unloads, a shutdown each job. One that leaves is not asked, and a refused event asks none. And the next moment of
+//! a table, and whether it has a calendar, after each of a list of events.
 
 use crate::steps::{at, empty_table, load};
 use crate::visits::Event::*;
@@ -16,6 +17,8 @@ enum Event {
     Saw(&'static str),
     Start(&'static str),
     Spawned(&'static str, u64),
+    Refused(&'static str, u64),
+    Stop(&'static str),
     Ended0(&'static str, u64),
     Unload(&'static str),
     Disable(&'static str),
@@ -158,6 +161,38 @@ static HOUR: &[Row] = &[
     (Clock(3_600_000), Some((3, 3))),
 ];
 
+const SLOW: &str = r#"{"Label":"a","Program":"/bin/x","StartInterval":30}"#;
+
+const FAST: &str = r#"{"Label":"b","Program":"/bin/x","StartInterval":20}"#;
+
+const WITHOUT: &str = r#"{"Label":"c","Program":"/bin/x"}"#;
+
+const HOURLY: &str = r#"{"Label":"d","Program":"/bin/x","StartCalendarInterval":{"Minute":14}}"#;
+
+/// An event, then the next moment and whether there is a calendar. A job that may start again waits 10 seconds since its last spawn;
+/// a child that was stopped has 20 seconds.
+static MOMENTS: &[(Event, Option<u64>, bool)] = &[
+    (Load(WITHOUT), None, false),
+    (Load(SLOW), Some(30_000), false),
+    (Load(FAST), Some(20_000), false),
+    (Load(HOURLY), Some(20_000), true),
+    (Clock(19_999), Some(20_000), true),
+    (Unload("d"), Some(20_000), false),
+    (Clock(20_000), Some(30_000), false),
+    (Spawned("b", 1), Some(30_000), false),
+    (Clock(30_001), Some(40_000), false),
+    (Spawned("a", 1), Some(40_000), false),
+    (Clock(41_000), Some(60_000), false),
+    (Stop("a"), Some(60_000), false),
+    (Stop("b"), Some(60_000), false),
+    (Clock(60_000), Some(61_000), false),
+    (Ended0("a", 1), Some(61_000), false),
+    (Unload("b"), Some(61_000), false),
+    (Ended0("b", 1), Some(70_000), false),
+    (Unload("a"), Some(70_000), false),
+    (Refused("a", 2), None, false),
+];
+
 fn told(given: Result<Step<'_>, Refusal>) -> Option<(u32, usize)> {
     let given = given.ok()?;
     Some((given.visited, given.orders.len()))
@@ -187,6 +222,8 @@ fn happens(alloc: Global, table: &mut JobTable, event: Event) -> Option<(u32, us
         Saw(path) => told(table.saw(path, seen)),
         Start(label) => told(table.start(label)),
         Spawned(label, run) => told(table.spawned(label, run, 812)),
+        Refused(label, run) => told(table.spawn_refused(label, run)),
+        Stop(label) => told(table.stop(label)),
         Ended0(label, run) => told(table.ended(label, run, Ended::Code(0))),
         Unload(label) => told(table.unload(label)),
         Disable(label) => set(alloc, table, label, false),
@@ -241,33 +278,31 @@ fn fault_from_new(alloc: Global, is_full: bool, rows: &[Row]) -> Option<usize> {
     first_fault(alloc, &mut table, rows)
 }
 
-#[test]
-fn a_reading_asks_the_jobs_that_it_touches(rt: HostRuntime) {
-    assert_eq!(rt; fault_from_new(rt.alloc(), true, MANY), None);
-    assert_eq!(rt; fault_from_new(rt.alloc(), true, ALL), None);
+/// The position of the first row of `MOMENTS` that goes another way than it says.
+fn first_other(alloc: Global) -> Option<usize> {
+    let Ok(mut table) = empty_table(alloc) else {
+        return Some(MOMENTS.len());
+    };
+    for (position, (event, moment, calendar)) in MOMENTS.iter().enumerate() {
+        let accepted = happens(alloc, &mut table, *event).is_some();
+        if !accepted || table.next_up() != *moment || table.has_calendars() != *calendar {
+            return Some(position);
+        }
+    }
+    None
 }
 
 #[test]
-fn equal_moments_and_numbers_given_anew(rt: HostRuntime) {
-    assert_eq!(rt; fault_from_new(rt.alloc(), false, FEW), None);
+fn the_jobs_that_are_touched_are_asked(rt: HostRuntime) {
+    for rows in [MANY, ALL, WATCHED] {
+        assert_eq!(rt; fault_from_new(rt.alloc(), true, rows), None);
+    }
+    for rows in [FEW, SETTINGS, MINUTES, HOUR] {
+        assert_eq!(rt; fault_from_new(rt.alloc(), false, rows), None);
+    }
 }
 
 #[test]
-fn a_sight_asks_the_jobs_that_list_its_path(rt: HostRuntime) {
-    assert_eq!(rt; fault_from_new(rt.alloc(), true, WATCHED), None);
-}
-
-#[test]
-fn a_setting_asks_the_job_that_it_unloads(rt: HostRuntime) {
-    assert_eq!(rt; fault_from_new(rt.alloc(), false, SETTINGS), None);
-}
-
-#[test]
-fn a_minute_asks_the_jobs_with_an_entry_of_it(rt: HostRuntime) {
-    assert_eq!(rt; fault_from_new(rt.alloc(), false, MINUTES), None);
-}
-
-#[test]
-fn an_hour_asks_each_job_with_a_calendar(rt: HostRuntime) {
-    assert_eq!(rt; fault_from_new(rt.alloc(), false, HOUR), None);
+fn the_next_moment_is_told(rt: HostRuntime) {
+    assert_eq!(rt; first_other(rt.alloc()), None);
 }

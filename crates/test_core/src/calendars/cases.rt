@@ -223,21 +223,8 @@ pub static SHOWN: [Shown; 60] = [
     ("AAA-3BBB,59/0,300/0", 1_677_618_000, (2023, 3, 1, 1, 0, 3)),
 ];
 
-/// The seconds of Unix time, and what a clock in Asia/Pyongyang shows, which was set back by half an hour on 15 August 2015
-/// and forward again on 5 May 2018.
-pub static SHOWN_IN_PYONGYANG: [(u64, (i16, u8, u8, u8, u8, u8)); 8] = [
-    (0, (1970, 1, 1, 9, 0, 4)),
-    (1_439_564_340, (2015, 8, 14, 23, 59, 5)),
-    (1_439_564_400, (2015, 8, 14, 23, 30, 5)),
-    (1_439_566_200, (2015, 8, 15, 0, 0, 6)),
-    (1_525_445_940, (2018, 5, 4, 23, 29, 5)),
-    (1_525_446_000, (2018, 5, 5, 0, 0, 6)),
-    (1_700_000_040, (2023, 11, 15, 7, 14, 3)),
-    (250_000_000_000, (9892, 3, 8, 21, 26, 2)),
-];
-
-/// The file of that zone, as the database of 2025 has it.
-pub static PYONGYANG: [u8; 237] = [
+/// The file of Asia/Pyongyang, as the database of 2025 has it.
+pub const PYONGYANG: &[u8] = &[
     84, 90, 105, 102, 50, 0, 0, 0, 0, 0, 0, 0, 0, 0, 0, 0, 0, 0, 0, 0, 0, 0, 0, 0, 0, 0, 0, 0, 0,
     0, 0, 0, 0, 0, 0, 5, 0, 0, 0, 4, 0, 0, 0, 12, 139, 215, 241, 156, 146, 230, 22, 248, 210, 47,
     97, 112, 85, 206, 2, 112, 90, 236, 117, 112, 1, 2, 3, 1, 3, 0, 0, 117, 228, 0, 0, 0, 0, 119,
@@ -251,11 +238,27 @@ pub static PYONGYANG: [u8; 237] = [
 ];
 
 /// A zone file of the shortest kind: UTC, with no change.
-pub static UTC_FILE: [u8; 114] = [
+const UTC_FILE: &[u8] = &[
     84, 90, 105, 102, 50, 0, 0, 0, 0, 0, 0, 0, 0, 0, 0, 0, 0, 0, 0, 0, 0, 0, 0, 0, 0, 0, 0, 0, 0,
     0, 0, 0, 0, 0, 0, 0, 0, 0, 0, 1, 0, 0, 0, 4, 0, 0, 0, 0, 0, 0, 85, 84, 67, 0, 84, 90, 105, 102,
     50, 0, 0, 0, 0, 0, 0, 0, 0, 0, 0, 0, 0, 0, 0, 0, 0, 0, 0, 0, 0, 0, 0, 0, 0, 0, 0, 0, 0, 0, 0,
     0, 0, 0, 0, 1, 0, 0, 0, 4, 0, 0, 0, 0, 0, 0, 85, 84, 67, 0, 10, 85, 84, 67, 48, 10,
+];
+
+/// A zone file, the seconds of Unix time, and what its clock shows.
+pub type ShownByFile = (&'static [u8], u64, (i16, u8, u8, u8, u8, u8));
+
+/// A clock in Asia/Pyongyang was set back by half an hour on 15 August 2015 and forward again on 5 May 2018.
+pub static SHOWN_BY_FILE: [ShownByFile; 9] = [
+    (PYONGYANG, 0, (1970, 1, 1, 9, 0, 4)),
+    (PYONGYANG, 1_439_564_340, (2015, 8, 14, 23, 59, 5)),
+    (PYONGYANG, 1_439_564_400, (2015, 8, 14, 23, 30, 5)),
+    (PYONGYANG, 1_439_566_200, (2015, 8, 15, 0, 0, 6)),
+    (PYONGYANG, 1_525_445_940, (2018, 5, 4, 23, 29, 5)),
+    (PYONGYANG, 1_525_446_000, (2018, 5, 5, 0, 0, 6)),
+    (PYONGYANG, 1_700_000_040, (2023, 11, 15, 7, 14, 3)),
+    (PYONGYANG, 250_000_000_000, (9892, 3, 8, 21, 26, 2)),
+    (UTC_FILE, 1_700_000_040, (2023, 11, 14, 22, 14, 2)),
 ];
 
 /// Texts that are no rule.

@@ -147,31 +147,11 @@ fn first_fault(alloc: Global, steps: &[Step]) -> Result<Option<usize>, AllocErro
 }
 
 #[test]
-fn an_exchange_begins_with_its_room(rt: HostRuntime) -> Result<(), Fail> {
+fn each_exchange_goes_as_it_says(rt: HostRuntime) -> Result<(), Fail> {
     assert_eq!(rt; first_fault(rt.alloc(), &ROOM)?, None);
-    Ok(())
-}
-
-#[test]
-fn a_request_in_two_pieces_is_answered(rt: HostRuntime) -> Result<(), Fail> {
     assert_eq!(rt; first_fault(rt.alloc(), &SERVED)?, None);
-    Ok(())
-}
-
-#[test]
-fn a_request_that_is_too_long_changes_nothing(rt: HostRuntime) -> Result<(), Fail> {
     assert_eq!(rt; first_fault(rt.alloc(), &TOO_LONG)?, None);
-    Ok(())
-}
-
-#[test]
-fn a_reply_waits_to_be_sent(rt: HostRuntime) -> Result<(), Fail> {
     assert_eq!(rt; first_fault(rt.alloc(), &REPLY_WAITS)?, None);
-    Ok(())
-}
-
-#[test]
-fn both_ends_are_told(rt: HostRuntime) -> Result<(), Fail> {
     assert_eq!(rt; first_fault(rt.alloc(), &ENDS)?, None);
     Ok(())
 }
