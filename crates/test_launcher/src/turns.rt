@@ -1,6 +1,6 @@
 //! What happens after the load of a job, and whether the edge was called as it should.
 
-use crate::stage::{FIRST, Stage, load_on, reading, set_stage, turn_on};
+use crate::stage::{FIRST, Stage, load_on, set_stage, turn_on};
 use child_edge::{EdgeCall, Scripted};
 use history_model::Refusal;
 use launcher_turn::{EventRef, News};
@@ -10,11 +10,7 @@ use std::alloc::Global;
 const AT_ONCE: &str =
     r#"{"Label":"a","ProgramArguments":["/bin/a"],"RunAtLoad":true,"ThrottleInterval":0}"#;
 
-pub fn at(up: u64) -> EventRef<'static> {
-    EventRef::Clock(reading(up))
-}
-
-pub fn start(run: u64) -> EdgeCall {
+fn start(run: u64) -> EdgeCall {
     EdgeCall::Start {
         job: FIRST,
         run,
@@ -22,12 +18,8 @@ pub fn start(run: u64) -> EdgeCall {
     }
 }
 
-pub fn term(run: u64) -> EdgeCall {
+fn term(run: u64) -> EdgeCall {
     EdgeCall::Term { job: FIRST, run }
-}
-
-pub fn kill(run: u64) -> EdgeCall {
-    EdgeCall::Kill { job: FIRST, run }
 }
 
 /// A launcher with the job, over an edge that gives these answers in turn.

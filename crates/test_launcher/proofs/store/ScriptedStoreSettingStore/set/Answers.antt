@@ -1,5 +1,5 @@
 -- What the check of `store::ScriptedStore::set` does not find by itself.
-use Rattle.test_turns.proofs.store.ScriptedStoreSettingStore.set.Goals as goal
+use Rattle.test_launcher.proofs.store.ScriptedStoreSettingStore.set.Goals as goal
 
 -- it tells nothing
 pub returns : goal.returns

@@ -26,7 +26,7 @@ pub struct Stage {
 }
 
 /// The clocks so many milliseconds after the start.
-pub fn reading(up: u64) -> Reading {
+fn reading(up: u64) -> Reading {
     Reading {
         up,
         wall: 1_700_000_000,
