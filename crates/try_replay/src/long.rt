@@ -10,6 +10,10 @@ const LIST: &str = "{\"ev\":\"list\"}";
 
 const NO_JOB: &str = "{\"code\":0,\"orders\":[],\"text\":\"PID\\tStatus\\tLabel\\n\"}\n";
 
+/// What is written for a list and a line that is no event.
+const LIST_AND_BAD: &str = "{\"code\":0,\"orders\":[],\"text\":\"PID\\tStatus\\tLabel\\n\"}\n\
+{\"code\":2,\"orders\":[],\"text\":\"bad request\\n\"}\n";
+
 /// Adds the line, filled with blanks to that many bytes, and a newline.
 fn add_line(input: &mut String, line: &str, bytes: usize) -> Result<(), AllocError> {
     input.push_str(line)?;
@@ -70,6 +74,14 @@ pub fn judge_all<R: Print + AllocGlobal>(rt: &R) -> io::Result<()> {
     judge_lines(rt, "longest_line", &long_list, NO_JOB, 0)?;
     let longer_list = [(HEADER, 0), (LIST, 0), (LIST, 262_145), (LIST, 0)];
     judge_lines(rt, "line_that_is_too_long", &longer_list, NO_JOB, 4)?;
+    let mixed = [
+        (HEADER, 0),
+        (LIST, 262_144),
+        ("ab", 0),
+        (LIST, 262_145),
+        (LIST, 0),
+    ];
+    judge_lines(rt, "long_lines_and_a_longer_one", &mixed, LIST_AND_BAD, 4)?;
     judge_lines(rt, "longest_header", &[(HEADER, 262_144)], "", 0)?;
     judge_lines(rt, "header_that_is_too_long", &[(HEADER, 262_145)], "", 2)?;
     let input = many_jobs(rt.alloc())?;

@@ -1,0 +1,113 @@
+//! What the tests do with a table, and whether it answered as it should.
+
+use calendar_due::Zone;
+use history_model::{Act, JobNo, Reading, Refusal, Setting, Text};
+use job_table::JobTable;
+use std::alloc::Global;
+
+const A: &str = r#"{"Label":"a","ProgramArguments":["/bin/x"],"RunAtLoad":true}"#;
+
+const B: &str = r#"{"Label":"b","ProgramArguments":["/bin/x"],"RunAtLoad":true}"#;
+
+const C: &str = r#"{"Label":"c","ProgramArguments":["/bin/x"],"RunAtLoad":true}"#;
+
+const IDLE: &str = r#"{"Label":"a","ProgramArguments":["/bin/x"]}"#;
+
+const WATCHING: &str =
+    r#"{"Label":"w","ProgramArguments":["/bin/x"],"WatchPaths":["/v","/t"],"QueueDirectories":["/u"]}"#;
+
+/// A table with no job, whose clock shows UTC.
+pub fn empty_table(alloc: Global) -> Result<JobTable, Refusal> {
+    let Ok(zone) = Zone::fixed(0) else {
+        return Err(Refusal::BadRequest);
+    };
+    JobTable::new(alloc, at(0, 1_700_000_000), zone, Vec::new(alloc))
+}
+
+pub fn at(up: u64, wall: u64) -> Reading {
+    Reading { up, wall }
+}
+
+/// Loads a definition, and gives the job's number.
+pub fn load(alloc: Global, table: &mut JobTable, definition: &str) -> Result<JobNo, Refusal> {
+    let ready = table.prepare_load(alloc, definition.as_bytes(), false, false)?;
+    let job = ready.job();
+    table.commit_load(ready);
+    Ok(job)
+}
+
+/// Loads and unloads a job again and again, and says whether it always has the number that it had first.
+pub fn is_given_back(alloc: Global) -> Result<bool, Refusal> {
+    let mut table = empty_table(alloc)?;
+    let first = load(alloc, &mut table, IDLE)?;
+    table.unload("a")?;
+    for _ in 0..100 {
+        if load(alloc, &mut table, IDLE)? != first {
+            return Ok(false);
+        }
+        table.unload("a")?;
+    }
+    Ok(table.is_empty())
+}
+
+/// Says whether a job has its number still when another has left and a third has come, which has the number of the one
+/// that left.
+pub fn is_kept(alloc: Global) -> Result<bool, Refusal> {
+    let mut table = empty_table(alloc)?;
+    let first = load(alloc, &mut table, IDLE)?;
+    let second = load(alloc, &mut table, B)?;
+    table.unload("a")?;
+    let third = load(alloc, &mut table, C)?;
+    table.spawn_refused("b", 1)?;
+    let step = table.clock(alloc, at(10_000, 1_700_000_010))?;
+    let [order, ..] = step.orders else {
+        return Ok(false);
+    };
+    let is_order = order.job == second && order.act == Act::Spawn { run: 2, conn: None };
+    Ok(first == third && second != third && is_order && step.label(second) == "b")
+}
+
+/// Says whether the children of two jobs are found one after the other, and then none.
+pub fn children_follow(alloc: Global) -> Result<bool, Refusal> {
+    let mut table = empty_table(alloc)?;
+    let second = load(alloc, &mut table, B)?;
+    let first = load(alloc, &mut table, A)?;
+    load(alloc, &mut table, C)?;
+    table.spawned("a", 1, 812)?;
+    table.spawned("b", 1, 813)?;
+    Ok(
+        table.child_after("") == Some(("a", first, 1))
+            && table.child_after("a") == Some(("b", second, 1))
+            && table.child_after("b").is_none(),
+    )
+}
+
+/// Says whether the paths that are listed are found one after the other, and then none.
+pub fn paths_follow(alloc: Global) -> Result<bool, Refusal> {
+    let mut table = empty_table(alloc)?;
+    load(alloc, &mut table, WATCHING)?;
+    Ok(
+        table.path_after("") == Some("/t")
+            && table.path_after("/t") == Some("/u")
+            && table.path_after("/u") == Some("/v")
+            && table.path_after("/v").is_none(),
+    )
+}
+
+/// Says whether an override of an empty label is refused.
+pub fn is_refused(alloc: Global) -> bool {
+    let Ok(zone) = Zone::fixed(0) else {
+        return false;
+    };
+    let Ok(label) = Text::copy_of(alloc, "") else {
+        return false;
+    };
+    let setting = Setting {
+        label,
+        disabled: true,
+    };
+    let Ok(overrides) = vec![in alloc; setting] else {
+        return false;
+    };
+    JobTable::new(alloc, at(0, 0), zone, overrides).err() == Some(Refusal::BadRequest)
+}

@@ -1,0 +1,23 @@
+//! The table of jobs as its caller uses it, with ample memory: numbers and the searches, which no line of a journal shows.
+
+use crate::steps::*;
+
+/// A job that leaves gives its number back: the next load has it again, however often that happens. While other jobs leave and come, a
+/// job keeps its number, and an order with it is the job's.
+#[test]
+fn numbers_are_given_back_and_kept(rt: HostRuntime) {
+    assert!(rt; is_given_back(rt.alloc()) == Ok(true));
+    assert!(rt; is_kept(rt.alloc()) == Ok(true));
+}
+
+/// Children come in the order of labels, and so do the paths that are listed.
+#[test]
+fn children_and_paths_come_in_order(rt: HostRuntime) {
+    assert!(rt; children_follow(rt.alloc()) == Ok(true));
+    assert!(rt; paths_follow(rt.alloc()) == Ok(true));
+}
+
+#[test]
+fn an_override_of_no_label_opens_no_table(rt: HostRuntime) {
+    assert!(rt; is_refused(rt.alloc()));
+}

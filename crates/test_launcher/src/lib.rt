@@ -1,0 +1,18 @@
+//! A launcher over an edge, a store and a journal that answer by a script: whole turns, and a launcher by its inputs. Nothing but tests
+//! is here, in one crate, so that the libraries are read once.
+#![tactic(auto)]
+
+#[cfg(test)]
+mod host;
+#[cfg(test)]
+mod loads;
+#[cfg(test)]
+mod runs;
+#[cfg(test)]
+mod stage;
+#[cfg(test)]
+mod store;
+#[cfg(test)]
+mod turns;
+#[cfg(test)]
+mod whole_turns;
