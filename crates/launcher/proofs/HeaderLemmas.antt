@@ -62,7 +62,7 @@ pub stops : (rest : List Setting) (i : ℕ) (s : Setting) (last first : Label) �
     rises_from last (labels_in (drop i rest)) ≡ rises_from first (labels_in rest) → AreInOrder (first ∷ labels_in rest) → ⊥
 stops rest i s last first within is before so_far order =
     let clash : true ≡ false = sym (rising first (labels_in rest) order) ∙ sym so_far ∙ ap (λ l. rises_from last (labels_in l)) (split rest i s within is)
-      ∙ ap (λ b. b && rises_from s.label (labels_in (drop (i + 1) rest))) before in
+    ∙ ap (λ b. b && rises_from s.label (labels_in (drop (i + 1) rest))) before in
     absurd (cc clash)
 
 pub ends : (rest : List Setting) (i : ℕ) (last first : Label) → length rest ≤ i → rises_from last (labels_in (drop i rest)) ≡ rises_from first (labels_in rest) → AreInOrder (first ∷ labels_in rest)
@@ -135,8 +135,10 @@ member_texts (s ∷ settings) texts = (texts.0, member_texts settings texts.1)
 pub header_writable : (h : Header) → opening_refusal h.reading h.overrides ≡ None → AreInOrder (labels_in h.overrides) → AreTexts h.overrides → IsFitZone h.zone → IsWritableHeader h
 header_writable h none order texts zone =
     let a = admitted h.reading h.overrides none in
+    let up : h.reading.up < 2 ^ 64 = omega (arith, a.up) in
+    let wall : h.reading.wall < 2 ^ 64 = omega (arith, a.wall) in
     record {
       is = record { up = at_most h.reading.up MAX_UP a.up; wall = at_most h.reading.wall MAX_WALL a.wall; zone = zone.bytes; labels = a.labels; order = order };
-      fit = (omega (arith, a.up), (omega (arith, a.wall), (zone.fit, tt)));
+      fit = (up, (wall, (zone.fit, tt)));
       labels = member_texts h.overrides texts;
     }

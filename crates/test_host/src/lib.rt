@@ -152,7 +152,10 @@ mod tests {
         let given = fault_over(rt.alloc(), &["a"], Some(StoreFault::NoMemory));
         let holds = matches!(given, Ok(Some(HostFault::NoMemory)));
         assert!(rt; holds);
-        let holds = matches!(fault_over(rt.alloc(), &[""], None), Ok(Some(HostFault::Store)));
+        let holds = matches!(
+            fault_over(rt.alloc(), &[""], None),
+            Ok(Some(HostFault::Store))
+        );
         assert!(rt; holds);
     }
 
@@ -161,7 +164,10 @@ mod tests {
     fn a_store_out_of_order_opens_none(rt: HostRuntime) {
         let holds = matches!(fault_over(rt.alloc(), &[], None), Ok(None));
         assert!(rt; holds);
-        let holds = matches!(fault_over(rt.alloc(), &["B", "a", "a.b", "ab"], None), Ok(None));
+        let holds = matches!(
+            fault_over(rt.alloc(), &["B", "a", "a.b", "ab"], None),
+            Ok(None)
+        );
         assert!(rt; holds);
         let wrong: [&[&str]; 4] = [&["b", "a"], &["a", "a"], &["a", "b", "B"], &["ab", "a"]];
         for names in wrong {
