@@ -4,3 +4,4 @@ pub mod AskingLemmas
 pub mod MakingLemmas
 pub mod StampsLemmas
 pub mod WritableLemmas
+pub mod HeaderLemmas

@@ -26,6 +26,7 @@ use Rattle.launcher.specs.declared.host.HostFault.{HostFault}
 use Rattle.launcher.specs.declared.host.HostFault.TheVariants as faults
 use Rattle.launcher.specs.Faults.{IsFaultOf, fault_of_store}
 use Rattle.launcher.specs.Hosts.{with_settings, IsNewWith}
+use Rattle.launcher.specs.Writable.{IsWritableHeader}
 use Rattle.child_edge.specs.Calls.{Entry}
 use Rattle.launcher_load.specs.LoadTurns.{standing}
 
@@ -46,9 +47,9 @@ pub led_first : (header : Header) (s : State) → OpensBy header s → opening_r
 led_first header s opens admitted = subst IsLed (sym opens.state) (led_opened (record { reading = header.reading; zone = shown_by opens.ahead; overrides = header.overrides }) (within header.reading header.overrides admitted))
 
 pub made_new : (header : Header) (settings : List Setting) (table : Table) (calls : Option (List Entry)) (stores stores' : Option (List StoreCall)) (first noted : JournalState) (before after : List Setting → Type 0) →
-    StandsOpened (with_settings header settings) table → AreTold stores [] stores' → Grows first noted (header_line (with_settings header settings)) → ((list : List Setting) → before list → after (reverse settings)) →
+    StandsOpened (with_settings header settings) table → IsWritableHeader (with_settings header settings) → AreTold stores [] stores' → Grows first noted (header_line (with_settings header settings)) → ((list : List Setting) → before list → after (reverse settings)) →
     IsNewWith settings header calls stores first (standing table calls stores' noted) before after
-made_new header settings table calls stores stores' first noted before after stands uncalled grew holds = (
+made_new header settings table calls stores stores' first noted before after stands told uncalled grew holds = (
   record {
     settings = settings;
     machine = stands.machine;
@@ -58,6 +59,7 @@ made_new header settings table calls stores stores' first noted before after sta
     none = refl;
     uncalled = uncalled;
     noted = grew;
+    writable = told;
     stored = λ list held. subst after (sym (ap (λ (s : State). s.settings) stands.opens.state)) (holds list held);
   },
   refl,

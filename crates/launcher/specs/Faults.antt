@@ -1,8 +1,9 @@
 -- Why a launcher could not be made.
-use Rattle.std.specs.Prelude.{◌≡◌, ◌⊎◌, true, false, List, Result, Ok, Err}
+use Rattle.std.specs.Prelude.{◌≡◌, ◌⊎◌, true, false, List, map, Result, Ok, Err}
 use Rattle.std.specs.List.{list_all}
 use Rattle.history_model.specs.declared.event.Setting.{Setting}
 use Rattle.history_model.specs.Labels.{is_label}
+use Rattle.history_model.specs.MachineLaws.{AreInOrder}
 use Rattle.history_model.specs.Refusals.{is_clock_refused}
 use Rattle.ctl_protocol.specs.declared.header.Header.{Header}
 use Rattle.job_table.specs.Tables.{Table}
@@ -33,13 +34,19 @@ abbrev pub fault_of_store : StoreFault → HostFault
 fault_of_store answers.NoMemory = faults.NoMemory
 fault_of_store answers.Refused = faults.Store
 
--- Of a header with the settings that the store gave: Store is answered only if one of them is of a
--- name that is no label, Header only if the header tells no machine. Memory may be refused at any
+-- one of the settings is of a name that is no label, or their names are not each before all that
+-- follow, in byte order
+abbrev pub AreBadSettings : List Setting → Type 0
+AreBadSettings settings =
+    (list_all (λ (setting : Setting). is_label setting.label) settings ≡ false)
+    ⊎ (AreInOrder (map (λ (setting : Setting). setting.label) settings) → ⊥)
+
+-- Of a header with the settings that the store gave: Store is answered only if these are not of
+-- labels in byte order, Header only if the header tells no machine. Memory may be refused at any
 -- time.
 abbrev pub IsFaultWith : Header → HostFault → Type 0
 IsFaultWith header faults.NoMemory = Unit {0}
-IsFaultWith header faults.Store =
-    list_all (λ (setting : Setting). is_label setting.label) header.overrides ≡ false
+IsFaultWith header faults.Store = AreBadSettings header.overrides
 IsFaultWith header faults.Header = IsBadHeader header
 
 -- The fault of the store is the launcher's. With the settings that it gave, oldest first, the

@@ -27,6 +27,7 @@ use Rattle.launcher_load.specs.LoadTurns.{AsksFor, AsksNothing, AsksStore, IsUnt
 use Rattle.table_opening.specs.Events.{event_of}
 use Rattle.table_opening.specs.Openings.{OpensBy}
 use Rattle.launcher.specs.Inputs.{answered}
+use Rattle.launcher.specs.Writable.{IsWritableHeader}
 use Rattle.launcher.specs.declared.host.Host.{Host}
 
 -- the launcher as it stands, by what its outside and its store tell
@@ -149,8 +150,8 @@ with_settings header settings =
     record { reading = header.reading; zone = header.zone; overrides = settings }
 
 -- A new launcher: it stands for the machine that the header opens with the settings that the store
--- gave, has asked the outside nothing, and its journal has that header's line, or a front of it. If
--- the store held any settings, it holds those of this machine.
+-- gave, has asked the outside nothing, and its journal has that header's line, or a front of it. A
+-- line can tell that header. If the store held any settings, it holds those of this machine.
 pub record IsNew (header : Header) (calls : Option (List Entry)) (stores : Option (List StoreCall))
     (journal : JournalState) (new : Standing) (before after : List Setting → Type 0) : Type 0 where
   pub settings : List Setting
@@ -161,6 +162,7 @@ pub record IsNew (header : Header) (calls : Option (List Entry)) (stores : Optio
   pub none : new.calls ≡ calls
   pub uncalled : AreTold stores [] new.stores
   pub noted : Grows journal new.journal (header_line (with_settings header settings))
+  pub writable : IsWritableHeader (with_settings header settings)
   pub stored : (list : List Setting) → before list → after machine.settings
 
 -- and these are the settings that the store gave

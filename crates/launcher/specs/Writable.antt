@@ -5,6 +5,9 @@ use Rattle.history_model.specs.declared.Refusal.{Refusal}
 use Rattle.history_model.specs.declared.event.Event.{Event}
 use Rattle.ctl_protocol.specs.Objects.{Plain, text, flag, count, whole}
 use Rattle.ctl_protocol.specs.EventWriter.{line_members, is_writable}
+use Rattle.ctl_protocol.specs.declared.header.Header.{Header}
+use Rattle.ctl_protocol.specs.declared.header.ZoneText.{ZoneText}
+use Rattle.ctl_protocol.specs.HeaderLines.{plain_members, setting_members, zone_member, is_zone, IsHeader}
 use Rattle.launcher_load.specs.LoadTurns.{is_memory}
 use Rattle.launcher.specs.declared.input.Input.{Input}
 use Rattle.launcher.specs.declared.input.Input.TheVariants as inputs
@@ -50,3 +53,17 @@ IsWritableInput (inputs.Came job conn) = IsWritableIf (input_event (inputs.Came 
 IsWritableInput (inputs.Left job conn) = IsWritableIf (input_event (inputs.Left job conn))
 IsWritableInput (inputs.Ended job run how) = IsWritableIf (input_event (inputs.Ended job run how))
 IsWritableInput (inputs.WaitRefused job run) = IsWritableIf (input_event (inputs.WaitRefused job run))
+
+-- ---- headers
+
+-- what tells the zone is such a text or number, and what is in a zone file is bytes
+pub record IsFitZone (zone : ZoneText) : Type 0 where
+  pub bytes : is_zone zone ≡ true
+  pub fit : IsFit (zone_member zone).1
+
+-- the header's reading is within its limits, its settings are of labels, each once, in byte order,
+-- and all that it says is UTF-8 or a number of 64 bits
+pub record IsWritableHeader (h : Header) : Type 0 where
+  pub is : IsHeader h
+  pub fit : AllByRecursion (λ m. IsFit m.1) (plain_members h)
+  pub labels : AllByRecursion (λ m. IsUtf8 m.0) (setting_members h.overrides)

@@ -1,14 +1,17 @@
-//! What the types of an input say of it: its texts are UTF-8, and its numbers have 64 bits. Nothing is done.
+//! What the types of an input and of a zone say of them: texts are UTF-8, and numbers have 64 bits. Nothing is done.
 
-ghost use Rattle.std.specs.Prelude.{◌<◌, ◌^◌, IsUtf8};
+ghost use Rattle.std.specs.Prelude.{◌≡◌, ◌<◌, ◌^◌, IsUtf8, nat_lt, true};
+ghost use Rattle.std.specs.List.{list_all};
+ghost use Rattle.ctl_protocol.specs.Objects.{whole};
 ghost use Rattle.launcher.specs.Inputs.{asked_in};
-ghost use Rattle.launcher.specs.Writable.{IsWritableInput, SaysFitIf};
+ghost use Rattle.launcher.specs.Writable.{IsFit, IsFitZone, IsWritableInput, SaysFitIf};
 
 use crate::input::Input;
+use ctl_protocol::ZoneText;
 use history_model::{Ended, Event, Text};
 
 /// A text is UTF-8.
-fn lend_text(text: &str)
+pub(crate) fn lend_text(text: &str)
     ensures { IsUtf8 text.now }
 {
     let _ = text;
@@ -87,5 +90,31 @@ pub(crate) fn lend_input(input: Input<'_>)
             lend_news(job, run);
             lend_byte(signal);
         }
+    }
+}
+
+/// A number with a sign has 64 bits.
+fn lend_whole(number: i64)
+    ensures { IsFit (whole number) }
+{
+    let _ = number;
+}
+
+/// Bytes are below 256.
+fn lend_bytes(bytes: &[u8])
+    ensures { list_all (λ byte. nat_lt byte 256) bytes.now ≡ true }
+{
+    let _ = bytes;
+}
+
+/// What tells a zone can be written.
+#[tactic(auto, using(crate::proofs::HeaderLemmas::rule_fits, crate::proofs::HeaderLemmas::offset_fits, crate::proofs::HeaderLemmas::file_fits))]
+pub(crate) fn lend_zone(zone: &ZoneText)
+    ensures { IsFitZone zone.now }
+{
+    match zone {
+        ZoneText::Posix(rule) => lend_inner(rule),
+        ZoneText::Offset(seconds) => lend_whole(*seconds),
+        ZoneText::File(file) => lend_bytes(file.as_slice()),
     }
 }

@@ -25,7 +25,7 @@ use std::io::Write;
 pub enum HostFault {
     /// Memory was refused.
     NoMemory,
-    /// The store did not give its settings, or one of them is of a name that is no label.
+    /// The store did not give its settings, or they are not of labels, each before all that follow in byte order.
     Store,
     /// The header's zone is none, or its reading is past a limit.
     Header,
@@ -44,8 +44,8 @@ pub struct Host<T: SettingStore, E: ChildEdge + SocketEdge, W: Write> {
 
 impl<T: SettingStore + Drop, E: ChildEdge + SocketEdge + Drop, W: Write + Drop> Host<T, E, W> {
     /// A launcher with no job: of the header's reading and zone, with the store's settings in place of the header's. The journal,
-    /// if there is one, begins with the line of that header; a refused write of it closes the journal and is no fault. All
-    /// room that turns need is reserved. Refused as `HostFault` says; what was handed in is then dropped.
+    /// if there is one, begins with the line of that header, which a replay reads as this header; a refused write of it closes the
+    /// journal and is no fault. All room that turns need is reserved. Refused as `HostFault` says; what was handed in is then dropped.
     pub fn new(
         alloc: Global,
         header: Header,

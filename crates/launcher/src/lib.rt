@@ -9,6 +9,7 @@ mod host;
 mod input;
 mod making;
 mod replies;
+mod settings;
 
 pub use host::{Host, HostFault};
 pub use input::Input;

@@ -6,8 +6,11 @@ ghost use Rattle.event_journal.specs.Journals.{Grows, fresh, held};
 ghost use Rattle.table_opening.specs.Openings.{StandsOpened};
 ghost use Rattle.launcher.specs.Hosts.{with_settings as with_overrides};
 ghost use Rattle.launcher.specs.Faults.{FaultOf, IsFaultWith, fault_of_store};
+ghost use Rattle.launcher.specs.Writable.{IsWritableHeader};
 
+use crate::fitting::lend_zone;
 use crate::host::HostFault;
+use crate::settings::are_in_order;
 use ctl_protocol::{Header, LineReader, Settings};
 use event_journal::Journal;
 use history_model::Setting;
@@ -77,9 +80,14 @@ pub(crate) fn make_inside<W: Write + Drop>(
     ensures noted { IfOk result (λ made.
         Grows (fresh (held W.contents journal) (is_some journal)) made.journal
         (header_line header)) }
+    ensures writable { IfOk result (λ _. IsWritableHeader header) }
     ensures faults { FaultOf header result }
     ensures fault { IfErr result (IsFaultWith header) }
 {
+    if !are_in_order(header.overrides.as_slice()) {
+        return Err(HostFault::Store);
+    }
+    lend_zone(&header.zone);
     let Ok((room, reader)) = reserved(alloc) else {
         return Err(HostFault::NoMemory);
     };

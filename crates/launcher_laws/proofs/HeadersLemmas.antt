@@ -14,8 +14,7 @@ use Rattle.ctl_protocol.specs.Headers.{header_at}
 use Rattle.ctl_protocol.specs.Objects.{with_members, plain_object}
 use Rattle.ctl_protocol.specs.HeaderLines.{plain_members, setting_members, header_object}
 use Rattle.ctl_protocol.proofs.HeaderReaderLemmas.{header_back, labels_in, listed, with_back, header_of}
-use Rattle.launcher.specs.Writable.{IsFit}
-use Rattle.launcher_laws.specs.Writable.{IsWritableHeader}
+use Rattle.launcher.specs.Writable.{IsFit, IsWritableHeader}
 use Rattle.launcher_laws.proofs.ReadBackLemmas.{IsFitData, again, again_onto, put_fit, text_back}
 use Rattle.launcher_laws.proofs.EventsLemmas.{are_plain, with_fit, plain_keys}
 

@@ -21,8 +21,7 @@ use Rattle.table_opening.specs.Openings.{OpensBy}
 use Rattle.table_opening.specs.Output.{IsOutput}
 use Rattle.launcher.specs.Hosts.{IsNew, with_settings}
 use Rattle.launcher_laws.specs.Runs.{Snapshot, Turn, AreTurns, events_in as parts_events}
-use Rattle.launcher.specs.Writable.{IsWritable}
-use Rattle.launcher_laws.specs.Writable.{IsWritableHeader}
+use Rattle.launcher.specs.Writable.{IsWritable, IsWritableHeader}
 use Rattle.launcher_laws.specs.Replays.{outcome_texts, IsReplayed}
 use Rattle.launcher_laws.proofs.EventsLemmas.{event_read}
 use Rattle.launcher_laws.proofs.HeadersLemmas.{header_read}
@@ -59,9 +58,9 @@ its_bytes old mid new bytes first more begins ends one two =
 module _ {T : Type 0} (holds : T → List Setting → Type 0) where
   pub replayed : (header : Header) (calls : Option (List Entry)) (stores : Option (List StoreCall)) (store : T) (first last : Snapshot T) (turns : List (Turn T)) (bytes : List ℕ) →
       (new : IsNew header calls stores (fresh (Some []) true) first.stands (holds store) (holds first.store)) → AreTurns holds first turns last →
-      last.stands.journal.phase ≡ Open → last.stands.journal.bytes ≡ Some bytes → IsWritableHeader (with_settings header new.settings) →
+      last.stands.journal.phase ≡ Open → last.stands.journal.bytes ≡ Some bytes →
       IsReplayed (with_settings header new.settings) turns bytes
-  replayed header calls stores store first last turns bytes new heard still ends told =
+  replayed header calls stores store first last turns bytes new heard still ends =
       let h = with_settings header new.settings in
       let w = went holds new.machine first turns last new.led new.kept heard in
       let later = w.noted still in
@@ -70,7 +69,7 @@ module _ {T : Type 0} (holds : T → List Setting → Type 0) where
       its_bytes (Some []) first.stands.journal.bytes last.stands.journal.bytes bytes (header_line h) (flat_map event_line (parts_events w.parts)) refl ends begun.grew later.grew in
       let same : flat_map outcome_line (outcomes (map event_of (parts_events w.parts)) new.machine) ≡ outcome_texts w.parts = ap (flat_map outcome_line) (sym w.all) in
       let out : IsOutput (input_lines bytes) (Some (outcome_texts w.parts)) =
-      subst (λ t. IsOutput (input_lines bytes) (Some t)) same (its_output h new.machine (parts_events w.parts) bytes new.opens told (parts_writable turns w.parts w.are_parts) is) in
+      subst (λ t. IsOutput (input_lines bytes) (Some t)) same (its_output h new.machine (parts_events w.parts) bytes new.opens new.writable (parts_writable turns w.parts w.are_parts) is) in
       record {
         parts = w.parts;
         are_parts = w.are_parts;

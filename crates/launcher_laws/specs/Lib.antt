@@ -1,4 +1,3 @@
-pub mod Writable
 pub mod Runs
 pub mod Lasting
 pub mod Replays

@@ -16,7 +16,6 @@ ghost use Rattle.event_journal.specs.Journals.{JournalState, fresh};
 ghost use Rattle.launcher.specs.Hosts.{IsNew, with_settings};
 ghost use Rattle.launcher_laws.specs.Runs.{Snapshot, Turn, AreTurns};
 ghost use Rattle.launcher_laws.specs.Lasting.{Lasts, settings_of};
-ghost use Rattle.launcher_laws.specs.Writable.{IsWritableHeader};
 ghost use Rattle.launcher_laws.specs.Replays.{IsReplayed};
 ghost use Rattle.child_edge.specs.Calls.{Entry};
 
@@ -71,7 +70,6 @@ pub fn a_replay_writes_what_was_replied<T: SettingStore>(store: &T)
         (T.holds store.now) (T.holds first.store)) →
         AreTurns T.holds first turns last →
         last.stands.journal.phase ≡ Open → last.stands.journal.bytes ≡ Some bytes →
-        IsWritableHeader (with_settings header new.settings) →
         IsReplayed (with_settings header new.settings) turns bytes }
 {
     let _ = store;

@@ -138,16 +138,33 @@ fn a_bad_header_opens_none(rt: HostRuntime) {
 /// launcher's fault.
 #[test]
 fn a_store_that_gives_nothing_opens_none(rt: HostRuntime) {
-    let holds = matches!(fault_over(rt.alloc(), "a", None), Ok(None));
+    let holds = matches!(fault_over(rt.alloc(), &["a"], None), Ok(None));
     assert!(rt; holds);
-    let given = fault_over(rt.alloc(), "a", Some(StoreFault::Refused));
+    let given = fault_over(rt.alloc(), &["a"], Some(StoreFault::Refused));
     let holds = matches!(given, Ok(Some(HostFault::Store)));
     assert!(rt; holds);
-    let given = fault_over(rt.alloc(), "a", Some(StoreFault::NoMemory));
+    let given = fault_over(rt.alloc(), &["a"], Some(StoreFault::NoMemory));
     let holds = matches!(given, Ok(Some(HostFault::NoMemory)));
     assert!(rt; holds);
-    let holds = matches!(fault_over(rt.alloc(), "", None), Ok(Some(HostFault::Store)));
+    let given = fault_over(rt.alloc(), &[""], None);
+    let holds = matches!(given, Ok(Some(HostFault::Store)));
     assert!(rt; holds);
+}
+
+/// The labels of the store's settings rise in byte order, none twice. If they do not, that is the launcher's fault.
+#[test]
+fn a_store_out_of_order_opens_none(rt: HostRuntime) {
+    let holds = matches!(fault_over(rt.alloc(), &[], None), Ok(None));
+    assert!(rt; holds);
+    let given = fault_over(rt.alloc(), &["B", "a", "a.b", "ab"], None);
+    let holds = matches!(given, Ok(None));
+    assert!(rt; holds);
+    let wrong: [&[&str]; 4] = [&["b", "a"], &["a", "a"], &["a", "b", "B"], &["ab", "a"]];
+    for names in wrong {
+        let given = fault_over(rt.alloc(), names, None);
+        let holds = matches!(given, Ok(Some(HostFault::Store)));
+        assert!(rt; holds);
+    }
 }
 
 /// The turn goes on if the journal's writer refuses, and its closing is told once.

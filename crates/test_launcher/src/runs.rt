@@ -111,29 +111,32 @@ pub fn is_stored(alloc: Global) -> Result<bool, Refusal> {
     Ok(made && store.is_one("z", true))
 }
 
-/// The one setting that this name is disabled.
-fn disabled(alloc: Global, name: &str) -> Result<Vec<Setting>, Refusal> {
-    let Ok(label) = Text::copy_of(alloc, name) else {
-        return Err(Refusal::NoMemory);
-    };
+/// A setting for each of these names, in their order: it is disabled.
+fn disabled(alloc: Global, names: &[&str]) -> Result<Vec<Setting>, Refusal> {
     let mut held = Vec::new(alloc);
-    let setting = Setting {
-        label,
-        disabled: true,
-    };
-    match held.push(setting) {
-        Ok(()) => Ok(held),
-        Err(_) => Err(Refusal::NoMemory),
+    for name in names {
+        let Ok(label) = Text::copy_of(alloc, name) else {
+            return Err(Refusal::NoMemory);
+        };
+        let setting = Setting {
+            label,
+            disabled: true,
+        };
+        match held.push(setting) {
+            Ok(()) => {}
+            Err(_) => return Err(Refusal::NoMemory),
+        }
     }
+    Ok(held)
 }
 
-/// The fault of a launcher whose store disables this name and, if it is asked for its settings, answers so. None if it is made.
+/// The fault of a launcher whose store disables these names and, if it is asked for its settings, answers so. None if it is made.
 pub fn fault_over(
     alloc: Global,
-    name: &str,
+    names: &[&str],
     fault: Option<StoreFault>,
 ) -> Result<Option<HostFault>, Refusal> {
-    let mut store = store(alloc, disabled(alloc, name)?, true);
+    let mut store = store(alloc, disabled(alloc, names)?, true);
     store.fault = fault;
     let header = header(alloc, "UTC0", 0)?;
     match opened(alloc, header, store, edge(alloc, &[])?, 10) {
@@ -144,7 +147,7 @@ pub fn fault_over(
 
 /// Says whether a launcher whose store disables the job's label begins with that.
 pub fn has_begun_with(alloc: Global) -> Result<bool, Refusal> {
-    let held = disabled(alloc, "a")?;
+    let held = disabled(alloc, &["a"])?;
     let header = header(alloc, "UTC0", 0)?;
     let edge = edge(alloc, &[])?;
     let Ok(mut stage) = opened(alloc, header, store(alloc, held, true), edge, 10) else {

@@ -6,6 +6,7 @@ use Rattle.ctl_protocol.specs.HeaderLines.{header_line}
 use Rattle.event_journal.specs.Journals.{Grows, fresh, held}
 use Rattle.table_opening.specs.Openings.{StandsOpened}
 use Rattle.launcher.specs.Faults.{IsFaultOf, IsFaultWith, IsBadHeader}
+use Rattle.launcher.specs.Writable.{IsWritableHeader}
 use Rattle.launcher.proofs.MakingLemmas.{made_new, stores_fault, same_fault}
 use Rattle.launcher.proofs.host.Host.new.Goals as goal
 
@@ -25,7 +26,7 @@ returns-in-Ok-make_inside-clause-comes g c =
     let first = fresh (held g.W.Write.contents c.args.journal) (is_some c.args.journal) in
     let opened = subst (λ (h : Header). StandsOpened h made.table) c.with_settings.ensures c.in-Ok-make_inside.ensures.opened in
     let new = made_new c.args.header c.in-Ok.settings.items made.table (g.E.Edge.told c.args.edge) (g.T.SettingStore.told c.args.store) (g.T.SettingStore.told c.all.new.self) first made.journal
-    (g.T.SettingStore.holds c.args.store) (g.T.SettingStore.holds c.all.new.self) opened c.in-Ok.ensures.told
+    (g.T.SettingStore.holds c.args.store) (g.T.SettingStore.holds c.all.new.self) opened (subst IsWritableHeader c.with_settings.ensures c.in-Ok-make_inside.ensures.writable) c.in-Ok.ensures.told
     (subst (λ (h : Header). Grows first made.journal (header_line h)) c.with_settings.ensures c.in-Ok-make_inside.ensures.noted) c.in-Ok.ensures.gives in
     (Ok c.in-Ok.settings.items, (c.in-Ok.ensures.answers, (opened, new)))
 
