@@ -174,7 +174,7 @@ impl Screen<'_> {
 
     // The ticks: a line with their texts, and one with what stands below them.
     fn add_axis(&mut self) -> Result<(), AllocError> {
-        let most = u64::from(self.axis.places / 12).max(1);
+        let most = u64::from(self.axis.places / 11).max(1);
         let ticks = ticks(self.alloc, self.zone, &self.axis, most)?;
         self.add_tick_line(ticks.as_slice(), false)?;
         self.add_tick_line(ticks.as_slice(), true)
