@@ -13,6 +13,7 @@ use Rattle.job_table.specs.Entries.{name, stays, has_label, is_above, is_here}
 use Rattle.job_table.specs.Loads.{IsAbsent}
 use Rattle.job_table.specs.declared.entry.Entry.{Entry}
 use Rattle.job_table.proofs.FirstLemmas.{IsFirstWhere, NonePasses, first-where, none-where, where-none, where-first, none-at, passes-at, within-where}
+use Rattle.job_table.proofs.HalvesLemmas.{halves, none-past, one-at, none-other}
 use Rattle.job_table.proofs.NearestLemmas.{not-before-self}
 use Rattle.job_table.proofs.SettingLemmas.{is-label}
 use Rattle.history_model.proofs.BooleanLemmas.{unless-true, not-true, not-false}
@@ -34,17 +35,6 @@ in-order (e ∷ es) order zero (suc j) x y less first second = let same : e ≡ 
 in-order (e ∷ es) order (suc i) zero x y less first second = absurd (omega (arith, less))
 in-order (e ∷ es) order (suc i) (suc j) x y less first second = in-order es order.1 i j x y (omega (arith, less)) first second
 
--- a label is not that of a job before it, or behind it
-not-before : (label : Label) (y : Entry) → is_before y.def.label label ≡ true → has_label label y ≡ false
-not-before label y before = unless-true (has_label label y) (λ is. (
-    let same = is-label label y.def.label is in
-    let clash : true ≡ false = sym before ∙ ap (λ l. is_before l label) (sym same) ∙ not-before-self label in cc clash))
-
-not-behind : (label : Label) (y : Entry) → is_before label y.def.label ≡ true → has_label label y ≡ false
-not-behind label y behind = unless-true (has_label label y) (λ is. (
-    let same = is-label label y.def.label is in
-    let clash : true ≡ false = sym behind ∙ ap (λ l. is_before label l) (sym same) ∙ not-before-self label in cc clash))
-
 module _ (es : List Entry) (order : AreInOrder (labels_in (map name es))) (label : Label) where
   -- ---- what halves need
 
@@ -58,15 +48,7 @@ module _ (es : List Entry) (order : AreInOrder (labels_in (map name es))) (label
   at-place k d within = slice_get-get_or es k d within
 
   pub halves-below : IsPartitionedBy is_below es
-  halves-below i j d up within is = go (i == j) refl
-    where
-      go : (b : Bool) → (i == j) ≡ b → is_below (get_or es i d) ≡ true
-      go true equal = let same : j ≡ i = grind (arith, nat_tests, equal) in subst (λ n. is_below (get_or es n d) ≡ true) same is
-      go false other =
-          let differ : i ≢ j = (λ same. (let clash : ⊥ = grind (arith, nat_tests, other, same) in clash)) in
-          let less : i < j = omega (arith, up, differ) in
-          let low : i < length es = omega (arith, less, within) in
-          before-trans _ _ label (in-order es order i j (get_or es i d) (get_or es j d) less (at-place i d low) (at-place j d within)) is
+  halves-below = halves (λ e. e.def.label) es (in-order es order) label
 
   pub halves-no-later : IsPartitionedBy is_no_later es
   halves-no-later i j d up within is = go (i == j) refl
@@ -84,35 +66,14 @@ module _ (es : List Entry) (order : AreInOrder (labels_in (map name es))) (label
   -- ---- the job with the label
 
   module _ (k : ℕ) (point : IsPartitionPoint (λ e. is_below e ≡ true) (λ e. is_below e ≡ false) es k) where
-    others-before : (j : ℕ) (y : Entry) → j < k → slice_get es j ≡ Some y → has_label label y ≡ false
-    others-before j y less at =
-        not-before label y (subst (λ e. is_below e ≡ true) (get_or_from_slice_get es j y y at) (point.0 j y (omega arith) less))
-
     pub label-past : length es ≤ k → None ≡ position (has_label label) es
-    label-past past = where-none (has_label label) es (λ j y at. others-before j y (let within = slice_get_within es j y at in omega (arith, past, within)) at)
+    label-past = none-past (λ e. e.def.label) es (in-order es order) label k point
 
     pub label-at : (e : Entry) → slice_get es k ≡ Some e → has_label label e ≡ true → Some k ≡ position (has_label label) es
-    label-at e at is = where-first (has_label label) es k e at is (λ j y less got. others-before j y less got)
+    label-at = one-at (λ e. e.def.label) es (in-order es order) label k point
 
     pub label-other : (e : Entry) → slice_get es k ≡ Some e → has_label label e ≡ false → None ≡ position (has_label label) es
-    label-other e here differ = where-none (has_label label) es (λ j y at. go j y at (nat_lt j k) refl (j == k) refl)
-      where
-        go : (j : ℕ) (y : Entry) → slice_get es j ≡ Some y → (b : Bool) → nat_lt j k ≡ b → (c : Bool) → (j == k) ≡ c → has_label label y ≡ false
-        go j y at true is c eq = let less : j < k = grind (arith, is) in others-before j y less at
-        go j y at false is true eq =
-            let same : k ≡ j = grind (arith, nat_tests, eq) in
-            let found : Some e ≡ Some y = sym here ∙ ap (slice_get es) same ∙ at in
-            let equal : e ≡ y = cc in
-            subst (λ x. has_label label x ≡ false) equal differ
-        go j y at false is false eq =
-            let up : k ≤ j = grind (arith, is) in
-            let apart : k ≢ j = (λ same. (let clash : ⊥ = grind (arith, nat_tests, eq, same) in clash)) in
-            let less : k < j = omega (arith, up, apart) in
-            let within = slice_get_within es k e here in
-            let low : is_below e ≡ false = subst (λ x. is_below x ≡ false) (get_or_from_slice_get es k e e here) (point.1 k e (omega arith) within) in
-            unless-true (has_label label y) (λ has. (
-            let same = is-label label y.def.label has in
-            let clash : true ≡ false = sym (in-order es order k j e y less here at) ∙ ap (λ l. is_before e.def.label l) (sym same) ∙ low in cc clash))
+    label-other = none-other (λ e. e.def.label) es (in-order es order) label k point
 
   -- ---- the place of a new job
 

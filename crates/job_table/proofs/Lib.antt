@@ -36,6 +36,8 @@ pub mod MinutesLemmas
 pub mod ChangesLemmas
 pub mod NewJobLemmas
 pub mod FindLemmas
+pub mod HalvesLemmas
 pub mod ByteOrderLemmas
+pub mod SettingOrderLemmas
 pub mod RankLemmas
 pub mod TriggersLemmas

@@ -1,6 +1,6 @@
 -- What a setting leaves of the others.
-use Rattle.std.proofs.Common.{◌≡◌, ℕ, zero, suc, Bool, true, false, cond, List, [], ◌∷◌, ◌++◌, Option, Some, None, is_some, refl, sym, ap, ◌∙◌, subst}
-use Rattle.std.specs.Prelude.{slice_set}
+use Rattle.std.proofs.Common.{◌≡◌, ℕ, zero, suc, Bool, true, false, cond, List, [], ◌∷◌, ◌++◌, Option, Some, None, is_some, refl, sym, ap, ◌∙◌, subst, take, drop, ◌<◌, arith}
+use Rattle.std.specs.Prelude.{slice_set, slice_get}
 use Rattle.std.specs.List.{filter}
 use Rattle.history_model.specs.declared.event.Setting.{Setting}
 use Rattle.history_model.specs.Search.{first}
@@ -43,6 +43,14 @@ module _ (new : Setting) (label : Label) where
   pub set-last : (xs : List Setting) → NonePasses (sets new.label) xs → first (filter (sets label) (xs ++ new ∷ [])) ≡ first (filter (sets label) (new ∷ xs))
   set-last [] none = refl
   set-last (x ∷ xs) none = behind x (xs ++ new ∷ []) xs (sets label new) (sets label x) refl refl none.0 (set-last xs none.1)
+
+  -- a setting that stands behind none of its label decides as if it stood first
+  pub set-placed : (xs : List Setting) (k : ℕ) → ((j : ℕ) (x : Setting) → slice_get xs j ≡ Some x → j < k → sets new.label x ≡ false) →
+      first (filter (sets label) (take k xs ++ new ∷ drop k xs)) ≡ first (filter (sets label) (new ∷ xs))
+  set-placed xs zero apart = refl
+  set-placed [] (suc k) apart = refl
+  set-placed (x ∷ xs) (suc k) apart = behind x (take k xs ++ new ∷ drop k xs) xs (sets label new) (sets label x) refl refl (apart 0 x refl (omega arith))
+      (set-placed xs k (λ j y at less. apart (suc j) y at (omega (arith, less))))
 
 -- ---- one more setting before the others
 

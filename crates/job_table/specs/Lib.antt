@@ -1,5 +1,6 @@
 pub mod Tables
 pub mod StandsFor
+pub mod Settings
 pub mod Outcomes
 pub mod Counts
 pub mod Minutes

@@ -39,7 +39,7 @@ pub record Reserved : Type 0 where
 pub record Table : Type 0 where
   pub reading : Reading
   pub zone : Zone
-  pub settings : List Setting  -- newest first
+  pub settings : List Setting  -- in byte order of labels, each label once
   pub is_shutting_down : Bool
   pub rows : List Row  -- the loaded jobs
   pub orders : List Order  -- those that the last event gave

@@ -27,11 +27,12 @@ use crate::find::place_of;
 use crate::index::place_all;
 use crate::mark::mark_touched;
 use crate::scan::{has_calendars, release, tidy};
+use crate::settings::Settings;
 use crate::trigger::Listed;
 use crate::triggers::forget;
 use crate::visit::visit_ready;
 use calendar_due::Zone;
-use history_model::{Order, Reading, Refusal, Setting};
+use history_model::{Order, Reading, Refusal};
 use job_core::JobEvent;
 use slab::Slab;
 use timer_heap::TimerHeap;
@@ -41,8 +42,7 @@ use timer_heap::TimerHeap;
 pub struct Jobs {
     pub reading: Reading,
     pub zone: Zone,
-    /// Newest first.
-    pub settings: Vec<Setting>,
+    pub settings: Settings,
     pub is_shutting_down: bool,
     pub entries: Vec<Entry>,
     pub numbers: Slab<()>,

@@ -30,6 +30,7 @@ mod opening;
 mod prepared;
 mod questions;
 mod scan;
+mod setting_order;
 mod settings;
 mod texts;
 mod trigger;
