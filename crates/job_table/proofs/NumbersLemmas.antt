@@ -1,8 +1,8 @@
 -- The numbers of the loaded jobs, before an event and after it.
-use Rattle.std.proofs.Common.{◌≡◌, ℕ, zero, suc, Bool, true, false, cond, List, [], ◌∷◌, ◌++◌, map, take, drop, Some, refl, sym, ap, ◌∙◌}
+use Rattle.std.proofs.Common.{◌≡◌, ℕ, zero, suc, ◌+◌, Bool, true, false, cond, List, [], ◌∷◌, ◌++◌, map, take, drop, length, Some, refl, sym, ap, ◌∙◌, arith}
 use Rattle.std.specs.List.{AllByRecursion}
 use Rattle.job_table.specs.Tables.{Name, IsOther, IsOnce, Row, definition_of_number}
-use Rattle.job_table.specs.Entries.{row, name, rows, AllStay}
+use Rattle.job_table.specs.Entries.{row, name, rows, gone, AllStay}
 use Rattle.job_table.specs.Numbers.{names_of, IsNumbered}
 use Rattle.job_table.specs.Sound.{seen, IsSound}
 use Rattle.job_table.specs.declared.entry.Entry.{Entry}
@@ -38,9 +38,34 @@ named-rows names (e ∷ es) all = go e.has_gone (named-rows names es all.1) wher
   go true rest = rest
   go false rest = (all.0, rest)
 
+named-gone : (names : List Name) (es : List Entry) → AllByRecursion (IsNamedIn names) es → AllByRecursion (λ (r : Row). definition_of_number names r.number ≡ Some r.described) (gone es)
+named-gone names [] all = tt
+named-gone names (e ∷ es) all = go e.has_gone (named-gone names es all.1) where
+  go : (b : Bool) → AllByRecursion (λ (r : Row). definition_of_number names r.number ≡ Some r.described) (gone es) →
+      AllByRecursion (λ (r : Row). definition_of_number names r.number ≡ Some r.described) (cond b (row e ∷ gone es) (gone es))
+  go true rest = (all.0, rest)
+  go false rest = rest
+
+-- each entry is a loaded job or one that is gone
+loaded-or-gone : (es : List Entry) → length (map name es) ≡ length (rows es) + length (gone es)
+loaded-or-gone [] = refl
+loaded-or-gone (e ∷ es) = go e.has_gone (loaded-or-gone es) where
+  go : (b : Bool) → length (map name es) ≡ length (rows es) + length (gone es) →
+      suc (length (map name es)) ≡ length (cond b (rows es) (row e ∷ rows es)) + length (cond b (row e ∷ gone es) (gone es))
+  go true rest = omega (arith, rest)
+  go false rest = omega (arith, rest)
+
 -- every table's numbers stand for its labels
 pub numbered : (t : Jobs) → IsSound t → IsNumbered (seen t)
-numbered t sound = record { once = sound.once; named = named-rows (map name t.entries.items) t.entries.items (named-in t.entries.items sound.once) }
+numbered t sound =
+    let es = t.entries.items in
+    let each = named-in es sound.once in
+    record {
+      once = sound.once;
+      named = named-rows (map name es) es each;
+      gone = named-gone (map name es) es each;
+      all = loaded-or-gone es;
+    }
 
 all-placed : (P : Entry → Type 0) (e : Entry) (es : List Entry) (k : ℕ) → AllByRecursion P (take k es ++ e ∷ drop k es) → P e × AllByRecursion P es
 all-placed P e es zero all = (all.0, all.1)

@@ -1,5 +1,5 @@
 -- The numbers under which the table holds the jobs.
-use Rattle.std.specs.Prelude.{◌≡◌, List, map, Some, Result, Ok, Err}
+use Rattle.std.specs.Prelude.{◌≡◌, ◌+◌, List, map, length, Some, Result, Ok, Err}
 use Rattle.std.specs.List.{AllByRecursion}
 use Rattle.history_model.specs.declared.Refusal.{Refusal}
 use Rattle.job_table.specs.Tables.{Row, Name, Table, IsOnce, definition_of_number}
@@ -14,11 +14,15 @@ name_of row = record { number = row.number; described = row.described }
 abbrev pub names_of : List Row → List Name
 names_of rows = map name_of rows
 
--- each number stands for one label, that of a loaded job for the job's own
+-- each number stands for one label, that of a loaded job, or of one that is gone, for the job's own;
+-- and there are no others
 pub record IsNumbered (table : Table) : Type 0 where
   pub once : IsOnce table.names
   pub named : AllByRecursion
       (λ row. definition_of_number table.names row.number ≡ Some row.described) table.rows
+  pub gone : AllByRecursion
+      (λ row. definition_of_number table.names row.number ≡ Some row.described) table.gone
+  pub all : length table.names ≡ length table.rows + length table.gone
 
 -- after an event that was accepted the names are those of the jobs that were loaded before it: no
 -- job changes its number
