@@ -1,5 +1,5 @@
 -- Where the bar of a run ends in a chart.
-use Rattle.std.specs.Prelude.{ℕ, Option}
+use Rattle.std.specs.Prelude.{ℕ, Option, Some, None}
 use Rattle.journal_reading.specs.declared.run.RunEnd.{RunEnd}
 use Rattle.journal_reading.specs.declared.run.RunEnd.TheVariants.{Awaited, Lives, Refused}
 
