@@ -5,13 +5,13 @@ use crate::coming::calendar_after;
 use crate::journal::{
     Feed, Source, journal_path, name_of, source_of, take_piece, tell_bad, tell_fault,
 };
-use crate::telling::{BAD_FILE, tell_of};
+use crate::telling::BAD_FILE;
 use calendar_due::Zone;
 use history_model::{MAX_WALL, Text};
 use job_defs::Def;
 use journal_reading::{Job, Journal, JournalFault, JournalReader};
 use journal_texts::{runs_table, why_text};
-use scope_picture::{Chart, Coming, Page, blocks_text, page_piece, svg_piece};
+use scope_picture::{Chart, Coming, Page, blocks_text, page_text, svg_text};
 use scope_times::utc;
 use scope_words::JournalWords;
 use std::alloc::{AllocError, Global};
@@ -33,7 +33,7 @@ pub(crate) fn picture(
     of: &JournalWords,
 ) -> io::Result<u8> {
     let mut feed = Feed::new(alloc);
-    let mut heard = Heard::new(alloc, of.labels.as_slice());
+    let mut heard = Heard::new(alloc);
     let path = journal_path(host, of)?;
     let name = name_of(&path);
     if let Err(fault) = hear_journal(host, alloc, &path, &mut feed, &mut heard) {
@@ -44,19 +44,9 @@ pub(crate) fn picture(
         return Ok(BAD_FILE);
     };
     let status = tell_bad(host, name, &feed.reader);
-    tell_absent(host, journal, of.labels.as_slice());
-    paint(host, alloc, is_page, journal, &heard, of)?;
+    let text = painted(host, alloc, is_page, journal, &heard, of)?;
+    print!(host; "{text}")?;
     Ok(status)
-}
-
-// Tells each named label that the journal has no load of. This is no fault.
-fn tell_absent(host: &HostRuntime, journal: &Journal, labels: &[Text]) {
-    for label in labels {
-        let label = label.as_str();
-        if journal.past.job(label).is_none() {
-            tell_of(host, label, &"the journal has no load of it");
-        }
-    }
 }
 
 // Reads the journal to its end.
@@ -65,7 +55,7 @@ fn hear_journal(
     alloc: Global,
     path: &Option<String>,
     feed: &mut Feed,
-    heard: &mut Heard<'_>,
+    heard: &mut Heard,
 ) -> Result<(), JournalFault> {
     match source_of(host, path) {
         Ok(mut source) => hear_source(host, alloc, &mut source, feed, heard)?,
@@ -83,7 +73,7 @@ fn hear_source(
     alloc: Global,
     source: &mut Source,
     feed: &mut Feed,
-    heard: &mut Heard<'_>,
+    heard: &mut Heard,
 ) -> Result<(), JournalFault> {
     let is_seen = host.stderr().is_terminal();
     let mut is_told = false;
@@ -108,7 +98,7 @@ fn hear_source(
 fn hear_lines(
     alloc: Global,
     reader: &mut JournalReader,
-    heard: &mut Heard<'_>,
+    heard: &mut Heard,
 ) -> Result<(), JournalFault> {
     for _ in 0..u64::MAX {
         if !reader.next(alloc)? {
@@ -126,34 +116,26 @@ fn zone_shown<'a>(journal: &'a Journal, utc: &'a Zone, is_utc: bool) -> &'a Zone
     if is_utc { utc } else { &journal.zone }
 }
 
-// A picture is written piece by piece, so that its whole text is never held.
-fn paint(
+fn painted(
     host: &HostRuntime,
     alloc: Global,
     is_page: bool,
     journal: &Journal,
-    heard: &Heard<'_>,
+    heard: &Heard,
     of: &JournalWords,
-) -> io::Result<()> {
+) -> io::Result<String> {
     let utc = utc();
     let zone = zone_shown(journal, &utc, of.is_utc);
     let labels = of.labels.as_slice();
-    let chart = chart_of(alloc, journal, heard)?;
+    let chart = chart_of(alloc, journal, heard, labels)?;
     if is_page {
-        return paint_page(host, alloc, journal, zone, &chart, labels);
+        return Ok(page_of(alloc, journal, zone, &chart, labels)?);
     }
     if host.stdout().is_terminal() {
         let width = columns(host);
-        let text = blocks_text(alloc, zone, &chart, width)?;
-        return print!(host; "{text}");
+        return Ok(blocks_text(alloc, zone, &chart, width)?);
     }
-    for index in 0..usize::MAX {
-        let Some(piece) = svg_piece(alloc, zone, &chart, index)? else {
-            break;
-        };
-        print!(host; "{piece}")?;
-    }
-    Ok(())
+    Ok(svg_text(alloc, zone, &chart)?)
 }
 
 fn columns(host: &HostRuntime) -> u16 {
@@ -163,14 +145,13 @@ fn columns(host: &HostRuntime) -> u16 {
     }
 }
 
-fn paint_page(
-    host: &HostRuntime,
+fn page_of(
     alloc: Global,
     journal: &Journal,
     zone: &Zone,
     chart: &Chart,
     labels: &[Text],
-) -> io::Result<()> {
+) -> Result<String, AllocError> {
     let table = runs_table(alloc, journal, labels)?;
     let why = why_text(alloc, journal, zone, labels)?;
     let coming = coming_of(alloc, journal, chart)?;
@@ -179,13 +160,7 @@ fn paint_page(
         why: why.as_str(),
         coming: coming.as_slice(),
     };
-    for index in 0..usize::MAX {
-        let Some(piece) = page_piece(alloc, zone, chart, &beside, index)? else {
-            break;
-        };
-        print!(host; "{piece}")?;
-    }
-    Ok(())
+    page_text(alloc, zone, chart, &beside)
 }
 
 // The next start by the calendar and the next by the interval of each job of the chart that is loaded, in the order of time.
