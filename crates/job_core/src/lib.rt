@@ -21,31 +21,21 @@ mod job;
 mod paths;
 
 use history_model::{
-    Act, Answer, Ask, DemandKind, Ended, MAX_UP, Obs, Reading, Reasons, Refusal, ShownJob,
+    Act, DemandKind, JobItem, MAX_UP, Obs, Reading, Reasons, Refusal, ShownJob,
 };
 use job::Job;
 use job_defs::Def;
 use std::alloc::{AllocError, Global};
 use std::marker::Model;
 
-/// What happens to a job.
+/// What happens to a job: a reading of the clocks, a sight of a path, or an item of its own.
 #[derive(Clone, Copy)]
 pub enum JobEvent<'a> {
     /// The clock, and whether a calendar entry matches a minute that it crossed.
     Read(Reading, bool),
     /// What was seen at a path.
     Saw(&'a str, Obs),
-    Asked(Ask),
-    /// A connection came; numbers rise within a load.
-    Came(u64),
-    /// A waiting connection left.
-    Left(u64),
-    /// The answer to an order. It names the order's run.
-    Answered(Answer),
-    /// The run is over.
-    Ended(u64, Ended),
-    /// Whether the run is over could not be learned.
-    WaitRefused { run: u64 },
+    Item(JobItem),
 }
 
 /// One loaded job: to a contract, the facts of its past, and how often it was asked for its order.
