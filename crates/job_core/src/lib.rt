@@ -20,9 +20,7 @@ mod calendar;
 mod job;
 mod paths;
 
-use history_model::{
-    Act, DemandKind, JobItem, MAX_UP, Obs, Reading, Reasons, Refusal, ShownJob,
-};
+use history_model::{Act, DemandKind, JobItem, MAX_UP, Obs, Reading, Reasons, Refusal, ShownJob};
 use job::Job;
 use job_defs::Def;
 use std::alloc::{AllocError, Global};
@@ -56,7 +54,7 @@ impl Model for JobCore {
 }
 
 impl JobCore {
-    ghost use Rattle.job_core.specs.Events.{item_of};
+    ghost use Rattle.job_core.specs.Events.{item_of_event};
     ghost use Rattle.history_model.specs.Shown.{shown_of};
     ghost use Rattle.job_core.specs.Memory.{NeedsNoMemory};
     ghost use Rattle.job_defs.specs.Definitions.{definition};
@@ -88,14 +86,14 @@ impl JobCore {
     pub fn event(&mut self, event: JobEvent<'_>, now: Reading) -> Result<(), Refusal>
         requires { now.up ≤ MAX_UP }
         ensures refused { (past : History) → Keeps self.old.facts past → now ≡ clock.now past →
-            result ≡ reply (refusal_of (item_of event.entry) past) }
+            result ≡ reply (refusal_of (item_of_event event.entry) past) }
         ensures kept { (past : History) → Keeps self.old.facts past → now ≡ clock.now past →
-            OnOk result (Keeps self.new.facts (item_of event.entry ∷ past)) }
+            OnOk result (Keeps self.new.facts (item_of_event event.entry ∷ past)) }
         ensures unchanged { OnErr result (self.new ≡ self.old) }
         ensures decided { self.new.decided ≡ self.old.decided }
         ensures memory { NeedsNoMemory result }
         ensures in_range { OnOk result
-            ((clock.present_after (item_of event.entry) now).up ≤ MAX_UP) }
+            ((clock.present_after (item_of_event event.entry) now).up ≤ MAX_UP) }
     {
         self.job.apply(event, now)
     }
