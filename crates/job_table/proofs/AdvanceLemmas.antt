@@ -23,7 +23,7 @@ use Rattle.history_model.proofs.DueByFactsLemmas.{next-same}
 use Rattle.job_table.specs.Tables.{Name, IsOnce, definition_of_number, label_of}
 use Rattle.job_table.specs.StandsFor.{KeepsJob, KeepsJobs, IsAtRest, numbered, numbered_all, labelled}
 use Rattle.job_table.specs.Counts.{counts, count_in, next_count, went_up, is_near, IsCounted}
-use Rattle.job_table.specs.Entries.{row, name, rows, AllStay}
+use Rattle.job_table.specs.Entries.{row, name, rows, gone, AllStay}
 use Rattle.job_table.specs.News.{item_for}
 use Rattle.job_table.specs.Hearing.{refusal_if, IsHeard, AreFor, IsAccepted}
 use Rattle.job_table.specs.Visiting.{is_spared, AreSpared, AreAtRest, AreVisitedOnce, count_visited}
@@ -258,29 +258,33 @@ module _ (ready : Timers) where
       (ap not same, λ i. not (not (same i)) || (new.core.decided == next_count (count_in all new.def.label)))
 
   visits : (all : List (Label × ℕ)) (place : ℕ) (es later : List Entry) → HaveCounts all es → AreVisitedOnce ready place es later →
-      (list_all (is_near all) (rows later) ≡ true) × (count_visited ready place later ≡ length (filter (went_up all) (rows later)))
-  visits all place [] [] is visited_once = (refl, refl)
+      (list_all (is_near all) (rows later) ≡ true) × (count_visited ready place later ≡ length (filter (went_up all) (rows later))) × (list_any (went_up all) (gone later) ≡ false)
+  visits all place [] [] is visited_once = (refl, refl, refl)
   visits all place [] (n ∷ ns) is visited_once = absurd visited_once
   visits all place (e ∷ es) [] is visited_once = absurd visited_once
   visits all place (e ∷ es) (n ∷ ns) is visited_once = go n.has_gone (is_spared ready place) visited_once.1 (visits all (suc place) es ns is.1 visited_once.3)
     where
       go : (b s : Bool) → n.core.decided ≡ cond (b || s) e.core.decided (next_count e.core.decided) →
-          (list_all (is_near all) (rows ns) ≡ true) × (count_visited ready (suc place) ns ≡ length (filter (went_up all) (rows ns))) →
+          (list_all (is_near all) (rows ns) ≡ true) × (count_visited ready (suc place) ns ≡ length (filter (went_up all) (rows ns))) × (list_any (went_up all) (gone ns) ≡ false) →
           (list_all (is_near all) (cond b (rows ns) (row n ∷ rows ns)) ≡ true)
           × (cond (b || s) (count_visited ready (suc place) ns) (suc (count_visited ready (suc place) ns)) ≡ length (filter (went_up all) (cond b (rows ns) (row n ∷ rows ns))))
-      go true s up later = later
+          × (list_any (went_up all) (cond b (row n ∷ gone ns) (gone ns)) ≡ false)
+      go true s up later =
+          let one = stays-put all e n visited_once.0 is.0 up in (later.0, later.1, λ i. one.0 i || later.2 i)
       go false true up later =
           let one = stays-put all e n visited_once.0 is.0 up in (
             (λ i. one.1 i && later.0 i),
             later.1 ∙ ap (λ b. length (cond b (row n ∷ filter (went_up all) (rows ns)) (filter (went_up all) (rows ns)))) (sym one.0),
+            later.2,
           )
       go false false up later =
           let one = goes-up all e n visited_once.0 is.0 up in (
             (λ i. one.1 i && later.0 i),
             ap suc later.1 ∙ ap (λ b. length (cond b (row n ∷ filter (went_up all) (rows ns)) (filter (went_up all) (rows ns)))) (sym one.0),
+            later.2,
           )
 
-  pub visits-counted : (es later : List Entry) (visited : ℕ) → AllStay es → IsOnce (map name es) → AreVisitedOnce ready 0 es later → visited ≡ count_visited ready 0 later → IsCounted (counts (rows es)) (rows later) visited
+  pub visits-counted : (es later : List Entry) (visited : ℕ) → AllStay es → IsOnce (map name es) → AreVisitedOnce ready 0 es later → visited ≡ count_visited ready 0 later → IsCounted (counts (rows es)) (rows later) (gone later) visited
   visits-counted es later visited stay once visited_once many =
       let done = visits (counts (map row es)) 0 es later (for-all es once) visited_once in
-      subst (λ rs. IsCounted (counts rs) (rows later) visited) (sym (rows-all es stay)) (record { each = done.0; visited = many ∙ done.1 })
+      subst (λ rs. IsCounted (counts rs) (rows later) (gone later) visited) (sym (rows-all es stay)) (record { each = done.0; visited = many ∙ done.1; unasked = done.2 })

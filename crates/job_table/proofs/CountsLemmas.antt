@@ -1,15 +1,15 @@
 -- How often the jobs were visited: those that were visited once more, those that were not, and a new one.
 use Rattle.std.proofs.Common.{◌≡◌, ℕ, zero, suc, ◌<◌, ◌==◌, Bool, true, false, not, ◌&&◌, ◌||◌, cond, List, [], ◌∷◌, ◌++◌, map, take, drop, length, get_or, refl, sym, ap, ◌∙◌, subst, arith}
 use Rattle.std.specs.Prelude.{slice_set, if◌then◌else◌}
-use Rattle.std.specs.List.{filter, list_all}
+use Rattle.std.specs.List.{filter, list_all, list_any}
 use Rattle.history_model.specs.Labels.{Label, is_same}
 use Rattle.job_table.specs.Tables.{Row, IsOther, IsOnce}
-use Rattle.job_table.specs.Entries.{row, name, rows, AllStay}
+use Rattle.job_table.specs.Entries.{row, name, rows, gone, AllStay}
 use Rattle.job_table.specs.Loads.{IsAbsent}
 use Rattle.job_table.specs.Counts.{counts, count_in, next_count, went_up, is_near, IsCounted}
 use Rattle.job_table.specs.declared.entry.Entry.{Entry}
 use Rattle.job_table.proofs.ListLemmas.{set-map}
-use Rattle.job_table.proofs.PlacesLemmas.{rows-all}
+use Rattle.job_table.proofs.PlacesLemmas.{rows-all, none-gone}
 use Rattle.job_table.proofs.SettingLemmas.{is-label}
 use Rattle.job_table.proofs.EnteringLemmas.{stay-placed}
 use Rattle.history_model.proofs.LawfulLemmas.{eqb-self}
@@ -56,18 +56,20 @@ idle-all all (e ∷ es) is =
       ap (λ b. length (cond b (row e ∷ filter (went_up all) (map row es)) (filter (went_up all) (map row es)))) stays ∙ rest.1,
     )
 
-pub idle : (es : List Entry) → AllStay es → IsOnce (map name es) → IsCounted (counts (rows es)) (rows es) 0
+pub idle : (es : List Entry) → AllStay es → IsOnce (map name es) → IsCounted (counts (rows es)) (rows es) (gone es) 0
 idle es stay once =
     let done = idle-all (counts (map row es)) es (for-all es once) in
-    subst (λ rs. IsCounted (counts rs) rs 0) (sym (rows-all es stay)) (record { each = done.0; visited = sym done.1 })
+    subst (λ rs. IsCounted (counts rs) rs (gone es) 0) (sym (rows-all es stay))
+    (record { each = done.0; visited = sym done.1; unasked = ap (list_any (went_up (counts (map row es)))) (none-gone es stay) })
 
 -- ---- what comes before the scan
 
 -- so it is from counts that are the same for each label
-pub counted-from : (a b : List (Label × ℕ)) (rs : List Row) (visited : ℕ) → ((label : Label) → count_in a label ≡ count_in b label) → IsCounted a rs visited → IsCounted b rs visited
-counted-from a b rs visited same is = record {
+pub counted-from : (a b : List (Label × ℕ)) (rs gs : List Row) (visited : ℕ) → ((label : Label) → count_in a label ≡ count_in b label) → IsCounted a rs gs visited → IsCounted b rs gs visited
+counted-from a b rs gs visited same is = record {
   each = sym (λ i. list_all (λ r. not (not (r.decided == same r.described.label i)) || (r.decided == next_count (same r.described.label i))) rs) ∙ is.each;
   visited = is.visited ∙ (λ i. length (filter (λ r. not (r.decided == same r.described.label i)) rs));
+  unasked = sym (λ i. list_any (λ r. not (r.decided == same r.described.label i)) gs) ∙ is.unasked;
 }
 
 abbrev entry-count : Entry → Label × ℕ

@@ -1,14 +1,15 @@
 -- The numbers of the loaded jobs, before an event and after it.
-use Rattle.std.proofs.Common.{◌≡◌, ℕ, zero, suc, Bool, true, false, cond, List, [], ◌∷◌, ◌++◌, map, take, drop, Some, refl, sym, ap, ◌∙◌}
+use Rattle.std.proofs.Common.{◌≡◌, ℕ, zero, suc, ◌==◌, Bool, true, false, not, ◌||◌, cond, List, [], ◌∷◌, ◌++◌, map, take, drop, Some, refl, sym, ap, ◌∙◌, subst}
+use Rattle.std.proofs.lemmas.Bool.{false≢true}
 use Rattle.std.specs.List.{AllByRecursion}
 use Rattle.job_table.specs.Tables.{Name, IsOther, IsOnce, Row, definition_of_number}
-use Rattle.job_table.specs.Entries.{row, name, rows, AllStay}
-use Rattle.job_table.specs.Numbers.{names_of, IsNumbered}
+use Rattle.job_table.specs.Entries.{row, name, rows, gone, AllStay}
+use Rattle.job_table.specs.Numbers.{names_of, is_loaded, not_loaded, IsNumbered}
 use Rattle.job_table.specs.Sound.{seen, IsSound}
 use Rattle.job_table.specs.declared.entry.Entry.{Entry}
 use Rattle.job_table.specs.declared.jobs.Jobs.{Jobs}
 use Rattle.job_table.proofs.PlacesLemmas.{rows-all}
-use Rattle.history_model.proofs.LawfulLemmas.{eqb-self}
+use Rattle.history_model.proofs.LawfulLemmas.{eqb-self, eqb-false}
 
 names-map : (es : List Entry) → map name es ≡ names_of (map row es)
 names-map [] = refl
@@ -38,9 +39,45 @@ named-rows names (e ∷ es) all = go e.has_gone (named-rows names es all.1) wher
   go true rest = rest
   go false rest = (all.0, rest)
 
+swapped : (a b : ℕ) → (a == b) ≡ false → (b == a) ≡ false
+swapped a b differ = eqb-false b a (λ same. false≢true (sym (subst (λ n. (a == n) ≡ false) same differ) ∙ eqb-self a))
+
+-- a name that is none of theirs is that of no loaded job
+not-among : (n : Name) (es : List Entry) → IsOther n (map name es) → is_loaded (rows es) n ≡ false
+not-among n [] other = refl
+not-among n (e ∷ es) other = go e.has_gone (not-among n es other.2) where
+  go : (b : Bool) → is_loaded (rows es) n ≡ false → is_loaded (cond b (rows es) (row e ∷ rows es)) n ≡ false
+  go true rest = rest
+  go false rest = λ i. other.0 i || rest i
+
+-- one loaded job more leaves the other names as they are
+beside : (e : Entry) (rs : List Row) (es : List Entry) → IsOther (name e) (map name es) → not_loaded (row e ∷ rs) (map name es) ≡ not_loaded rs (map name es)
+beside e rs [] other = refl
+beside e rs (x ∷ es) other =
+    let rest = beside e rs es other.2 in λ i. cond (not (swapped e.number x.number other.0 i || is_loaded rs (name x))) (name x ∷ rest i) (rest i)
+
+gone-names : (es : List Entry) → IsOnce (map name es) → names_of (gone es) ≡ not_loaded (rows es) (map name es)
+gone-names [] once = refl
+gone-names (e ∷ es) once = go e.has_gone (gone-names es once.1) where
+  go : (b : Bool) → names_of (gone es) ≡ not_loaded (rows es) (map name es) →
+      names_of (cond b (row e ∷ gone es) (gone es)) ≡ not_loaded (cond b (rows es) (row e ∷ rows es)) (name e ∷ map name es)
+  go true rest =
+      ap (λ ns. name e ∷ ns) rest
+      ∙ sym (ap (λ b. cond (not b) (name e ∷ not_loaded (rows es) (map name es)) (not_loaded (rows es) (map name es))) (not-among (name e) es once.0))
+  go false rest =
+      let left = not_loaded (row e ∷ rows es) (map name es) in
+      rest ∙ sym (beside e (rows es) es once.0)
+      ∙ sym (ap (λ b. cond (not (b || is_loaded (rows es) (name e))) (name e ∷ left) left) (eqb-self e.number))
+
 -- every table's numbers stand for its labels
 pub numbered : (t : Jobs) → IsSound t → IsNumbered (seen t)
-numbered t sound = record { once = sound.once; named = named-rows (map name t.entries.items) t.entries.items (named-in t.entries.items sound.once) }
+numbered t sound =
+    let es = t.entries.items in
+    record {
+      once = sound.once;
+      named = named-rows (map name es) es (named-in es sound.once);
+      gone = gone-names es sound.once;
+    }
 
 all-placed : (P : Entry → Type 0) (e : Entry) (es : List Entry) (k : ℕ) → AllByRecursion P (take k es ++ e ∷ drop k es) → P e × AllByRecursion P es
 all-placed P e es zero all = (all.0, all.1)

@@ -15,7 +15,7 @@ use Rattle.history_model.specs.Acceptance.{refusal_at}
 use Rattle.history_model.specs.Step.{with_item, heard_one}
 use Rattle.job_defs.specs.Definitions.{definition}
 use Rattle.job_table.specs.StandsFor.{KeepsJob, KeepsJobs}
-use Rattle.job_table.specs.Entries.{row, name, rows, AllStay, has_label, is_here}
+use Rattle.job_table.specs.Entries.{row, name, rows, gone, AllStay, has_label, is_here}
 use Rattle.job_table.specs.declared.entry.Entry.{Entry}
 use Rattle.job_table.proofs.ListLemmas.{set-map}
 use Rattle.job_table.proofs.FirstLemmas.{IsFirstWhere, NonePasses, first-where, none-where, within-where}
@@ -27,6 +27,11 @@ IsFirstAt label es k = IsFirstWhere (has_label label) es k
 pub rows-all : (es : List Entry) → AllStay es → rows es ≡ map row es
 rows-all [] stay = refl
 rows-all (e ∷ es) stay = ap (λ b. cond b (rows es) (row e ∷ rows es)) stay.0 ∙ ap (λ rs. row e ∷ rs) (rows-all es stay.1)
+
+-- and none is gone
+pub none-gone : (es : List Entry) → AllStay es → gone es ≡ []
+none-gone [] stay = refl
+none-gone (e ∷ es) stay = ap (λ b. cond b (row e ∷ gone es) (gone es)) stay.0 ∙ none-gone es stay.1
 
 -- the machine's test of a job is the table's test of its entry
 of-job : (at : Reading) (label : Label) (e : Entry) (job : Job) (b : Bool) → KeepsJob at (row e) job → has_label label e ≡ b → is_of label job ≡ b

@@ -1,6 +1,6 @@
 -- The numbers under which the table holds the jobs.
-use Rattle.std.specs.Prelude.{◌≡◌, List, map, Some, Result, Ok, Err}
-use Rattle.std.specs.List.{AllByRecursion}
+use Rattle.std.specs.Prelude.{◌≡◌, ◌==◌, Bool, not, List, map, Some, Result, Ok, Err}
+use Rattle.std.specs.List.{AllByRecursion, filter, list_any}
 use Rattle.history_model.specs.declared.Refusal.{Refusal}
 use Rattle.job_table.specs.Tables.{Row, Name, Table, IsOnce, definition_of_number}
 use Rattle.job_table.specs.Loads.{described_in, number_in}
@@ -14,11 +14,21 @@ name_of row = record { number = row.number; described = row.described }
 abbrev pub names_of : List Row → List Name
 names_of rows = map name_of rows
 
--- each number stands for one label, that of a loaded job for the job's own
+-- a loaded job has the name's number
+abbrev pub is_loaded : List Row → Name → Bool
+is_loaded rows name = list_any (λ row. name.number == row.number) rows
+
+-- the names that no loaded job has
+abbrev pub not_loaded : List Row → List Name → List Name
+not_loaded rows names = filter (λ name. not (is_loaded rows name)) names
+
+-- each number stands for one label, that of a loaded job for the job's own; those that are gone have
+-- the names that no loaded job has
 pub record IsNumbered (table : Table) : Type 0 where
   pub once : IsOnce table.names
   pub named : AllByRecursion
       (λ row. definition_of_number table.names row.number ≡ Some row.described) table.rows
+  pub gone : names_of table.gone ≡ not_loaded table.rows table.names
 
 -- after an event that was accepted the names are those of the jobs that were loaded before it: no
 -- job changes its number

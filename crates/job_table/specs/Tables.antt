@@ -42,6 +42,7 @@ pub record Table : Type 0 where
   pub settings : List Setting  -- in byte order of labels, each label once
   pub is_shutting_down : Bool
   pub rows : List Row  -- the loaded jobs
+  pub gone : List Row  -- those that went at the last event
   pub orders : List Order  -- those that the last event gave
   pub visited : ℕ  -- how many jobs it visited
   pub names : List Name  -- of the loaded jobs, and of those that went at the last event

@@ -33,7 +33,7 @@ impl Jobs {
         ensures answer { IsOutcome (Tick at) (seen self.old) (Ok tt) (seen self.new) }
         ensures kept { IsNext (Tick at) (seen self.old) (seen self.new) }
         ensures counted { IsCounted (counts (seen self.old).rows) (seen self.new).rows
-            (seen self.new).visited }
+            (seen self.new).gone (seen self.new).visited }
         ensures names { (seen self.new).names ≡ names_of (seen self.old).rows }
         ensures room { HasSameRoom (seen self.old) (seen self.new) }
         ensures untouched { SparesUntouched at (seen self.old) (seen self.new) }

@@ -11,7 +11,7 @@ ghost use Rattle.history_model.specs.JobItems.{item_of};
 ghost use Rattle.job_table.specs.StandsFor.{KeepsJobs, labelled};
 ghost use Rattle.job_table.specs.Numbers.{names_of};
 ghost use Rattle.job_table.specs.Room.{HasSameRoom};
-ghost use Rattle.job_table.specs.Entries.{rows, name, AllStay};
+ghost use Rattle.job_table.specs.Entries.{rows, gone, name, AllStay};
 ghost use Rattle.job_table.specs.Counts.{counts, IsCounted};
 ghost use Rattle.job_core.specs.Memory.{NeedsNoMemory};
 ghost use Rattle.job_table.specs.Hearing.{AreFor, IsAccepted, present_with};
@@ -155,7 +155,7 @@ impl Jobs {
             ≡ flat_map orders_of (heard item jobs) }
         ensures names { map name self.new.entries.items ≡ map name self.old.entries.items }
         ensures counted { IsCounted (counts (rows self.old.entries.items))
-            (rows self.new.entries.items) self.new.visited }
+            (rows self.new.entries.items) (gone self.new.entries.items) self.new.visited }
         ensures spared { SparesBut news.entry self.old.entries.items self.new.entries.items }
         ensures triggers { self.new.triggers ≡ self.old.triggers }
         ensures whole { IsWhole self.new }

@@ -20,7 +20,7 @@ use Rattle.job_table.specs.StandsFor.{KeepsJobs, KeepsState, numbered_all}
 use Rattle.job_table.specs.Counts.{counts, count_in, IsCounted}
 use Rattle.job_table.specs.Triggers.{AreListed, AreOrdered}
 use Rattle.job_table.proofs.MinutesLemmas.{have-marks}
-use Rattle.job_table.specs.Entries.{name, rows, AllStay, is_named}
+use Rattle.job_table.specs.Entries.{name, rows, gone, AllStay, is_named}
 use Rattle.job_table.specs.Index.{AreTimed, AreAlone, ArePlaced, HaveRoom, place_in}
 use Rattle.job_table.specs.Marking.{HavePlaces}
 use Rattle.job_table.specs.Minutes.{has_calendars, some_calendar}
@@ -123,7 +123,7 @@ returns-clause-counted c =
     let es = c.args.self.now.entries.items in
     let after = c.visit_ready-visited.new.entries in
     let whole = lent-back after (drop (length after) es) c.args.self.now.entries.len (omega arith) in
-    subst (λ all. IsCounted (counts (rows es)) (rows all) c.visit_ready-visited.result.0) (sym whole)
+    subst (λ all. IsCounted (counts (rows es)) (rows all) (gone all) c.visit_ready-visited.result.0) (sym whole)
     (visits-counted c.mark_minutes.new.ready es after c.visit_ready-visited.result.0 c.requires.stay c.requires.sound.once
     (subst (λ all. AreVisitedOnce c.mark_minutes.new.ready 0 all after) c.deref_mut.ensures.value c.visit_ready-visited.ensures.visits) c.visit_ready-visited.ensures.visited)
 

@@ -9,7 +9,7 @@ use Rattle.job_table.specs.StandsFor.{KeepsJobs, numbered_all}
 use Rattle.job_table.specs.Counts.{counts, count_in, IsCounted}
 use Rattle.job_table.specs.Triggers.{AreListed}
 use Rattle.job_table.specs.Index.{ArePlaced, IsIndexOf, AreTimed, AreAlone, HaveRoom, place_in}
-use Rattle.job_table.specs.Entries.{name, rows, AllStay, is_named}
+use Rattle.job_table.specs.Entries.{name, rows, gone, AllStay, is_named}
 use Rattle.job_table.specs.Minutes.{some_calendar}
 use Rattle.job_table.specs.News.{is_touched}
 use Rattle.job_table.specs.Sound.{AreFree}
@@ -86,7 +86,7 @@ returns-clause-counted c =
     let es = c.args.self.now.entries.items in
     let after = c.visit_ready-visited.new.entries in
     let whole = lent-back after (drop (length after) es) c.args.self.now.entries.len (omega arith) in
-    subst (λ all. IsCounted (counts (rows es)) (rows all) c.visit_ready-visited.result.0) (sym whole)
+    subst (λ all. IsCounted (counts (rows es)) (rows all) (gone all) c.visit_ready-visited.result.0) (sym whole)
     (visits-counted c.mark_touched.new.ready es after c.visit_ready-visited.result.0 c.requires.stay c.requires.sound.once
     (subst (λ all. AreVisitedOnce c.mark_touched.new.ready 0 all after) c.deref_mut.ensures.value c.visit_ready-visited.ensures.visits) c.visit_ready-visited.ensures.visited)
 
