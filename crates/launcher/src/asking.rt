@@ -4,7 +4,7 @@ ghost use Rattle.std.specs.Prelude.{◌≡◌, Some, [], is_some, true, option_a
 ghost use Rattle.history_model.specs.declared.event.Event.TheVariants as events;
 ghost use Rattle.event_reader.specs.EventLines.{request_at};
 ghost use Rattle.job_table.specs.Numbers.{IsNumbered};
-ghost use Rattle.launcher_load.specs.Lines.{journaled_set};
+ghost use Rattle.launcher.specs.Lines.{journaled_set};
 ghost use Rattle.launcher.specs.Hosts.{HostHears, HostStamps};
 ghost use Rattle.launcher.specs.Inputs.{asked_in};
 ghost use Rattle.launcher.specs.Writable.{WritesWhat};
@@ -12,13 +12,12 @@ ghost use Rattle.launcher.specs.Writable.{WritesWhat};
 use crate::fitting::lend_request;
 use crate::host::Host;
 use crate::replies::{done, refused, told};
+use crate::{EventRef, News, list, load, print, set};
 use child_edge::{ChildEdge, SocketEdge};
 use ctl_protocol::ReadFault;
 use history_model::{Event, Refusal, Reply};
 use job_table::JobTable;
-use launcher_load::{load, set};
-use launcher_turn::{EventRef, News, list, print};
-use load_asking::SettingStore;
+use outside::SettingStore;
 use std::alloc::Global;
 use std::io::Write;
 

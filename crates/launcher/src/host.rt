@@ -3,20 +3,20 @@
 ghost use Rattle.std.specs.Prelude.{◌≡◌, ◌↔◌, IfOk, IsTrue, List, Result, is_some, true};
 ghost use Rattle.std.specs.Borrow.{sem};
 ghost use Rattle.history_model.specs.declared.event.Setting.{Setting};
-ghost use Rattle.load_asking.specs.declared.store.StoreFault.{StoreFault};
-ghost use Rattle.load_asking.specs.Stores.{HoldsAfter};
+ghost use Rattle.outside.specs.declared.store.StoreFault.{StoreFault};
+ghost use Rattle.outside.specs.Stores.{HoldsAfter};
 ghost use Rattle.event_journal.specs.Journals.{fresh, held, reported, is_writing};
 ghost use Rattle.launcher.specs.Hosts.{IsNewWith, stands};
 ghost use Rattle.launcher.specs.Faults.{ComesOf, FaultOf};
 ghost use Rattle.launcher.specs.Lends.{lends_edge};
 
+use crate::Room;
 use crate::making::{Inside, make_inside, store_fault, with_settings};
 use child_edge::{ChildEdge, SocketEdge};
 use ctl_protocol::{Header, LineReader};
 use event_journal::{Journal, Phase};
 use job_table::JobTable;
-use launcher_turn::Room;
-use load_asking::SettingStore;
+use outside::SettingStore;
 use std::alloc::Global;
 use std::io::Write;
 

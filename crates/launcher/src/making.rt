@@ -8,6 +8,7 @@ ghost use Rattle.launcher.specs.Hosts.{with_settings as with_overrides};
 ghost use Rattle.launcher.specs.Faults.{FaultOf, IsFaultWith, fault_of_store};
 ghost use Rattle.launcher.specs.Writable.{IsWritableHeader};
 
+use crate::Room;
 use crate::fitting::lend_zone;
 use crate::host::HostFault;
 use crate::settings::are_in_order;
@@ -15,8 +16,7 @@ use ctl_protocol::{Header, LineReader, Settings};
 use event_journal::Journal;
 use history_model::Setting;
 use job_table::JobTable;
-use launcher_turn::Room;
-use load_asking::StoreFault;
+use outside::StoreFault;
 use std::alloc::{AllocError, Global};
 use std::io::Write;
 use table_opening::{OpeningFault, table_of};

@@ -6,7 +6,7 @@ use control_socket::Answers;
 use ctl_protocol::{LineReader, ReadFault};
 use history_model::{Event, Reading, Refusal, Reply, Text};
 use launcher::{Host, Input};
-use load_asking::SettingStore;
+use outside::SettingStore;
 use std::alloc::{AllocError, Global};
 use std::io::Write;
 

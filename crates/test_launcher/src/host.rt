@@ -6,7 +6,7 @@ use crate::runs::*;
 use child_edge::{EdgeCall, Scripted};
 use history_model::Ended;
 use launcher::{HostFault, Input};
-use load_asking::StoreFault;
+use outside::StoreFault;
 
 const STARTED: Scripted = Scripted::Started(812);
 

@@ -3,7 +3,7 @@
 use crate::stage::{FIRST, Stage, load_on, set_stage};
 use child_edge::{EdgeCall, Scripted};
 use history_model::Refusal;
-use launcher_load::Loaded;
+use launcher::Loaded;
 use std::alloc::Global;
 
 /// A job that is started once it is loaded.

@@ -3,8 +3,8 @@
 use child_edge::{EdgeCall, Scripted};
 use history_model::{JobNo, Refusal, Setting, Text};
 use launcher::{HostFault, Input};
-use load_asking::StoreFault;
 use memory_stage::{Stage, edge, header, holds, opened, reading, set_stage, store};
+use outside::StoreFault;
 use std::alloc::Global;
 
 /// The number that the first job has.

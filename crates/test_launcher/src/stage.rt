@@ -7,8 +7,7 @@ use ctl_protocol::{Header, Settings, ZoneText};
 use event_journal::Journal;
 use history_model::{JobNo, Reading, Refusal, Text};
 use job_table::JobTable;
-use launcher_load::{Loaded, load};
-use launcher_turn::{EventRef, Room, turn};
+use launcher::{EventRef, Loaded, Room, load, turn};
 use memory_stage::Sink;
 use std::alloc::Global;
 

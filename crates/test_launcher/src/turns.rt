@@ -3,7 +3,7 @@
 use crate::stage::{FIRST, Stage, load_on, set_stage, turn_on};
 use child_edge::{EdgeCall, Scripted};
 use history_model::Refusal;
-use launcher_turn::{EventRef, News};
+use launcher::{EventRef, News};
 use std::alloc::Global;
 
 /// A job that is started once it is loaded, and is not throttled.

@@ -7,7 +7,7 @@ use crate::stage::FIRST;
 use crate::turns::*;
 use child_edge::{EdgeCall, Scripted};
 use history_model::{Ended, Reading};
-use launcher_turn::{EventRef, News};
+use launcher::{EventRef, News};
 
 const STARTED: Scripted = Scripted::Started(812);
 

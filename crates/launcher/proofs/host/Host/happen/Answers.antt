@@ -1,13 +1,13 @@
 -- What happened, with its reply.
 use Rattle.std.proofs.Common.{[], Option, Some, sym, subst}
 use Rattle.history_model.specs.Labels.{Label}
-use Rattle.launcher_turn.specs.Lines.{journaled_by}
+use Rattle.launcher.specs.Lines.{journaled_by}
 use Rattle.job_table.specs.Loads.{refused_with}
 use Rattle.launcher.proofs.HostsLemmas.{as_replied}
 use Rattle.launcher.proofs.HearingLemmas.{happened}
 use Rattle.launcher.proofs.StampsLemmas.{sets_none}
 use Rattle.launcher.proofs.host.Host.happen.Goals as goal
-use Rattle.launcher_load.specs.LoadTurns.{stamps_after, standing}
+use Rattle.launcher.specs.LoadTurns.{stamps_after, standing}
 
 pub returns-clause-hears : goal.returns-clause-hears
 returns-clause-hears g c =

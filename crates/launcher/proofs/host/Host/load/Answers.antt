@@ -9,7 +9,7 @@ use Rattle.job_table.specs.Loads.{load_of, refused_with}
 use Rattle.launcher.proofs.HostsLemmas.{as_replied}
 use Rattle.launcher.proofs.AskingLemmas.{loaded, load_words}
 use Rattle.launcher.proofs.host.Host.load.Goals as goal
-use Rattle.launcher_load.specs.LoadTurns.{label_written, load_request, stamps_after, standing}
+use Rattle.launcher.specs.LoadTurns.{label_written, load_request, stamps_after, standing}
 
 pub returns-clause-hears : goal.returns-clause-hears
 returns-clause-hears g c =

@@ -6,7 +6,7 @@ use Rattle.job_table.specs.Loads.{refused_with}
 use Rattle.launcher.proofs.HostsLemmas.{as_replied}
 use Rattle.launcher.proofs.AskingLemmas.{printed}
 use Rattle.launcher.proofs.host.Host.print.Goals as goal
-use Rattle.launcher_load.specs.LoadTurns.{standing}
+use Rattle.launcher.specs.LoadTurns.{standing}
 
 pub returns-clause-hears : goal.returns-clause-hears
 returns-clause-hears g c =

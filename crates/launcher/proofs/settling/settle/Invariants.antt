@@ -1,0 +1,18 @@
+-- The invariants of the loop of `settling::settle`.
+use Rattle.std.proofs.Common.{◌≤◌, ◌*◌, ◌-◌, List}
+use Rattle.history_model.specs.Machine.{State}
+use Rattle.history_model.specs.Turns.{JobOrder}
+use Rattle.history_model.specs.AwaitedOrders.{weigh_orders}
+use Rattle.job_table.specs.Tables.{Name}
+use Rattle.launcher.specs.Turns.{IsWaiting}
+use Rattle.launcher.proofs.SettlingLemmas.{IsSoFar}
+use Rattle.launcher.proofs.settling.settle.Given as goal
+use Rattle.history_model.specs.declared.TheConstants.{MAX_JOBS}
+
+abbrev pub invariant-loop-next : goal.invariant-loop-next
+invariant-loop-next g l =
+    (s : State) (names : List Name) (waits : List JobOrder) → IsWaiting l.fn.table s names waits l.fn.room.answers → weigh_orders waits ≤ 3 * MAX_JOBS →
+    IsSoFar s names l.fn.room.answers l.room.answers l.next l.table (g.E.Edge.told l.fn.edge) (g.E.Edge.told l.edge) l.fn.journal l.journal
+
+abbrev pub decreases-loop-next : goal.decreases-loop-next
+decreases-loop-next g l = 3 * MAX_JOBS - l.next
