@@ -27,7 +27,7 @@ use Rattle.launcher.specs.declared.event_ref.News.{News}
 use Rattle.launcher.specs.declared.event_ref.News.TheVariants as news
 use Rattle.launcher.specs.Events.{event_of_ref, is_clock, item_heard}
 use Rattle.launcher.specs.Lines.{journaled_by, journaled_of, journaled_answer}
-use Rattle.launcher.specs.Turns.{AreNumbered, TurnsOf, Turns, IsUntouched, Trace, trace}
+use Rattle.launcher.specs.Turns.{AreNumbered, TurnsOf, Turns, IsUncalled, Trace, trace}
 use Rattle.job_table.specs.Loads.{refused_with}
 use Rattle.launcher.specs.LoadTurns.{is_memory, standing}
 use Rattle.table_opening.specs.Events.{event_of}
@@ -169,7 +169,7 @@ Counted s e line reply old new before after = (turn : TurnsOf s e line reply new
 
 pub happened : (what : EventRef) (answer : Result (Unit {0}) Refusal) (old new : Table) (a c : Option (List Entry)) (t : Option (List StoreCall)) (k n : JournalState) (before : List Setting → Type 0) →
     UnlessMemory answer (Turns (event_of_ref what) (event_line (journaled_by what)) (refused_with answer) old new (trace a k) (trace c n)) →
-    (answer ≡ Err NoMemory → (is_clock what ≡ true) × IsUntouched old new a c × (n ≡ k)) →
+    (answer ≡ Err NoMemory → (is_clock what ≡ true) × IsUncalled old new a c × (n ≡ k)) →
     Hears (Some (journaled_by what)) (refused_with answer) [] (standing old a t k) (standing new c t n) before before
 happened what answer old new a c t k n before turned none =
     hears (journaled_by what) (refused_with answer) [] (standing old a t k) (standing new c t n) before before

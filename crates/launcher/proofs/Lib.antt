@@ -1,3 +1,4 @@
+pub mod AcceptingLemmas
 pub mod AskingLemmas
 pub mod CarryLemmas
 pub mod FinishingLemmas

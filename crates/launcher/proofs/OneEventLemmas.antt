@@ -25,7 +25,7 @@ use Rattle.outside.specs.Orders.{answers_in}
 use Rattle.history_model.specs.Turns.{JobOrder, wanting, is_answer}
 use Rattle.history_model.proofs.TurnsLemmas.{IsTurning, turning-step}
 use Rattle.history_model.proofs.LabelOrderLemmas.{heard_one-labels, same_self, order-run, all-stays}
-use Rattle.launcher.specs.Turns.{AreNumbered, Carried, orders_lent, IsUntouched, event_in, AreTheirs, IsLabel, IsOrderly, IsWaiting, HappensTo, Happens, Handled, trace}
+use Rattle.launcher.specs.Turns.{AreNumbered, Carried, orders_lent, IsUncalled, event_in, AreTheirs, IsLabel, IsOrderly, IsWaiting, HappensTo, Happens, Handled, trace}
 use Rattle.job_table.specs.Loads.{refused_with}
 use Rattle.job_core.specs.Memory.{NeedsNoMemory}
 use Rattle.ctl_protocol.specs.EventWriter.{event_line}
@@ -129,7 +129,7 @@ taken-in (Err _) holds memory = holds
 
 -- a reading that found no memory was not taken in
 pub not-read : (e : Event) (old new : Table) (lent : Result Step Refusal) (result : Result (Unit {0}) Refusal) (before after : List Unheard) (told told' : Option (List Entry)) →
-    refused_with result ≡ refused_with lent → IsNextUnless lent e old new → Visits lent old new → Carried (orders_lent lent) before after told told' → result ≡ Err NoMemory → IsUntouched old new told told'
+    refused_with result ≡ refused_with lent → IsNextUnless lent e old new → Visits lent old new → Carried (orders_lent lent) before after told told' → result ≡ Err NoMemory → IsUncalled old new told told'
 not-read e old new (Ok lent) result before after told told' same next visits carried is = let none : Some NoMemory ≡ None = ap refused_with (sym is) ∙ same in cc
 not-read e old new (Err refusal) result before after told told' same next visits carried is =
     let none : Some NoMemory ≡ Some refusal = ap refused_with (sym is) ∙ same in

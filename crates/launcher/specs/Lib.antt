@@ -1,3 +1,4 @@
+pub mod Accepting
 pub mod Events
 pub mod Faults
 pub mod Hosts

@@ -235,7 +235,7 @@ Turns input line reply old new before after =
 
 -- nothing happened: the table stands for what it stood for, with the same jobs under the same
 -- numbers, and no call was made
-pub record IsUntouched (old new : Table) (told told' : Option (List Entry)) : Type 0 where
+pub record IsUncalled (old new : Table) (told told' : Option (List Entry)) : Type 0 where
   pub same : IsSameFor old new
   pub rows : new.rows ≡ old.rows
   pub tells : Tells told [] told'

@@ -13,7 +13,7 @@ use outside::carry;
 
 /// Carries out each order of the step, in order, each by its one call, and puts the answers behind those that wait. Takes no
 /// memory of its own.
-pub fn carry_all<E: ChildEdge + SocketEdge>(
+pub(crate) fn carry_all<E: ChildEdge + SocketEdge>(
     edge: &mut E,
     step: &Step<'_>,
     answers: &mut AnswerQueue,

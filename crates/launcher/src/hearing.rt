@@ -4,7 +4,7 @@ ghost use Rattle.std.specs.Prelude.{◌≡◌, Err, true};
 ghost use Rattle.history_model.specs.declared.Refusal.TheVariants.{NoMemory};
 ghost use Rattle.job_table.specs.Outcomes.{UnlessMemory};
 ghost use Rattle.launcher.specs.Events.{event_of_ref, is_clock};
-ghost use Rattle.launcher.specs.Turns.{Happens, IsUntouched};
+ghost use Rattle.launcher.specs.Turns.{Happens, IsUncalled};
 ghost use Rattle.job_table.specs.Loads.{refused_with};
 
 use crate::carrying::carry_step;
@@ -28,7 +28,7 @@ pub(crate) fn hear<E: ChildEdge + SocketEdge>(
         (Happens (event_of_ref what.entry) (refused_with result) table.old table.new
         answers.old answers.new (E.told edge.old) (E.told edge.new)) }
     ensures memory { result ≡ Err NoMemory →
-        (is_clock what.entry ≡ true) × IsUntouched table.old table.new
+        (is_clock what.entry ≡ true) × IsUncalled table.old table.new
         (E.told edge.old) (E.told edge.new) }
 {
     match what {

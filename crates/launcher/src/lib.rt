@@ -2,6 +2,7 @@
 //! One input after another is made an event of the machine, and each answer of the outside too.
 #![tactic(auto)]
 
+mod accepted;
 mod asking;
 mod carrying;
 mod event_ref;
@@ -10,7 +11,6 @@ mod fitting;
 mod hearing;
 mod host;
 mod input;
-mod inputs;
 pub mod laws;
 mod lines;
 mod loading;
@@ -24,13 +24,7 @@ mod settings;
 mod settling;
 mod turns;
 
-pub use carrying::carry_all;
-pub use event_ref::{EventRef, News};
+pub use accepted::Accepted;
 pub use host::{Host, HostFault};
 pub use input::Input;
-pub use loading::{Loaded, load};
-pub use questions::{list, print};
-pub use room::{AnswerQueue, LabelRoom, Room};
-pub use setting::{Changed, set};
-pub use settling::settle;
-pub use turns::turn;
+pub use room::LabelRoom;

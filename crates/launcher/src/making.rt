@@ -8,9 +8,9 @@ ghost use Rattle.launcher.specs.Hosts.{with_settings as with_overrides};
 ghost use Rattle.launcher.specs.Faults.{FaultOf, IsFaultWith, fault_of_store};
 ghost use Rattle.launcher.specs.Writable.{IsWritableHeader};
 
-use crate::Room;
 use crate::fitting::lend_zone;
 use crate::host::HostFault;
+use crate::room::Room;
 use crate::settings::are_in_order;
 use ctl_protocol::{Header, LineReader, Settings};
 use event_journal::Journal;
@@ -87,7 +87,7 @@ pub(crate) fn make_inside<W: Write + Drop>(
     if !are_in_order(header.overrides.as_slice()) {
         return Err(HostFault::Store);
     }
-    lend_zone(&header.zone);
+    lend_zone(&header.zone); // for the proof
     let Ok((room, reader)) = reserved(alloc) else {
         return Err(HostFault::NoMemory);
     };

@@ -1,6 +1,8 @@
-//! The line of a load, and of a setting, with what the outside answered.
+//! The line of a load, and of a setting, with what the outside answered; and of a question.
 
 ghost use Rattle.std.specs.Prelude.{◌≡◌, IfOk, Some, true, false};
+ghost use Rattle.history_model.specs.declared.event.Event.TheVariants as journaled;
+ghost use Rattle.ctl_protocol.specs.EventWriter.{event_line};
 ghost use Rattle.event_journal.specs.Journals.{Grows};
 ghost use Rattle.launcher.specs.Lines.{journaled_load, journaled_set, load_line, set_line};
 ghost use Rattle.launcher.specs.LoadTurns.{is_memory};
@@ -53,6 +55,24 @@ fn set_event(
         return Ok(Event::Disable { job, store });
     }
     Ok(Event::Enable { job, store })
+}
+
+/// The journal's event of `print`. `AllocError` if memory for a copy of the label was refused.
+fn print_event(alloc: Global, label: &str) -> Result<Event, AllocError>
+    ensures { IfOk result (λ event. event ≡ journaled.Print label.now) }
+{
+    let job = Text::copy_of(alloc, label)?;
+    Ok(Event::Print { job })
+}
+
+/// Writes the line of `print`. If no line is written, its event is not even made; want of memory for it closes the journal.
+pub(crate) fn note_print<W: Write>(journal: &mut Journal<W>, alloc: Global, label: &str)
+    ensures { Grows journal.old journal.new (event_line (journaled.Print label.now)) }
+{
+    if !journal.is_writing() {
+        return;
+    }
+    journal.note_made(alloc, print_event(alloc, label));
 }
 
 /// Writes the line of a load with these answers. If no line is written, its event is not even made; want of memory for it closes

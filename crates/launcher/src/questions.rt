@@ -11,60 +11,52 @@ ghost use Rattle.job_table.specs.StandsFor.{KeepsState};
 ghost use Rattle.job_table.specs.Outcomes.{UnlessMemory, IsReplyText, Means};
 ghost use Rattle.event_journal.specs.Journals.{Grows};
 
-use event_journal::Journal;
-use history_model::{Event, Refusal, Text};
-use job_table::JobTable;
-use std::alloc::{AllocError, Global};
+use crate::host::Host;
+use crate::noting::note_print;
+use child_edge::{ChildEdge, SocketEdge};
+use history_model::{Event, Refusal};
+use outside::SettingStore;
+use std::alloc::Global;
 use std::io::Write;
 
-/// The text of `list` of launchctl(1). Refusal: NoMemory, and then no line is written.
-pub fn list<W: Write>(
-    table: &JobTable,
-    journal: &mut Journal<W>,
-    alloc: Global,
-) -> Result<String, Refusal>
-    ensures text { IfOk result (λ text. IsReplyText ListJobs table.now (string_bytes text)) }
-    ensures memory { IfErr result (λ refusal. refusal ≡ NoMemory) }
-    ensures noted { OnOk result (Grows journal.old journal.new (event_line journaled.List)) }
-    ensures silent { OnErr result (journal.new ≡ journal.old) }
-{
-    let text = table.list(alloc)?;
-    journal.note(alloc, &Event::List);
-    Ok(text)
-}
+impl<T: SettingStore, E: ChildEdge + SocketEdge, W: Write> Host<T, E, W> {
+    /// The text of `list` of launchctl(1). Refusal: NoMemory, and then no line is written.
+    pub(crate) fn list(&mut self, alloc: Global) -> Result<String, Refusal>
+        ensures text { IfOk result (λ text.
+            IsReplyText ListJobs self.old.table (string_bytes text)) }
+        ensures memory { IfErr result (λ refusal. refusal ≡ NoMemory) }
+        ensures noted { OnOk result
+            (Grows self.old.journal self.new.journal (event_line journaled.List)) }
+        ensures silent { OnErr result (self.new.journal ≡ self.old.journal) }
+        ensures rest { self.new ≡ record self.old { journal = self.new.journal } }
+    {
+        let text = self.table.list(alloc)?;
+        self.journal.note(alloc, &Event::List);
+        Ok(text)
+    }
 
-/// The journal's event of `print`. `AllocError` if memory for a copy of the label was refused.
-fn print_event(alloc: Global, label: &str) -> Result<Event, AllocError>
-    ensures { IfOk result (λ event. event ≡ journaled.Print label.now) }
-{
-    let job = Text::copy_of(alloc, label)?;
-    Ok(Event::Print { job })
-}
-
-/// The text of `print` of launchctl(1). Refusals: BadRequest (no label), NoSuchJob; NoMemory, and then no line is written.
-pub fn print<W: Write>(
-    table: &JobTable,
-    journal: &mut Journal<W>,
-    alloc: Global,
-    label: &str,
-) -> Result<String, Refusal>
-    ensures text { IfOk result (λ text.
-        IsReplyText (PrintJob label.now) table.now (string_bytes text)) }
-    ensures refused { IfErr result (λ refusal. Means refusal ((s : State) →
-        KeepsState table.now s → refusal_in s (PrintJob label.now) ≡ Some refusal)) }
-    ensures noted { UnlessMemory result
-        (Grows journal.old journal.new (event_line (journaled.Print label.now))) }
-    ensures silent { result ≡ Err NoMemory → journal.new ≡ journal.old }
-{
-    match table.print(alloc, label) {
-        Ok(text) => {
-            journal.note_made(alloc, print_event(alloc, label));
-            Ok(text)
-        }
-        Err(Refusal::NoMemory) => Err(Refusal::NoMemory),
-        Err(refusal) => {
-            journal.note_made(alloc, print_event(alloc, label));
-            Err(refusal)
+    /// The text of `print` of launchctl(1). Refusals: BadRequest (no label), NoSuchJob; NoMemory, and then no line is written.
+    pub(crate) fn print(&mut self, alloc: Global, label: &str) -> Result<String, Refusal>
+        ensures text { IfOk result (λ text.
+            IsReplyText (PrintJob label.now) self.old.table (string_bytes text)) }
+        ensures refused { IfErr result (λ refusal. Means refusal ((s : State) →
+            KeepsState self.old.table s →
+            refusal_in s (PrintJob label.now) ≡ Some refusal)) }
+        ensures noted { UnlessMemory result
+            (Grows self.old.journal self.new.journal (event_line (journaled.Print label.now))) }
+        ensures silent { result ≡ Err NoMemory → self.new.journal ≡ self.old.journal }
+        ensures rest { self.new ≡ record self.old { journal = self.new.journal } }
+    {
+        match self.table.print(alloc, label) {
+            Ok(text) => {
+                note_print(&mut self.journal, alloc, label);
+                Ok(text)
+            }
+            Err(Refusal::NoMemory) => Err(Refusal::NoMemory),
+            Err(refusal) => {
+                note_print(&mut self.journal, alloc, label);
+                Err(refusal)
+            }
         }
     }
 }

@@ -103,9 +103,6 @@ impl<R: System, T: SettingStore + Drop, W: Write + Drop> Live<R, T, W> {
         let Ok(rooms) = make_rooms(rt, alloc) else {
             return Err(ServeFault::NoMemory);
         };
-        let Ok(inputs) = RoundLauncher::new(alloc, host) else {
-            return Err(ServeFault::NoMemory);
-        };
         let Rooms {
             events,
             sights,
@@ -114,7 +111,7 @@ impl<R: System, T: SettingStore + Drop, W: Write + Drop> Live<R, T, W> {
             voice,
         } = rooms;
         Ok(Live {
-            inputs,
+            inputs: RoundLauncher::new(host),
             control,
             poll,
             events,

@@ -142,11 +142,11 @@ fn set_pair(
 ) -> Result<Pair<MemoryStore, HandedEdge, Sink>, Refusal> {
     let host = set_stage(alloc, orders)?;
     let whole = set_stage(alloc, orders)?;
-    let (Ok(spared), Ok(looks)) = (RoundLauncher::new(alloc, host), Sights::new(alloc)) else {
+    let Ok(looks) = Sights::new(alloc) else {
         return Err(Refusal::NoMemory);
     };
     Ok(Pair {
-        spared,
+        spared: RoundLauncher::new(host),
         looks,
         whole,
         at: reading(0),
