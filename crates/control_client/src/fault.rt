@@ -3,13 +3,11 @@
 ghost use Rattle.std.specs.Prelude.{◌≡◌};
 ghost use Rattle.control_client.specs.declared.fault.Fault.TheVariants.{NoMemory};
 
+use exit_status::{BAD_FILE, BAD_OUTPUT, NO_ANSWER, NO_MEMORY, READER_GONE};
 use job_defs::DefFault;
 use std::alloc::AllocError;
 use std::io;
 use std::io::ErrorKind;
-
-/// The exit status if the standard output's reader has gone: that of a program which a shell's pipe ended by SIGPIPE.
-pub const READER_GONE: u8 = 141;
 
 /// What keeps a request from its reply.
 #[derive(Debug, Drop, thiserror::Error)]
@@ -50,22 +48,22 @@ pub enum Fault {
 
 impl Fault {
     /// The exit status that tells it, as sysexits.h has them: 65 of a file, 69 of the launcher, 74 of the output; 1 for want
-    /// of memory. If the output's reader has gone, [`READER_GONE`].
+    /// of memory. If the output's reader has gone, `READER_GONE`.
     pub fn status(&self) -> u8 {
         match self {
-            Fault::NoMemory => 1,
-            Fault::File(_) | Fault::NotText | Fault::TooLong => 65,
-            Fault::LongRecord | Fault::Definition(_) => 65,
-            Fault::Connection(_) | Fault::Silent(_) | Fault::NoReply => 69,
-            Fault::LongReply | Fault::BadReply => 69,
+            Fault::NoMemory => NO_MEMORY,
+            Fault::File(_) | Fault::NotText | Fault::TooLong => BAD_FILE,
+            Fault::LongRecord | Fault::Definition(_) => BAD_FILE,
+            Fault::Connection(_) | Fault::Silent(_) | Fault::NoReply => NO_ANSWER,
+            Fault::LongReply | Fault::BadReply => NO_ANSWER,
             Fault::Output(error) if error.kind() == ErrorKind::BrokenPipe => READER_GONE,
-            Fault::Output(_) => 74,
+            Fault::Output(_) => BAD_OUTPUT,
         }
     }
 
     /// Whether no further request is made.
     pub fn is_last(&self) -> bool {
-        self.status() == 1 || self.status() == 69
+        self.status() == NO_MEMORY || self.status() == NO_ANSWER
     }
 
     /// Whether it is told: that a reader has gone is no fault of the program.

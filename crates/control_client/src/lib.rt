@@ -12,7 +12,7 @@ mod settings;
 
 pub use connection::{REPLY, hear};
 pub use ctl_protocol::LINE_LIMIT;
-pub use fault::{Fault, READER_GONE};
-pub use program::{NO_MEMORY, USAGE, jobctl};
+pub use fault::Fault;
+pub use program::jobctl;
 pub use reply::Replied;
 pub use request::request_of;

@@ -4,6 +4,7 @@ use crate::fault::Fault;
 use crate::request::{load_event, unload_event};
 use crate::session::Session;
 use crate::settings::{SettingFault, Settings, settings_of};
+use exit_status::{NO_MEMORY, USAGE};
 use history_model::{Ask, Event, JobItem, Text};
 use launchctl_words::{Command, Paths, WordFault, Words, explain, read_words, read_words_beside};
 use path_files::{Found, Kind, files_at};
@@ -12,12 +13,6 @@ use std::fs::Files;
 use std::io;
 use std::net::Net;
 use std::rt::Env;
-
-/// The exit status for want of memory.
-pub const NO_MEMORY: u8 = 1;
-
-/// The exit status for words that are no command (`EX_USAGE` of sysexits.h).
-pub const USAGE: u8 = 64;
 
 /// What is done with each file.
 #[derive(Clone, Copy)]

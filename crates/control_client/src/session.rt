@@ -1,9 +1,10 @@
 //! The requests of one run, in their order, and the exit status that they come to.
 
 use crate::connection::Connection;
-use crate::fault::{Fault, READER_GONE};
+use crate::fault::Fault;
 use crate::reply::Replied;
 use crate::request::request_of;
+use exit_status::READER_GONE;
 use history_model::{Event, Text};
 use std::alloc::Global;
 use std::io;

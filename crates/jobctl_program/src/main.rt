@@ -1,19 +1,11 @@
 //! The program `jobctl`, by which a launcher that runs is asked.
 #![tactic(auto)]
 
-use control_client::{NO_MEMORY, USAGE, jobctl};
+use control_client::jobctl;
+use exit_status::{NO_MEMORY, USAGE};
+use own_process::own_words;
+use std::io;
 use std::process::ExitCode;
-use std::rt::Env;
-use std::{env, io};
-
-/// The words of the command line, the program's own name being the first.
-fn own_words<R: Env + AllocGlobal>(rt: &R) -> io::Result<Vec<String>> {
-    let mut words = Vec::new(rt.alloc());
-    for word in env::args(rt)? {
-        words.push(word)?;
-    }
-    Ok(words)
-}
 
 fn main(rt: HostRuntime) -> ExitCode {
     match own_words(&rt) {

@@ -1,8 +1,9 @@
 //! The journal's file: opened as it is, and emptied only once all else is known to be ours.
 
 use crate::plan::Plan;
-use crate::reporting::{JOURNAL, NO_MEMORY, refuse, report};
+use crate::reporting::{refuse, report};
 use ctl_protocol::{Header, LINE_LIMIT, header_line};
+use exit_status::{JOURNAL, NO_MEMORY};
 use history_model::Text;
 use own_files::open_appended;
 use std::alloc::Global;

@@ -16,14 +16,16 @@ mod words;
 mod zone;
 
 use crate::plan::Places;
-use crate::reporting::NO_MEMORY;
+use exit_status::NO_MEMORY;
 use launchctl_words::{DaemonCommand, WordFault, read_daemon_words};
 pub use launcher::{Host, HostFault, Input};
 use live_loop::System;
 pub use live_loop::{Live, ServeFault, round, serve};
+use own_process::own_words;
 pub use replay::{ReplayFault, replay};
 use replay_streams::replay_input;
 use std::alloc::Global;
+use std::io;
 use std::sync::Wait;
 
 /// Does what the words ask for, the program's own name being the first, and gives the exit status. Both `host` and `rt` are
@@ -64,9 +66,9 @@ pub fn jobd<R: System + Wait>(host: &HostRuntime, rt: &R, alloc: Global, words: 
 
 /// As `jobd`, by the words that this program was started with. Words that are not all UTF-8 are no command.
 pub fn jobd_by_own_words<R: System + Wait>(host: &HostRuntime, rt: &R) -> u8 {
-    match words::own_words(host) {
-        Ok(Some(words)) => jobd(host, rt, host.alloc(), words.as_slice()),
-        Ok(None) => words::refuse_bytes(host),
-        Err(_) => NO_MEMORY,
+    match own_words(host) {
+        Ok(words) => jobd(host, rt, host.alloc(), words.as_slice()),
+        Err(fault) if fault.kind() == io::ErrorKind::OutOfMemory => NO_MEMORY,
+        Err(_) => words::refuse_bytes(host),
     }
 }

@@ -1,8 +1,9 @@
 //! `jobd overrides`: a line for each label that has a stored setting, by rising bytes of the labels.
 
 use crate::looking::Found;
-use crate::reporting::{Level, OUTPUT};
+use crate::reporting::Level;
 use crate::store::{connect, found, report_fault};
+use exit_status::STREAMS;
 use history_model::Setting;
 use override_store::{OverrideStore, StoreFault};
 use sqlite::{Alter, Connection};
@@ -77,6 +78,6 @@ fn print_lines(rt: &impl Print, all: &[Setting], changes: &[(String, u64)]) -> i
 fn print_all(rt: &impl Print, all: &[Setting], changes: &[(String, u64)]) -> u8 {
     match print_lines(rt, all, changes) {
         Ok(()) => 0,
-        Err(_) => OUTPUT,
+        Err(_) => STREAMS,
     }
 }

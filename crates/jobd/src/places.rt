@@ -1,10 +1,11 @@
 //! What the launcher stands on beside its files: the system with its clock, and the control socket.
 
 use crate::plan::Plan;
-use crate::reporting::{CLOCK_OR_WAITING, CONTROL_SOCKET, Level, NO_MEMORY, refuse, tell};
+use crate::reporting::{Level, refuse, tell};
 use crate::standing::{check_standing, room_of};
 use child_edge::{ClockEdge, OsEdge};
 use control_socket::ControlSocket;
+use exit_status::{CLOCK_OR_WAITING, CONTROL_SOCKET, NO_MEMORY};
 use history_model::Reading;
 use live_loop::System;
 use std::alloc::{AllocError, Global};

@@ -1,28 +1,8 @@
-//! The exit statuses, and how a fault is told: one line on standard error, with the path and the reason.
+//! How a fault is told: one line on standard error, with the path and the reason.
 
+use exit_status::NO_MEMORY;
 use std::fmt::Display;
 use std::io;
-
-pub(crate) const NO_MEMORY: u8 = 1;
-
-/// The output was refused.
-pub(crate) const OUTPUT: u8 = 3;
-
-pub(crate) const STORE: u8 = 5;
-
-pub(crate) const CONTROL_SOCKET: u8 = 6;
-
-pub(crate) const ZONE: u8 = 7;
-
-pub(crate) const JOURNAL: u8 = 8;
-
-/// The clock was refused, or waiting, or the process can't serve as it was started.
-pub(crate) const CLOCK_OR_WAITING: u8 = 9;
-
-pub(crate) const SPOOL: u8 = 10;
-
-/// Words that are no command (`EX_USAGE` of sysexits.h).
-pub(crate) const USAGE: u8 = 64;
 
 /// Whether each line begins with its level, as systemd's journal reads it (sd-daemon(3)).
 #[derive(Clone, Copy)]

@@ -3,7 +3,7 @@
 use crate::journal::{begun, journal_at, tell_long_header};
 use crate::places::{bound, no_clock, system_of};
 use crate::plan::{Places, Plan, read_wishes};
-use crate::reporting::{CLOCK_OR_WAITING, NO_MEMORY, STORE, refuse, report};
+use crate::reporting::{refuse, report};
 use crate::spool::hold_spool;
 use crate::standing::{room_of, tell_standing};
 use crate::store::{open_store, settle, stored};
@@ -11,6 +11,7 @@ use crate::zone::zone_of;
 use child_edge::OsEdge;
 use control_socket::ControlSocket;
 use ctl_protocol::{Header, Settings};
+use exit_status::{CLOCK_OR_WAITING, NO_MEMORY, STORE};
 use history_model::Setting;
 use launchctl_words::ZoneWords;
 use launcher::{Host, HostFault};

@@ -1,8 +1,9 @@
 //! The spool's folder: held by one launcher at a time, and safe from others.
 
 use crate::plan::Plan;
-use crate::reporting::{Level, SPOOL, refuse, report};
+use crate::reporting::{Level, refuse, report};
 use child_edge::clear_spool;
+use exit_status::SPOOL;
 use live_loop::System;
 use own_files::{LockFile, check_folder};
 use std::alloc::Global;

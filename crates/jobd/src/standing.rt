@@ -1,7 +1,8 @@
 //! Whether a process can serve as it was started, and what is told of its limits and ignored signals.
 
 use crate::plan::Plan;
-use crate::reporting::{CLOCK_OR_WAITING, Level, NO_MEMORY, report, tell};
+use crate::reporting::{Level, report, tell};
+use exit_status::{CLOCK_OR_WAITING, NO_MEMORY};
 use live_loop::System;
 use own_process::{Signal, Standing, sees_children};
 use std::alloc::Global;

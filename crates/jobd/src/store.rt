@@ -1,7 +1,8 @@
 //! The store of overrides, and why it can't be used.
 
 use crate::looking::{Found, LookFault, look};
-use crate::reporting::{Level, NO_MEMORY, STORE, refuse, report};
+use crate::reporting::{Level, refuse, report};
+use exit_status::{NO_MEMORY, STORE};
 use history_model::Setting;
 use override_store::StoreFault;
 use own_files::make_private;

@@ -1,8 +1,9 @@
 //! The zone that the words name, as the header of a journal tells it.
 
-use crate::reporting::{Level, NO_MEMORY, ZONE, refuse, report};
+use crate::reporting::{Level, refuse, report};
 use calendar_due::{Zone, ZoneFault};
 use ctl_protocol::{ZoneFile, ZoneText};
+use exit_status::{NO_MEMORY, ZONE};
 use history_model::Text;
 use launchctl_words::ZoneWords;
 use std::alloc::Global;

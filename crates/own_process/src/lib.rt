@@ -1,11 +1,13 @@
-//! What a process has to know of itself before it serves: whether its standard streams are open, whether it sees its children's
+//! What a process has to know of itself: the words that it was started with, whether its standard streams are open, whether it sees its children's
 //! ends, and which limits and ignored signals it was started with.
 #![tactic(auto)]
 
 mod child;
 mod standing;
 mod streams;
+mod words;
 
 pub use child::sees_children;
 pub use standing::{Signal, Standing};
 pub use streams::open_null_streams;
+pub use words::own_words;

@@ -2,12 +2,10 @@
 //! line for each event.
 #![tactic(auto)]
 
+use exit_status::NO_MEMORY;
 use replay::{ReplayFault, replay, status_of};
 use std::io;
 use std::io::{BufWriter, Write};
-
-/// The exit status for want of memory.
-const NO_MEMORY: u8 = 1;
 
 /// Replays standard input; the exit status tells how it ended.
 pub fn replay_input<R: Input + Print + AllocGlobal>(rt: &R) -> u8 {

@@ -1,0 +1,54 @@
+//! The exit statuses of the three programs: each number once. Those from 64 on are of sysexits.h. A `jobctl` that was refused ends
+//! with the code of the first refusal (`Refusal::code`) in place of these.
+#![tactic(auto)]
+
+/// Memory was refused: all three programs.
+pub const NO_MEMORY: u8 = 1;
+
+/// `jobd replay`: the header can't be read.
+pub const HEADER: u8 = 2;
+
+/// `jobd replay`, `jobd overrides`, a help of `jobd`: a read or a write of the standard streams failed.
+pub const STREAMS: u8 = 3;
+
+/// `jobd replay`: a line is too long.
+pub const LONG_LINE: u8 = 4;
+
+/// `jobd`: the store.
+pub const STORE: u8 = 5;
+
+/// `jobd serve`: the control socket.
+pub const CONTROL_SOCKET: u8 = 6;
+
+/// `jobd serve`: the zone.
+pub const ZONE: u8 = 7;
+
+/// `jobd serve`: the journal.
+pub const JOURNAL: u8 = 8;
+
+/// `jobd serve`: the clock was refused, or waiting, or the process can't serve as it was started.
+pub const CLOCK_OR_WAITING: u8 = 9;
+
+/// `jobd serve`: the folder of the spool.
+pub const SPOOL: u8 = 10;
+
+/// `jobscope check`: a file would not be loaded. `jobscope cron`: a line is refused.
+pub const REFUSED: u8 = 1;
+
+/// The words are no command (`EX_USAGE`): all three programs.
+pub const USAGE: u8 = 64;
+
+/// A file can't be read or used (`EX_DATAERR`): `jobctl`, `jobscope`.
+pub const BAD_FILE: u8 = 65;
+
+/// The launcher does not answer (`EX_UNAVAILABLE`): `jobctl`.
+pub const NO_ANSWER: u8 = 69;
+
+/// The clock can't be read (`EX_OSERR`): `jobscope`.
+pub const BAD_CLOCK: u8 = 71;
+
+/// The standard output failed (`EX_IOERR`): `jobctl`, `jobscope`.
+pub const BAD_OUTPUT: u8 = 74;
+
+/// The standard output's reader has gone: the status of a program which a shell's pipe ended by SIGPIPE. `jobctl`, `jobscope`.
+pub const READER_GONE: u8 = 141;
