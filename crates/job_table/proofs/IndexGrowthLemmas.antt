@@ -10,6 +10,7 @@ use Rattle.job_table.specs.Entries.{row, rows, name, stays, AllStay}
 use Rattle.job_table.specs.Index.{moment_for, AreTimed, ArePlaced, IsNamed, IsIndexOf}
 use Rattle.job_table.specs.declared.entry.Entry.{Entry}
 use Rattle.job_table.specs.declared.jobs.Index.{Index}
+use Rattle.job_table.proofs.GoneLemmas.{stay-but}
 use Rattle.job_table.proofs.PlacesLemmas.{rows-all}
 use Rattle.job_table.proofs.AdvanceLemmas.{holder, stay-get}
 use Rattle.job_table.specs.Sound.{IsSound, IsWhole}
@@ -245,5 +246,5 @@ refused-whole begun heard whole stay sound after same index reading = record {
   sound = sound;
   indexed = subst (λ i. IsIndexOf i heard.reading.up heard.entries.items) (sym index) (subst (λ at. IsIndexOf begun.index at.up heard.entries.items) (sym reading)
       (by-rows begun.index begun.reading.up begun.entries.items heard.entries.items stay after same whole.indexed));
-  stay = λ is. after;
+  stay = stay-but heard.gone heard.entries.items after;
 }

@@ -41,3 +41,5 @@ pub mod ByteOrderLemmas
 pub mod SettingOrderLemmas
 pub mod RankLemmas
 pub mod TriggersLemmas
+pub mod GoneLemmas
+pub mod LeavingLemmas

@@ -18,6 +18,7 @@ use Rattle.job_table.specs.Periods.{HavePeriods}
 use Rattle.job_table.specs.Tables.{IsOnce, labels_in, definition_of_number, is_known}
 use Rattle.job_table.specs.StandsFor.{KeepsJobs, KeepsState}
 use Rattle.job_table.specs.Triggers.{AreListed}
+use Rattle.job_table.specs.Leaving.{StayBut}
 use Rattle.job_table.specs.Entries.{row, name, AllStay, has_label}
 use Rattle.job_table.specs.Loads.{IsAbsent, enabled_if}
 use Rattle.job_table.specs.Outcomes.{Means}
@@ -58,7 +59,7 @@ grown-sound old new sound reading items len slots orders capacity index calendar
 
 -- growth beside the index, and then of the index
 pub grown-whole : (old new : Jobs) → IsWhole old → new.reading ≡ old.reading → new.entries.items ≡ old.entries.items → vec_len new.entries ≡ vec_len old.entries →
-    new.numbers.slots ≡ old.numbers.slots → new.orders.items ≡ old.orders.items → vec_capacity old.orders ≤ vec_capacity new.orders → new.all_stay ≡ old.all_stay → new.has_calendars ≡ old.has_calendars →
+    new.numbers.slots ≡ old.numbers.slots → new.orders.items ≡ old.orders.items → vec_capacity old.orders ≤ vec_capacity new.orders → new.gone ≡ old.gone → new.has_calendars ≡ old.has_calendars →
     new.triggers.items ≡ old.triggers.items → IsIndexOf new.index old.reading.up old.entries.items → IsWhole new
 grown-whole old new whole reading items len slots orders capacity stay calendars triggers index =
     let indexed : IsIndexed new = subst (λ at. IsIndexOf new.index at.up new.entries.items) (sym reading) (subst (IsIndexOf new.index old.reading.up) (sym items) index) in
@@ -80,7 +81,7 @@ grown-whole old new whole reading items len slots orders capacity stay calendars
         order = before.order;
       };
       indexed = indexed;
-      stay = λ is. subst AllStay (sym items) (whole.stay (sym stay ∙ is));
+      stay = subst (λ g. StayBut g new.entries.items) (sym stay) (subst (StayBut old.gone) (sym items) whole.stay);
     }
 
 -- ---- refusals

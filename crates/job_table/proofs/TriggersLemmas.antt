@@ -164,6 +164,34 @@ three-fail true true c never = let clash : true ≡ false = never refl in absurd
 three-fail true false c never = refl
 three-fail false b c never = refl
 
+-- ---- a test that passes the triggers of the jobs that stay, and no other
+
+count-kept : (p q : Listed → Bool) (xs : List Listed) → count_by p (filter q xs) ≡ count_by (λ x. q x && p x) xs
+count-kept p q xs = sum-filter (λ x. cond (p x) 1 0) q xs
+    ∙ sum-agree (λ x. cond (q x) (cond (p x) 1 0) 0) (λ x. cond (q x && p x) 1 0) xs (λ j x at. both (q x) (p x))
+  where
+    both : (a b : Bool) → ◌≡◌ {A = ℕ} (cond a (cond b 1 0) 0) (cond (a && b) 1 0)
+    both true b = refl
+    both false b = refl
+
+module _ (kept : Listed → Bool) (es : List Entry) (own : (k : ℕ) (e : Entry) → slice_get es k ≡ Some e → (trigger : Trigger) → kept (under e.number trigger) ≡ stays e) where
+  -- how many of a job's triggers pass, of the jobs that stay
+  count-stays : (test : Listed → Bool) (k : ℕ) (e : Entry) → slice_get es k ≡ Some e → own-count (λ one. kept one && test one) e ≡ cond (stays e) (own-count test e) 0
+  count-stays test k e at =
+      sum-agree (λ trigger. cond (kept (under e.number trigger) && test (under e.number trigger)) 1 0) (λ trigger. cond (stays e && test (under e.number trigger)) 1 0) (triggers_of e.def)
+      (λ j trigger there. ap (λ b. cond (b && test (under e.number trigger)) 1 0) (own k e at trigger))
+      ∙ count-and (stays e) (λ trigger. test (under e.number trigger)) (triggers_of e.def)
+
+  -- those that pass are those of the entries that stay
+  pub exact-kept : (listed : List Listed) → ((test : Listed → Bool) → count_by test listed ≡ count_by test (listed_in (map name es))) →
+      (test : Listed → Bool) → count_by test (filter kept listed) ≡ count_by test (listed_in (map name (filter stays es)))
+  exact-kept listed before test =
+      count-kept test kept listed
+      ∙ before (λ one. kept one && test one)
+      ∙ by-counts (λ one. kept one && test one) es
+      ∙ sum-agree (own-count (λ one. kept one && test one)) (λ e. cond (stays e) (own-count test e) 0) es (count-stays test)
+      ∙ sym (sum-filter (own-count test) stays es) ∙ sym (by-counts test (filter stays es))
+
 -- ---- those that left
 
 module _ (places : List ℕ) (es : List Entry) (placed : ArePlaced places es) where
@@ -186,31 +214,10 @@ module _ (places : List ℕ) (es : List Entry) (placed : ArePlaced places es) wh
       (λ j trigger there. ap (λ b. b && test trigger e.number) (own-stays k e at trigger))
       ∙ and-any (stays e) (λ trigger. test trigger e.number) (triggers_of e.def)
 
-  -- how many of a job's triggers pass, of the jobs that stay
-  count-stays : (test : Listed → Bool) (k : ℕ) (e : Entry) → slice_get es k ≡ Some e →
-      own-count (λ one. stays_under places es one && test one) e ≡ cond (stays e) (own-count test e) 0
-  count-stays test k e at =
-      sum-agree (λ trigger. cond (stays_under places es (under e.number trigger) && test (under e.number trigger)) 1 0) (λ trigger. cond (stays e && test (under e.number trigger)) 1 0) (triggers_of e.def)
-      (λ j trigger there. ap (λ b. cond (b && test (under e.number trigger)) 1 0) (own-stays k e at trigger))
-      ∙ count-and (stays e) (λ trigger. test (under e.number trigger)) (triggers_of e.def)
-
-  count-kept : (p q : Listed → Bool) (xs : List Listed) → count_by p (filter q xs) ≡ count_by (λ x. q x && p x) xs
-  count-kept p q xs = sum-filter (λ x. cond (p x) 1 0) q xs
-      ∙ sum-agree (λ x. cond (q x) (cond (p x) 1 0) 0) (λ x. cond (q x && p x) 1 0) xs (λ j x at. both (q x) (p x))
-    where
-      both : (a b : Bool) → ◌≡◌ {A = ℕ} (cond a (cond b 1 0) 0) (cond (a && b) 1 0)
-      both true b = refl
-      both false b = refl
-
   -- those of the jobs that stay are those of the entries that stay
   pub exact-tidy : (listed : List Listed) → ((test : Listed → Bool) → count_by test listed ≡ count_by test (listed_in (map name es))) →
       (test : Listed → Bool) → count_by test (filter (stays_under places es) listed) ≡ count_by test (listed_in (map name (filter stays es)))
-  exact-tidy listed before test =
-      count-kept test (stays_under places es) listed
-      ∙ before (λ one. stays_under places es one && test one)
-      ∙ by-counts (λ one. stays_under places es one && test one) es
-      ∙ sum-agree (own-count (λ one. stays_under places es one && test one)) (λ e. cond (stays e) (own-count test e) 0) es (count-stays test)
-      ∙ sym (sum-filter (own-count test) stays es) ∙ sym (by-counts test (filter stays es))
+  exact-tidy = exact-kept (stays_under places es) es own-stays
 
   -- ---- the jobs at one place
 

@@ -16,6 +16,7 @@ pub mod Hearing
 pub mod Opening
 pub mod Loads
 pub mod Changes
+pub mod Leaving
 pub mod Listed
 pub mod Nearest
 pub mod Moments

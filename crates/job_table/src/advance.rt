@@ -10,9 +10,11 @@ ghost use Rattle.job_table.specs.Entries.{AllStay};
 ghost use Rattle.job_table.specs.Counts.{counts, IsCounted};
 ghost use Rattle.job_table.specs.Numbers.{names_of};
 ghost use Rattle.job_table.specs.Room.{HasSameRoom};
+ghost use Rattle.job_table.specs.Leaving.{StayBut};
 
 use crate::entry::Touch;
 use crate::jobs::Jobs;
+use crate::leaving::Gone;
 use crate::mark::{mark_due, mark_minutes};
 use crate::visit::visit_ready;
 use history_model::{CivilMinute, Reading};
@@ -22,8 +24,8 @@ impl Jobs {
     ghost use Rattle.job_table.specs.Index.{IsIndexed};
 
     /// Takes in a reading that is not refused, and the civil minutes that it crosses: the jobs that it touches hear it and give their orders,
-    /// and nothing is done for any other. It tells whether all jobs stay.
-    pub fn advance(&mut self, at: Reading, minutes: &[CivilMinute]) -> bool
+    /// and nothing is done for any other. It tells which jobs may have gone.
+    pub fn advance(&mut self, at: Reading, minutes: &[CivilMinute]) -> Gone
         requires sound { IsSound self.old }
         requires indexed { IsIndexed self.old }
         requires stay { AllStay self.old.entries.items }
@@ -38,7 +40,7 @@ impl Jobs {
         ensures room { HasSameRoom (seen self.old) (seen self.new) }
         ensures untouched { SparesUntouched at (seen self.old) (seen self.new) }
         ensures sound { IsSound self.new }
-        ensures stay { result ≡ true → AllStay self.new.entries.items }
+        ensures stay { StayBut result self.new.entries.items }
         ensures indexed { IsIndexed self.new }
     {
         mark_due(
@@ -53,7 +55,7 @@ impl Jobs {
             &self.index.places,
             &mut self.index.ready,
         );
-        let (visited, all_stay) = visit_ready(
+        let (visited, gone) = visit_ready(
             &mut self.entries,
             &mut self.index.ready,
             &mut self.index.timers,
@@ -64,6 +66,6 @@ impl Jobs {
         );
         self.visited = visited;
         self.reading = at;
-        all_stay
+        gone
     }
 }

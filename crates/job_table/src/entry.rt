@@ -21,11 +21,12 @@ ghost use Rattle.job_table.specs.Visiting.{IsVisit};
 ghost use Rattle.job_table.specs.Entries.{name};
 ghost use Rattle.job_table.specs.Tables.{Name, definition_of_number, is_known};
 
+use crate::held::{HeldCore, HeldDef};
 use calendar_due::Calendar;
 use history_model::{
     Act, Ask, CivilMinute, JobItem, JobNo, MAX_CONNECTIONS, Obs, Order, Reading, Text,
 };
-use job_core::{JobCore, JobEvent};
+use job_core::JobEvent;
 use job_defs::{Def, PathState};
 
 /// How many orders one job gives at most in a step: each connection that waits is closed, one order more, and it is gone.
@@ -35,8 +36,8 @@ pub const ORDERS: usize = MAX_CONNECTIONS + 2;
 #[derive(Drop)]
 pub struct Entry {
     pub number: JobNo,
-    pub def: Def,
-    pub core: JobCore,
+    pub def: HeldDef,
+    pub core: HeldCore,
     pub has_gone: bool,
 }
 
@@ -67,7 +68,7 @@ impl Entry {
                 self.take_in(JobEvent::Read(at, fires), now);
             }
             Touch::Sight(path, obs) => {
-                if lists(&self.def, path) {
+                if lists(self.def.lent(), path) {
                     self.take_in(JobEvent::Saw(path, obs), now);
                 }
             }

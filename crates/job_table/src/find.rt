@@ -34,7 +34,7 @@ impl Jobs {
         ensures { definition_of_number (map name self.now.entries.items) job ≡ Some result.now }
     {
         match place_of_number(&self.entries, &self.index.places, job) {
-            Some(place) => &self.entries[place].def,
+            Some(place) => self.entries[place].def.lent(),
             None => unreachable!(),
         }
     }

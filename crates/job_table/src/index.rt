@@ -1,11 +1,12 @@
 //! The index beside the entries: the place of each job, and room for one more.
 
-ghost use Rattle.std.specs.Prelude.{◌≡◌, ◌≤◌, ◌<◌, ◌+◌, ℕ, OnOk, is_some, length, map, true};
+ghost use Rattle.std.specs.Prelude.{◌≡◌, ◌≤◌, ◌<◌, ◌+◌, ℕ, OnOk, Some, is_some, length, map, slice_get, true};
 ghost use Rattle.timer_heap.specs.Timers.{room};
 ghost use Rattle.history_model.specs.declared.TheConstants.{MAX_JOBS};
 ghost use Rattle.job_table.specs.Tables.{IsOnce, definition_of_number};
 ghost use Rattle.job_table.specs.Entries.{name};
-ghost use Rattle.job_table.specs.Index.{ArePlaced, IsIndexOf, IsNamed};
+ghost use Rattle.job_table.specs.Index.{ArePlaced, IsIndexOf, IsNamed, place_in};
+ghost use Rattle.job_table.specs.declared.entry.Entry.{Entry};
 
 use crate::entry::Entry;
 use crate::jobs::Index;
@@ -22,9 +23,26 @@ pub fn place_all(places: &mut [u32], entries: &[Entry])
     ensures placed { ArePlaced places.new entries.now }
     ensures length { length places.new ≡ length places.old }
 {
-    let mut place = 0;
-    for entry in entries {
-        places[entry.number as usize] = place;
+    place_from(places, entries, 0);
+}
+
+/// Gives each entry's number its place, from a place on: those before it have theirs. It takes no memory.
+pub fn place_from(places: &mut [u32], entries: &[Entry], from: usize)
+    requires once { IsOnce (map name entries.now) }
+    requires few { length entries.now ≤ MAX_JOBS }
+    requires fits { (number : ℕ) →
+        is_some (definition_of_number (map name entries.now) number) ≡ true →
+        number < length places.old }
+    requires inside { from ≤ length entries.now }
+    requires before { (k : ℕ) (e : Entry) → slice_get entries.now k ≡ Some e → k < from →
+        place_in places.old e.number ≡ k }
+    ensures placed { ArePlaced places.new entries.now }
+    ensures length { length places.new ≡ length places.old }
+{
+    let mut place = from;
+    while place < entries.len() {
+        let entry = &entries[place];
+        places[entry.number as usize] = place as u32;
         place += 1;
     }
 }

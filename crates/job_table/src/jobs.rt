@@ -23,12 +23,10 @@ ghost use Rattle.std.specs.Option.{ForSome};
 
 use crate::entry::{Entry, Touch};
 use crate::find::place_of;
-use crate::index::place_all;
+use crate::leaving::Gone;
 use crate::mark::mark_touched;
-use crate::scan::{has_calendars, release, tidy};
 use crate::settings::Settings;
 use crate::trigger::Listed;
-use crate::triggers::forget;
 use crate::visit::visit_ready;
 use calendar_due::Zone;
 use history_model::{JobItem, Order, Reading, Refusal};
@@ -48,8 +46,8 @@ pub struct Jobs {
     pub orders: Vec<Order>,
     pub visited: u32,
     pub index: Index,
-    /// No job went at the last event; if it is not set, one may have.
-    pub all_stay: bool,
+    /// Which jobs may have gone at the last event.
+    pub gone: Gone,
     /// A job that is loaded, or that went at the last event, has calendar entries.
     pub has_calendars: bool,
     /// What touches those jobs, in order.
@@ -84,15 +82,8 @@ impl Jobs {
         ensures room { HasSameRoom (seen self.old) (seen self.new) }
     {
         self.orders.clear();
-        if self.all_stay {
-            return;
-        }
-        release(&self.entries, &mut self.numbers);
-        forget(&mut self.triggers, &self.index.places, &self.entries);
-        tidy(&mut self.entries);
-        place_all(&mut self.index.places, &self.entries);
-        self.has_calendars = has_calendars(&self.entries);
-        self.all_stay = true;
+        self.drop_left();
+        self.gone = Gone::Nobody;
     }
 
     /// Tells the job with this label what happened to it, and gives the job's place.
@@ -169,7 +160,7 @@ impl Jobs {
             &self.index.places,
             &mut self.index.ready,
         );
-        let (visited, all_stay) = visit_ready(
+        let (visited, gone) = visit_ready(
             &mut self.entries,
             &mut self.index.ready,
             &mut self.index.timers,
@@ -179,7 +170,7 @@ impl Jobs {
             &mut self.orders,
         );
         self.visited = visited;
-        self.all_stay = all_stay;
+        self.gone = gone;
     }
 }
 

@@ -9,6 +9,7 @@ ghost use Rattle.job_table.specs.Moments.{IsNextUp, have_calendars};
 
 use crate::JobTable;
 use crate::entry::Entry;
+use crate::leaving::Gone;
 
 impl JobTable {
     /// The least moment, in milliseconds of `up` and after the last reading, at which time alone may make an order of a loaded
@@ -26,10 +27,10 @@ impl JobTable {
         ensures jobs { (s : State) → KeepsState self.now s → result ≡ have_calendars s.jobs }
         ensures rows { result ≡ has_calendars self.now.rows }
     {
-        if self.jobs.all_stay {
-            return self.jobs.has_calendars;
+        match self.jobs.gone {
+            Gone::Nobody => self.jobs.has_calendars,
+            _ => is_some_with_calendar(&self.jobs.entries),
         }
-        is_some_with_calendar(&self.jobs.entries)
     }
 }
 

@@ -17,13 +17,15 @@ ghost use Rattle.job_table.specs.Hearing.{AreFor, IsAccepted, present_with};
 ghost use Rattle.job_table.specs.Visiting.{is_spared, AreSpared, AreAtRest, AreVisitedOnce, count_visited};
 ghost use Rattle.job_table.specs.Tables.{Name, IsOnce, is_known};
 ghost use Rattle.job_table.specs.Entries.{is_named, rows, name, AllStay};
+ghost use Rattle.job_table.specs.Leaving.{StayBut};
 
 use crate::entry::{Entry, Touch};
+use crate::leaving::Gone;
 use history_model::{Order, Reading};
 use timer_heap::TimerHeap;
 
 /// Tells the touch to the jobs at the places with a mark and asks them, in rising order of places, and takes the marks away. A mark is a
-/// moment of 0 in `ready`. It counts the jobs that it visits, and says whether all stay.
+/// moment of 0 in `ready`. It counts the jobs that it visits, and says which may have gone.
 pub fn visit_ready(
     entries: &mut [Entry],
     ready: &mut TimerHeap,
@@ -32,7 +34,7 @@ pub fn visit_ready(
     before: Reading,
     now: Reading,
     orders: &mut Vec<Order>,
-) -> (u32, bool)
+) -> (u32, Gone)
     requires before_in_range { before.up ≤ MAX_UP }
     requires in_range { now.up ≤ MAX_UP }
     requires now { now ≡ present_with touch before }
@@ -60,7 +62,7 @@ pub fn visit_ready(
         KeepsJobs before (rows entries.old) jobs →
         orders.new.items ≡ orders.old.items ++ numbered_all (rows entries.old) (heard item jobs) }
     ensures visited { result.0 ≡ count_visited ready.old 0 entries.new }
-    ensures stay { result.1 ≡ true → AllStay entries.new }
+    ensures stay { StayBut result.1 entries.new }
     ensures visits { AreVisitedOnce ready.old 0 entries.old entries.new }
     ensures known { (names : List Name) → list_all (is_named names) entries.old ≡ true →
         list_all (is_known names) orders.old.items ≡ true →
@@ -74,7 +76,7 @@ pub fn visit_ready(
     ensures done { (place : ℕ) → moment_in ready.new place ≡ None }
 {
     let mut visited = 0;
-    let mut all_stay = true;
+    let mut gone = Gone::Nobody;
     let mut front = 0;
     while let Some(number) = ready.pop_due(0) {
         let place = number as usize;
@@ -84,11 +86,11 @@ pub fn visit_ready(
         if !entry.has_gone {
             visited += 1;
         } else {
-            all_stay = false;
+            gone = gone.and(place);
         }
         front = place + 1;
     }
-    (visited, all_stay)
+    (visited, gone)
 }
 
 /// Gives the job's number its next moment; none, if the job is gone or has none.

@@ -1,26 +1,27 @@
 -- The rows are those of the jobs that are not gone, and their calendars those of the machine's jobs.
-use Rattle.std.proofs.Common.{◌≡◌, not, ◌&&◌, ap, sym, ◌∙◌}
+use Rattle.std.proofs.Common.{◌≡◌, not, ◌&&◌, ap, sym, subst, ◌∙◌}
 use Rattle.std.specs.List.{list_any}
+use Rattle.job_table.specs.Leaving.{StayBut}
 use Rattle.job_table.specs.Minutes.{is_some_entry, has_calendars}
 use Rattle.job_table.proofs.LeastMomentLemmas.{calendars-rows, calendars-jobs}
 use Rattle.job_table.proofs.EventsLemmas.{calendars-rows as stay-rows, calendars-names}
 use Rattle.job_table.proofs.JobTable.has_calendars.Goals as goal
 
-by-flag : (c : goal.Then-self) → c.self.inside.jobs.has_calendars ≡ has_calendars c.args.self.now.rows
+by-flag : (c : goal.In-Nobody) → c.self.inside.jobs.has_calendars ≡ has_calendars c.args.self.now.rows
 by-flag c =
     let es = c.self.inside.jobs.entries.items in
     c.self.invariant.sound.calendars
-    ∙ sym (stay-rows es (c.self.invariant.stay c.if-self.true) ∙ calendars-names es)
+    ∙ sym (stay-rows es (subst (λ g. StayBut g es) c.in-Nobody.is c.self.invariant.stay) ∙ calendars-names es)
     ∙ ap (λ t. has_calendars t.rows) c.self.view_is
 
-pub returns-then-self-clause-rows : goal.returns-then-self-clause-rows
-returns-then-self-clause-rows c = by-flag c
+pub returns-in-Nobody-clause-rows : goal.returns-in-Nobody-clause-rows
+returns-in-Nobody-clause-rows c = by-flag c
 
-pub returns-then-self-clause-jobs : goal.returns-then-self-clause-jobs
-returns-then-self-clause-jobs c = λ s keeps. by-flag c ∙ calendars-jobs s.reading c.args.self.now.rows s.jobs keeps.jobs
+pub returns-in-Nobody-clause-jobs : goal.returns-in-Nobody-clause-jobs
+returns-in-Nobody-clause-jobs c = λ s keeps. by-flag c ∙ calendars-jobs s.reading c.args.self.now.rows s.jobs keeps.jobs
 
-pub returns-clause-jobs : goal.returns-clause-jobs
-returns-clause-jobs c = λ s keeps.
+pub returns-in_default-clause-jobs : goal.returns-in_default-clause-jobs
+returns-in_default-clause-jobs c = λ s keeps.
     let es = c.self.inside.jobs.entries.items in
     c.is_some_with_calendar.ensures
     ∙ ap (list_any (λ e. not e.has_gone && is_some_entry e.def.calendar)) c.deref.ensures.value
@@ -28,8 +29,8 @@ returns-clause-jobs c = λ s keeps.
     ∙ ap (λ t. has_calendars t.rows) c.self.view_is
     ∙ calendars-jobs s.reading c.args.self.now.rows s.jobs keeps.jobs
 
-pub returns-clause-rows : goal.returns-clause-rows
-returns-clause-rows c =
+pub returns-in_default-clause-rows : goal.returns-in_default-clause-rows
+returns-in_default-clause-rows c =
     c.is_some_with_calendar.ensures
     ∙ ap (list_any (λ e. not e.has_gone && is_some_entry e.def.calendar)) c.deref.ensures.value
     ∙ calendars-rows c.self.inside.jobs.entries.items

@@ -1,44 +1,6 @@
--- One more entry has its place.
-use Rattle.std.proofs.Common.{◌≡◌, ◌<◌, ◌+◌, map, length, refl, sym, ap, ◌∙◌, subst, arith}
-use Rattle.std.specs.Prelude.{slice_set}
-use Rattle.std.proofs.lemmas.List.{length-set}
-use Rattle.std.proofs.lemmas.Option.{slice_get_within}
-use Rattle.job_table.specs.Entries.{name}
-use Rattle.job_table.specs.Index.{place_in}
-use Rattle.job_table.specs.declared.entry.Entry.{Entry}
-use Rattle.job_table.proofs.KnownNumbersLemmas.{named-at, all-named}
-use Rattle.job_table.proofs.IndexLemmas.{one-more, place-same, place-other, is-named-at}
+-- No entry is before the first.
+use Rattle.std.proofs.Common.{◌≡◌, arith}
 use Rattle.job_table.proofs.index.place_all.Goals as goal
 
-pub loop-entry-preserved : goal.loop-entry-preserved
-loop-entry-preserved c =
-    let inv = c.loop-entry.invariant in
-    let es = c.args.entries.now in
-    let i = c.loop-entry.entry-index in
-    let e : Entry = c.entry-item.result in
-    let within : i < length es = omega arith in
-    let is = c.entry-item.is in
-    let named = named-at (map name es) es es i e within refl is (all-named es) in
-    let fits : e.number < length c.loop-entry.places = subst (λ n. e.number < n) (sym inv.long) (c.requires.fits e.number named) in
-    record {
-      here = ap (λ n. n + 1) inv.here;
-      long = length-set c.loop-entry.places e.number c.loop-entry.place ∙ inv.long;
-      placed = one-more es c.requires.once i e within is {P = λ k x. place_in (slice_set c.loop-entry.places e.number c.loop-entry.place) x.number ≡ k}
-          (λ k x at low apart. place-other c.loop-entry.places e.number c.loop-entry.place x.number apart ∙ inv.placed k x at low)
-          (place-same c.loop-entry.places e.number c.loop-entry.place fits ∙ inv.here);
-    }
-
--- the number of the entry at hand has a place
-pub bounds-places-entry : goal.bounds-places-entry
-bounds-places-entry c =
-    let es = c.args.entries.now in
-    let i = c.loop-entry.entry-index in
-    let e : Entry = c.entry-item.result in
-    let named = named-at (map name es) es es i e (omega arith) refl c.entry-item.is (all-named es) in
-    subst (λ n. e.number < n) (sym c.loop-entry.invariant.long) (c.requires.fits e.number named)
-
-pub returns-clause-placed : goal.returns-clause-placed
-returns-clause-placed c = λ k e at. (
-  subst (λ n. e.number < n) (sym c.loop-entry.invariant.long) (c.requires.fits e.number (is-named-at c.args.entries.now k e at)),
-  c.loop-entry.invariant.placed k e at (let inside = slice_get_within c.args.entries.now k e at in let over = c.loop-entry-test.false in omega (arith, inside, over)),
-)
+pub place_from-requires-clause-before : goal.place_from-requires-clause-before
+place_from-requires-clause-before c = λ k e at low. (let clash : ⊥ = omega (arith, low) in absurd clash)

@@ -7,7 +7,8 @@ use Rattle.job_table.specs.Entries.{name}
 use Rattle.job_table.specs.Visiting.{is_spared}
 use Rattle.job_table.specs.declared.entry.Entry.{Entry}
 use Rattle.job_table.proofs.ListLemmas.{set-map}
-use Rattle.job_table.proofs.PlacesLemmas.{stay-set}
+use Rattle.job_table.specs.Leaving.{StayBut}
+use Rattle.job_table.proofs.GoneLemmas.{stayed-more, went-more}
 use Rattle.job_table.proofs.KnownNumbersLemmas.{named-at, all-named}
 use Rattle.job_table.proofs.MomentsLemmas.{retimed, alone-after}
 use Rattle.job_table.specs.Tables.{IsOnce, definition_of_number}
@@ -68,7 +69,7 @@ loop-number-init c = record {
   alone = c.requires.alone;
   marks = refl;
   space = refl;
-  stays = λ all. c.requires.stay;
+  stays = c.requires.stay;
   walked = record {
     untouched = refl;
     spared = c.requires.spared;
@@ -145,8 +146,8 @@ loop-number-preserved c =
       marks = popped.3.room ∙ inv.marks;
       space = c.retime.ensures.room ∙ inv.space;
       stays = elim c.if-not-entry.branch [
-        | then-not-entry w ↦ λ all. stay-set es number new (inv.stays (sym w.all_stay-is ∙ all)) w.if-not-entry.true
-        | else-not-entry w ↦ λ all. (let clash : true ≡ false = sym all ∙ w.all_stay-is in absurd (cc clash))
+        | then-not-entry w ↦ subst (λ g. StayBut g (slice_set es number new)) (sym w.gone-is) (stayed-more c.loop-number.gone number es new inv.stays w.if-not-entry.true)
+        | else-not-entry w ↦ subst (λ g. StayBut g (slice_set es number new)) (sym (w.gone-is ∙ w.and-gone.ensures)) (went-more c.loop-number.gone number es new inv.stays)
       ];
       walked = subst (λ k. IsWalked c.args.before c.args.now c.args.touch ready0 es0 c.args.orders.now.items (slice_set es number new) k c.visit.new.orders.items c.if-not-entry.visited) (sym (add-one number))
           (visit-one c.args.before c.args.now c.args.touch ready0 c.requires.now es0 c.args.orders.now.items es number e new c.loop-number.orders.items c.visit.new.orders.items c.loop-number.visited c.if-not-entry.visited

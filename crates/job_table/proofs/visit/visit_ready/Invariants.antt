@@ -4,7 +4,8 @@ use Rattle.std.specs.List.{list_all}
 use Rattle.std.specs.Vec.{vec_capacity, vec_len}
 use Rattle.timer_heap.specs.Timers.{moment_in, room}
 use Rattle.job_table.specs.Tables.{Name, is_known}
-use Rattle.job_table.specs.Entries.{is_named, name, AllStay}
+use Rattle.job_table.specs.Entries.{is_named, name}
+use Rattle.job_table.specs.Leaving.{StayBut}
 use Rattle.job_table.specs.Index.{AreAlone}
 use Rattle.job_table.specs.Visiting.{is_spared}
 use Rattle.job_table.proofs.MomentsLemmas.{AreTimedTo}
@@ -26,7 +27,7 @@ invariant-loop-number l = record {
   alone : AreAlone l.timers (map name l.fn.entries);
   marks : room l.ready ≡ room l.fn.ready;
   space : room l.timers ≡ room l.fn.timers;
-  stays : l.all_stay ≡ true → AllStay l.entries;
+  stays : StayBut l.gone l.entries;
   walked : IsWalked l.before l.now l.touch l.fn.ready l.fn.entries l.fn.orders.items l.entries l.front l.orders.items l.visited;
 }
 

@@ -20,7 +20,8 @@ use Rattle.job_table.specs.StandsFor.{KeepsJobs, KeepsState, numbered_all}
 use Rattle.job_table.specs.Counts.{counts, count_in, IsCounted}
 use Rattle.job_table.specs.Triggers.{AreListed, AreOrdered}
 use Rattle.job_table.proofs.MinutesLemmas.{have-marks}
-use Rattle.job_table.specs.Entries.{name, rows, gone, AllStay, is_named}
+use Rattle.job_table.specs.Entries.{name, rows, gone, is_named}
+use Rattle.job_table.specs.Leaving.{StayBut}
 use Rattle.job_table.specs.Index.{AreTimed, AreAlone, ArePlaced, HaveRoom, place_in}
 use Rattle.job_table.specs.Marking.{HavePlaces}
 use Rattle.job_table.specs.Minutes.{has_calendars, some_calendar}
@@ -265,8 +266,8 @@ returns-clause-untouched c = λ s keeps label past found none.
     ∙ ap (λ rs. count_in (counts rs) label) (sym (rows-all es c.requires.stay))
 
 pub returns-clause-stay : goal.returns-clause-stay
-returns-clause-stay c = λ all.
+returns-clause-stay c =
     let es = c.args.self.now.entries.items in
     let after = c.visit_ready-visited.new.entries in
     let whole = lent-back after (drop (length after) es) c.args.self.now.entries.len (omega arith) in
-    subst AllStay (sym whole) (c.visit_ready-visited.ensures.stay all)
+    subst (StayBut c.visit_ready-visited.result.1) (sym whole) c.visit_ready-visited.ensures.stay

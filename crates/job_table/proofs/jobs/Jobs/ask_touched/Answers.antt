@@ -9,7 +9,8 @@ use Rattle.job_table.specs.StandsFor.{KeepsJobs, numbered_all}
 use Rattle.job_table.specs.Counts.{counts, count_in, IsCounted}
 use Rattle.job_table.specs.Triggers.{AreListed}
 use Rattle.job_table.specs.Index.{ArePlaced, IsIndexOf, AreTimed, AreAlone, HaveRoom, place_in}
-use Rattle.job_table.specs.Entries.{name, rows, gone, AllStay, is_named}
+use Rattle.job_table.specs.Entries.{name, rows, gone, is_named}
+use Rattle.job_table.specs.Leaving.{StayBut}
 use Rattle.job_table.specs.Minutes.{some_calendar}
 use Rattle.job_table.specs.Touch.{is_touched}
 use Rattle.job_table.specs.Sound.{AreFree}
@@ -145,5 +146,5 @@ returns-clause-whole c =
         order = subst (λ ns. AreInOrder (labels_in ns)) (sym names) c.requires.sound.order;
       };
       indexed = indexed;
-      stay = λ all. subst AllStay (sym whole) (c.visit_ready-visited.ensures.stay all);
+      stay = subst (StayBut c.visit_ready-visited.result.1) (sym whole) c.visit_ready-visited.ensures.stay;
     }

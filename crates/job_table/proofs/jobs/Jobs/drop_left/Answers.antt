@@ -1,0 +1,12 @@
+-- The three cases.
+use Rattle.std.proofs.Common.{◌≡◌, sym, subst}
+use Rattle.job_table.specs.Leaving.{StayBut}
+use Rattle.job_table.proofs.LeavingLemmas.{filter-all}
+use Rattle.job_table.proofs.jobs.Jobs.drop_left.Goals as goal
+
+pub returns-in-Nobody-clause-entries : goal.returns-in-Nobody-clause-entries
+returns-in-Nobody-clause-entries c =
+    sym (filter-all c.args.self.now.entries.items (subst (λ g. StayBut g c.args.self.now.entries.items) c.in-Nobody.is c.requires.left))
+
+pub drop_one-requires-clause-others : goal.drop_one-requires-clause-others
+drop_one-requires-clause-others c = subst (λ g. StayBut g c.args.self.now.entries.items) c.in-One.is c.requires.left

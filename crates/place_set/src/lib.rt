@@ -1,0 +1,89 @@
+//! A set of places, each below a room that is made before: one bit a place, in words. The least of them is found by words, so
+//! a set of which few places are marked costs little to empty. Only `new` and `reserve` take memory.
+#![tactic(auto)]
+
+ghost use Rattle.std.specs.Prelude.{◌≡◌, ◌<◌, ◌≤◌, OnOk, []};
+ghost use Rattle.place_set.specs.Places.{IsFirstWord};
+
+use std::alloc::{AllocError, Global};
+use std::marker::Model;
+
+/// Places. To a contract, the words whose bits are set for the places among them, which only `has_place` and `place_room` read.
+#[derive(Drop)]
+pub struct PlaceSet {
+    words: Vec<u64>,
+}
+
+impl Model for PlaceSet {
+    ghost use Rattle.place_set.specs.Places.{Places};
+
+    ghost Value = { Places };
+
+    ghost use Rattle.place_set.specs.Places.{AreFew};
+
+    ghost view = { λ set. record { words = set.words.items } };
+
+    ghost invariant = { λ set. AreFew set.words.items };
+}
+
+impl PlaceSet {
+    ghost use Rattle.place_set.specs.Places.{place_room, KeepsPlaces, Inserts, IsPopped};
+
+    /// No place, and no room. It takes no memory yet.
+    pub fn new(alloc: Global) -> PlaceSet
+        ensures { result ≡ record { words = [] } }
+    {
+        PlaceSet {
+            words: Vec::new(alloc),
+        }
+    }
+
+    /// Makes room for the places below `places`. The set stays, and the room is never less than before, also if memory runs out,
+    /// which is the one refusal. A set that has the room takes no memory.
+    pub fn reserve(&mut self, places: u32) -> Result<(), AllocError>
+        ensures room { OnOk result (places ≤ place_room self.new) }
+        ensures kept { KeepsPlaces self.old self.new }
+    {
+        let words = places as usize / 64 + 1;
+        while self.words.len() < words {
+            self.words.push(0)?;
+        }
+        Ok(())
+    }
+
+    /// Puts a place into the set. The caller's condition: there is room for it.
+    pub fn insert(&mut self, place: u32)
+        requires { place < place_room self.old }
+        ensures { Inserts self.old self.new place }
+    {
+        let at = place as usize / 64;
+        self.words[at] |= 1 << (place % 64);
+    }
+
+    /// Takes the least place out, and gives it. None if the set is empty.
+    pub fn pop_least(&mut self) -> Option<u32>
+        ensures { IsPopped self.old result self.new }
+    {
+        let Some(at) = first_word(&self.words) else {
+            return None;
+        };
+        let word = self.words[at];
+        let bit = word.trailing_zeros();
+        self.words[at] = word & !(1 << bit);
+        Some(at as u32 * 64 + bit)
+    }
+}
+
+/// The place of the first word that has a bit; none if no word has one.
+fn first_word(words: &[u64]) -> Option<usize>
+    ensures { IsFirstWord words.now result }
+{
+    let mut at = 0;
+    while at < words.len() {
+        if words[at] != 0 {
+            return Some(at);
+        }
+        at += 1;
+    }
+    None
+}
