@@ -14,7 +14,7 @@ ghost use Rattle.history_model.specs.Moments as moments;
 ghost use Rattle.history_model.specs.NextMomentByFacts.{next_by};
 ghost use Rattle.history_model.specs.Reasons.{reasons_of, spawns_from, path_that_holds};
 ghost use Rattle.history_model.specs.Shown.{shown_of};
-ghost use Rattle.job_core.specs.Events.{item_of};
+ghost use Rattle.job_core.specs.Events.{item_of_event};
 
 use history_model::{Act, DemandKind, Entry as Due, Reading, Reasons, Refusal, ShownJob};
 use job_core::{JobCore, JobEvent};
@@ -104,14 +104,14 @@ impl HeldCore {
     pub fn event(&mut self, event: JobEvent<'_>, now: Reading) -> Result<(), Refusal>
         requires { now.up ≤ MAX_UP }
         ensures refused { (past : History) → Keeps self.old.facts past → now ≡ clock.now past →
-            result ≡ reply (refusal_of (item_of event.entry) past) }
+            result ≡ reply (refusal_of (item_of_event event.entry) past) }
         ensures kept { (past : History) → Keeps self.old.facts past → now ≡ clock.now past →
-            OnOk result (Keeps self.new.facts (item_of event.entry ∷ past)) }
+            OnOk result (Keeps self.new.facts (item_of_event event.entry ∷ past)) }
         ensures unchanged { OnErr result (self.new ≡ self.old) }
         ensures decided { self.new.decided ≡ self.old.decided }
         ensures memory { NeedsNoMemory result }
         ensures in_range { OnOk result
-            ((clock.present_after (item_of event.entry) now).up ≤ MAX_UP) }
+            ((clock.present_after (item_of_event event.entry) now).up ≤ MAX_UP) }
     {
         self.core.event(event, now)
     }
