@@ -11,8 +11,11 @@ use Rattle.history_model.specs.declared.Refusal.TheVariants.{ClockRefused}
 use Rattle.history_model.specs.Acceptance.{refused_if}
 use Rattle.history_model.specs.Items.{Saw, Read, Asked, History}
 use Rattle.history_model.specs.declared.Ask.TheVariants as asks
+use Rattle.history_model.specs.declared.event.JobItem.{JobItem}
+use Rattle.history_model.specs.declared.event.JobItem.TheVariants as happens
+use Rattle.history_model.specs.JobItems.{item_of}
 use Rattle.history_model.specs.Search.{first, or_else}
-use Rattle.history_model.specs.Clock.{definition_of}
+use Rattle.history_model.specs.Clock.{definition_of, reading_in}
 use Rattle.history_model.specs.Refusals.{is_clock_refused, unless}
 use Rattle.history_model.specs.Calendar.{Zone, crossed, matches, calendar_fires}
 use Rattle.history_model.specs.Machine.{State, Job, sets}
@@ -144,6 +147,15 @@ shutdowns (row ∷ rs) [] = tt
 shutdowns (row ∷ rs) (job ∷ jobs) = (refl, shutdowns rs jobs)
 
 -- ---- an event to one job
+
+-- what happens to a job is no reading of the clocks
+pub silent : (item : JobItem) → reading_in (item_of item) ≡ None
+silent (happens.Asked ask) = refl
+silent (happens.Came conn) = refl
+silent (happens.Left conn) = refl
+silent (happens.Answered answer) = refl
+silent (happens.Ended run how) = refl
+silent (happens.WaitRefused run) = refl
 
 pub past-refused : (a b : Bool) (r : Refusal) (rest : Option Refusal) → a ≡ true → b ≡ true → refused_if (not (a && b)) r rest ≡ rest
 past-refused a b r rest ea eb = λ i. refused_if (not (ea i && eb i)) r rest

@@ -13,7 +13,7 @@ ghost use Rattle.history_model.specs.FactsOfPast.{Keeps, ordered};
 ghost use Rattle.history_model.specs.Step.{acts_of, lists};
 ghost use Rattle.history_model.specs.Clock as clock;
 ghost use Rattle.job_defs.specs.Definitions.{definition};
-ghost use Rattle.job_core.specs.Events.{item_of};
+ghost use Rattle.job_core.specs.Events.{item_of_event};
 ghost use Rattle.job_table.specs.StandsFor.{numbered};
 ghost use Rattle.job_table.specs.News.{item_for};
 ghost use Rattle.job_table.specs.Hearing.{IsHeard};
@@ -22,7 +22,9 @@ ghost use Rattle.job_table.specs.Entries.{name};
 ghost use Rattle.job_table.specs.Tables.{Name, definition_of_number, is_known};
 
 use calendar_due::Calendar;
-use history_model::{Act, Ask, CivilMinute, JobNo, MAX_CONNECTIONS, Obs, Order, Reading, Text};
+use history_model::{
+    Act, Ask, CivilMinute, JobItem, JobNo, MAX_CONNECTIONS, Obs, Order, Reading, Text,
+};
 use job_core::{JobCore, JobEvent};
 use job_defs::{Def, PathState};
 
@@ -59,7 +61,7 @@ impl Entry {
     {
         match news {
             News::Heard(_) => {}
-            News::Shutdown => self.take_in(JobEvent::Asked(Ask::Shutdown), now),
+            News::Shutdown => self.take_in(JobEvent::Item(JobItem::Asked(Ask::Shutdown)), now),
             News::Reading(at, minutes) => {
                 let fires = Calendar::fires(self.def.calendar(), minutes);
                 self.take_in(JobEvent::Read(at, fires), now);
@@ -75,7 +77,7 @@ impl Entry {
     /// Takes in an event that the job does not refuse.
     fn take_in(&mut self, event: JobEvent<'_>, now: Reading)
         requires { now.up ≤ MAX_UP }
-        ensures { IsHeard now (Some (item_of event.entry)) self.old self.new }
+        ensures { IsHeard now (Some (item_of_event event.entry)) self.old self.new }
     {
         let _accepted = self.core.event(event, now);
     }
