@@ -1,6 +1,6 @@
 -- What an accepted input asked.
 use Rattle.std.proofs.Common.{◌≡◌, Bool, true, false, List, ℕ, Option, Some, None, refl, sym, ap, subst, ◌∙◌}
-use Rattle.std.specs.Prelude.{option_and_then}
+use Rattle.std.specs.Prelude.{option_and_then, if◌then◌else◌}
 use Rattle.history_model.specs.declared.Refusal.{Refusal}
 use Rattle.history_model.specs.declared.event.Event as journal
 use Rattle.history_model.specs.declared.event.Event.TheVariants as journaled
@@ -10,30 +10,22 @@ use Rattle.launcher.specs.declared.accepted.Accepted.TheVariants.{Other}
 use Rattle.launcher.specs.declared.event_ref.EventRef.{EventRef}
 use Rattle.launcher.specs.declared.event_ref.EventRef.TheVariants as happenings
 use Rattle.launcher.specs.Accepting.{accepted_in, asked_kind, unless_refused}
-use Rattle.launcher.specs.Inputs.{asked_in, if_label}
+use Rattle.launcher.specs.Inputs.{asked_in, if_label, is_asked}
 
 -- a line that is a request asks what its event asks
 pub line_asks : (e : journal.Event) → asked_kind (asked_in e) ≡ asked_kind (Some e)
 line_asks (journaled.Load def writes_setting force bind store) = refl
 line_asks (journaled.Unload job writes_setting store) = refl
-line_asks (journaled.Start job) = refl
-line_asks (journaled.Stop job) = refl
-line_asks (journaled.Kickstart job kills_first) = refl
-line_asks (journaled.Enable job store) = refl
-line_asks (journaled.Disable job store) = refl
+line_asks (journaled.Set job disabled store) = refl
 line_asks journaled.List = refl
 line_asks (journaled.Print job) = refl
 line_asks journaled.Shutdown = refl
 line_asks (journaled.Clock at) = refl
 line_asks (journaled.Saw path obs) = refl
-line_asks (journaled.Came job conn) = refl
-line_asks (journaled.Left job conn) = refl
-line_asks (journaled.Spawned job run pid) = refl
-line_asks (journaled.SpawnRefused job run) = refl
-line_asks (journaled.Termed job run ok) = refl
-line_asks (journaled.Killed job run ok) = refl
-line_asks (journaled.Ended job run how) = refl
-line_asks (journaled.WaitRefused job run) = refl
+line_asks (journaled.OfJob job item) = go (is_asked item) where
+  go : (b : Bool) → asked_kind (if b then Some (journaled.OfJob job item) else None) ≡ Other
+  go true = refl
+  go false = refl
 
 -- so it is for the line
 pub accepted_line : (line : Option journal.Event) (e : journal.Event) (refusal : Option Refusal) → line ≡ Some e →

@@ -82,18 +82,6 @@ set_turn s label true true kept refusal old new before after turn stored = recor
   text = λ none. wordless s (set_of label true true kept) (λ t. refl) (turn.turn.replies ∙ none);
   stored = stored;
 }
-set_turn s label true false kept refusal old new before after turn stored = record {
-  outside = record { bind = true; store = kept };
-  job = 0;
-  mid = old.calls;
-  asks = (refl, refl, turn.asks);
-  turn = turn.turn;
-  own = λ none. tt;
-  numbers = turn.numbers;
-  stays = turn.stays;
-  text = λ none. wordless s (set_of label true false kept) (λ t. refl) (turn.turn.replies ∙ none);
-  stored = stored;
-}
 set_turn s label false true kept refusal old new before after turn stored = record {
   outside = record { bind = true; store = kept };
   job = 0;
@@ -106,7 +94,7 @@ set_turn s label false true kept refusal old new before after turn stored = reco
   text = λ none. wordless s (set_of label false true kept) (λ t. refl) (turn.turn.replies ∙ none);
   stored = stored;
 }
-set_turn s label false false kept refusal old new before after turn stored = record {
+set_turn s label disabled false kept refusal old new before after turn stored = record {
   outside = record { bind = true; store = kept };
   job = 0;
   mid = old.calls;
@@ -115,7 +103,7 @@ set_turn s label false false kept refusal old new before after turn stored = rec
   own = λ none. tt;
   numbers = turn.numbers;
   stays = turn.stays;
-  text = λ none. wordless s (set_of label false false kept) (λ t. refl) (turn.turn.replies ∙ none);
+  text = λ none. wordless s (set_of label disabled false kept) (λ t. refl) (turn.turn.replies ∙ none);
   stored = stored;
 }
 

@@ -24,7 +24,7 @@ use Rattle.outside.specs.Stores.{HoldsAfter, Stamp, StoreCall, AreTold, set_call
 use Rattle.event_journal.specs.Journals.{JournalState, Grows}
 use Rattle.launcher.specs.Turns.{AreNumbered, IsLed, KeepsNumbers, TurnsOf, trace}
 use Rattle.launcher.specs.LoadTurns.{AsksFor, AsksNothing, AsksStore, IsUntouched, SetRequest, Standing, event_of_set, is_memory, label_written, load_request, set_request, stamps_after, standing}
-use Rattle.table_opening.specs.Events.{event_of}
+use Rattle.table_opening.specs.Events.{machine_event}
 use Rattle.table_opening.specs.Openings.{OpensBy}
 use Rattle.launcher.specs.Inputs.{answered}
 use Rattle.launcher.specs.Writable.{IsWritableHeader}
@@ -53,10 +53,8 @@ AsksOutside s (journaled.Load def writes_setting force bind store) job outside b
     (def_of def) job writes_setting s.reading.wall outside before after
 AsksOutside s (journaled.Unload label true store) job outside before after =
     AsksSetting s (set_request label true true) outside before after
-AsksOutside s (journaled.Enable label store) job outside before after =
-    AsksSetting s (set_request label false false) outside before after
-AsksOutside s (journaled.Disable label store) job outside before after =
-    AsksSetting s (set_request label true false) outside before after
+AsksOutside s (journaled.Set label disabled store) job outside before after =
+    AsksSetting s (set_request label disabled false) outside before after
 AsksOutside s _ job outside before after = AsksNothing outside before after
 
 -- a load asked for the job with the number that it then has
@@ -79,14 +77,14 @@ pub record HostTurnOf (s : State) (event : journal.Event) (refusal : Option Refu
   pub mid : Option (List Entry)
   pub asks : AsksOutside s event job outside
       (told_of old.calls old.stores) (told_of mid new.stores)
-  pub turn : TurnsOf s (event_of (answered outside event))
+  pub turn : TurnsOf s (machine_event (answered outside event))
       (event_line (answered outside event)) refusal new.table
       (trace mid old.journal) (trace new.calls new.journal)
   pub own : refusal ≡ None → IsOwn event turn.names job
   pub numbers : refusal ≡ None → AreNumbered turn.names old.table
   pub stays : KeepsNumbers old.table new.table
-  pub text : refusal ≡ None → (outcome s (event_of (answered outside event))).text ≡ words
-  pub stored : before s.settings → after (step s (event_of (answered outside event))).settings
+  pub text : refusal ≡ None → (outcome s (machine_event (answered outside event))).text ≡ words
+  pub stored : before s.settings → after (step s (machine_event (answered outside event))).settings
 
 -- Nothing happened: the table stands for what it stood for, nothing was asked of the outside, no
 -- line was written, and the store holds the settings of the machine as before.
@@ -131,8 +129,7 @@ abbrev pub label_asked : Option journal.Event → Option Label
 label_asked (Some (journaled.Load def writes_setting force bind store)) =
     label_written (load_request def writes_setting force)
 label_asked (Some (journaled.Unload label true store)) = Some label
-label_asked (Some (journaled.Enable label store)) = Some label
-label_asked (Some (journaled.Disable label store)) = Some label
+label_asked (Some (journaled.Set label disabled store)) = Some label
 label_asked _ = None
 
 -- The store has the seconds that it had; and if the event was accepted and asked for a setting, its

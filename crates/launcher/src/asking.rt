@@ -7,17 +7,17 @@ ghost use Rattle.job_table.specs.Numbers.{IsNumbered};
 ghost use Rattle.launcher.specs.Lines.{journaled_set};
 ghost use Rattle.launcher.specs.Hosts.{HostHears, HostStamps};
 ghost use Rattle.launcher.specs.Accepting.{accepted_in};
-ghost use Rattle.launcher.specs.Inputs.{asked_in};
+ghost use Rattle.launcher.specs.Inputs.{asked_in, is_asked};
 ghost use Rattle.launcher.specs.Writable.{WritesWhat};
 
 use crate::accepted::{Accepted, kind_of, unless_refused};
-use crate::event_ref::{EventRef, News};
+use crate::event_ref::EventRef;
 use crate::fitting::lend_request;
 use crate::host::Host;
 use crate::replies::{done, refused, told};
 use child_edge::{ChildEdge, SocketEdge};
 use ctl_protocol::ReadFault;
-use history_model::{Event, Refusal, Reply};
+use history_model::{Ask, Event, JobItem, Refusal, Reply};
 use job_table::JobTable;
 use outside::SettingStore;
 use std::alloc::Global;
@@ -28,6 +28,16 @@ fn lend_numbers(table: &JobTable)
     ensures { IsNumbered table.now }
 {
     let _step = table.last_step();
+}
+
+/// Whether it is what a client may ask of a job, `start`, `stop` or `kickstart`.
+fn is_asked(item: JobItem) -> bool
+    ensures { result ≡ is_asked item }
+{
+    match item {
+        JobItem::Asked(Ask::Start | Ask::Stop | Ask::Kickstart(_)) => true,
+        _ => false,
+    }
 }
 
 impl<T: SettingStore, E: ChildEdge + SocketEdge, W: Write> Host<T, E, W> {
@@ -78,18 +88,16 @@ impl<T: SettingStore, E: ChildEdge + SocketEdge, W: Write> Host<T, E, W> {
                 writes_setting,
                 ..
             } => self.ask_unload(alloc, job.as_str(), writes_setting),
-            Event::Start { job } => {
-                self.happen(alloc, EventRef::ToJob(job.as_str(), News::Start))
+            Event::Set { job, disabled, .. } => {
+                self.ask_set(alloc, job.as_str(), disabled, false)
             }
-            Event::Stop { job } => self.happen(alloc, EventRef::ToJob(job.as_str(), News::Stop)),
-            Event::Kickstart { job, kills_first } => {
-                self.happen(
-                    alloc,
-                    EventRef::ToJob(job.as_str(), News::Kickstart(kills_first)),
-                )
+            Event::OfJob { job, item } => {
+                if is_asked(item) {
+                    self.happen(alloc, EventRef::ToJob(job.as_str(), item))
+                } else {
+                    refused(alloc, Refusal::BadRequest)
+                }
             }
-            Event::Enable { job, .. } => self.ask_set(alloc, job.as_str(), false, false),
-            Event::Disable { job, .. } => self.ask_set(alloc, job.as_str(), true, false),
             Event::List => self.ask_list(alloc),
             Event::Print { job } => self.ask_print(alloc, job.as_str()),
             Event::Shutdown => self.happen(alloc, EventRef::Shutdown),
