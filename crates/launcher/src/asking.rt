@@ -6,11 +6,10 @@ ghost use Rattle.event_reader.specs.EventLines.{request_at};
 ghost use Rattle.job_table.specs.Numbers.{IsNumbered};
 ghost use Rattle.launcher.specs.Lines.{journaled_set};
 ghost use Rattle.launcher.specs.Hosts.{HostHears, HostStamps};
-ghost use Rattle.launcher.specs.Accepting.{accepted_in};
+ghost use Rattle.launcher.specs.Accepting.{is_accepted_load, is_load as loads};
 ghost use Rattle.launcher.specs.Inputs.{asked_in, is_asked};
 ghost use Rattle.launcher.specs.Writable.{WritesWhat};
 
-use crate::accepted::{Accepted, kind_of, unless_refused};
 use crate::event_ref::EventRef;
 use crate::fitting::lend_request;
 use crate::host::Host;
@@ -30,6 +29,16 @@ fn lend_numbers(table: &JobTable)
     let _step = table.last_step();
 }
 
+/// Whether the event is a load.
+fn is_load(event: &Event) -> bool
+    ensures { result ≡ loads (Some event.now) }
+{
+    match event {
+        Event::Load { .. } => true,
+        _ => false,
+    }
+}
+
 /// Whether it is what a client may ask of a job, `start`, `stop` or `kickstart`.
 fn is_asked(item: JobItem) -> bool
     ensures { result ≡ is_asked item }
@@ -42,7 +51,7 @@ fn is_asked(item: JobItem) -> bool
 
 impl<T: SettingStore, E: ChildEdge + SocketEdge, W: Write> Host<T, E, W> {
     /// A client's line, the newline left out.
-    #[tactic(auto, using(crate::proofs::HostsLemmas::unheard, crate::proofs::HostsLemmas::unread, crate::proofs::StampsLemmas::refused_stamps, crate::proofs::WritableLemmas::line_writable, crate::proofs::WritableLemmas::no_line_writable, crate::proofs::AcceptingLemmas::accepted_line, crate::proofs::AcceptingLemmas::accepted_nothing, crate::proofs::AcceptingLemmas::refused_asks))]
+    #[tactic(auto, using(crate::proofs::HostsLemmas::unheard, crate::proofs::HostsLemmas::unread, crate::proofs::StampsLemmas::refused_stamps, crate::proofs::WritableLemmas::line_writable, crate::proofs::WritableLemmas::no_line_writable, crate::proofs::AcceptingLemmas::accepted_line, crate::proofs::AcceptingLemmas::refused_load))]
     pub(crate) fn line(&mut self, alloc: Global, line: &[u8]) -> Reply
         ensures hears { HostHears E.told T.told T.holds (option_and_then asked_in (request_at line.now))
             result.refusal result.text self.old self.new }
@@ -50,16 +59,16 @@ impl<T: SettingStore, E: ChildEdge + SocketEdge, W: Write> Host<T, E, W> {
             result.refusal self.old self.new }
         ensures writable { WritesWhat result.refusal (option_and_then asked_in (request_at line.now)) }
         ensures quiet { is_some result.refusal ≡ true → result.text ≡ [] }
-        ensures accepted { self.new.accepted
-            ≡ accepted_in (option_and_then asked_in (request_at line.now)) result.refusal }
+        ensures loaded { self.new.has_loaded
+            ≡ is_accepted_load (option_and_then asked_in (request_at line.now)) result.refusal }
     {
-        self.accepted = Accepted::Other;
+        self.has_loaded = false;
         match self.reader.request(alloc, line) {
             Ok(outside) => {
                 lend_request(&outside); // for the proof
-                let asked = kind_of(&outside);
+                let is_load = is_load(&outside);
                 let reply = self.ask(alloc, outside);
-                self.accepted = unless_refused(asked, reply.refusal);
+                self.has_loaded = is_load && reply.refusal.is_none();
                 reply
             }
             Err(ReadFault::NoMemory) => refused(alloc, Refusal::NoMemory),

@@ -1,6 +1,6 @@
 //! A turn of the launcher, by what comes to it: what happens is one event, and the answers to all that it orders are the next.
 
-ghost use Rattle.std.specs.Prelude.{◌≡◌, Err, Some, [], is_some, true};
+ghost use Rattle.std.specs.Prelude.{◌≡◌, Err, Some, [], is_some, true, false};
 ghost use Rattle.history_model.specs.declared.Refusal.TheVariants.{NoMemory};
 ghost use Rattle.history_model.specs.declared.event.Event.TheVariants as journaled;
 ghost use Rattle.ctl_protocol.specs.EventWriter.{event_line};
@@ -8,15 +8,13 @@ ghost use Rattle.job_table.specs.Loads.{refused_with};
 ghost use Rattle.job_table.specs.Outcomes.{UnlessMemory};
 ghost use Rattle.launcher.specs.Events.{event_of_ref, is_clock};
 ghost use Rattle.launcher.specs.Hosts.{HostHears, HostStamps};
-ghost use Rattle.launcher.specs.Accepting.{accepted_in};
+ghost use Rattle.launcher.specs.Accepting.{is_accepted_load};
 ghost use Rattle.launcher.specs.Inputs.{input_event, if_label, wants_memory};
-ghost use Rattle.launcher.specs.declared.accepted.Accepted.TheVariants.{Other};
 ghost use Rattle.launcher.specs.Lines.{journaled_by};
 ghost use Rattle.launcher.specs.LoadTurns.{is_memory};
 ghost use Rattle.launcher.specs.Turns.{Turns, IsUncalled, trace};
 ghost use Rattle.launcher.specs.Writable.{WritesWhat};
 
-use crate::accepted::Accepted;
 use crate::event_ref::EventRef;
 use crate::fitting::lend_input;
 use crate::hearing::hear;
@@ -47,7 +45,8 @@ impl<T: SettingStore, E: ChildEdge + SocketEdge, W: Write> Host<T, E, W> {
         ensures writable { WritesWhat result.refusal (input_event input.entry) }
         ensures memory { is_memory result.refusal ≡ true → wants_memory input.entry ≡ true }
         ensures quiet { is_some result.refusal ≡ true → result.text ≡ [] }
-        ensures accepted { self.new.accepted ≡ accepted_in (input_event input.entry) result.refusal }
+        ensures loaded { self.new.has_loaded
+            ≡ is_accepted_load (input_event input.entry) result.refusal }
     {
         let reply = self.hear(alloc, input);
         if is_want(reply.refusal) {
@@ -58,7 +57,7 @@ impl<T: SettingStore, E: ChildEdge + SocketEdge, W: Write> Host<T, E, W> {
     }
 
     /// The turn, without the flush.
-    #[tactic(auto, using(crate::proofs::AcceptingLemmas::label_asks))]
+    #[tactic(auto, using(crate::proofs::AcceptingLemmas::label_loads))]
     fn hear(&mut self, alloc: Global, input: Input<'_>) -> Reply
         ensures hears { HostHears E.told T.told T.holds (input_event input.entry)
             result.refusal result.text self.old self.new }
@@ -67,7 +66,8 @@ impl<T: SettingStore, E: ChildEdge + SocketEdge, W: Write> Host<T, E, W> {
         ensures writable { WritesWhat result.refusal (input_event input.entry) }
         ensures memory { is_memory result.refusal ≡ true → wants_memory input.entry ≡ true }
         ensures quiet { is_some result.refusal ≡ true → result.text ≡ [] }
-        ensures accepted { self.new.accepted ≡ accepted_in (input_event input.entry) result.refusal }
+        ensures loaded { self.new.has_loaded
+            ≡ is_accepted_load (input_event input.entry) result.refusal }
     {
         lend_input(input); // for the proof
         match input {
@@ -94,12 +94,12 @@ impl<T: SettingStore, E: ChildEdge + SocketEdge, W: Write> Host<T, E, W> {
             result.refusal self.old self.new }
         ensures memory { is_memory result.refusal ≡ true → ⊥ }
         ensures quiet { is_some result.refusal ≡ true → result.text ≡ [] }
-        ensures accepted { self.new.accepted ≡ Other }
+        ensures loaded { self.new.has_loaded ≡ false }
     {
         if is_label(job) {
             self.happen(alloc, EventRef::ToJob(job, item))
         } else {
-            self.accepted = Accepted::Other;
+            self.has_loaded = false;
             refused(alloc, Refusal::BadRequest)
         }
     }
@@ -112,10 +112,10 @@ impl<T: SettingStore, E: ChildEdge + SocketEdge, W: Write> Host<T, E, W> {
             result.refusal self.old self.new }
         ensures memory { is_memory result.refusal ≡ true → is_clock what.entry ≡ true }
         ensures quiet { is_some result.refusal ≡ true → result.text ≡ [] }
-        ensures accepted { self.new.accepted ≡ Other }
+        ensures loaded { self.new.has_loaded ≡ false }
     {
         let answer = self.take_in(alloc, what);
-        self.accepted = Accepted::Other;
+        self.has_loaded = false;
         done(alloc, answer)
     }
 
