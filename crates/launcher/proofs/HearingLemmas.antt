@@ -29,7 +29,7 @@ use Rattle.table_opening.specs.Events.{machine_event}
 use Rattle.launcher.specs.Inputs.{answered}
 use Rattle.launcher.specs.Hosts.{AsksOutside, IsOwn, Hears}
 use Rattle.launcher.proofs.HostsLemmas.{hears, wordless, is_want}
-use Rattle.child_edge.specs.Calls.{Entry}
+use Rattle.child_edge.specs.Calls.{ToldCall}
 use Rattle.child_edge.proofs.CallsLemmas.{tells_nothing}
 
 abbrev well : Outside
@@ -53,7 +53,7 @@ same_event happenings.Shutdown = refl
 
 -- ---- nothing is asked for it
 
-module _ (s : State) (a : Option (List Entry)) (t : Option (List StoreCall)) where
+module _ (s : State) (a : Option (List ToldCall)) (t : Option (List StoreCall)) where
   asks_none : (what : EventRef) → AsksOutside s (journaled_by what) 0 well (told_of a t) (told_of a t)
   asks_none (happenings.Clock at) = record { bind = refl; store = refl; tells = tells_nothing a; stores = told_nothing t }
   asks_none (happenings.Saw path obs) = record { bind = refl; store = refl; tells = tells_nothing a; stores = told_nothing t }
@@ -98,7 +98,7 @@ unless P (Err _) holds other = holds
 abbrev Counted : State → Event → List ℕ → Option Refusal → Table → Table → Trace → Trace → Type 0
 Counted s e line reply old new before after = (turn : TurnsOf s e line reply new before after) × (reply ≡ None → AreNumbered turn.names old)
 
-pub happened : (what : EventRef) (answer : Result (Unit {0}) Refusal) (old new : Table) (a c : Option (List Entry)) (t : Option (List StoreCall)) (k n : JournalState) (before : List Setting → Type 0) →
+pub happened : (what : EventRef) (answer : Result (Unit {0}) Refusal) (old new : Table) (a c : Option (List ToldCall)) (t : Option (List StoreCall)) (k n : JournalState) (before : List Setting → Type 0) →
     UnlessMemory answer (Turns (event_of_ref what) (event_line (journaled_by what)) (refused_with answer) old new (trace a k) (trace c n)) →
     (answer ≡ Err NoMemory → (is_clock what ≡ true) × IsUncalled old new a c × (n ≡ k)) →
     Hears (Some (journaled_by what)) (refused_with answer) [] (standing old a t k) (standing new c t n) before before

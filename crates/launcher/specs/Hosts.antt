@@ -17,7 +17,7 @@ use Rattle.ctl_protocol.specs.HeaderLines.{header_line}
 use Rattle.job_table.specs.Tables.{Name, definition_of_number}
 use Rattle.job_table.specs.StandsFor.{KeepsState}
 use Rattle.job_table.specs.Loads.{load_of}
-use Rattle.child_edge.specs.Calls.{Entry}
+use Rattle.child_edge.specs.Calls.{ToldCall}
 use Rattle.outside.specs.declared.asking.Outside.{Outside}
 use Rattle.outside.specs.Asking.{Told, told_of}
 use Rattle.outside.specs.Stores.{HoldsAfter, Stamp, StoreCall, AreTold, set_call}
@@ -32,7 +32,7 @@ use Rattle.launcher.specs.declared.host.Host.{Host}
 
 -- the launcher as it stands, by what its outside and its store tell
 abbrev pub stands : {T E W : Type 0} →
-    (E → Option (List Entry)) → (T → Option (List StoreCall)) → Host T E W → Standing
+    (E → Option (List ToldCall)) → (T → Option (List StoreCall)) → Host T E W → Standing
 stands calls stores host =
     standing host.table (calls host.edge) (stores host.store) host.journal
 
@@ -74,7 +74,7 @@ pub record HostTurnOf (s : State) (event : journal.Event) (refusal : Option Refu
     (words : List ℕ) (old new : Standing) (before after : List Setting → Type 0) : Type 0 where
   pub outside : Outside
   pub job : ℕ
-  pub mid : Option (List Entry)
+  pub mid : Option (List ToldCall)
   pub asks : AsksOutside s event job outside
       (told_of old.calls old.stores) (told_of mid new.stores)
   pub turn : TurnsOf s (machine_event (answered outside event))
@@ -116,7 +116,7 @@ Hears event refusal words old new before after =
 -- a launcher heard it: so it stands before and after, by what its outside tells, and by what its
 -- store tells and holds
 abbrev pub HostHears : {T E W : Type 0} →
-    (E → Option (List Entry)) → (T → Option (List StoreCall)) → (T → List Setting → Type 0) →
+    (E → Option (List ToldCall)) → (T → Option (List StoreCall)) → (T → List Setting → Type 0) →
     Option journal.Event → Option Refusal → List ℕ → Host T E W → Host T E W → Type 0
 HostHears calls stores holds event refusal words old new =
     Hears event refusal words (stands calls stores old) (stands calls stores new)
@@ -149,7 +149,7 @@ with_settings header settings =
 -- A new launcher: it stands for the machine that the header opens with the settings that the store
 -- gave, has asked the outside nothing, and its journal has that header's line, or a front of it. A
 -- line can tell that header. If the store held any settings, it holds those of this machine.
-pub record IsNew (header : Header) (calls : Option (List Entry)) (stores : Option (List StoreCall))
+pub record IsNew (header : Header) (calls : Option (List ToldCall)) (stores : Option (List StoreCall))
     (journal : JournalState) (new : Standing) (before after : List Setting → Type 0) : Type 0 where
   pub settings : List Setting
   pub machine : State
@@ -163,7 +163,7 @@ pub record IsNew (header : Header) (calls : Option (List Entry)) (stores : Optio
   pub stored : (list : List Setting) → before list → after machine.settings
 
 -- and these are the settings that the store gave
-abbrev pub IsNewWith : List Setting → Header → Option (List Entry) → Option (List StoreCall) →
+abbrev pub IsNewWith : List Setting → Header → Option (List ToldCall) → Option (List StoreCall) →
     JournalState → Standing → (List Setting → Type 0) → (List Setting → Type 0) → Type 0
 IsNewWith settings header calls stores journal new before after =
     (made : IsNew header calls stores journal new before after) × (made.settings ≡ settings)

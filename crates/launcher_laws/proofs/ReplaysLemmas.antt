@@ -28,7 +28,7 @@ use Rattle.launcher_laws.proofs.HeadersLemmas.{header_read}
 use Rattle.launcher_laws.proofs.LinesLemmas.{event_object_text, header_object_text, journal_lines}
 use Rattle.launcher_laws.proofs.RunsLemmas.{grown, went}
 use Rattle.launcher_laws.proofs.WritableLemmas.{parts_writable}
-use Rattle.child_edge.specs.Calls.{Entry}
+use Rattle.child_edge.specs.Calls.{ToldCall}
 
 read_lines : (events : List journal.Event) → AllByRecursion IsWritable events → map event_in (map event_object_text events) ≡ map machine_event events
 read_lines [] told = refl
@@ -56,7 +56,7 @@ its_bytes old mid new bytes first more begins ends one two =
     subst (λ o. Appends (Some []) o (first ++ more)) ends (subst (λ o. Appends o new (first ++ more)) begins (Appends-trans old mid new first more one two))
 
 module _ {T : Type 0} (holds : T → List Setting → Type 0) where
-  pub replayed : (header : Header) (calls : Option (List Entry)) (stores : Option (List StoreCall)) (store : T) (first last : Snapshot T) (turns : List (Turn T)) (bytes : List ℕ) →
+  pub replayed : (header : Header) (calls : Option (List ToldCall)) (stores : Option (List StoreCall)) (store : T) (first last : Snapshot T) (turns : List (Turn T)) (bytes : List ℕ) →
       (new : IsNew header calls stores (fresh (Some []) true) first.stands (holds store) (holds first.store)) → AreTurns holds first turns last →
       last.stands.journal.phase ≡ Open → last.stands.journal.bytes ≡ Some bytes →
       IsReplayed (with_settings header new.settings) turns bytes
