@@ -51,7 +51,7 @@ fn is_asked(item: JobItem) -> bool
 
 impl<T: SettingStore, E: ChildEdge + SocketEdge, W: Write> Host<T, E, W> {
     /// A client's line, the newline left out.
-    #[tactic(auto, using(crate::proofs::HostsLemmas::unheard, crate::proofs::HostsLemmas::unread, crate::proofs::StampsLemmas::refused_stamps, crate::proofs::WritableLemmas::line_writable, crate::proofs::WritableLemmas::no_line_writable, crate::proofs::AcceptingLemmas::accepted_line, crate::proofs::AcceptingLemmas::refused_load))]
+    #[tactic(auto, using(crate::proofs::HostsLemmas::unheard, crate::proofs::HostsLemmas::unread, crate::proofs::StampsLemmas::refused_stamps, crate::proofs::WritableLemmas::no_line_writable, crate::proofs::AcceptingLemmas::accepted_line, crate::proofs::AcceptingLemmas::refused_load))]
     pub(crate) fn line(&mut self, alloc: Global, line: &[u8]) -> Reply
         ensures hears { HostHears E.told T.told T.holds (option_and_then asked_in (request_at line.now))
             result.refusal result.text self.old self.new }
