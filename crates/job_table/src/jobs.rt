@@ -18,10 +18,10 @@ ghost use Rattle.job_table.specs.Hearing.{AreFor, IsAccepted, present_with};
 ghost use Rattle.job_table.specs.Loads.{refused_with};
 ghost use Rattle.job_table.specs.Touched.{heard_with, IsHandedAt, AreTimedBut, RestBut, SparesBut};
 ghost use Rattle.job_table.specs.Index.{ArePlaced};
-ghost use Rattle.job_table.specs.News.{heard_at};
+ghost use Rattle.job_table.specs.Touch.{heard_at};
 ghost use Rattle.std.specs.Option.{ForSome};
 
-use crate::entry::{Entry, News};
+use crate::entry::{Entry, Touch};
 use crate::find::place_of;
 use crate::index::place_all;
 use crate::mark::mark_touched;
@@ -130,33 +130,33 @@ impl Jobs {
         heard_with(answer, place)
     }
 
-    /// Tells the jobs that the news touch what is new to them, and asks them alone. The reading stays.
-    pub fn ask_touched(&mut self, news: News<'_>)
+    /// Tells the jobs that the touch reaches what it is for them, and asks them alone. The reading stays.
+    pub fn ask_touched(&mut self, touch: Touch<'_>)
         requires sound { IsSound self.old }
         requires stay { AllStay self.old.entries.items }
         requires empty { self.old.orders.items ≡ [] }
-        requires still { present_with news self.old.reading ≡ self.old.reading }
-        requires inside { ForSome (heard_at news) (λ place. place < length self.old.entries.items) }
+        requires still { present_with touch self.old.reading ≡ self.old.reading }
+        requires inside { ForSome (heard_at touch) (λ place. place < length self.old.entries.items) }
         requires placed { ArePlaced self.old.index.places.items self.old.entries.items }
-        requires timed { AreTimedBut news self.old }
+        requires timed { AreTimedBut touch self.old }
         ensures kept { (jobs : List Job) (item : Job → Option Item) →
-            AreFor news.entry item (rows self.old.entries.items) jobs →
+            AreFor touch.entry item (rows self.old.entries.items) jobs →
             IsAccepted self.old.reading item →
-            RestBut news.entry 0 (rows self.old.entries.items) jobs →
+            RestBut touch.entry 0 (rows self.old.entries.items) jobs →
             KeepsJobs self.old.reading (rows self.old.entries.items) jobs →
             KeepsJobs self.old.reading (rows self.new.entries.items)
             (filter_map stays (heard item jobs)) }
         ensures orders { (jobs : List Job) (item : Job → Option Item) →
-            AreFor news.entry item (rows self.old.entries.items) jobs →
+            AreFor touch.entry item (rows self.old.entries.items) jobs →
             IsAccepted self.old.reading item →
-            RestBut news.entry 0 (rows self.old.entries.items) jobs →
+            RestBut touch.entry 0 (rows self.old.entries.items) jobs →
             KeepsJobs self.old.reading (rows self.old.entries.items) jobs →
             labelled (map name self.new.entries.items) self.new.orders.items
             ≡ flat_map orders_of (heard item jobs) }
         ensures names { map name self.new.entries.items ≡ map name self.old.entries.items }
         ensures counted { IsCounted (counts (rows self.old.entries.items))
             (rows self.new.entries.items) self.new.visited }
-        ensures spared { SparesBut news.entry self.old.entries.items self.new.entries.items }
+        ensures spared { SparesBut touch.entry self.old.entries.items self.new.entries.items }
         ensures triggers { self.new.triggers ≡ self.old.triggers }
         ensures whole { IsWhole self.new }
         ensures alike { IsAlike self.old self.new }
@@ -164,7 +164,7 @@ impl Jobs {
     {
         mark_touched(
             &self.entries,
-            news,
+            touch,
             &self.triggers,
             &self.index.places,
             &mut self.index.ready,
@@ -173,7 +173,7 @@ impl Jobs {
             &mut self.entries,
             &mut self.index.ready,
             &mut self.index.timers,
-            news,
+            touch,
             self.reading,
             self.reading,
             &mut self.orders,
