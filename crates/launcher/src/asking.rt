@@ -1,6 +1,6 @@
 //! What a control client's line asks.
 
-ghost use Rattle.std.specs.Prelude.{◌≡◌, Some, [], is_some, true, option_and_then};
+ghost use Rattle.std.specs.Prelude.{◌≡◌, ◌&&◌, Some, [], is_none, is_some, true, option_and_then};
 ghost use Rattle.history_model.specs.declared.event.Event.TheVariants as events;
 ghost use Rattle.event_reader.specs.EventLines.{request_at};
 ghost use Rattle.job_table.specs.Numbers.{IsNumbered};
@@ -39,6 +39,13 @@ fn is_load(event: &Event) -> bool
     }
 }
 
+/// Whether a load was asked for and not refused.
+fn unless_refused(is_load: bool, refusal: Option<Refusal>) -> bool
+    ensures { result ≡ (is_load && is_none refusal) }
+{
+    is_load && refusal.is_none()
+}
+
 /// Whether it is what a client may ask of a job, `start`, `stop` or `kickstart`.
 fn is_asked(item: JobItem) -> bool
     ensures { result ≡ is_asked item }
@@ -68,7 +75,7 @@ impl<T: SettingStore, E: ChildEdge + SocketEdge, W: Write> Host<T, E, W> {
                 lend_request(&outside); // for the proof
                 let is_load = is_load(&outside);
                 let reply = self.ask(alloc, outside);
-                self.has_loaded = is_load && reply.refusal.is_none();
+                self.has_loaded = unless_refused(is_load, reply.refusal);
                 reply
             }
             Err(ReadFault::NoMemory) => refused(alloc, Refusal::NoMemory),
