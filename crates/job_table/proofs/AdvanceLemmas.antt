@@ -1,10 +1,11 @@
 -- A reading touches the jobs at the marked places; each other job has it though it did not hear it.
 use Rattle.std.proofs.Common.{◌≡◌, ◌⊎◌, inl, inr, ℕ, zero, suc, ◌+◌, ◌==◌, ◌<◌, ◌≤◌, Bool, true, false, not, ◌||◌, ◌&&◌, cond, List, [], ◌∷◌, ◌++◌, map, length, Option, Some, None, is_some, refl, sym, ap, ◌∙◌, subst, arith, Bor}
-use Rattle.std.specs.Prelude.{slice_get, is_none}
+use Rattle.std.specs.Prelude.{slice_get}
 use Rattle.std.specs.List.{list_any, list_all, filter, flat_map, AllByRecursion}
 use Rattle.std.proofs.lemmas.Bool.Decides.{nat_tests}
 use Rattle.std.proofs.lemmas.Option.{slice_get_within}
-use Rattle.timer_heap.specs.Timers.{Timers, moment_in, room}
+use Rattle.place_set.specs.Places.{Places, has_place, place_room}
+use Rattle.timer_heap.specs.Timers.{Timers, moment_in}
 use Rattle.history_model.specs.declared.Reading.{Reading as Moment}
 use Rattle.history_model.specs.declared.CivilMinute.{CivilMinute}
 use Rattle.history_model.specs.declared.Entry.{Entry as Due}
@@ -37,7 +38,7 @@ use Rattle.job_table.proofs.PlacesLemmas.{rows-all}
 use Rattle.job_table.proofs.LabelledLemmas.{IsNamed, is-named, labelled-numbered}
 use Rattle.job_table.proofs.HearingLemmas.{label-with}
 use Rattle.job_table.proofs.CountsLemmas.{AreFor as HaveCounts, for-all, goes-up}
-use Rattle.history_model.proofs.BooleanLemmas.{or-false}
+use Rattle.history_model.proofs.BooleanLemmas.{or-false, not-false}
 use Rattle.history_model.proofs.LawfulLemmas.{eqb-self}
 
 -- ---- entries by place and by number
@@ -68,19 +69,19 @@ name-get (x ∷ xs) (y ∷ ys) (suc k) e same at = let rest : map name ys ≡ ma
 
 -- ---- marks
 
-pub have-places : (es : List Entry) (timers : Timers) (places : List ℕ) (marks : Timers) → AreAlone timers (map name es) → ArePlaced places es → length es ≤ room marks → HavePlaces timers places marks
+pub have-places : (es : List Entry) (timers : Timers) (places : List ℕ) (marks : Places) → AreAlone timers (map name es) → ArePlaced places es → length es ≤ place_room marks → HavePlaces timers places marks
 have-places es timers places marks alone placed fits = λ number moment there.
     let found = holder es number (alone number moment there) in
     let own = placed found.0 found.1 found.2 in
     let inside = slice_get_within es found.0 found.1 found.2 in
-    (subst (λ n. n < length places) found.3 own.0, subst (λ n. place_in places n < room marks) found.3 (subst (λ p. p < room marks) (sym own.1) (omega (arith, inside, fits))))
+    (subst (λ n. n < length places) found.3 own.0, subst (λ n. place_in places n < place_room marks) found.3 (subst (λ p. p < place_room marks) (sym own.1) (omega (arith, inside, fits))))
 
-module _ (es : List Entry) (stay : AllStay es) (before at : Moment) (minutes : List CivilMinute) (timers fewer : Timers) (places : List ℕ) (ready1 ready : Timers)
+module _ (es : List Entry) (stay : AllStay es) (before at : Moment) (minutes : List CivilMinute) (timers fewer : Timers) (places : List ℕ) (ready1 ready : Places)
     (timed : AreTimed timers before.up es) (alone : AreAlone timers (map name es)) (placed : ArePlaced places es)
     (marked : (number : ℕ) → IsMarked at.up timers fewer places ready1 number)
-    (reached : (place moment : ℕ) → moment_in ready1 place ≡ Some moment → (moment ≡ 0) × IsReachedAt at.up timers places place)
+    (reached : (place : ℕ) → has_place ready1 place ≡ true → IsReachedAt at.up timers places place)
     (spared : (place : ℕ) (entry : Entry) → slice_get es place ≡ Some entry → is_spared ready place ≡ true → (is_spared ready1 place ≡ true) × (is_minute_among entry.def.calendar minutes ≡ false))
-    (minute : (place moment : ℕ) → moment_in ready place ≡ Some moment → (moment_in ready1 place ≡ Some moment) ⊎ IsMinuteAt es minutes place moment)
+    (minute : (place : ℕ) → has_place ready place ≡ true → (has_place ready1 place ≡ true) ⊎ IsMinuteAt es minutes place)
   where
     -- a job that is spared has its moment, and that is later
     spare-moment : (k : ℕ) (e : Entry) → slice_get es k ≡ Some e → is_spared ready k ≡ true → IsLater at.up (moment_in timers e.number) × (moment_in fewer e.number ≡ moment_in timers e.number)
@@ -89,7 +90,7 @@ module _ (es : List Entry) (stay : AllStay es) (before at : Moment) (minutes : L
       go (inl both) = both
       go (inr mark) =
           let none : is_spared ready1 k ≡ true = (spared k e there spares).0 in
-          let some : is_spared ready1 k ≡ false = ap (is_spared ready1) (sym (placed k e there).1) ∙ ap is_none mark.0 in
+          let some : is_spared ready1 k ≡ false = ap (is_spared ready1) (sym (placed k e there).1) ∙ ap not mark.0 in
           let clash : true ≡ false = sym none ∙ some in absurd (cc clash)
 
     next-of : (k : ℕ) (e : Entry) → slice_get es k ≡ Some e → moment_in timers e.number ≡ next_by e.core.facts before.up
@@ -112,57 +113,53 @@ module _ (es : List Entry) (stay : AllStay es) (before at : Moment) (minutes : L
       go number moment (inl both) there = alone number moment (sym both.1 ∙ there)
       go number moment (inr mark) there = let clash : None ≡ Some moment = sym mark.1 ∙ there in absurd (cc clash)
 
-    pub mark-at : (place moment : ℕ) → moment_in ready place ≡ Some moment → (moment ≡ 0) × (place < length es)
-    mark-at place moment there = go (minute place moment there) where
-      go : (moment_in ready1 place ≡ Some moment) ⊎ IsMinuteAt es minutes place moment → (moment ≡ 0) × (place < length es)
+    pub mark-at : (place : ℕ) → has_place ready place ≡ true → place < length es
+    mark-at place there = go (minute place there) where
+      go : (has_place ready1 place ≡ true) ⊎ IsMinuteAt es minutes place → place < length es
       go (inl first) =
-          let by = reached place moment first in
-          let reason = by.1 in
+          let reason = reached place first in
           let found = holder es reason.0 (alone reason.0 reason.1 reason.3) in
           let own = placed found.0 found.1 found.2 in
           let inside = slice_get_within es found.0 found.1 found.2 in
           let same : place ≡ found.0 = sym reason.2 ∙ ap (place_in places) (sym found.3) ∙ own.1 in
-          (by.0, subst (λ p. p < length es) (sym same) inside)
-      go (inr minute_at) = (minute_at.0, slice_get_within es place minute_at.1.0 minute_at.1.1)
+          subst (λ p. p < length es) (sym same) inside
+      go (inr minute_at) = slice_get_within es place minute_at.0 minute_at.1
 
     -- a job with a mark has a moment that is reached, or a minute among these
     pub mark-reason : (k : ℕ) (e : Entry) → slice_get es k ≡ Some e → is_spared ready k ≡ false → IsReason before at minutes e
-    mark-reason k e there some = go (moment_in ready k) refl some where
-      go : (o : Option ℕ) → moment_in ready k ≡ o → is_none o ≡ false → IsReason before at minutes e
-      go None is some = cc
-      go (Some moment) is some = by_part (minute k moment is) where
-        by_part : (moment_in ready1 k ≡ Some moment) ⊎ IsMinuteAt es minutes k moment → IsReason before at minutes e
-        by_part (inl first) =
-            let reason = (reached k moment first).1 in
-            let found = holder es reason.0 (alone reason.0 reason.1 reason.3) in
-            let same_place : k ≡ found.0 = sym reason.2 ∙ ap (place_in places) (sym found.3) ∙ (placed found.0 found.1 found.2).1 in
-            let same_entry : Some e ≡ Some found.1 = sym there ∙ ap (slice_get es) same_place ∙ found.2 in
-            let entry : e ≡ found.1 = cc in
-            let number : e.number ≡ reason.0 = ap (λ x. x.number) entry ∙ found.3 in
-            inl (reason.1, sym (next-of k e there) ∙ ap (moment_in timers) number ∙ reason.3, reason.4)
-        by_part (inr at_minute) =
-            let found : Some e ≡ Some at_minute.1.0 = sym there ∙ at_minute.1.1 in
-            let entry : e ≡ at_minute.1.0 = cc in
-            inr (ap (λ x. is_minute_among x.def.calendar minutes) entry ∙ at_minute.1.2)
+    mark-reason k e there some = by_part (minute k (not-false (has_place ready k) some)) where
+      by_part : (has_place ready1 k ≡ true) ⊎ IsMinuteAt es minutes k → IsReason before at minutes e
+      by_part (inl first) =
+          let reason = reached k first in
+          let found = holder es reason.0 (alone reason.0 reason.1 reason.3) in
+          let same_place : k ≡ found.0 = sym reason.2 ∙ ap (place_in places) (sym found.3) ∙ (placed found.0 found.1 found.2).1 in
+          let same_entry : Some e ≡ Some found.1 = sym there ∙ ap (slice_get es) same_place ∙ found.2 in
+          let entry : e ≡ found.1 = cc in
+          let number : e.number ≡ reason.0 = ap (λ x. x.number) entry ∙ found.3 in
+          inl (reason.1, sym (next-of k e there) ∙ ap (moment_in timers) number ∙ reason.3, reason.4)
+      by_part (inr at_minute) =
+          let found : Some e ≡ Some at_minute.0 = sym there ∙ at_minute.1 in
+          let entry : e ≡ at_minute.0 = cc in
+          inr (ap (λ x. is_minute_among x.def.calendar minutes) entry ∙ at_minute.2)
 
 -- what the two parts of the marking give
-pub record AreMarked (es : List Entry) (at : Moment) (minutes : List CivilMinute) (timers fewer : Timers) (places : List ℕ) (ready1 ready : Timers) : Type 0 where
+pub record AreMarked (es : List Entry) (at : Moment) (minutes : List CivilMinute) (timers fewer : Timers) (places : List ℕ) (ready1 ready : Places) : Type 0 where
   pub marked : (number : ℕ) → IsMarked at.up timers fewer places ready1 number
-  pub reached : (place moment : ℕ) → moment_in ready1 place ≡ Some moment → (moment ≡ 0) × IsReachedAt at.up timers places place
+  pub reached : (place : ℕ) → has_place ready1 place ≡ true → IsReachedAt at.up timers places place
   pub spared : (place : ℕ) (entry : Entry) → slice_get es place ≡ Some entry → is_spared ready place ≡ true → (is_spared ready1 place ≡ true) × (is_minute_among entry.def.calendar minutes ≡ false)
-  pub minute : (place moment : ℕ) → moment_in ready place ≡ Some moment → (moment_in ready1 place ≡ Some moment) ⊎ IsMinuteAt es minutes place moment
+  pub minute : (place : ℕ) → has_place ready place ≡ true → (has_place ready1 place ≡ true) ⊎ IsMinuteAt es minutes place
 
-pub are-marked : (es lent : List Entry) (at : Moment) (minutes : List CivilMinute) (timers fewer : Timers) (places slice : List ℕ) (ready1 ready : Timers) → slice ≡ places → lent ≡ es →
+pub are-marked : (es lent : List Entry) (at : Moment) (minutes : List CivilMinute) (timers fewer : Timers) (places slice : List ℕ) (ready1 ready : Places) → slice ≡ places → lent ≡ es →
     ((number : ℕ) → IsMarked at.up timers fewer slice ready1 number) →
-    ((place moment : ℕ) → moment_in ready1 place ≡ Some moment → (moment ≡ 0) × IsReachedAt at.up timers slice place) →
+    ((place : ℕ) → has_place ready1 place ≡ true → IsReachedAt at.up timers slice place) →
     ((place : ℕ) (entry : Entry) → slice_get lent place ≡ Some entry → is_spared ready place ≡ true → (is_spared ready1 place ≡ true) × (is_minute_among entry.def.calendar minutes ≡ false)) →
-    ((place moment : ℕ) → moment_in ready place ≡ Some moment → (moment_in ready1 place ≡ Some moment) ⊎ IsMinuteAt lent minutes place moment) →
+    ((place : ℕ) → has_place ready place ≡ true → (has_place ready1 place ≡ true) ⊎ IsMinuteAt lent minutes place) →
     AreMarked es at minutes timers fewer places ready1 ready
 are-marked es lent at minutes timers fewer places slice ready1 ready same all marked reached spared minute = record {
   marked = λ number. subst (λ ps. IsMarked at.up timers fewer ps ready1 number) same (marked number);
-  reached = λ place moment there. let by = reached place moment there in (by.0, subst (λ ps. IsReachedAt at.up timers ps place) same by.1);
+  reached = λ place there. subst (λ ps. IsReachedAt at.up timers ps place) same (reached place there);
   spared = λ place entry there none. spared place entry (ap (λ xs. slice_get xs place) all ∙ there) none;
-  minute = λ place moment there. subst (λ xs. (moment_in ready1 place ≡ Some moment) ⊎ IsMinuteAt xs minutes place moment) all (minute place moment there);
+  minute = λ place there. subst (λ xs. (has_place ready1 place ≡ true) ⊎ IsMinuteAt xs minutes place) all (minute place there);
 }
 
 -- ---- spared jobs
@@ -207,7 +204,7 @@ module _ (before at : Moment) (minutes : Bor (List CivilMinute)) (order : before
       (rest-flag e job (list_any (λ minute. list_any (λ entry. matches entry minute) e.def.calendar) minutes.now) (none-fires e.def.calendar minutes.now spare.apart) spare.later keeps.keeps keeps.present
       (ap (λ p. refusal_if p job.past) same ∙ fine) rest)
 
-  module _ (ready : Timers) where
+  module _ (ready : Places) where
     pub spared-all : (place : ℕ) (es : List Entry) → ((k : ℕ) (e : Entry) → slice_get es k ≡ Some e → is_spared ready (place + k) ≡ true → IsSpare before at minutes.now e) →
         AreSpared ready before (touch.Reading at minutes) place es
     spared-all place [] spares = tt
@@ -249,7 +246,7 @@ heard-labelled before item names es orders jobs same stay once keeps wanted =
 
 -- ---- counts
 
-module _ (ready : Timers) where
+module _ (ready : Places) where
   stays-put : (all : List (Label × ℕ)) (e new : Entry) → name new ≡ name e → count_in all e.def.label ≡ e.core.decided → new.core.decided ≡ e.core.decided →
       (went_up all (row new) ≡ false) × (is_near all (row new) ≡ true)
   stays-put all e new named before still =

@@ -3,6 +3,7 @@ use Rattle.std.proofs.Common.{◌≡◌, ◌⊎◌, inl, inr, ℕ, zero, suc, �
 use Rattle.std.specs.Prelude.{slice_get, slice_index_or, get_or, unwrap_or}
 use Rattle.std.specs.List.{filter}
 use Rattle.std.proofs.lemmas.Bool.Decides.{nat_tests}
+use Rattle.place_set.specs.Places.{KeepsPlaces, has_place, place_room}
 use Rattle.timer_heap.specs.Timers.{Timers, moment_in, room, KeepsMoments}
 use Rattle.history_model.specs.NextMomentByFacts.{next_by}
 use Rattle.job_table.specs.Tables.{definition_of_number}
@@ -41,13 +42,13 @@ indexed-of index up es is timed placed = record {
 
 -- ---- growth
 
-pub grown-index : (old new : Index) (up : ℕ) (es : List Entry) → KeepsMoments old.timers new.timers → KeepsMoments old.ready new.ready → new.places ≡ old.places → IsIndexOf old up es → IsIndexOf new up es
+pub grown-index : (old new : Index) (up : ℕ) (es : List Entry) → KeepsMoments old.timers new.timers → KeepsPlaces old.ready new.ready → new.places ≡ old.places → IsIndexOf old up es → IsIndexOf new up es
 grown-index old new up es timers ready places is = record {
   timed = λ k e at. timers.moments e.number ∙ is.timed k e at;
   alone = λ number moment there. is.alone number moment (sym (timers.moments number) ∙ there);
   space = λ number named. (let more = timers.room in let fits = is.space number named in omega (arith, more, fits));
   placed = subst (λ ps. ArePlaced ps.items es) (sym places) is.placed;
-  empty = λ place. ready.moments place ∙ is.empty place;
+  empty = λ place. ready.places place ∙ is.empty place;
   marks = let more = ready.room in let fits = is.marks in omega (arith, more, fits);
 }
 
@@ -217,7 +218,7 @@ placed-length new es zero = ap suc (length-map es name)
 placed-length new [] (suc k) = refl
 placed-length new (e ∷ es) (suc k) = ap suc (placed-length new es k)
 
-pub index-placed : (index : Index) (new : Entry) (es : List Entry) (k : ℕ) → new.number < room index.timers → new.number < length index.places.items → length es + 1 ≤ room index.ready →
+pub index-placed : (index : Index) (new : Entry) (es : List Entry) (k : ℕ) → new.number < room index.timers → new.number < length index.places.items → length es + 1 ≤ place_room index.ready →
     IsNamed index (map name es) → IsNamed index (map name (take k es ++ new ∷ drop k es))
 index-placed index new es k timed placed marks is = record {
   alone = λ number moment there. more-names new es k number (is.alone number moment there);
@@ -235,8 +236,8 @@ replaced old new up es is timed placed timers ready = record {
   alone = λ number moment there. is.alone number moment (sym (ap (λ t. moment_in t number) timers) ∙ there);
   space = λ number named. (let space = is.space number named in let same = ap room timers in omega (arith, space, same));
   placed = placed;
-  empty = λ place. ap (λ r. moment_in r place) ready ∙ is.empty place;
-  marks = let marks = is.marks in let long = length-map es name in let same = ap room ready in omega (arith, marks, long, same);
+  empty = λ place. ap (λ r. has_place r place) ready ∙ is.empty place;
+  marks = let marks = is.marks in let long = length-map es name in let same = ap place_room ready in omega (arith, marks, long, same);
 }
 
 -- a refused event leaves the index right

@@ -1,10 +1,10 @@
 -- Places that are marked, run after run.
-use Rattle.std.proofs.Common.{◌≡◌, ◌⊎◌, inl, inr, ℕ, ◌+◌, ◌==◌, ◌<◌, ◌≤◌, Bool, true, false, not, ◌&&◌, ◌||◌, List, [], ◌∷◌, ◌++◌, map, take, length, get_or, Option, Some, None, refl, sym, ap, ◌∙◌, arith}
-use Rattle.std.specs.Prelude.{slice_get, is_none, is_some}
+use Rattle.std.proofs.Common.{◌≡◌, ◌⊎◌, inl, inr, ℕ, zero, suc, ◌+◌, ◌==◌, ◌<◌, ◌≤◌, Bool, true, false, not, ◌&&◌, ◌||◌, List, [], ◌∷◌, ◌++◌, map, take, length, get_or, Option, Some, None, refl, sym, ap, subst, ◌∙◌, arith}
+use Rattle.std.specs.Prelude.{slice_get, slice_set, slice_index_or, is_some}
 use Rattle.std.specs.List.{list_any}
 use Rattle.std.proofs.lemmas.Bool.Decides.{nat_tests}
 use Rattle.std.proofs.lemmas.List.Folds.{list_any_more, list_any-append}
-use Rattle.timer_heap.specs.Timers.{Timers, moment_in, room, Updates}
+use Rattle.place_set.specs.Places.{Places, Inserts, has_place, place_room}
 use Rattle.history_model.specs.declared.CivilMinute.{CivilMinute}
 use Rattle.history_model.specs.declared.Entry.{Entry as Due}
 use Rattle.history_model.specs.Calendar.{allows}
@@ -26,84 +26,45 @@ use Rattle.job_table.specs.declared.trigger.Listed.{Listed}
 use Rattle.job_table.proofs.ListLemmas.{any-map}
 use Rattle.job_table.proofs.TriggerCountLemmas.{any-listed}
 use Rattle.job_table.proofs.TriggersLemmas.{any-agree, any-none, any-filter, at-place, from-place, each-placed}
-use Rattle.history_model.proofs.BooleanLemmas.{or-assoc, or-second, or-first, false-or}
+use Rattle.history_model.proofs.BooleanLemmas.{or-assoc, or-first, or-true, or-false, or-false-right, not-true}
 
 -- ---- marks
 
-pub no-marks : (ready : Timers) (passes : ℕ → Bool) → ((place : ℕ) → passes place ≡ false) → Marks ready ready passes
-no-marks ready passes none = record { spared = λ place is. (is, none place); marks = λ place moment at. inl at; room = refl }
+pub no-marks : (ready : Places) (passes : ℕ → Bool) → ((place : ℕ) → passes place ≡ false) → Marks ready ready passes
+no-marks ready passes none = record { places = λ place. sym (ap (λ b. has_place ready place || b) (none place) ∙ or-false-right (has_place ready place)); room = refl }
 
 -- marks beside marks, seen as one
-pub more-marks : (first ready later : Timers) (before more all : ℕ → Bool) → ((place : ℕ) → all place ≡ (before place || more place)) → Marks first ready before → Marks ready later more → Marks first later all
+pub more-marks : (first ready later : Places) (before more all : ℕ → Bool) → ((place : ℕ) → all place ≡ (before place || more place)) → Marks first ready before → Marks ready later more → Marks first later all
 more-marks first ready later before more all is marked marks = record {
-  spared = λ place none. (
-      let own = marks.spared place none in
-      let old = marked.spared place own.0 in
-      (old.0, is place ∙ false-or (before place) (more place) old.1 own.1));
-  marks = λ place moment at. go place moment (marks.marks place moment at);
+  places = λ place.
+      marks.places place ∙ ap (λ b. b || more place) (marked.places place) ∙ sym (or-assoc (has_place first place) (before place) (more place))
+      ∙ ap (λ b. has_place first place || b) (sym (is place));
   room = marks.room ∙ marked.room;
 }
-  where
-    go : (place moment : ℕ) → (moment_in ready place ≡ Some moment) ⊎ ((moment ≡ 0) × (more place ≡ true)) → (moment_in first place ≡ Some moment) ⊎ ((moment ≡ 0) × (all place ≡ true))
-    go place moment (inr new) = inr (new.0, is place ∙ or-second (before place) (more place) new.1)
-    go place moment (inl at) = old (marked.marks place moment at)
-      where
-        old : (moment_in first place ≡ Some moment) ⊎ ((moment ≡ 0) × (before place ≡ true)) → (moment_in first place ≡ Some moment) ⊎ ((moment ≡ 0) × (all place ≡ true))
-        old (inl there) = inl there
-        old (inr own) = inr (own.0, is place ∙ or-first (before place) (more place) own.1)
 
-pub same-marks : (first later : Timers) (passes all : ℕ → Bool) → ((place : ℕ) → all place ≡ passes place) → Marks first later passes → Marks first later all
+pub same-marks : (first later : Places) (passes all : ℕ → Bool) → ((place : ℕ) → all place ≡ passes place) → Marks first later passes → Marks first later all
 same-marks first later passes all is marked = record {
-  spared = λ place none. (let own = marked.spared place none in (own.0, is place ∙ own.1));
-  marks = λ place moment at. go place moment (marked.marks place moment at);
+  places = λ place. marked.places place ∙ ap (λ b. has_place first place || b) (sym (is place));
   room = marked.room;
 }
-  where
-    go : (place moment : ℕ) → (moment_in first place ≡ Some moment) ⊎ ((moment ≡ 0) × (passes place ≡ true)) → (moment_in first place ≡ Some moment) ⊎ ((moment ≡ 0) × (all place ≡ true))
-    go place moment (inl at) = inl at
-    go place moment (inr new) = inr (new.0, is place ∙ new.1)
 
 -- one mark
-pub one-mark : (ready later : Timers) (place : ℕ) → Updates ready later place (Some 0) → Marks ready later (λ p. place == p)
+pub one-mark : (ready later : Places) (place : ℕ) → Inserts ready later place → Marks ready later (λ p. place == p)
 one-mark ready later place sets = record {
-  spared = λ p none. spare p none (place == p) refl;
-  marks = λ p moment at. mark p moment at (place == p) refl;
+  places = λ p. one p (place == p) refl;
   room = sets.room;
 }
   where
-    spare : (p : ℕ) → is_spared later p ≡ true → (b : Bool) → (place == p) ≡ b → (is_spared ready p ≡ true) × (b ≡ false)
-    spare p none true is =
-        let same : place ≡ p = grind (arith, nat_tests, is) in
-        let clash : false ≡ true = sym (ap (λ q. is_spared later q) (sym same) ∙ ap is_none sets.changed) ∙ none in absurd (cc clash)
-    spare p none false is = (ap is_none (sym (sets.others p (λ same. (let clash : ⊥ = grind (arith, nat_tests, is, same) in clash)))) ∙ none, refl)
-
-    mark : (p moment : ℕ) → moment_in later p ≡ Some moment → (b : Bool) → (place == p) ≡ b → (moment_in ready p ≡ Some moment) ⊎ ((moment ≡ 0) × (b ≡ true))
-    mark p moment at true is =
-        let same : place ≡ p = grind (arith, nat_tests, is) in
-        let zero_moment : Some 0 ≡ Some moment = sym sets.changed ∙ ap (moment_in later) same ∙ at in inr (cc zero_moment, refl)
-    mark p moment at false is = inl (sym (sets.others p (λ same. (let clash : ⊥ = grind (arith, nat_tests, is, same) in clash))) ∙ at)
+    one : (p : ℕ) (b : Bool) → (place == p) ≡ b → has_place later p ≡ (has_place ready p || b)
+    one p true is = let same : place ≡ p = grind (arith, nat_tests, is) in subst (λ q. has_place later q ≡ true) same sets.own ∙ sym (or-true (has_place ready p))
+    one p false is = sets.others p (λ same. (let clash : ⊥ = grind (arith, nat_tests, is, same) in clash)) ∙ sym (or-false-right (has_place ready p))
 
 -- if no place was marked, those that pass are the marked ones
-pub exact-marks : (old new : Timers) (passes : ℕ → Bool) → Marks old new passes → ((place : ℕ) → moment_in old place ≡ None) → (place : ℕ) → is_spared new place ≡ not (passes place)
-exact-marks old new passes marked empty place = go (moment_in new place) refl
-  where
-    go : (o : Option ℕ) → moment_in new place ≡ o → is_none o ≡ not (passes place)
-    go None is = ap not (sym (marked.spared place (ap is_none is)).1)
-    go (Some moment) is = by (marked.marks place moment is)
-      where
-        by : (moment_in old place ≡ Some moment) ⊎ ((moment ≡ 0) × (passes place ≡ true)) → false ≡ not (passes place)
-        by (inl at) = let clash : None ≡ Some moment = sym (empty place) ∙ at in absurd (cc clash)
-        by (inr new) = ap not (sym new.1)
-
-pub new-mark : (old new : Timers) (passes : ℕ → Bool) → Marks old new passes → ((place : ℕ) → moment_in old place ≡ None) → (place moment : ℕ) → moment_in new place ≡ Some moment → (moment ≡ 0) × (passes place ≡ true)
-new-mark old new passes marked empty place moment is = by (marked.marks place moment is)
-  where
-    by : (moment_in old place ≡ Some moment) ⊎ ((moment ≡ 0) × (passes place ≡ true)) → (moment ≡ 0) × (passes place ≡ true)
-    by (inl at) = let clash : None ≡ Some moment = sym (empty place) ∙ at in absurd (cc clash)
-    by (inr new) = new
+pub exact-marks : (old new : Places) (passes : ℕ → Bool) → Marks old new passes → ((place : ℕ) → has_place old place ≡ false) → (place : ℕ) → has_place new place ≡ passes place
+exact-marks old new passes marked empty place = marked.places place ∙ ap (λ b. b || passes place) (empty place)
 
 -- each listed job has a place for its mark
-pub have-marks : (places : List ℕ) (es : List Entry) (listed : List Listed) (ready : Timers) → ArePlaced places es → AreListed listed (map name es) → length es ≤ room ready → HaveMarks listed places ready
+pub have-marks : (places : List ℕ) (es : List Entry) (listed : List Listed) (ready : Places) → ArePlaced places es → AreListed listed (map name es) → length es ≤ place_room ready → HaveMarks listed places ready
 have-marks places es listed ready placed are fits k one at =
     let own = each-placed places es placed listed (any-listed listed _ are.exact) k one at in
     let low = own.1 in (own.0, omega (arith, low, fits))
@@ -206,7 +167,7 @@ some-first (m ∷ ms) none = refl
 abbrev pub stands_among : List Listed → List ℕ → List CivilMinute → ℕ → Bool
 stands_among listed places minutes place = stands_at listed places (0 ∷ []) place || list_any (λ minute. stands_at listed places (0 ∷ minute.minute ∷ []) place) minutes
 
-pub minute-more : (first ready later : Timers) (listed : List Listed) (places : List ℕ) (minutes : List CivilMinute) (i : ℕ) (d : CivilMinute) → i < length minutes →
+pub minute-more : (first ready later : Places) (listed : List Listed) (places : List ℕ) (minutes : List CivilMinute) (i : ℕ) (d : CivilMinute) → i < length minutes →
     Marks first ready (stands_among listed places (take i minutes)) → Marks ready later (stands_at listed places (0 ∷ (get_or minutes i d).minute ∷ [])) → Marks first later (stands_among listed places (take (i + 1) minutes))
 minute-more first ready later listed places minutes i d within marked marks =
     more-marks first ready later (stands_among listed places (take i minutes)) (stands_at listed places (0 ∷ (get_or minutes i d).minute ∷ [])) (stands_among listed places (take (i + 1) minutes))
@@ -214,7 +175,74 @@ minute-more first ready later listed places minutes i d within marked marks =
     ∙ or-assoc (stands_at listed places (0 ∷ []) place) (list_any (λ m. stands_at listed places (0 ∷ m.minute ∷ []) place) (take i minutes)) (stands_at listed places (0 ∷ (get_or minutes i d).minute ∷ []) place))
     marked marks
 
-module _ (places : List ℕ) (es : List Entry) (placed : ArePlaced places es) (listed : List Listed) (are : AreListed listed (map name es)) (first later : Timers) (minutes : List CivilMinute) (some : is_some (slice_get minutes 0) ≡ true)
+-- a minute of the hour that one of these has adds no place
+noted-more : (listed : List Listed) (places : List ℕ) (place n : ℕ) (ms : List CivilMinute) → list_any (λ m. m.minute == n) ms ≡ true →
+    (list_any (λ (m : CivilMinute). stands_at listed places (0 ∷ m.minute ∷ []) place) ms || stands_at listed places (0 ∷ n ∷ []) place) ≡ list_any (λ (m : CivilMinute). stands_at listed places (0 ∷ m.minute ∷ []) place) ms
+noted-more listed places place n [] some = cc
+noted-more listed places place n (m ∷ ms) some = go (m.minute == n) refl some (noted-more listed places place n ms)
+  where
+    own : CivilMinute → Bool
+    own x = stands_at listed places (0 ∷ x.minute ∷ []) place
+
+    twice : (a b : Bool) → ((a || b) || a) ≡ (a || b)
+    twice true b = refl
+    twice false b = or-false-right b
+
+    go : (b : Bool) → (m.minute == n) ≡ b → (b || list_any (λ (x : CivilMinute). x.minute == n) ms) ≡ true →
+        (list_any (λ (x : CivilMinute). x.minute == n) ms ≡ true → (list_any own ms || stands_at listed places (0 ∷ n ∷ []) place) ≡ list_any own ms) →
+        ((own m || list_any own ms) || stands_at listed places (0 ∷ n ∷ []) place) ≡ (own m || list_any own ms)
+    go true is some later =
+        let same : n ≡ m.minute = grind (arith, nat_tests, is) in
+        ap (λ k. (own m || list_any own ms) || stands_at listed places (0 ∷ k ∷ []) place) same ∙ twice (own m) (list_any own ms)
+    go false is some later = sym (or-assoc (own m) (list_any own ms) (stands_at listed places (0 ∷ n ∷ []) place)) ∙ ap (λ b. own m || b) (later some)
+
+-- the minutes are marked, and each minute of the hour that is noted is that of one of them
+pub record IsNoted (listed : List Listed) (places : List ℕ) (first ready : Places) (seen : List Bool) (minutes : List CivilMinute) : Type 0 where
+  pub marks : Marks first ready (stands_among listed places minutes)
+  pub noted : (n : ℕ) → slice_index_or seen n false ≡ true → list_any (λ m. m.minute == n) minutes ≡ true
+
+noted-set : (seen : List Bool) (k n : ℕ) → slice_index_or (slice_set seen k true) n false ≡ true → (k == n) ≡ false → slice_index_or seen n false ≡ true
+noted-set [] k n is differ = is
+noted-set (b ∷ bs) zero zero is differ = cc
+noted-set (b ∷ bs) zero (suc n) is differ = is
+noted-set (b ∷ bs) (suc k) zero is differ = is
+noted-set (b ∷ bs) (suc k) (suc n) is differ = noted-set bs k n is (grind (arith, nat_tests, differ))
+
+pub once-more : (listed : List Listed) (places : List ℕ) (first ready later : Places) (seen after : List Bool) (minutes : List CivilMinute) (i : ℕ) (d : CivilMinute) → i < length minutes →
+    (slice_index_or seen (get_or minutes i d).minute false ≡ true → (later ≡ ready) × (after ≡ seen)) →
+    (slice_index_or seen (get_or minutes i d).minute false ≡ false → Marks ready later (stands_at listed places (0 ∷ (get_or minutes i d).minute ∷ [])) × (after ≡ slice_set seen (get_or minutes i d).minute true)) →
+    IsNoted listed places first ready seen (take i minutes) → IsNoted listed places first later after (take (i + 1) minutes)
+once-more listed places first ready later seen after minutes i d within if_noted if_fresh so_far = go (slice_index_or seen n false) refl
+  where
+    n : ℕ
+    n = (get_or minutes i d).minute
+
+    more : (k : ℕ) → list_any (λ m. m.minute == k) (take (i + 1) minutes) ≡ (list_any (λ m. m.minute == k) (take i minutes) || (n == k))
+    more k = list_any_more (λ m. m.minute == k) minutes i d within
+
+    go : (b : Bool) → slice_index_or seen n false ≡ b → IsNoted listed places first later after (take (i + 1) minutes)
+    go true is =
+        let same = if_noted is in
+        record {
+          marks = subst (λ p. Marks first p (stands_among listed places (take (i + 1) minutes))) (sym same.0)
+              (same-marks first ready (stands_among listed places (take i minutes)) (stands_among listed places (take (i + 1) minutes))
+              (λ place. ap (λ b. stands_at listed places (0 ∷ []) place || b)
+              (list_any_more (λ m. stands_at listed places (0 ∷ m.minute ∷ []) place) minutes i d within ∙ noted-more listed places place n (take i minutes) (so_far.noted n is)))
+              so_far.marks);
+          noted = λ k there. more k ∙ or-first (list_any (λ m. m.minute == k) (take i minutes)) (n == k) (so_far.noted k (ap (λ s. slice_index_or s k false) (sym same.1) ∙ there));
+        }
+    go false is =
+        let new = if_fresh is in
+        record {
+          marks = minute-more first ready later listed places minutes i d within so_far.marks new.0;
+          noted = λ k there. more k ∙ pick k (n == k) refl (ap (λ s. slice_index_or s k false) (sym new.1) ∙ there);
+        }
+      where
+        pick : (k : ℕ) (b : Bool) → (n == k) ≡ b → slice_index_or (slice_set seen n true) k false ≡ true → (list_any (λ m. m.minute == k) (take i minutes) || b) ≡ true
+        pick k true same there = or-true (list_any (λ m. m.minute == k) (take i minutes))
+        pick k false differ there = or-first (list_any (λ m. m.minute == k) (take i minutes)) false (so_far.noted k (noted-set seen n k there differ))
+
+module _ (places : List ℕ) (es : List Entry) (placed : ArePlaced places es) (listed : List Listed) (are : AreListed listed (map name es)) (first later : Places) (minutes : List CivilMinute) (some : is_some (slice_get minutes 0) ≡ true)
     (marks : Marks first later (stands_among listed places minutes)) where
   spread : (a : Bool) (b c : CivilMinute → Bool) → ((m : CivilMinute) → (a || b m) ≡ c m) → (ms : List CivilMinute) → is_some (slice_get ms 0) ≡ true → (a || list_any b ms) ≡ list_any c ms
   spread a b c each [] some = cc
@@ -260,11 +288,13 @@ module _ (places : List ℕ) (es : List Entry) (placed : ArePlaced places es) (l
       go false one is = by minutes is
 
   pub minute-spared : (place : ℕ) (e : Entry) → slice_get es place ≡ Some e → is_spared later place ≡ true → (is_spared first place ≡ true) × (is_minute_among e.def.calendar minutes ≡ false)
-  minute-spared place e at none = let both = marks.spared place none in (both.0, sym (here place e at) ∙ both.1)
+  minute-spared place e at none =
+      let both = or-false (has_place first place) (stands_among listed places minutes place) (sym (marks.places place) ∙ not-true (has_place later place) none) in
+      (ap not both.0, sym (here place e at) ∙ both.1)
 
-  pub minute-marks : (place moment : ℕ) → moment_in later place ≡ Some moment → (moment_in first place ≡ Some moment) ⊎ IsMinuteAt es minutes place moment
-  minute-marks place moment at = go (marks.marks place moment at)
+  pub minute-marks : (place : ℕ) → has_place later place ≡ true → (has_place first place ≡ true) ⊎ IsMinuteAt es minutes place
+  minute-marks place at = go (has_place first place) refl (sym (marks.places place) ∙ at)
     where
-      go : (moment_in first place ≡ Some moment) ⊎ ((moment ≡ 0) × (stands_among listed places minutes place ≡ true)) → (moment_in first place ≡ Some moment) ⊎ IsMinuteAt es minutes place moment
-      go (inl old) = inl old
-      go (inr new) = let found = some-job place new.1 in inr (new.0, (found.0, found.1, sym (here place found.0 found.1) ∙ new.1))
+      go : (b : Bool) → has_place first place ≡ b → (b || stands_among listed places minutes place) ≡ true → (has_place first place ≡ true) ⊎ IsMinuteAt es minutes place
+      go true is some = inl is
+      go false is some = let found = some-job place some in inr (found.0, found.1, sym (here place found.0 found.1) ∙ some)

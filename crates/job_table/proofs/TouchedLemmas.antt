@@ -4,7 +4,8 @@ use Rattle.std.specs.Prelude.{slice_get, slice_set, if◌then◌else◌, Result,
 use Rattle.std.specs.List.{position, filter, filter_map, flat_map, AllByRecursion}
 use Rattle.std.proofs.lemmas.Bool.Decides.{nat_tests}
 use Rattle.std.proofs.lemmas.Option.{slice_get_within}
-use Rattle.timer_heap.specs.Timers.{Timers, moment_in}
+use Rattle.place_set.specs.Places.{Places}
+use Rattle.timer_heap.specs.Timers.{moment_in}
 use Rattle.history_model.specs.declared.Reading.{Reading as Moment}
 use Rattle.history_model.specs.Items.{Item, Saw, History}
 use Rattle.history_model.specs.declared.Obs.{Obs}
@@ -60,7 +61,7 @@ pub not-true : (s b : Bool) → s ≡ not b → s ≡ true → b ≡ false
 not-true s true is held = let clash : true ≡ false = sym held ∙ is in absurd (cc clash)
 not-true s false is held = refl
 
-module _ (touch : Touch) (ready : Timers) where
+module _ (touch : Touch) (ready : Places) where
   -- from this place on: the jobs that the touch reaches have a mark, and no other
   abbrev pub AreMarked : ℕ → List Entry → Type 0
   AreMarked place es = (k : ℕ) (e : Entry) → slice_get es k ≡ Some e → is_spared ready (place + k) ≡ not (is_touched touch (place + k) e.def)
@@ -87,14 +88,14 @@ module _ (touch : Touch) (ready : Timers) where
     rest-all at item (suc place) es jobs (at-tail place e es marked) for.1 keeps.1 rests.1,
   )
 
-pub marked-at : (touch : Touch) (ready : Timers) (lent es : List Entry) → lent ≡ es →
+pub marked-at : (touch : Touch) (ready : Places) (lent es : List Entry) → lent ≡ es →
     ((k : ℕ) (e : Entry) → slice_get lent k ≡ Some e → is_spared ready k ≡ not (is_touched touch k e.def)) → AreMarked touch ready 0 es
 marked-at touch ready lent es same marked k e there =
     subst (λ p. is_spared ready p ≡ not (is_touched touch p e.def)) (omega arith) (marked k e (ap (λ xs. slice_get xs k) same ∙ there))
 
 -- ---- the count of a label that no job at a mark has
 
-pub spared-count : (ready : Timers) (place : ℕ) (es later : List Entry) (label : Label) → AllStay es → AreVisitedOnce ready place es later →
+pub spared-count : (ready : Places) (place : ℕ) (es later : List Entry) (label : Label) → AllStay es → AreVisitedOnce ready place es later →
     ((k : ℕ) (e : Entry) → slice_get es k ≡ Some e → has_label label e ≡ true → is_spared ready (place + k) ≡ true) →
     count_in (counts (rows later)) label ≡ count_in (counts (map row es)) label
 spared-count ready place [] [] label stay visits spared = refl

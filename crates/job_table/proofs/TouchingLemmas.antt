@@ -6,7 +6,7 @@ use Rattle.std.specs.List.{filter, list_any}
 use Rattle.std.proofs.lemmas.Bool.{eqb-true}
 use Rattle.std.proofs.lemmas.Bool.Decides.{nat_tests}
 use Rattle.std.proofs.Math.Nat.{div-lt_iff_lt-mul, le-div_iff_mul-le, mul-le-mul_right}
-use Rattle.timer_heap.specs.Timers.{Timers}
+use Rattle.place_set.specs.Places.{Places}
 use Rattle.history_model.specs.declared.Reading.{Reading as Moment}
 use Rattle.history_model.specs.declared.CivilMinute.{CivilMinute}
 use Rattle.history_model.specs.declared.Entry.{Entry as Due}
@@ -118,13 +118,13 @@ touch-minute zone at past minutes is among = go (list_any (is_minute_crossed zon
 -- ---- the counts of those that are spared
 
 -- a job with a mark is touched
-abbrev pub MarksTouch : Zone → Moment → Timers → ℕ → List Entry → List Job → Type 0
+abbrev pub MarksTouch : Zone → Moment → Places → ℕ → List Entry → List Job → Type 0
 MarksTouch zone at ready place [] jobs = Unit {0}
 MarksTouch zone at ready place (e ∷ es) [] = Unit {0}
 MarksTouch zone at ready place (e ∷ es) (job ∷ jobs) =
     (is_spared ready place ≡ false → touches zone at job.past ≡ true) × MarksTouch zone at ready (suc place) es jobs
 
-pub spared-count : (zone : Zone) (before at : Moment) (ready : Timers) (place : ℕ) (es later : List Entry) (jobs : List Job) (label : Label) (past : History) →
+pub spared-count : (zone : Zone) (before at : Moment) (ready : Places) (place : ℕ) (es later : List Entry) (jobs : List Job) (label : Label) (past : History) →
     AllStay es → AreVisitedOnce ready place es later → KeepsJobs before (map row es) jobs → MarksTouch zone at ready place es jobs →
     past_in (first (filter (is_of label) jobs)) ≡ Some past → touches zone at past ≡ false →
     count_in (counts (rows later)) label ≡ count_in (counts (map row es)) label
@@ -180,7 +180,7 @@ reason-touches zone before at minutes e job keeps positive crosses (inr among) =
     touch-minute zone at job.past minutes (crosses (some-entry e.def.calendar minutes among) ∙ ap (λ r. map zone (crossed r.wall at.wall)) keeps.present)
     (ap (λ d. is_minute_among d.calendar minutes) (sym keeps.definition) ∙ among)
 
-pub marks-touch : (zone : Zone) (before at : Moment) (minutes : List CivilMinute) (ready : Timers) (place : ℕ) (es : List Entry) (jobs : List Job) → HavePeriods (map name es) →
+pub marks-touch : (zone : Zone) (before at : Moment) (minutes : List CivilMinute) (ready : Places) (place : ℕ) (es : List Entry) (jobs : List Job) → HavePeriods (map name es) →
     ((k : ℕ) (e : Entry) → slice_get es k ≡ Some e → is_spared ready (place + k) ≡ false → IsReason before at minutes e) →
     (has_calendars (map row es) ≡ true → minutes ≡ map zone (crossed before.wall at.wall)) → KeepsJobs before (map row es) jobs → MarksTouch zone at ready place es jobs
 marks-touch zone before at minutes ready place [] jobs periods reasons crosses keeps = tt

@@ -2,7 +2,7 @@
 use Rattle.std.proofs.Common.{◌≡◌, ℕ, zero, suc, ◌+◌, ◌-◌, ◌<◌, ◌≤◌, Bool, true, false, ◌||◌, cond, List, [], ◌∷◌, ◌++◌, map, take, drop, length, get_or, Option, Some, None, refl, sym, ap, ◌∙◌, subst, append_assoc, append-nil, arith}
 use Rattle.std.specs.Prelude.{slice_set}
 use Rattle.std.specs.List.{filter_map, cons_option}
-use Rattle.timer_heap.specs.Timers.{Timers}
+use Rattle.place_set.specs.Places.{Places}
 use Rattle.history_model.specs.declared.Reading.{Reading}
 use Rattle.history_model.specs.declared.Order.{Order}
 use Rattle.history_model.specs.declared.Act.TheVariants.{Close, Gone}
@@ -37,7 +37,7 @@ rest-stays job rest = λ i. cond (rest.1 i) None (Some (record job { past = orde
 rest-acts : (job : Job) → IsAtRest job → acts_of job.past ≡ []
 rest-acts job rest = λ i. cond (rest.1 i) (map Close (waiting job.past) ++ Gone ∷ []) (listed (rest.0 i))
 
-module _ (before at : Reading) (touch : Touch) (item : Job → Option Item) (ready : Timers) (is_now : at ≡ present_with touch before) (accepted : IsAccepted before item) where
+module _ (before at : Reading) (touch : Touch) (item : Job → Option Item) (ready : Places) (is_now : at ≡ present_with touch before) (accepted : IsAccepted before item) where
   skip-head : (place : ℕ) (e : Entry) (done todo : List Row) (earlier all : List Order) (after : List Job) → is_spared ready place ≡ true → IsHeard before (item_for touch e.def) e e →
       IsOnWay before at touch item ready place done (row e ∷ todo) earlier all after → IsOnWay before at touch item ready (suc place) (done ++ row e ∷ []) todo earlier all after
   skip-head place e done todo earlier all after spared heard_self way = go way.rest way.waits way.for way.rests way.leads way.gives where
@@ -161,7 +161,7 @@ or-left : (a b : Bool) → b ≡ false → (a || b) ≡ a
 or-left true b is = refl
 or-left false b is = is
 
-module _ (ready : Timers) where
+module _ (ready : Places) where
   once-snoc : (place : ℕ) (es later : List Entry) (e new : Entry) → AreVisitedOnce ready place es later → name new ≡ name e →
       new.core.decided ≡ cond (new.has_gone || is_spared ready (place + length es)) e.core.decided (next_count e.core.decided) → (is_spared ready (place + length es) ≡ true → new ≡ e) → AreVisitedOnce ready place (es ++ e ∷ []) (later ++ new ∷ [])
   once-snoc place [] [] e new all named up same = (named, subst (λ p. new.core.decided ≡ cond (new.has_gone || is_spared ready p) e.core.decided (next_count e.core.decided)) (omega arith) up, subst (λ p. is_spared ready p ≡ true → new ≡ e) (omega arith) same, tt)
@@ -188,7 +188,7 @@ module _ (ready : Timers) where
     go false true is = ap suc is
     go false false is = ap suc is
 
-module _ (before at : Reading) (touch : Touch) (ready : Timers) (es0 : List Entry) (first : List Order) where
+module _ (before at : Reading) (touch : Touch) (ready : Places) (es0 : List Entry) (first : List Order) where
   -- the walk has come so far
   pub record IsWalked (es : List Entry) (front : ℕ) (earlier : List Order) (visited : ℕ) : Type 0 where
     pub untouched : drop front es ≡ drop front es0
@@ -198,7 +198,7 @@ module _ (before at : Reading) (touch : Touch) (ready : Timers) (es0 : List Entr
     pub way : (jobs : List Job) (item : Job → Option Item) → AreFor touch item (rows es0) jobs → IsAccepted before item → AreAtRest ready 0 (heard item jobs) → KeepsJobs before (rows es0) jobs →
         IsOnWay before at touch item ready front (rows (take front es)) (rows (drop front es0)) earlier (first ++ numbered_all (rows es0) (heard item jobs)) (filter_map stays (heard item jobs))
 
-module _ (before at : Reading) (touch : Touch) (ready : Timers) (is_now : at ≡ present_with touch before) (es0 : List Entry) (first : List Order) where
+module _ (before at : Reading) (touch : Touch) (ready : Places) (is_now : at ≡ present_with touch before) (es0 : List Entry) (first : List Order) where
   abbrev IsWalkedHere : List Entry → ℕ → List Order → ℕ → Type 0
   IsWalkedHere es front earlier visited = IsWalked before at touch ready es0 first es front earlier visited
 

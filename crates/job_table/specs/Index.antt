@@ -1,5 +1,6 @@
 -- The index of moments: what holds of it beside the entries.
 use Rattle.std.specs.Prelude.{◌≡◌, ℕ, ◌<◌, ◌≤◌, Bool, true, cond, List, length, map, Option, Some, None, is_some, slice_get, slice_index_or}
+use Rattle.place_set.specs.Places.{has_place, place_room}
 use Rattle.timer_heap.specs.Timers.{Timers, moment_in, room}
 use Rattle.history_model.specs.NextMomentByFacts.{next_by}
 use Rattle.job_table.specs.Tables.{Name, definition_of_number}
@@ -50,8 +51,8 @@ pub record IsNamed (index : Index) (names : List Name) : Type 0 where
   pub space : HaveRoom index.timers names
   pub fits : (number : ℕ) → is_some (definition_of_number names number) ≡ true →
       number < length index.places.items
-  pub empty : (place : ℕ) → moment_in index.ready place ≡ None
-  pub marks : length names ≤ room index.ready
+  pub empty : (place : ℕ) → has_place index.ready place ≡ false
+  pub marks : length names ≤ place_room index.ready
 
 -- the index is that of these entries, at this moment, and has no mark
 pub record IsIndexOf (index : Index) (up : ℕ) (es : List Entry) : Type 0 where
@@ -59,8 +60,8 @@ pub record IsIndexOf (index : Index) (up : ℕ) (es : List Entry) : Type 0 where
   pub alone : AreAlone index.timers (map name es)
   pub space : HaveRoom index.timers (map name es)
   pub placed : ArePlaced index.places.items es
-  pub empty : (place : ℕ) → moment_in index.ready place ≡ None
-  pub marks : length es ≤ room index.ready
+  pub empty : (place : ℕ) → has_place index.ready place ≡ false
+  pub marks : length es ≤ place_room index.ready
 
 -- the index beside the entries, as each event finds and leaves it
 abbrev pub IsIndexed : Jobs → Type 0

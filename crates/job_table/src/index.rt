@@ -1,6 +1,7 @@
 //! The index beside the entries: the place of each job, and room for one more.
 
 ghost use Rattle.std.specs.Prelude.{◌≡◌, ◌≤◌, ◌<◌, ◌+◌, ℕ, OnOk, Some, is_some, length, map, slice_get, true};
+ghost use Rattle.place_set.specs.Places.{place_room};
 ghost use Rattle.timer_heap.specs.Timers.{room};
 ghost use Rattle.history_model.specs.declared.TheConstants.{MAX_JOBS};
 ghost use Rattle.job_table.specs.Tables.{IsOnce, definition_of_number};
@@ -60,14 +61,14 @@ pub fn grow(
     ensures indexed { (up : ℕ) →
         IsIndexOf index.old up entries.now → IsIndexOf index.new up entries.now }
     ensures moments { OnOk result (number < room index.new.timers) }
-    ensures marks { OnOk result (length entries.now + 1 ≤ room index.new.ready) }
+    ensures marks { OnOk result (length entries.now + 1 ≤ place_room index.new.ready) }
     ensures numbered { OnOk result (number < length index.new.places.items) }
 {
     let Some(above) = number.checked_add(1) else {
         return Err(AllocError);
     };
     index.timers.reserve(alloc, above)?;
-    index.ready.reserve(alloc, entries.len() as u32 + 1)?;
+    index.ready.reserve(entries.len() as u32 + 1)?;
     if index.places.len() > number as usize {
         return Ok(());
     }

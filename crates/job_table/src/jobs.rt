@@ -31,6 +31,7 @@ use crate::visit::visit_ready;
 use calendar_due::Zone;
 use history_model::{JobItem, Order, Reading, Refusal};
 use job_core::JobEvent;
+use place_set::PlaceSet;
 use slab::Slab;
 use timer_heap::TimerHeap;
 
@@ -59,8 +60,8 @@ pub struct Jobs {
 pub struct Index {
     /// The next moment of each job, by its number.
     pub timers: TimerHeap,
-    /// The places that the present event marked, each with the moment 0; empty between events.
-    pub ready: TimerHeap,
+    /// The places that the present event marked; empty between events.
+    pub ready: PlaceSet,
     /// The place of each job, by its number.
     pub places: Vec<u32>,
 }

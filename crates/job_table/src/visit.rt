@@ -1,10 +1,11 @@
 //! What an event does to the jobs that it touches, and to no other.
 
-ghost use Rattle.std.specs.Prelude.{◌≡◌, ◌≤◌, ◌<◌, ◌*◌, ◌+◌, ◌++◌, ℕ, true, Some, None, List, Option, map, length};
+ghost use Rattle.std.specs.Prelude.{◌≡◌, ◌≤◌, ◌<◌, ◌*◌, ◌+◌, ◌++◌, ℕ, true, false, Some, List, Option, map, length};
 ghost use Rattle.job_table.specs.declared.entry.TheConstants.{ORDERS};
 ghost use Rattle.std.specs.List.{filter_map, list_all};
 ghost use Rattle.std.specs.Vec.{vec_capacity, vec_len};
 ghost use Rattle.std.specs.Prelude.{slice_get};
+ghost use Rattle.place_set.specs.Places.{has_place, place_room};
 ghost use Rattle.timer_heap.specs.Timers.{moment_in, room, Updates};
 ghost use Rattle.job_table.specs.Index.{moment_for, AreTimed, AreAlone, HaveRoom};
 ghost use Rattle.job_table.specs.declared.entry.Entry.{Entry};
@@ -22,13 +23,13 @@ ghost use Rattle.job_table.specs.Leaving.{StayBut};
 use crate::entry::{Entry, Touch};
 use crate::leaving::Gone;
 use history_model::{Order, Reading};
+use place_set::PlaceSet;
 use timer_heap::TimerHeap;
 
-/// Tells the touch to the jobs at the places with a mark and asks them, in rising order of places, and takes the marks away. A mark is a
-/// moment of 0 in `ready`. It counts the jobs that it visits, and says which may have gone.
+/// Tells the touch to the jobs at the places with a mark and asks them, in rising order of places, and takes the marks away. It counts the jobs that it visits, and says which may have gone.
 pub fn visit_ready(
     entries: &mut [Entry],
-    ready: &mut TimerHeap,
+    ready: &mut PlaceSet,
     timers: &mut TimerHeap,
     touch: Touch<'_>,
     before: Reading,
@@ -41,9 +42,7 @@ pub fn visit_ready(
     requires stay { AllStay entries.old }
     requires few { length entries.old ≤ MAX_JOBS }
     requires room { vec_len orders.old + ORDERS * length entries.old ≤ vec_capacity orders.old }
-    requires inside { (place moment : ℕ) → moment_in ready.old place ≡ Some moment →
-        place < length entries.old }
-    requires marks { (place moment : ℕ) → moment_in ready.old place ≡ Some moment → moment ≡ 0 }
+    requires inside { (place : ℕ) → has_place ready.old place ≡ true → place < length entries.old }
     requires spared { AreSpared ready.old before touch 0 entries.old }
     requires once { IsOnce (map name entries.old) }
     requires numbers { HaveRoom timers.old (map name entries.old) }
@@ -72,13 +71,13 @@ pub fn visit_ready(
     ensures timed { AreTimed timers.new now.up entries.new }
     ensures alone { AreAlone timers.new (map name entries.old) }
     ensures space { room timers.new ≡ room timers.old }
-    ensures marks { room ready.new ≡ room ready.old }
-    ensures done { (place : ℕ) → moment_in ready.new place ≡ None }
+    ensures marks { place_room ready.new ≡ place_room ready.old }
+    ensures done { (place : ℕ) → has_place ready.new place ≡ false }
 {
     let mut visited = 0;
     let mut gone = Gone::Nobody;
     let mut front = 0;
-    while let Some(number) = ready.pop_due(0) {
+    while let Some(number) = ready.pop_least() {
         let place = number as usize;
         let entry = &mut entries[place];
         entry.visit(touch, before, now, orders);
@@ -93,18 +92,15 @@ pub fn visit_ready(
     (visited, gone)
 }
 
-/// Gives the job's number its next moment; none, if the job is gone or has none.
+/// Gives the job's number its next moment; none, if the job is gone or has none. One that stays costs nothing.
 fn retime(timers: &mut TimerHeap, entry: &Entry, now: Reading)
     requires in_range { now.up ≤ MAX_UP }
     requires room { entry.now.number < room timers.old }
     ensures { Updates timers.old timers.new entry.now.number (moment_for entry.now now.up) }
 {
     if entry.has_gone {
-        timers.clear(entry.number);
+        timers.renew(entry.number, None);
         return;
     }
-    match entry.core.next_moment(now) {
-        None => timers.clear(entry.number),
-        Some(moment) => timers.set(entry.number, moment),
-    }
+    timers.renew(entry.number, entry.core.next_moment(now));
 }

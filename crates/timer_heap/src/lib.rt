@@ -73,6 +73,15 @@ impl TimerHeap {
         self.tree.clear(job);
     }
 
+    /// Makes this the moment of the job, or leaves it without one. If that is what it has already, no match is played. The
+    /// caller's condition: there is room for its number.
+    pub fn renew(&mut self, job: JobNo, moment: Option<u64>)
+        requires { job < room self.old }
+        ensures { Updates self.old self.new job moment }
+    {
+        self.tree.renew(job, moment);
+    }
+
     /// The job with the least moment, and that moment; of equal moments that of the least job number. None if no job has
     /// a moment.
     pub fn least(&self) -> Option<(JobNo, u64)>

@@ -1,8 +1,8 @@
 //! The tree of matches that finds the job with the soonest moment, as a list of nodes.
 
-ghost use Rattle.std.specs.Prelude.{◌≡◌, ◌<◌, ◌≤◌, ◌+◌, ◌*◌, ◌^◌, Some, None, IsOk, IfOk, OnOk, OnErr};
+ghost use Rattle.std.specs.Prelude.{◌≡◌, ◌<◌, ◌≤◌, ◌+◌, ◌*◌, ◌^◌, true, Some, None, IsOk, IfOk, OnOk, OnErr};
 ghost use Rattle.std.specs.Option.{ForSome};
-ghost use Rattle.timer_heap.specs.Timers.{room, Updates, KeepsMoments, IsLeast};
+ghost use Rattle.timer_heap.specs.Timers.{moment_in, room, Updates, KeepsMoments, IsLeast};
 ghost use Rattle.timer_heap.specs.Nodes.{sooner, is_before, timers_of, IsTree, HasNoTimer, IsPut};
 
 use history_model::JobNo;
@@ -93,6 +93,37 @@ impl Tree {
         }
     }
 
+    /// Makes this the moment of the job, or leaves it without one. It plays no match if the moment stays.
+    pub fn renew(&mut self, job: JobNo, moment: Option<u64>)
+        requires sound { IsTree self.old }
+        requires place { job < room (timers_of self.old) }
+        ensures put { Updates (timers_of self.old) (timers_of self.new) job moment }
+        ensures sound { IsTree self.new }
+    {
+        if is_same(self.moment(job), moment) {
+            return;
+        }
+        match moment {
+            Some(moment) => self.set(job, moment),
+            None => self.clear(job),
+        }
+    }
+
+    /// The job's moment, if it has one.
+    fn moment(&self, job: JobNo) -> Option<u64>
+        requires { IsTree self.now }
+        ensures { result ≡ moment_in (timers_of self.now) job }
+    {
+        let job = job as usize;
+        if job >= self.leaves {
+            return None;
+        }
+        match self.nodes[self.leaves + job] {
+            Some(timer) => Some(timer.moment),
+            None => None,
+        }
+    }
+
     /// The timer of the root.
     pub fn least(&self) -> Option<(JobNo, u64)>
         requires { IsTree self.now }
@@ -138,6 +169,17 @@ fn sooner(left: Option<Timer>, right: Option<Timer>) -> Option<Timer>
                 Some(one)
             }
         }
+    }
+}
+
+/// Whether the two are the same moment, or both none.
+fn is_same(one: Option<u64>, other: Option<u64>) -> bool
+    ensures { result ≡ true → one ≡ other }
+{
+    match (one, other) {
+        (None, None) => true,
+        (Some(one), Some(other)) => one == other,
+        _ => false,
     }
 }
 

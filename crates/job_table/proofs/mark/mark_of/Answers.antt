@@ -4,7 +4,7 @@ use Rattle.std.specs.Prelude.{slice_get}
 use Rattle.std.specs.List.{list_any}
 use Rattle.std.proofs.lemmas.List.{take_all}
 use Rattle.std.proofs.lemmas.List.Folds.{list_any_more}
-use Rattle.timer_heap.specs.Timers.{Updates}
+use Rattle.place_set.specs.Places.{Inserts}
 use Rattle.job_table.specs.Index.{place_in}
 use Rattle.job_table.specs.Marking.{stands_at}
 use Rattle.job_table.specs.Triggers.{rank_of, is_of, is_placed_at}
@@ -22,8 +22,8 @@ bounds-places-one c =
     let found = filter-at (is_of (rank_of c.args.sought)) c.args.listed.now i one (ap (λ xs. slice_get xs i) (sym c.run_of-run.ensures) ∙ get-at run i one within c.one-item.is) in
     (c.requires.places found.0 one found.1).0
 
-pub set-requires : goal.set-requires
-set-requires c =
+pub insert-requires : goal.insert-requires
+insert-requires c =
     let run = c.run_of-run.result.now in
     let i = c.loop-one.one-index in
     let within : i < length run = omega arith in
@@ -38,11 +38,11 @@ loop-one-preserved c =
     let i = c.loop-one.one-index in
     let within : i < length run = omega arith in
     let one = c.one-item.result in
-    let sets : Updates c.loop-one.ready c.set.new.self (place_in places one.number) (Some 0) = c.set.ensures in
-    more-marks c.args.ready.now c.loop-one.ready c.set.new.self (λ place. list_any (is_placed_at places place) (take i run)) (λ place. place_in places one.number == place)
+    let sets : Inserts c.loop-one.ready c.insert.new.self (place_in places one.number) = c.insert.ensures in
+    more-marks c.args.ready.now c.loop-one.ready c.insert.new.self (λ place. list_any (is_placed_at places place) (take i run)) (λ place. place_in places one.number == place)
     (λ place. list_any (is_placed_at places place) (take (i + 1) run))
     (λ place. list_any_more (is_placed_at places place) run i one within ∙ ap (λ x. list_any (is_placed_at places place) (take i run) || is_placed_at places place x) (sym c.one-item.is))
-    c.loop-one.invariant (one-mark c.loop-one.ready c.set.new.self (place_in places one.number) sets)
+    c.loop-one.invariant (one-mark c.loop-one.ready c.insert.new.self (place_in places one.number) sets)
 
 pub returns : goal.returns
 returns c =

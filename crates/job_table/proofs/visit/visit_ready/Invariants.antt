@@ -1,8 +1,9 @@
 -- The walk has come as far as the front, and the marks before it are taken.
-use Rattle.std.proofs.Common.{◌≡◌, true, ◌-◌, ◌+◌, ◌*◌, ◌≤◌, ◌<◌, ℕ, List, None, map, length}
+use Rattle.std.proofs.Common.{◌≡◌, true, ◌-◌, ◌+◌, ◌*◌, ◌≤◌, ◌<◌, ℕ, List, false, map, length}
 use Rattle.std.specs.List.{list_all}
 use Rattle.std.specs.Vec.{vec_capacity, vec_len}
-use Rattle.timer_heap.specs.Timers.{moment_in, room}
+use Rattle.place_set.specs.Places.{has_place, place_room}
+use Rattle.timer_heap.specs.Timers.{room}
 use Rattle.job_table.specs.Tables.{Name, is_known}
 use Rattle.job_table.specs.Entries.{is_named, name}
 use Rattle.job_table.specs.Leaving.{StayBut}
@@ -16,8 +17,8 @@ use Rattle.job_table.specs.declared.entry.TheConstants.{ORDERS}
 abbrev pub invariant-loop-number : goal.invariant-loop-number
 invariant-loop-number l = record {
   front : l.front ≤ length l.fn.entries;
-  taken : (place : ℕ) → place < l.front → moment_in l.ready place ≡ None;
-  behind : (place : ℕ) → l.front ≤ place → moment_in l.ready place ≡ moment_in l.fn.ready place;
+  taken : (place : ℕ) → place < l.front → has_place l.ready place ≡ false;
+  behind : (place : ℕ) → l.front ≤ place → has_place l.ready place ≡ has_place l.fn.ready place;
   names : map name l.entries ≡ map name l.fn.entries;
   fits : vec_len l.orders + ORDERS * length l.fn.entries ≤ vec_capacity l.orders + ORDERS * l.front;
   capacity : vec_capacity l.orders ≡ vec_capacity l.fn.orders;
@@ -25,7 +26,7 @@ invariant-loop-number l = record {
   known : (names : List Name) → list_all (is_named names) l.fn.entries ≡ true → list_all (is_known names) l.fn.orders.items ≡ true → list_all (is_known names) l.orders.items ≡ true;
   timed : AreTimedTo l.timers l.now.up (is_spared l.fn.ready) l.front l.entries;
   alone : AreAlone l.timers (map name l.fn.entries);
-  marks : room l.ready ≡ room l.fn.ready;
+  marks : place_room l.ready ≡ place_room l.fn.ready;
   space : room l.timers ≡ room l.fn.timers;
   stays : StayBut l.gone l.entries;
   walked : IsWalked l.before l.now l.touch l.fn.ready l.fn.entries l.fn.orders.items l.entries l.front l.orders.items l.visited;

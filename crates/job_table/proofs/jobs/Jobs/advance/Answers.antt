@@ -76,18 +76,9 @@ visit_ready-visited-requires-clause-inside c =
     let indexed = c.requires.indexed in
     let m = are-marked old.entries.items c.args.self.now.entries.items c.args.at c.args.minutes.now old.index.timers c.mark_due.new.timers old.index.places.items c.deref.result.now c.mark_due.new.ready c.mark_minutes.new.ready
     c.deref.ensures.value refl c.mark_due.ensures.marked c.mark_due.ensures.marks (c.mark_minutes.ensures.spared c.args.self.now.entries.items (subst (λ ls. AreListed ls (map name c.args.self.now.entries.items)) (sym c.deref-2.ensures.value) c.requires.sound.listed) (subst (λ ps. ArePlaced ps c.args.self.now.entries.items) (sym c.deref-3.ensures.value) c.requires.indexed.placed)) (c.mark_minutes.ensures.marks c.args.self.now.entries.items (subst (λ ls. AreListed ls (map name c.args.self.now.entries.items)) (sym c.deref-2.ensures.value) c.requires.sound.listed) (subst (λ ps. ArePlaced ps c.args.self.now.entries.items) (sym c.deref-3.ensures.value) c.requires.indexed.placed)) in
-    λ place moment there. subst (λ xs. place < length xs) (sym c.deref_mut.ensures.value)
+    λ place there. subst (λ xs. place < length xs) (sym c.deref_mut.ensures.value)
     (mark-at old.entries.items c.requires.stay old.reading c.args.at c.args.minutes.now old.index.timers c.mark_due.new.timers old.index.places.items c.mark_due.new.ready c.mark_minutes.new.ready
-    indexed.timed indexed.alone indexed.placed m.marked m.reached m.spared m.minute place moment there).1
-
-pub visit_ready-visited-requires-clause-marks : goal.visit_ready-visited-requires-clause-marks
-visit_ready-visited-requires-clause-marks c =
-    let old = c.args.self.now in
-    let indexed = c.requires.indexed in
-    let m = are-marked old.entries.items c.args.self.now.entries.items c.args.at c.args.minutes.now old.index.timers c.mark_due.new.timers old.index.places.items c.deref.result.now c.mark_due.new.ready c.mark_minutes.new.ready
-    c.deref.ensures.value refl c.mark_due.ensures.marked c.mark_due.ensures.marks (c.mark_minutes.ensures.spared c.args.self.now.entries.items (subst (λ ls. AreListed ls (map name c.args.self.now.entries.items)) (sym c.deref-2.ensures.value) c.requires.sound.listed) (subst (λ ps. ArePlaced ps c.args.self.now.entries.items) (sym c.deref-3.ensures.value) c.requires.indexed.placed)) (c.mark_minutes.ensures.marks c.args.self.now.entries.items (subst (λ ls. AreListed ls (map name c.args.self.now.entries.items)) (sym c.deref-2.ensures.value) c.requires.sound.listed) (subst (λ ps. ArePlaced ps c.args.self.now.entries.items) (sym c.deref-3.ensures.value) c.requires.indexed.placed)) in
-    λ place moment there. (mark-at old.entries.items c.requires.stay old.reading c.args.at c.args.minutes.now old.index.timers c.mark_due.new.timers old.index.places.items c.mark_due.new.ready c.mark_minutes.new.ready
-    indexed.timed indexed.alone indexed.placed m.marked m.reached m.spared m.minute place moment there).0
+    indexed.timed indexed.alone indexed.placed m.marked m.reached m.spared m.minute place there)
 
 pub visit_ready-visited-requires-clause-spared : goal.visit_ready-visited-requires-clause-spared
 visit_ready-visited-requires-clause-spared c =
