@@ -26,7 +26,8 @@ use history_model::{Order, Reading};
 use place_set::PlaceSet;
 use timer_heap::TimerHeap;
 
-/// Tells the touch to the jobs at the places with a mark and asks them, in rising order of places, and takes the marks away. It counts the jobs that it visits, and says which may have gone.
+/// Tells the touch to the jobs at the places with a mark and asks them, in rising order of places, and takes the marks away. It counts
+/// the jobs that it visits, and says which may have gone.
 pub fn visit_ready(
     entries: &mut [Entry],
     ready: &mut PlaceSet,
