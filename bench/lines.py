@@ -7,7 +7,7 @@ The programs are build/jobd and build/jobctl where none are given. PARTS in the 
   counts  instructions of a line with 1, 100 and 1,000 jobs (callgrind): the difference of two streams of stream.py, so the start and
           what was loaded before are not in it. With BASELINE=PROGRAM that program, which reads the same lines from standard input, is
           counted too, and stands in place of the yardstick; with PLAIN=PROGRAM a third, as an earlier build's `jobd replay`
-  split   where the instructions of a clock line with nothing due go: reading, outcome, table (callgrind, by function)
+  split   where the instructions of a clock line with nothing due go: by parts, and the 16 dearest functions (callgrind)
   dear    the time that one dear line, or 40,000 cheap ones, take: the difference of two streams, the least of five
   live    the running launcher: settings, TERM, rest with 1,000 children, connections
 The yardstick is a plain Rust program beside `serde_json`, over a heap of timers, with no proof, as it was counted in November 2026; for the
@@ -16,10 +16,8 @@ figure added to history.csv, with that name. The status is 1 where a figure miss
 """
 import os
 import re
-import resource
 import shlex
 import shutil
-import signal
 import statistics
 import subprocess
 import sys
@@ -57,8 +55,8 @@ COUNTS = [
 ]
 # 1,024 is the most jobs that there are: these kinds take them all.
 WHOLE = ("calendars", "shutdown", "watched")
-# Names of functions, of which the calls' instructions are counted with all that they call.
-SPLIT = [("reading", r"LineReader.*event", 1430), ("outcome", r"outcome_line", None), ("table", r"take_reading|reading_applied|Jobs.*read", None)]
+# The crates' functions, by a part of their names: the dearest of them, with all that it calls, is what the part takes.
+SPLIT = [("lines", r"line_feed"), ("reading", r"event_reader"), ("table", r"job_table"), ("outcome", r"ctl_protocol.*outcome")]
 # What one line takes, or many: the kind, its jobs, the lengths of the two streams, and the aim in milliseconds.
 DEAR = [
     ("40,000 `disable` of distinct labels, replayed", "fresh", 0, (0, 40_000), 1000),
@@ -130,33 +128,34 @@ def counts(jobd, folder):
             print(f"| {what} | {name} | {cells} | {text(growth)} | {said} | {yardstick} |", flush=True)
 
 
-def by_function(command, path, folder):
-    """The instructions of each function with all that it calls, and those of all."""
-    out = os.path.join(folder, "counted")
-    with open(path) as given:
-        subprocess.run(["valgrind", "--tool=callgrind", f"--callgrind-out-file={out}", *command], stdin=given, capture_output=True)
-    told = subprocess.run(["callgrind_annotate", "--inclusive=yes", "--threshold=100", out], capture_output=True, text=True).stdout
+def by_function(out, inclusive):
+    """The instructions of each function, with all that it calls if `inclusive`."""
+    words = ["callgrind_annotate", f"--inclusive={inclusive}", "--threshold=100", out]
     found = {}
-    for line in told.splitlines():
-        row = re.match(r"\s*([\d,]+) \([^)]*\)\s+(.*)", line)
+    for line in subprocess.run(words, capture_output=True, text=True).stdout.splitlines():
+        row = re.match(r"\s*([\d,]+) \([^)]*\)\s+\S*?:(.*?)(?: \[.*)?$", line)
         if row:
             found.setdefault(row[2], int(row[1].replace(",", "")))
     return found
 
 
 def split(jobd, folder):
-    path = os.path.join(folder, "stream")
-    tables = []
+    tables = {"yes": [], "no": []}
     for lines in (200, 1200):
+        path, out = os.path.join(folder, "stream"), os.path.join(folder, f"counted{lines}")
         write_stream(path, "ticks", 1, lines)
-        tables.append(by_function([jobd, "replay"], path, folder))
-    less, more = tables
-    print("\n| instructions of a clock line, nothing due, in | figure | aim | yardstick |\n|---|---|---|---|")
-    for what, pattern, yardstick in SPLIT:
-        names = [name for name in more if re.search(pattern, name)]
-        figure = max(((more[name] - less.get(name, 0)) / 1000 for name in names), default=None)
-        print(f"| {what} | {text(figure)} | - | {text(yardstick)} |", flush=True)
+        with open(path) as given:
+            subprocess.run(["valgrind", "--tool=callgrind", f"--callgrind-out-file={out}", jobd, "replay"], stdin=given, capture_output=True)
+        for inclusive, table in tables.items():
+            table.append(by_function(out, inclusive))
+    whole, own = ({name: (more[name] - less.get(name, 0)) / 1000 for name in more} for less, more in tables.values())
+    print("\n| a clock line, nothing due | instructions |\n|---|---|")
+    for what, pattern in SPLIT:
+        figure = max((count for name, count in whole.items() if re.search(pattern, name)), default=None)
+        print(f"| {what}, with all that it calls | {text(figure)} |", flush=True)
         note(f"a clock line, nothing due, {what}", figure, "instructions")
+    for name, count in sorted(own.items(), key=lambda it: -it[1])[:16]:
+        print(f"| `{name[:90]}` alone | {text(count)} |")
 
 
 def least(command, kind, jobs, length, folder):
