@@ -36,7 +36,7 @@ bench: build
 	@python3 bench/replay.py
 	@bench/calendar.sh
 	@python3 bench/live.py
-	@python3 bench/instructions.py
+	@python3 bench/lines.py
 
 need_rt:
 	@command -v rt > /dev/null 2>&1 || { echo "rt is not on the PATH: install the Rattle kit (README, From source)" >&2; exit 127; }

@@ -1,4 +1,4 @@
-"""Appends a figure to bench/history.csv: its day, the kit, the machine's processors, the tree's commit, what it is, and how it was measured."""
+"""Appends a figure to bench/history.csv: its day, the kit, the machine's name or its processors, the tree's commit, what it is, and how it was measured."""
 import csv
 import datetime
 import os
@@ -16,10 +16,10 @@ def said(*words):
     return ran.stdout.splitlines()[0] if ran.stdout else ""
 
 
-def append(what, value, unit, command):
+def append(what, value, unit, command, machine=None):
     kit = said("rt", "version").split(" ")[0].removeprefix("rattle-kit-")
-    machine = f"{os.cpu_count()} processors"
-    tree = said("git", "rev-parse", "--short", "HEAD")
+    machine = machine or f"{os.cpu_count()} processors"
+    tree = os.environ.get("TREE") or said("git", "rev-parse", "--short", "HEAD")
     row = [datetime.date.today().isoformat(), kit, machine, tree, what, value, unit, command]
     with open(f"{HERE}/history.csv", "a", newline="") as file:
         csv.writer(file, lineterminator="\n").writerow(row)

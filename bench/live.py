@@ -80,11 +80,12 @@ def timed(call, times):
 
 
 class Launcher:
-    def __init__(self, jobd, jobctl):
+    def __init__(self, jobd, jobctl, prepare=lambda folder: None):
         self.jobctl = jobctl
         self.folder = tempfile.mkdtemp(prefix="live.")
         os.mkdir(self.path("spool"), 0o700)
         os.mkdir(self.path("jobs"))
+        prepare(self.folder)
         self.process = subprocess.Popen(
             [jobd, "serve", "--socket", self.path("socket"), "--store", self.path("store"), "--spool", self.path("spool")],
             stdin=subprocess.DEVNULL, stdout=subprocess.PIPE, text=True)

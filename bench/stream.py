@@ -18,6 +18,10 @@ JOBS jobs are loaded first. Then come about LINES lines of one KIND:
   shutdown  every job runs; if LINES is not 0 the launcher is shut down, and each job takes TERM and ends
   jump      every job has 64 entries that never match; the clock comes back LINES days later, in one line
   keys      JOBS definitions are loaded, each with LINES keys that nothing acts on
+  objects   JOBS jobs are loaded; then one line, which is refused, with LINES empty objects
+  smalls    LINES jobs of a small definition are loaded, beside JOBS others (at most 1,024 in all)
+  usuals    the same of a usual definition of 10 keys
+  leaves    LINES jobs are unloaded, of 20 beside JOBS others
 The stream is the same for the same words.
 """
 import json
@@ -167,7 +171,37 @@ def keys(jobs, lines):
         yield load(label(number), **{f"k{key:05d}": 0 for key in range(lines)})
 
 
-KINDS = {kind.__name__: kind for kind in (ticks, starts, interval, looks, loads, asks, minutes, calendars, watched, known, fresh, shutdown, jump, keys)}
+def objects(jobs, lines):
+    for number in range(jobs):
+        yield load(label(number))
+    yield '{"ev":"clock","up":1,"wall":1700000001,"x":[' + ",".join(["{}"] * lines) + "]}"
+
+
+def smalls(jobs, lines):
+    for number in range(jobs):
+        yield load(label(number), StartInterval=31_536_000)
+    for number in range(lines):
+        yield load(f"guest.{number:03d}", StartInterval=31_536_000)
+
+
+def usuals(jobs, lines):
+    for number in range(jobs):
+        yield load(label(number), StartInterval=31_536_000)
+    for number in range(lines):
+        yield load(
+            f"guest.{number:03d}", RunAtLoad=False, KeepAlive={"SuccessfulExit": False}, ThrottleInterval=30, ExitTimeOut=5,
+            WorkingDirectory="/var/lib/x", EnvironmentVariables={"LANG": "C", "PATH": "/usr/bin:/bin"},
+            StandardOutPath="/var/log/x.out", StandardErrorPath="/var/log/x.err")
+
+
+def leaves(jobs, lines):
+    yield from smalls(jobs, 20)
+    for number in range(lines):
+        yield line({"ev": "unload", "job": f"guest.{number:03d}"})
+
+
+KINDS = {kind.__name__: kind for kind in (ticks, starts, interval, looks, loads, asks, minutes, calendars, watched, known, fresh,
+                                   shutdown, jump, keys, objects, smalls, usuals, leaves)}
 
 
 def main():

@@ -1,13 +1,14 @@
 -- Lines of a stream that comes in pieces: what is joined has the lines of its parts.
-use Rattle.std.proofs.Common.{◌≡◌, ℕ, ◌+◌, ◌-◌, ◌<◌, ◌≤◌, List, [], ◌∷◌, ◌++◌, length, take, drop, get_or, Bool, true, false, ◌&&◌, nat_eq, cond, refl, sym, ap, ◌∙◌, subst, append_assoc, append-nil, arith, length-append, Option, Some, None, suc}
+use Rattle.std.proofs.Common.{◌≡◌, ℕ, zero, ◌+◌, ◌-◌, ◌<◌, ◌≤◌, List, [], ◌∷◌, ◌++◌, length, take, drop, get_or, Bool, true, false, ◌&&◌, nat_eq, nat_lt, cond, IfSome, refl, sym, ap, ◌∙◌, subst, append_assoc, append-nil, arith, length-append, Option, Some, None, suc}
 use Rattle.std.proofs.Math.Seq.{take-append_seam, take-length, drop-append_seam, take-append-add}
-use Rattle.std.proofs.lemmas.Bool.{lt-leb, le-leb, eqb-true}
-use Rattle.std.specs.List.{position_from, flat_map, list_all, take_while}
-use Rattle.std.proofs.lemmas.List.{take_more, drop_more, take-append-drop, take-append-le, take-take, length-take-le, nil_from_length}
+use Rattle.std.proofs.lemmas.Bool.{lt-leb, le-leb, ltb-true, ltb-false, eqb-true, false_from_ne_true}
+use Rattle.std.specs.List.{flat_map, list_all, take_while}
+use Rattle.std.proofs.lemmas.List.{take_more, drop_more, take_all, drop-drop, get_or-drop, length-drop, take-append-drop, take-append-le, take-take, length-take-le, nil_from_length}
 use Rattle.std.proofs.lemmas.List.Folds.{list_all-append}
 use Rattle.std.proofs.lemmas.List.Sums.{take_while-cons}
+use Rattle.memchr.specs.Find.{IsFirstByte, Nowhere, Passes, is_byte}
 use Rattle.line_feed.specs.Lines.{lines_after, rest_after, lines_of, rest_of, is_short, fits, stream_of}
-use Rattle.line_feed.specs.Scan.{IsScan}
+use Rattle.line_feed.specs.Scan.{IsScan, last_scan}
 use Rattle.line_feed.specs.declared.cut.Scan.TheVariants.{Fits, Long}
 
 lines_step : (line : List ℕ) (b : ℕ) (bs : List ℕ) → lines_after line (b ∷ bs) ≡ cond (nat_eq b 10) (line ∷ lines_after [] bs) (lines_after (line ++ b ∷ []) bs)
@@ -201,61 +202,114 @@ long_here limit line piece i h e long all =
 
 -- ---- the first newline
 
-pub record Found (line bs : List ℕ) (i at : ℕ) : Type 0 where
-  pub k : ℕ
-  pub at_is : at ≡ i + k
-  pub within : k < length bs
-  pub lines_is : lines_after line bs ≡ (line ++ take k bs) ∷ lines_of (drop 1 (drop k bs))
-  pub rest_is : rest_after line bs ≡ rest_of (drop 1 (drop k bs))
+-- no newline stands before place k behind what has come
+abbrev pub NoNewline : List ℕ → ℕ → Type 0
+NoNewline bytes k = Nowhere (Passes (is_byte 10) bytes) 0 k
 
-abbrev pub FirstAt : List ℕ → List ℕ → ℕ → Option ℕ → Type 0
-FirstAt line bs i None = lines_after line bs ≡ []
-FirstAt line bs i (Some at) = Found line bs i at
+-- bytes with no newline among them go on with the line
+pub plain_more : (line piece : List ℕ) (begun k : ℕ) → begun + k ≤ length piece → NoNewline (drop begun piece) k
+    → (lines_after line (take (begun + k) piece) ≡ lines_after line (take begun piece)) × (rest_after line (take (begun + k) piece) ≡ rest_after line (take begun piece) ++ take k (drop begun piece))
+plain_more line piece begun zero h none =
+    let same : begun + 0 ≡ begun = omega arith in (
+      ap (λ n. lines_after line (take n piece)) same,
+      ap (λ n. rest_after line (take n piece)) same ∙ sym (append-nil _),
+    )
+plain_more line piece begun (suc k) h none =
+    let before = plain_more line piece begun k (omega (arith, h)) (λ j low high. none j low (omega (arith, high))) in
+    let stands : get_or (drop begun piece) k 0 ≡ get_or piece (begun + k) 0 = get_or-drop begun piece k 0 in
+    let other : nat_eq (get_or piece (begun + k) 0) 10 ≡ false = ap (λ b. nat_eq b 10) (sym stands) ∙ false_from_ne_true _ (none k (omega arith) (omega arith)) in
+    let next = other_next line piece (begun + k) (omega (arith, h)) other in
+    let on : begun + suc k ≡ begun + k + 1 = omega arith in
+    let one : suc k ≡ k + 1 = omega arith in
+    let more : take (suc k) (drop begun piece) ≡ take k (drop begun piece) ++ get_or piece (begun + k) 0 ∷ [] =
+    ap (λ n. take n (drop begun piece)) one ∙ take_more (drop begun piece) k 0 (omega (arith, h, length-drop begun piece)) ∙ ap (λ b. take k (drop begun piece) ++ b ∷ []) stands in (
+      ap (λ n. lines_after line (take n piece)) on ∙ next.0 ∙ before.0,
+      ap (λ n. rest_after line (take n piece)) on ∙ next.1 ∙ ap (λ r. r ++ get_or piece (begun + k) 0 ∷ []) before.1 ∙ append_assoc (rest_after line (take begun piece)) (take k (drop begun piece)) (get_or piece (begun + k) 0 ∷ []) ∙ ap (λ x. rest_after line (take begun piece) ++ x) (sym more),
+    )
 
-first_later : (line : List ℕ) (b : ℕ) (bs : List ℕ) (i : ℕ) (o : Option ℕ) → nat_eq b 10 ≡ false → FirstAt (line ++ b ∷ []) bs (i + 1) o → FirstAt line (b ∷ bs) i o
-first_later line b bs i None e h = lines_step line b bs ∙ rw e h
-first_later line b bs i (Some at) e h = record {
-  k = suc h.k;
-  at_is = omega (arith, h.at_is);
-  within = omega (arith, h.within);
-  lines_is = lines_step line b bs ∙ rw e (h.lines_is ∙ ap (λ l. l ∷ lines_of (drop 1 (drop h.k bs))) (append_assoc line (b ∷ []) (take h.k bs)));
-  rest_is = rest_step line b bs ∙ rw e h.rest_is;
-}
+pub within_piece : (piece : List ℕ) (begun : ℕ) (r : Option ℕ) → IsFirstByte (is_byte 10) (drop begun piece) r → IfSome r (λ count. count < length piece - begun)
+within_piece piece begun None first = tt
+within_piece piece begun (Some count) first = omega (arith, first.0.high, length-drop begun piece)
 
-first_at : (t : Bool) (line : List ℕ) (b : ℕ) (bs : List ℕ) (i : ℕ) → nat_eq b 10 ≡ t → (nat_eq b 10 ≡ false → FirstAt (line ++ b ∷ []) bs (i + 1) (position_from (λ x. nat_eq x 10) (i + 1) bs))
-    → FirstAt line (b ∷ bs) i (cond t (Some i) (position_from (λ x. nat_eq x 10) (i + 1) bs))
-first_at true line b bs i e later = record {
-  k = 0;
-  at_is = omega arith;
-  within = omega arith;
-  lines_is = lines_step line b bs ∙ rw (e, append-nil) refl;
-  rest_is = rest_step line b bs ∙ rw e refl;
-}
-first_at false line b bs i e later = first_later line b bs i _ e (later e)
+-- what is known of a piece before place `begun`, where a line begins or goes on: of it so many bytes have come
+abbrev pub Gone : ℕ → List ℕ → List ℕ → ℕ → ℕ → Type 0
+Gone limit rest piece begun n =
+    (begun ≤ length piece) × (n ≤ limit) × (n ≡ length (rest_after rest (take begun piece)))
+    × (list_all (is_short limit) (lines_after rest (take begun piece)) ≡ true)
 
-pub first_newline : (line bs : List ℕ) (i : ℕ) → FirstAt line bs i (position_from (λ x. nat_eq x 10) i bs)
-first_newline line [] i = lines_none line
-first_newline line (b ∷ bs) i = first_at (nat_eq b 10) line b bs i refl (λ e. first_newline (line ++ b ∷ []) bs (i + 1))
+-- a line that is short enough, and its newline
+pub gone_on : (limit : ℕ) (rest piece : List ℕ) (begun n k : ℕ) → Gone limit rest piece begun n → k ≤ limit - n → k < length (drop begun piece) → NoNewline (drop begun piece) k
+    → Passes (is_byte 10) (drop begun piece) k → Gone limit rest piece (begun + (k + 1)) 0
+gone_on limit rest piece begun n k gone short low none ends =
+    let i = begun + k in
+    let within : i < length piece = omega (arith, low, length-drop begun piece) in
+    let plain = plain_more rest piece begun k (omega (arith, within)) none in
+    let newline : nat_eq (get_or piece i 0) 10 ≡ true = ap (λ b. nat_eq b 10) (sym (get_or-drop begun piece k 0)) ∙ ends in
+    let next = newline_next rest piece i within newline in
+    let at : begun + (k + 1) ≡ i + 1 = omega arith in
+    let line = rest_after rest (take i piece) in
+    let len : length line ≡ n + k = omega (arith, ap length plain.1, length-append (rest_after rest (take begun piece)) (take k (drop begun piece)), length-take-le k (drop begun piece) (omega (arith, low)), gone.2) in
+    let fits : is_short limit line ≡ true = le-leb _ _ (omega (arith, len, short, gone.1)) in (
+      omega (arith, within),
+      omega arith,
+      sym (ap (λ m. length (rest_after rest (take m piece))) at ∙ ap length next.1),
+      ap (λ m. list_all (is_short limit) (lines_after rest (take m piece))) at ∙ rw (next.0, list_all-append, plain.0, gone.3, fits) refl,
+    )
 
-found_at : (bytes : List ℕ) (o : Option ℕ) (at : ℕ) → o ≡ Some at → FirstAt [] bytes 0 o → Found [] bytes 0 at
-found_at bytes None at e h = absurd (cc)
-found_at bytes (Some n) at e h = let same : n ≡ at = cc in subst (Found [] bytes 0) same h
+-- a line that is too long
+pub gone_too_far : (limit : ℕ) (rest piece : List ℕ) (begun n k : ℕ) → Gone limit rest piece begun n → limit - n < k → k ≤ length (drop begun piece) → NoNewline (drop begun piece) k
+    → IsScan limit rest piece (Long (begun + (limit - n)) limit)
+gone_too_far limit rest piece begun n k gone long low none =
+    let m = limit - n in
+    let at = begun + m in
+    let within : at < length piece = omega (arith, low, long, length-drop begun piece, gone.0) in
+    let plain = plain_more rest piece begun m (omega (arith, within)) (λ j from below. none j from (omega (arith, below, long))) in
+    let other : nat_eq (get_or piece at 0) 10 ≡ false = ap (λ b. nat_eq b 10) (sym (get_or-drop begun piece m 0)) ∙ false_from_ne_true _ (none m (omega arith) long) in
+    let len : length (rest_after rest (take at piece)) ≡ limit = omega (arith, ap length plain.1, length-append (rest_after rest (take begun piece)) (take m (drop begun piece)), length-take-le m (drop begun piece) (omega (arith, low, long)), gone.1, gone.2) in
+    let all : list_all (is_short limit) (lines_after rest (take at piece)) ≡ true = ap (list_all (is_short limit)) plain.0 ∙ gone.3 in
+    let past = long_here limit rest piece at within other (omega (arith, len)) all in
+    (within, sym len, past.0, past.1)
 
-missing_at : (bytes : List ℕ) (o : Option ℕ) → o ≡ None → FirstAt [] bytes 0 o → lines_of bytes ≡ []
-missing_at bytes None e h = h
-missing_at bytes (Some n) e h = absurd (cc)
+-- a piece with no more newline
+pub gone_over : (limit : ℕ) (rest piece : List ℕ) (begun n : ℕ) → Gone limit rest piece begun n → NoNewline (drop begun piece) (length piece - begun) → IsScan limit rest piece (last_scan limit piece begun n)
+gone_over limit rest piece begun n gone none = at (nat_lt (limit - n) (length piece - begun)) refl
+  where
+    k : ℕ
+    k = length piece - begun
 
-pub first_missing : (bytes : List ℕ) → position_from (λ x. nat_eq x 10) 0 bytes ≡ None → lines_of bytes ≡ []
-first_missing bytes e = missing_at bytes _ e (first_newline [] bytes 0)
+    at : (t : Bool) → nat_lt (limit - n) k ≡ t → IsScan limit rest piece (cond t (Long (begun + (limit - n)) limit) (Fits (n + k)))
+    at true e = gone_too_far limit rest piece begun n k gone (ltb-true _ _ e) (omega (arith, length-drop begun piece)) none
+    at false e =
+        let short : k ≤ limit - n = ltb-false _ _ e in
+        let whole : take (begun + k) piece ≡ piece = take_all (begun + k) piece (omega (arith, gone.0)) in
+        let plain = plain_more rest piece begun k (omega (arith, gone.0)) none in
+        let len : length (rest_after rest (take (begun + k) piece)) ≡ n + k = omega (arith, ap length plain.1, length-append (rest_after rest (take begun piece)) (take k (drop begun piece)), length-take-le k (drop begun piece) (omega (arith, length-drop begun piece)), gone.2) in (
+          sym (ap (λ x. length (rest_after rest x)) (sym whole) ∙ len),
+          omega (arith, short, gone.1),
+          ap (λ x. list_all (is_short limit) (lines_after rest x)) (sym whole) ∙ ap (list_all (is_short limit)) plain.0 ∙ gone.3,
+        )
 
-pub first_found : (bytes : List ℕ) (at : ℕ) → position_from (λ x. nat_eq x 10) 0 bytes ≡ Some at
+-- a text with no newline has no line
+pub first_missing : (bytes : List ℕ) → IsFirstByte (is_byte 10) bytes None → lines_of bytes ≡ []
+first_missing bytes none =
+    let all = plain_more [] bytes 0 (length bytes) (omega arith) none in
+    ap lines_of (sym (take_all (0 + length bytes) bytes (omega arith))) ∙ all.0 ∙ lines_none []
+
+pub first_found : (bytes : List ℕ) (at : ℕ) → IsFirstByte (is_byte 10) bytes (Some at)
     → (at < length bytes) × (lines_of bytes ≡ take at bytes ∷ lines_of (drop 1 (drop at bytes))) × (rest_of bytes ≡ rest_of (drop 1 (drop at bytes)))
-first_found bytes at e =
-    let f = found_at bytes _ at e (first_newline [] bytes 0) in
-    let same : f.k ≡ at = omega (arith, f.at_is) in (
-      omega (arith, f.within, same),
-      subst (λ k. lines_of bytes ≡ take k bytes ∷ lines_of (drop 1 (drop k bytes))) same f.lines_is,
-      subst (λ k. rest_of bytes ≡ rest_of (drop 1 (drop k bytes))) same f.rest_is,
+first_found bytes at found =
+    let b = get_or bytes at 0 in
+    let after = drop (at + 1) bytes in
+    let front = plain_more [] bytes 0 at (omega (arith, found.0.high)) found.0.before in
+    let same : 0 + at ≡ at = omega arith in
+    let lines_front : lines_of (take at bytes) ≡ [] = ap (λ n. lines_of (take n bytes)) (sym same) ∙ front.0 ∙ lines_none [] in
+    let rest_front : rest_of (take at bytes) ≡ take at bytes = ap (λ n. rest_of (take n bytes)) (sym same) ∙ front.1 ∙ ap (λ r. r ++ take at bytes) (rest_none []) in
+    let split : bytes ≡ take at bytes ++ b ∷ after = sym (take-append-drop at bytes) ∙ ap (λ x. take at bytes ++ x) (drop_more bytes at 0 found.0.high) in
+    let newline : nat_eq b 10 ≡ true = found.1 in
+    let behind : drop 1 (drop at bytes) ≡ after = drop-drop 1 at bytes in (
+      found.0.high,
+      ap lines_of split ∙ lines_append [] (take at bytes) (b ∷ after) ∙ rw (lines_front, rest_front, lines_step (take at bytes) b after, newline, behind) refl,
+      ap rest_of split ∙ rest_append [] (take at bytes) (b ∷ after) ∙ rw (rest_front, rest_step (take at bytes) b after, newline, behind) refl,
     )
 
 -- ---- stopping at a line that is too long
