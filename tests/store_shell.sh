@@ -1,23 +1,26 @@
 #!/bin/sh
-# The shell of SQLite reads the file that a store wrote, and a store opens the file of the first version that the shell wrote.
-# The program is `try_store`: its path is the first word, or build/try_store.
+# The shell of SQLite reads the file that a launcher wrote its settings to, and a launcher opens the file of the first version that the
+# shell wrote. The programs are `jobd` and `jobctl` of the folder that is the first word, or of build/.
 set -eu
 
 shell=${SQLITE3:-sqlite3}
-program=${1:-build/try_store}
+programs=$(cd "${1:-build}" 2>/dev/null && pwd) || programs=none
 tab=$(printf '\t')
 
 if ! command -v "$shell" >/dev/null 2>&1; then
     echo "store_shell: skipped, the shell sqlite3 is not installed"
     exit 0
 fi
-if [ ! -x "$program" ]; then
-    echo "store_shell: no program at $program" >&2
+if [ ! -x "$programs/jobd" ] || [ ! -x "$programs/jobctl" ]; then
+    echo "store_shell: no programs in ${1:-build}" >&2
     exit 1
 fi
 
 folder=$(mktemp -d)
-trap 'rm -rf "$folder"' EXIT
+launcher=
+trap '[ -z "$launcher" ] || kill "$launcher"; rm -rf "$folder"' EXIT
+cd "$folder"
+mkdir -m 700 spool
 
 want() {
     if [ "$2" != "$3" ]; then
@@ -26,25 +29,51 @@ want() {
     fi
 }
 
-# a file that a store wrote
-"$program" "$folder/ours.db" disabled org.example.a 1700000000 >"$folder/listed"
-"$program" "$folder/ours.db" enabled org.example.b 1700000001 >"$folder/listed"
-"$program" "$folder/ours.db" enabled org.example.a 1700000060 >"$folder/listed"
-want "the store lists its settings" "org.example.a${tab}enabled${tab}1700000060
-org.example.b${tab}enabled${tab}1700000001" "$(cat "$folder/listed")"
-want "the shell reads them" "org.example.a|0|1700000060
-org.example.b|0|1700000001" "$("$shell" "$folder/ours.db" 'SELECT label, disabled, changed FROM settings ORDER BY label')"
-want "the old table is empty" "0" "$("$shell" "$folder/ours.db" 'SELECT count(*) FROM overrides')"
-want "the file is sound" "ok" "$("$shell" "$folder/ours.db" 'PRAGMA integrity_check')"
+# Sets by a launcher over the store: words of `jobctl`, two for each setting.
+set_all() {
+    store=$1
+    shift
+    "$programs/jobd" serve --socket socket --store "$store" --spool spool >ready &
+    launcher=$!
+    until grep -q ready ready; do sleep 0.1; done
+    while [ $# -gt 0 ]; do
+        "$programs/jobctl" --socket socket "$1" "$2"
+        shift 2
+    done
+    "$programs/jobctl" --socket socket shutdown
+    wait "$launcher"
+    launcher=
+}
+
+listed() {
+    "$programs/jobd" overrides --store "$1"
+}
+
+rows() {
+    "$shell" -separator "$tab" "$1" "SELECT label, iif(disabled, 'disabled', 'enabled'), changed FROM settings ORDER BY label"
+}
+
+# a file that a launcher wrote
+before=$(date +%s)
+set_all ours.db disable org.example.a enable org.example.b enable org.example.a
+want "the launcher lists its settings" "org.example.a${tab}enabled
+org.example.b${tab}enabled" "$(listed ours.db | cut -f 1,2)"
+for second in $(listed ours.db | cut -f 3); do
+    [ "$second" -ge "$before" ] && [ "$second" -le "$(date +%s)" ] || want "the second of a setting" "from $before on" "$second"
+done
+want "the shell reads them" "$(listed ours.db)" "$(rows ours.db)"
+want "the old table is empty" "0" "$("$shell" ours.db 'SELECT count(*) FROM overrides')"
+want "the file is sound" "ok" "$("$shell" ours.db 'PRAGMA integrity_check')"
 
 # a file of the first version that the shell wrote
-"$shell" "$folder/first.db" "CREATE TABLE overrides (label TEXT NOT NULL PRIMARY KEY, disabled INTEGER NOT NULL CHECK (disabled IN (0, 1))) STRICT;
+"$shell" first.db "CREATE TABLE overrides (label TEXT NOT NULL PRIMARY KEY, disabled INTEGER NOT NULL CHECK (disabled IN (0, 1))) STRICT;
 INSERT INTO overrides VALUES ('a', 1), ('b', 0);"
+set_all first.db
 want "its settings are moved" "a${tab}disabled${tab}0
-b${tab}enabled${tab}0" "$("$program" "$folder/first.db")"
-want "a setting is written" "a${tab}enabled${tab}1700000060
-b${tab}enabled${tab}0" "$("$program" "$folder/first.db" enabled a 1700000060)"
-want "the shell reads what was moved" "a|0|1700000060
-b|0|0" "$("$shell" "$folder/first.db" 'SELECT label, disabled, changed FROM settings ORDER BY label')"
+b${tab}enabled${tab}0" "$(listed first.db)"
+set_all first.db enable a
+want "a setting is written" "a${tab}enabled
+b${tab}enabled" "$(listed first.db | cut -f 1,2)"
+want "the shell reads what was moved" "$(listed first.db)" "$(rows first.db)"
 
 echo "store_shell: passed"

@@ -4,7 +4,7 @@
     edge_scenes.py [--jobd WORDS] [--jobctl WORDS] [--before WORDS] [--at-once N] [--times] [SCENE..]
 
 WORDS start a program; blanks part them. The program of --before is run to its end first, and nothing is played if it fails.
-Without scenes all are played, those of job_scenes.py too, N at a time. Each prints `ok NAME` or `FAILED NAME: why`, and the last line
+Without scenes all are played, those of the other files too, N at a time. Each prints `ok NAME` or `FAILED NAME: why`, and the last line
 counts; --times adds how long it took. The status is 1 if one failed. Each scene has a folder of its own below TMPDIR, and every
 process that it started is ended.
 
@@ -1132,9 +1132,11 @@ def main():
 
 
 if __name__ == "__main__":
-    # By its name, so that the scenes of both files have one `Fault` and one `Stage`. Nothing is written beside them.
+    # By its name, so that the scenes of all files have one `Fault` and one `Stage`. Nothing is written beside them.
     sys.dont_write_bytecode = True
     import edge_scenes
     import job_scenes
-    edge_scenes.SCENES += job_scenes.SCENES
+    import client_scenes
+    import word_scenes
+    edge_scenes.SCENES += [*job_scenes.SCENES, *client_scenes.SCENES, *word_scenes.SCENES]
     sys.exit(edge_scenes.main())

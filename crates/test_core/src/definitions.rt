@@ -1,9 +1,55 @@
 //! The definitions of the folder `examples/jobs`, byte for byte, each with what is read from it.
 
 use history_model::{Entry, Text};
-use job_defs::{Address, Def, DefFault, PathState, Socket, Variable, read_def};
-use std::alloc::{AllocError, Global};
+use job_defs::{Address, Def, DefFault, read_def};
 use std::test::Fail;
+
+/// What is read from a definition.
+struct Read {
+    label: &'static str,
+    program: &'static str,
+    arguments: &'static [&'static str],
+    run_at_load: bool,
+    keep_alive: bool,
+    successful_exit: Option<bool>,
+    path_state: &'static [(&'static str, bool)],
+    watch_paths: &'static [&'static str],
+    queue_directories: &'static [&'static str],
+    start_interval: Option<u32>,
+    calendar: &'static [Entry],
+    throttle_interval: u32,
+    exit_time_out: u32,
+    environment: &'static [(&'static str, &'static str)],
+    /// The folder, then the paths of the input, the output and the errors.
+    places: [Option<&'static str>; 4],
+    sockets: &'static [Place],
+}
+
+/// Where a socket is.
+enum Place {
+    Path(&'static str),
+    Port([u8; 4], u16),
+}
+
+/// What is read where a key is absent. No example has a key of one that runs once, is disabled or is kept alive by a crash.
+const ABSENT: Read = Read {
+    label: "",
+    program: "",
+    arguments: &[],
+    run_at_load: false,
+    keep_alive: false,
+    successful_exit: None,
+    path_state: &[],
+    watch_paths: &[],
+    queue_directories: &[],
+    start_interval: None,
+    calendar: &[],
+    throttle_interval: 10,
+    exit_time_out: 20,
+    environment: &[],
+    places: [None, None, None, None],
+    sockets: &[],
+};
 
 const KEPT_ALIVE: &str = r#"{
   "Label": "org.example.web",
@@ -19,18 +65,22 @@ const KEPT_ALIVE: &str = r#"{
 "#;
 
 /// What is read from it.
-const KEPT_ALIVE_READ: &str = r#"org.example.web runs /usr/local/bin/webd
-arguments: --port 8080
-at load false, once false, disabled false
-kept alive true, by success None, by crash None, by paths:
-watched:
-queues:
-interval None, calendar:
-throttle 5, time to exit 30
-environment: LANG=C.UTF-8 PATH=/usr/bin:/bin
-in Some("/srv/web"), from None, to Some("/var/log/web.log") and Some("/var/log/web.err")
-sockets false:
-"#;
+const KEPT_ALIVE_READ: Read = Read {
+    label: "org.example.web",
+    program: "/usr/local/bin/webd",
+    arguments: &["--port", "8080"],
+    keep_alive: true,
+    throttle_interval: 5,
+    exit_time_out: 30,
+    environment: &[("LANG", "C.UTF-8"), ("PATH", "/usr/bin:/bin")],
+    places: [
+        Some("/srv/web"),
+        None,
+        Some("/var/log/web.log"),
+        Some("/var/log/web.err"),
+    ],
+    ..ABSENT
+};
 
 const CALENDAR: &str = r#"{
   "Label": "org.example.backup",
@@ -43,18 +93,27 @@ const CALENDAR: &str = r#"{
 "#;
 
 /// What is read from it.
-const CALENDAR_READ: &str = r#"org.example.backup runs /usr/local/bin/backup
-arguments:
-at load false, once false, disabled false
-kept alive false, by success None, by crash None, by paths:
-watched:
-queues:
-interval None, calendar: [Some(30) Some(3) None None None] [Some(0) Some(12) Some(1) None None]
-throttle 10, time to exit 20
-environment:
-in None, from None, to None and None
-sockets false:
-"#;
+const CALENDAR_READ: Read = Read {
+    label: "org.example.backup",
+    program: "/usr/local/bin/backup",
+    calendar: &[
+        Entry {
+            minute: Some(30),
+            hour: Some(3),
+            day: None,
+            weekday: None,
+            month: None,
+        },
+        Entry {
+            minute: Some(0),
+            hour: Some(12),
+            day: Some(1),
+            weekday: None,
+            month: None,
+        },
+    ],
+    ..ABSENT
+};
 
 const INTERVAL: &str = r#"{
   "Label": "org.example.poll",
@@ -65,18 +124,14 @@ const INTERVAL: &str = r#"{
 "#;
 
 /// What is read from it.
-const INTERVAL_READ: &str = r#"org.example.poll runs /usr/local/bin/poll
-arguments: --quiet
-at load true, once false, disabled false
-kept alive false, by success None, by crash None, by paths:
-watched:
-queues:
-interval Some(300), calendar:
-throttle 10, time to exit 20
-environment:
-in None, from None, to None and None
-sockets false:
-"#;
+const INTERVAL_READ: Read = Read {
+    label: "org.example.poll",
+    program: "/usr/local/bin/poll",
+    arguments: &["--quiet"],
+    run_at_load: true,
+    start_interval: Some(300),
+    ..ABSENT
+};
 
 const WATCHED_FOLDER: &str = r#"{
   "Label": "org.example.reload",
@@ -86,18 +141,12 @@ const WATCHED_FOLDER: &str = r#"{
 "#;
 
 /// What is read from it.
-const WATCHED_FOLDER_READ: &str = r#"org.example.reload runs /usr/local/bin/reload
-arguments:
-at load false, once false, disabled false
-kept alive false, by success None, by crash None, by paths:
-watched: /etc/example /etc/example.conf
-queues:
-interval None, calendar:
-throttle 10, time to exit 20
-environment:
-in None, from None, to None and None
-sockets false:
-"#;
+const WATCHED_FOLDER_READ: Read = Read {
+    label: "org.example.reload",
+    program: "/usr/local/bin/reload",
+    watch_paths: &["/etc/example", "/etc/example.conf"],
+    ..ABSENT
+};
 
 const QUEUE: &str = r#"{
   "Label": "org.example.mail",
@@ -108,18 +157,15 @@ const QUEUE: &str = r#"{
 "#;
 
 /// What is read from it.
-const QUEUE_READ: &str = r#"org.example.mail runs /usr/local/bin/send-mail
-arguments: /var/spool/example
-at load false, once false, disabled false
-kept alive false, by success Some(false), by crash None, by paths: /run/example.ready=true
-watched:
-queues: /var/spool/example
-interval None, calendar:
-throttle 10, time to exit 20
-environment:
-in None, from None, to None and None
-sockets false:
-"#;
+const QUEUE_READ: Read = Read {
+    label: "org.example.mail",
+    program: "/usr/local/bin/send-mail",
+    arguments: &["/var/spool/example"],
+    successful_exit: Some(false),
+    path_state: &[("/run/example.ready", true)],
+    queue_directories: &["/var/spool/example"],
+    ..ABSENT
+};
 
 const SOCKET: &str = r#"{
   "Label": "org.example.echo",
@@ -133,21 +179,18 @@ const SOCKET: &str = r#"{
 "#;
 
 /// What is read from it.
-const SOCKET_READ: &str = r#"org.example.echo runs /bin/cat
-arguments:
-at load false, once false, disabled false
-kept alive false, by success None, by crash None, by paths:
-watched:
-queues:
-interval None, calendar:
-throttle 10, time to exit 20
-environment:
-in None, from None, to None and None
-sockets true: 127.0.0.1:7007 /run/example-echo.sock
-"#;
+const SOCKET_READ: Read = Read {
+    label: "org.example.echo",
+    program: "/bin/cat",
+    sockets: &[
+        Place::Port([127, 0, 0, 1], 7007),
+        Place::Path("/run/example-echo.sock"),
+    ],
+    ..ABSENT
+};
 
 /// Each definition, and what is read from it.
-static EXAMPLES: [(&str, &str); 6] = [
+static EXAMPLES: [(&str, Read); 6] = [
     (KEPT_ALIVE, KEPT_ALIVE_READ),
     (CALENDAR, CALENDAR_READ),
     (INTERVAL, INTERVAL_READ),
@@ -156,114 +199,74 @@ static EXAMPLES: [(&str, &str); 6] = [
     (SOCKET, SOCKET_READ),
 ];
 
-fn add_list(text: &mut String, front: &str, items: &[Text]) -> Result<(), AllocError> {
-    text.push_str(front)?;
-    for item in items {
-        text.push(' ')?;
-        text.push_str(item.as_str())?;
+fn are_texts(items: &[Text], wanted: &[&str]) -> bool {
+    let mut are_so = items.len() == wanted.len();
+    for (item, text) in items.iter().zip(wanted.iter()) {
+        are_so &= item.as_str() == *text;
     }
-    text.push('\n')
+    are_so
 }
 
-fn add_launch(alloc: Global, text: &mut String, def: &Def) -> Result<(), AllocError> {
-    let (label, program) = (def.label(), def.program());
-    let (at_load, once) = (def.run_at_load(), def.launch_only_once());
-    let disabled = def.disabled();
-    let line = format!(in alloc; "{label} runs {program}\n")?;
-    text.push_str(line.as_str())?;
-    add_list(text, "arguments:", def.arguments())?;
-    let line = format!(in alloc; "at load {at_load}, once {once}, disabled {disabled}\n")?;
-    text.push_str(line.as_str())
-}
-
-fn add_alive(alloc: Global, text: &mut String, def: &Def) -> Result<(), AllocError> {
-    let alive = def.keep_alive();
-    let (success, crash) = (def.successful_exit(), def.crashed());
-    let line = format!(in alloc;
-        "kept alive {alive}, by success {success:?}, by crash {crash:?}, by paths:"
-    )?;
-    text.push_str(line.as_str())?;
-    for state in def.path_state() {
-        let PathState { path, present } = state;
-        let (path, present) = (path.as_str(), *present);
-        text.push_str(format!(in alloc; " {path}={present}")?.as_str())?;
+/// Whether the variables, path states and sockets are those.
+fn has_lists(def: &Def, read: &Read) -> bool {
+    let mut are_so = def.environment().len() == read.environment.len();
+    for (variable, (name, value)) in def.environment().iter().zip(read.environment.iter()) {
+        are_so &= variable.name.as_str() == *name;
+        are_so &= variable.value.as_str() == *value;
     }
-    text.push('\n')
-}
-
-fn add_moments(alloc: Global, text: &mut String, def: &Def) -> Result<(), AllocError> {
-    let interval = def.start_interval();
-    let line = format!(in alloc; "interval {interval:?}, calendar:")?;
-    text.push_str(line.as_str())?;
-    for entry in def.calendar() {
-        let Entry {
-            minute,
-            hour,
-            day,
-            weekday,
-            month,
-        } = *entry;
-        let line = format!(in alloc; " [{minute:?} {hour:?} {day:?} {weekday:?} {month:?}]")?;
-        text.push_str(line.as_str())?;
+    are_so &= def.path_state().len() == read.path_state.len();
+    for (state, (path, present)) in def.path_state().iter().zip(read.path_state.iter()) {
+        are_so &= state.path.as_str() == *path;
+        are_so &= state.present == *present;
     }
-    text.push('\n')
-}
-
-fn add_surroundings(alloc: Global, text: &mut String, def: &Def) -> Result<(), AllocError> {
-    let (throttle, exit) = (def.throttle_interval(), def.exit_time_out());
-    let line = format!(in alloc; "throttle {throttle}, time to exit {exit}\nenvironment:")?;
-    text.push_str(line.as_str())?;
-    for variable in def.environment() {
-        let Variable { name, value } = variable;
-        let (name, value) = (name.as_str(), value.as_str());
-        text.push_str(format!(in alloc; " {name}={value}")?.as_str())?;
+    are_so &= def.sockets().len() == read.sockets.len();
+    for (socket, place) in def.sockets().iter().zip(read.sockets.iter()) {
+        are_so &= match (&socket.address, place) {
+            (Address::Unix(path), Place::Path(wanted)) => path.as_str() == *wanted,
+            (Address::Inet { host, port }, Place::Port(bytes, number)) => {
+                *host == *bytes && *port == *number
+            }
+            _ => false,
+        };
     }
-    let (folder, input) = (def.working_directory(), def.standard_in_path());
-    let (output, errors) = (def.standard_out_path(), def.standard_error_path());
-    let line = format!(in alloc;
-        "\nin {folder:?}, from {input:?}, to {output:?} and {errors:?}\n"
-    )?;
-    text.push_str(line.as_str())
+    are_so
 }
 
-fn address_of(alloc: Global, socket: &Socket) -> Result<String, AllocError> {
-    match &socket.address {
-        Address::Unix(path) => String::from_str(alloc, path.as_str()),
-        Address::Inet { host, port } => {
-            let [a, b, c, d] = *host;
-            format!(in alloc; "{a}.{b}.{c}.{d}:{port}")
-        }
-    }
-}
-
-fn add_sockets(alloc: Global, text: &mut String, def: &Def) -> Result<(), AllocError> {
-    let has_sockets = def.has_sockets();
-    text.push_str(format!(in alloc; "sockets {has_sockets}:")?.as_str())?;
-    for socket in def.sockets() {
-        text.push(' ')?;
-        text.push_str(address_of(alloc, socket)?.as_str())?;
-    }
-    text.push('\n')
-}
-
-/// What is read from a definition, by lines.
-fn told(alloc: Global, def: &Def) -> Result<String, AllocError> {
-    let mut text = String::new(alloc);
-    add_launch(alloc, &mut text, def)?;
-    add_alive(alloc, &mut text, def)?;
-    add_list(&mut text, "watched:", def.watch_paths())?;
-    add_list(&mut text, "queues:", def.queue_directories())?;
-    add_moments(alloc, &mut text, def)?;
-    add_surroundings(alloc, &mut text, def)?;
-    add_sockets(alloc, &mut text, def)?;
-    Ok(text)
+/// Whether this is read from the definition.
+fn is_read(def: &Def, read: &Read) -> bool {
+    let [folder, input, output, errors] = read.places;
+    let facts = [
+        def.label() == read.label,
+        def.program() == read.program,
+        are_texts(def.arguments(), read.arguments),
+        def.run_at_load() == read.run_at_load,
+        !def.launch_only_once(),
+        !def.disabled(),
+        def.keep_alive() == read.keep_alive,
+        def.successful_exit() == read.successful_exit,
+        def.crashed().is_none(),
+        are_texts(def.watch_paths(), read.watch_paths),
+        are_texts(def.queue_directories(), read.queue_directories),
+        def.start_interval() == read.start_interval,
+        def.calendar() == read.calendar,
+        def.throttle_interval() == read.throttle_interval,
+        def.exit_time_out() == read.exit_time_out,
+        def.working_directory() == folder,
+        def.standard_in_path() == input,
+        def.standard_out_path() == output,
+        def.standard_error_path() == errors,
+        def.has_sockets() != read.sockets.is_empty(),
+        has_lists(def, read),
+    ];
+    !facts.contains(&false)
 }
 
 #[test]
 fn the_examples_are_read(rt: HostRuntime) -> Result<(), Fail> {
-    for (text, wanted) in EXAMPLES {
+    for (text, read) in &EXAMPLES {
         let def = read_def(rt.alloc(), text.as_bytes())?;
-        assert_eq!(rt; told(rt.alloc(), &def)?.as_str(), wanted);
+        let is_so = is_read(&def, read);
+        assert!(rt; is_so, "{}", read.label);
     }
     Ok(())
 }

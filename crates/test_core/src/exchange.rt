@@ -2,8 +2,7 @@
 
 use crate::exchange::Step::*;
 use socket_demand::{Exchange, ExchangeFault};
-use std::alloc::{AllocError, Global};
-use std::test::Fail;
+use std::alloc::Global;
 
 /// What is told of an exchange, and what is expected of it.
 #[derive(Clone, Copy)]
@@ -30,7 +29,7 @@ enum Step {
 }
 
 /// A request in two pieces, and a reply of which two bytes are sent.
-static SERVED: [Step; 15] = [
+const SERVED: &[Step] = &[
     Piece("ab", None),
     Piece("c", None),
     Asked("abc"),
@@ -49,7 +48,7 @@ static SERVED: [Step; 15] = [
 ];
 
 /// A request that would be too long leaves what was there, and a shorter piece is still taken.
-static TOO_LONG: [Step; 11] = [
+const TOO_LONG: &[Step] = &[
     Piece("abc", None),
     Bytes(65_534, Some(ExchangeFault::TooLong)),
     Asked("abc"),
@@ -64,7 +63,7 @@ static TOO_LONG: [Step; 11] = [
 ];
 
 /// A reply waits up to its room, and goes on if some was sent.
-static REPLY_WAITS: [Step; 9] = [
+const REPLY_WAITS: &[Step] = &[
     RequestEnd,
     Asked(""),
     Reply("ab", 2),
@@ -77,81 +76,70 @@ static REPLY_WAITS: [Step; 9] = [
 ];
 
 /// An exchange is done once both ends were told and nothing is left.
-static ENDS: [Step; 5] = [Done(false), ReplyEnd, Done(false), RequestEnd, Done(true)];
+const ENDS: &[Step] = &[Done(false), ReplyEnd, Done(false), RequestEnd, Done(true)];
 
 /// With the room of its beginning: the longest request at once, and as much of a reply as may wait.
-static ROOM: [Step; 4] = [
+const ROOM: &[Step] = &[
     Bytes(65_536, None),
     Bytes(1, Some(ExchangeFault::TooLong)),
     ReplyBytes(65_536, 16_384),
     LeftBytes(16_384),
 ];
 
-fn requests(exchange: &mut Exchange, piece: &[u8]) -> Option<ExchangeFault> {
-    exchange.request(piece).err()
-}
+/// Each list is of an exchange of its own.
+static LISTS: &[&[Step]] = &[ROOM, SERVED, TOO_LONG, REPLY_WAITS, ENDS];
 
-fn replies(exchange: &mut Exchange, piece: &[u8]) -> usize {
-    exchange.reply(piece)
-}
-
-fn sends(exchange: &mut Exchange, count: usize) -> bool {
-    if count > exchange.to_send().len() {
-        return false;
-    }
-    exchange.sent(count);
-    true
-}
-
-fn ends(exchange: &mut Exchange, is_reply: bool) -> bool {
-    if is_reply {
-        exchange.reply_end();
-    } else {
-        exchange.request_end();
-    }
-    true
-}
-
-/// Whether the step goes as it says. The bytes of long pieces are those of `filler`.
+/// Whether the step goes as it says. The bytes of long pieces are those of the filler.
 fn goes(exchange: &mut Exchange, step: Step, filler: &[u8]) -> bool {
     match step {
-        Piece(piece, fault) => requests(exchange, piece.as_bytes()) == fault,
-        Bytes(count, fault) => requests(exchange, first(filler, count)) == fault,
-        RequestEnd => ends(exchange, false),
+        Piece(piece, fault) => exchange.request(piece.as_bytes()).err() == fault,
+        Bytes(count, fault) => {
+            let piece = &filler[..count.min(filler.len())];
+            exchange.request(piece).err() == fault
+        }
+        RequestEnd => {
+            exchange.request_end();
+            true
+        }
         Asked(text) => exchange.request_bytes() == text.as_bytes(),
         AskedBytes(count) => exchange.request_bytes().len() == count,
-        Reply(piece, count) => replies(exchange, piece.as_bytes()) == count,
-        ReplyBytes(piece, count) => replies(exchange, first(filler, piece)) == count,
-        Sent(count) => sends(exchange, count),
-        ReplyEnd => ends(exchange, true),
+        Reply(piece, count) => exchange.reply(piece.as_bytes()) == count,
+        ReplyBytes(piece, count) => { exchange.reply(&filler[..piece.min(filler.len())]) == count }
+        Sent(count) => {
+            let is_there = count <= exchange.to_send().len();
+            if is_there {
+                exchange.sent(count);
+            }
+            is_there
+        }
+        ReplyEnd => {
+            exchange.reply_end();
+            true
+        }
         Left(text) => exchange.to_send() == text.as_bytes(),
         LeftBytes(count) => exchange.to_send().len() == count,
         Done(is_done) => exchange.done() == is_done,
     }
 }
 
-fn first(bytes: &[u8], count: usize) -> &[u8] {
-    &bytes[..count.min(bytes.len())]
-}
-
-/// The position of the first step that goes another way than it says.
-fn first_fault(alloc: Global, steps: &[Step]) -> Result<Option<usize>, AllocError> {
-    let mut exchange = Exchange::new(alloc)?;
-    let filler = vec![in alloc; b'x'; 65_536]?;
-    for (position, step) in steps.iter().enumerate() {
+/// How many steps go as they say, before one that does not. None without memory.
+fn gone(alloc: Global, steps: &[Step]) -> Option<usize> {
+    let mut exchange = Exchange::new(alloc).ok()?;
+    let filler = vec![in alloc; b'x'; 65_536].ok()?;
+    let mut passed = 0usize;
+    for step in steps {
         if !goes(&mut exchange, *step, filler.as_slice()) {
-            return Ok(Some(position));
+            break;
         }
+        passed = passed.saturating_add(1);
     }
-    Ok(None)
+    Some(passed)
 }
 
 #[test]
-fn each_exchange_goes_as_it_says(rt: HostRuntime) -> Result<(), Fail> {
-    assert_eq!(rt; first_fault(rt.alloc(), &ROOM)?, None);
-    assert_eq!(rt; first_fault(rt.alloc(), &SERVED)?, None);
-    assert_eq!(rt; first_fault(rt.alloc(), &TOO_LONG)?, None);
-    assert_eq!(rt; first_fault(rt.alloc(), &REPLY_WAITS)?, None);
-    assert_eq!(rt; first_fault(rt.alloc(), &ENDS)?, None);
-    Ok(())
+fn each_exchange_goes_as_it_says(rt: HostRuntime) {
+    for steps in LISTS {
+        let passed = gone(rt.alloc(), steps);
+        assert_eq!(rt; passed, Some(steps.len()));
+    }
 }

@@ -1,8 +1,7 @@
 //! The heap of moments as its caller uses it, step by step.
 
 use crate::heap::Step::*;
-use std::alloc::{AllocError, Global};
-use std::test::Fail;
+use std::alloc::Global;
 use timer_heap::TimerHeap;
 
 /// What is asked of a heap, and what is expected of it.
@@ -21,7 +20,7 @@ enum Step {
 }
 
 /// A job's newer moment takes the place of the older one; a moment comes once it is reached, and not before.
-static BY_MOMENTS: [Step; 9] = [
+const BY_MOMENTS: &[Step] = &[
     Reserve(2),
     Set(0, 500),
     Set(1, 300),
@@ -34,7 +33,7 @@ static BY_MOMENTS: [Step; 9] = [
 ];
 
 /// A later moment takes the place of an earlier one too, and a job comes once for its moment.
-static LATER_AND_ONCE: [Step; 8] = [
+const LATER_AND_ONCE: &[Step] = &[
     Reserve(5),
     Set(4, 10),
     Set(3, 20),
@@ -46,7 +45,7 @@ static LATER_AND_ONCE: [Step; 8] = [
 ];
 
 /// Of equal moments the lesser number comes first, whatever the room is. A growth keeps the moments.
-static TIES_AND_GROWTH: [Step; 12] = [
+const TIES_AND_GROWTH: &[Step] = &[
     Reserve(3),
     Set(2, 7),
     Set(0, 7),
@@ -62,10 +61,10 @@ static TIES_AND_GROWTH: [Step; 12] = [
 ];
 
 /// A heap without room has no moment, and gives none.
-static WITHOUT_ROOM: [Step; 3] = [Clear(0), Least(None), Due(0, None)];
+const WITHOUT_ROOM: &[Step] = &[Clear(0), Least(None), Due(0, None)];
 
 /// With one growth refused (`rt try --test --fail-alloc N`) the heap is as it was, and the next growth succeeds.
-static GROWING: [Step; 6] = [
+const GROWING: &[Step] = &[
     Reserve(2),
     Set(1, 5),
     Reserve(9),
@@ -74,56 +73,59 @@ static GROWING: [Step; 6] = [
     Least(Some((1, 4))),
 ];
 
-fn grows(alloc: Global, heap: &mut TimerHeap, count: u32) -> bool {
-    heap.reserve(alloc, count).is_ok()
-}
-
-fn gives(heap: &mut TimerHeap, now: u64) -> Option<u32> {
-    heap.pop_due(now)
-}
-
-/// Sets a moment. If room for the number was made before, no more is made.
-fn sets(alloc: Global, heap: &mut TimerHeap, number: u32, moment: u64) -> Result<(), AllocError> {
-    if let Some(numbers) = number.checked_add(1) {
-        heap.reserve(alloc, numbers)?;
-        heap.set(number, moment);
-    }
-    Ok(())
-}
-
-fn clears(heap: &mut TimerHeap, number: u32) -> bool {
-    heap.clear(number);
-    true
-}
+/// Each list is of a heap of its own.
+static LISTS: &[&[Step]] = &[
+    BY_MOMENTS,
+    LATER_AND_ONCE,
+    TIES_AND_GROWTH,
+    WITHOUT_ROOM,
+    GROWING,
+];
 
 /// Whether the step goes as it says.
 fn goes(alloc: Global, heap: &mut TimerHeap, step: Step) -> bool {
     match step {
-        Reserve(count) => grows(alloc, heap, count) || grows(alloc, heap, count),
-        Set(number, moment) => sets(alloc, heap, number, moment).is_ok(),
-        Clear(number) => clears(heap, number),
+        Reserve(count) => {
+            let is_made = heap.reserve(alloc, count).is_ok();
+            is_made || heap.reserve(alloc, count).is_ok()
+        }
+        // If room for the number was made before, no more is made.
+        Set(number, moment) => match number.checked_add(1) {
+            Some(numbers) => {
+                let is_made = heap.reserve(alloc, numbers).is_ok();
+                if is_made {
+                    heap.set(number, moment);
+                }
+                is_made
+            }
+            None => false,
+        },
+        Clear(number) => {
+            heap.clear(number);
+            true
+        }
         Least(wanted) => heap.least() == wanted,
-        Due(now, wanted) => gives(heap, now) == wanted,
+        Due(now, wanted) => heap.pop_due(now) == wanted,
     }
 }
 
-/// The position of the first step that goes another way than it says.
-fn first_fault(alloc: Global, steps: &[Step]) -> Result<Option<usize>, AllocError> {
-    let mut heap = TimerHeap::new(alloc)?;
-    for (position, step) in steps.iter().enumerate() {
+/// How many steps go as they say, before one that does not. None without memory.
+fn gone(alloc: Global, steps: &[Step]) -> Option<usize> {
+    let mut heap = TimerHeap::new(alloc).ok()?;
+    let mut passed = 0usize;
+    for step in steps {
         if !goes(alloc, &mut heap, *step) {
-            return Ok(Some(position));
+            break;
         }
+        passed = passed.saturating_add(1);
     }
-    Ok(None)
+    Some(passed)
 }
 
 #[test]
-fn each_list_of_steps_goes_as_it_says(rt: HostRuntime) -> Result<(), Fail> {
-    assert_eq!(rt; first_fault(rt.alloc(), &BY_MOMENTS)?, None);
-    assert_eq!(rt; first_fault(rt.alloc(), &LATER_AND_ONCE)?, None);
-    assert_eq!(rt; first_fault(rt.alloc(), &TIES_AND_GROWTH)?, None);
-    assert_eq!(rt; first_fault(rt.alloc(), &WITHOUT_ROOM)?, None);
-    assert_eq!(rt; first_fault(rt.alloc(), &GROWING)?, None);
-    Ok(())
+fn each_list_of_steps_goes_as_it_says(rt: HostRuntime) {
+    for steps in LISTS {
+        let passed = gone(rt.alloc(), steps);
+        assert_eq!(rt; passed, Some(steps.len()));
+    }
 }

@@ -24,5 +24,3 @@ mod steps;
 mod table;
 #[cfg(test)]
 mod visits;
-#[cfg(test)]
-mod words;

@@ -1,8 +1,8 @@
-//! Plays the steps of a test on a socket in the folder for temporary files.
+//! Plays the steps of a test on a socket in the folder for temporary files. Clients go by their numbers, in the order in which they connect,
+//! from 0.
 
-use crate::budget::Budget;
-use crate::control_steps::Step;
-use crate::echo::Echo;
+use crate::echo::{Budget, Echo};
+use crate::system::folder_name;
 use control_socket::ControlSocket;
 use mio::{Events, Poll, Token};
 use std::alloc::Global;
@@ -10,11 +10,50 @@ use std::io::{ErrorKind, Read, Write};
 use std::net::Shutdown;
 use std::os::unix::net::UnixStream;
 use std::time::Duration;
-use std::{io, process};
+
+/// What is done, and what is expected of it.
+#[derive(Clone, Copy)]
+pub enum Step {
+    /// So many clients connect.
+    Connect(usize),
+    /// The client sends the text, which is taken whole.
+    Sends(usize, &'static str),
+    /// The client sends the text so many times, which is taken whole.
+    SendsTimes(usize, &'static str, usize),
+    /// Each client that is left sends the text, but for the one of this number.
+    OthersSend(usize, &'static str),
+    /// The client sends so many blocks of 4,096 letters, which are taken whole.
+    SendsBlocks(usize, usize),
+    /// The client sends no more, and goes on reading.
+    HalfCloses(usize),
+    /// The client goes away.
+    Leaves(usize),
+    /// In each further round there is time for so many lines.
+    Time(u32),
+    /// The clock goes on by so many milliseconds.
+    Later(u64),
+    /// So many rounds: the clients are served, and then those that wait are taken.
+    Rounds(usize),
+    /// A round, and whether it tells that one may go on at once.
+    Busy(bool),
+    /// These lines were asked since the last such step, each told with a newline.
+    Asked(&'static str),
+    /// The client has got this since the last such step, and no end.
+    Hears(usize, &'static str),
+    /// The client has got this since the last such step, and then the end.
+    HearsLast(usize, &'static str),
+    /// The client gets the end, whatever comes before it.
+    IsLetGo(usize),
+    /// Whether no reply waits to be sent.
+    Quiet(bool),
+    /// A poll is woken under the socket's token, or is not.
+    Woken(bool),
+}
 
 /// The socket with its poll, who answers and for how long, and the clients.
 #[derive(Drop)]
 struct Stage {
+    path: String,
     poll: Poll,
     events: Events,
     socket: ControlSocket,
@@ -23,76 +62,74 @@ struct Stage {
     clients: Vec<Option<UnixStream>>,
 }
 
-/// The path of the test of this name, at which nothing is yet.
-fn path_of(rt: &HostRuntime, name: &str) -> Option<String> {
-    let id = process::id(rt.process());
-    format!(in rt.alloc(); "/tmp/test_system-{id}-{name}").ok()
-}
-
-/// Plays the steps. The number of the first that goes wrong, or of none; or that the system refused one.
-pub fn played(rt: &HostRuntime, name: &str, steps: &[Step]) -> Option<usize> {
-    let Some(path) = path_of(rt, name) else {
-        return Some(0);
-    };
-    match new_stage(rt, path.as_str()) {
-        Ok(stage) => played_on(rt, path.as_str(), stage, steps),
-        Err(_) => Some(0),
-    }
-}
-
-fn played_on(rt: &HostRuntime, path: &str, stage: Stage, steps: &[Step]) -> Option<usize> {
-    let mut stage = stage;
-    let fault = first_fault(rt, path, &mut stage, steps);
-    stage.socket.remove(rt);
-    fault
-}
-
-fn first_fault(rt: &HostRuntime, path: &str, stage: &mut Stage, steps: &[Step]) -> Option<usize> {
-    for (number, step) in steps.iter().enumerate() {
-        let is_so = play(rt, path, stage, *step);
-        if !is_so.unwrap_or(false) {
-            return Some(number);
-        }
-    }
-    None
-}
-
-fn new_stage(rt: &HostRuntime, path: &str) -> io::Result<Stage> {
-    let poll = Poll::new(rt)?;
-    let events = Events::with_capacity(rt.alloc(), 8)?;
-    let mut socket = ControlSocket::open(rt, rt.alloc(), path)?;
-    socket.register(poll.registry(), Token(3))?;
-    Ok(Stage {
+fn new_stage(rt: &HostRuntime, name: &str) -> Option<Stage> {
+    let path = folder_name(rt, name)?;
+    let poll = Poll::new(rt).ok()?;
+    let mut socket = ControlSocket::open(rt, rt.alloc(), path.as_str()).ok()?;
+    socket.register(poll.registry(), Token(3)).ok()?;
+    Some(Stage {
+        path,
         poll,
-        events,
+        events: Events::with_capacity(rt.alloc(), 8).ok()?,
         socket,
-        echo: Echo::new(rt.alloc()),
-        budget: Budget::new(),
+        echo: Echo {
+            asked: Vec::new(rt.alloc()),
+        },
+        budget: Budget {
+            lines: u32::MAX,
+            up: 0,
+            left: 0,
+        },
         clients: Vec::new(rt.alloc()),
     })
 }
 
-fn play(rt: &HostRuntime, path: &str, stage: &mut Stage, step: Step) -> io::Result<bool> {
-    let alloc = rt.alloc();
-    match step {
-        Step::Connect(count) => stage.connect(rt, path, count),
-        Step::Sends(number, text) => stage.sends(number, text, 1),
-        Step::SendsTimes(number, text, count) => stage.sends(number, text, count),
-        Step::OthersSend(number, text) => stage.others_send(number, text),
-        Step::SendsBlocks(number, count) => stage.sends_blocks(number, count),
-        Step::HalfCloses(number) => Ok(stage.client(number)?.shutdown(Shutdown::Write).is_ok()),
-        Step::Hears(number, text) => stage.hears(alloc, number, text, false),
-        Step::HearsLast(number, text) => stage.hears(alloc, number, text, true),
-        Step::IsLetGo(number) => read_all(stage.client(number)?, &mut Vec::new(alloc)),
-        Step::Woken(is_woken) => stage.is_woken(is_woken),
-        _ => Ok(stage.play_plain(alloc, step)),
+/// Plays the steps. The number of the first that goes wrong, or of none; or None if the socket can't be opened.
+pub fn played(rt: &HostRuntime, name: &str, steps: &[Step]) -> Option<usize> {
+    let mut stage = new_stage(rt, name)?;
+    let mut passed = 0usize;
+    for step in steps {
+        if !stage.play(rt, *step) {
+            break;
+        }
+        passed = passed.saturating_add(1);
     }
+    stage.socket.remove(rt);
+    Some(passed)
 }
 
 impl Stage {
-    fn play_plain(&mut self, alloc: Global, step: Step) -> bool {
+    fn play(&mut self, rt: &HostRuntime, step: Step) -> bool {
         match step {
-            Step::Leaves(number) => self.leaves(number),
+            Step::Connect(count) => self.connect(rt, count).is_some(),
+            Step::Sends(number, text) => self.send(number, true, text.as_bytes(), 1),
+            Step::SendsTimes(number, text, count) => {
+                self.send(number, true, text.as_bytes(), count)
+            }
+            Step::OthersSend(number, text) => self.send(number, false, text.as_bytes(), 1),
+            Step::SendsBlocks(number, count) => self.send(number, true, &[b'n'; 4096], count),
+            Step::Hears(number, text) => self.hears(rt.alloc(), number, Some(text), false),
+            Step::HearsLast(number, text) => self.hears(rt.alloc(), number, Some(text), true),
+            Step::IsLetGo(number) => self.hears(rt.alloc(), number, None, true),
+            Step::Rounds(count) => {
+                let _is_busy = self.rounds(rt.alloc(), count);
+                true
+            }
+            Step::Busy(is_busy) => self.rounds(rt.alloc(), 1) == is_busy,
+            _ => self.play_plain(step),
+        }
+    }
+
+    fn play_plain(&mut self, step: Step) -> bool {
+        match step {
+            Step::HalfCloses(number) => match self.clients.get_mut(number) {
+                Some(Some(client)) => client.shutdown(Shutdown::Write).is_ok(),
+                _ => false,
+            },
+            Step::Leaves(number) => match self.clients.get_mut(number) {
+                Some(client) => client.take().is_some(),
+                None => false,
+            },
             Step::Time(lines) => {
                 self.budget.lines = lines;
                 true
@@ -101,130 +138,90 @@ impl Stage {
                 self.budget.up = self.budget.up.saturating_add(time);
                 true
             }
-            Step::Round => self.rounds(alloc, 1),
-            Step::Rounds(count) => self.rounds(alloc, count),
-            Step::Busy(is_busy) => self.round(alloc) == is_busy,
-            Step::Asked(lines) => self.was_asked(lines),
+            Step::Asked(lines) => {
+                let is_same = self.echo.asked.as_slice() == lines.as_bytes();
+                self.echo.asked.clear();
+                is_same
+            }
             Step::Quiet(is_quiet) => self.socket.is_quiet() == is_quiet,
+            Step::Woken(is_woken) => {
+                let wait = Duration::from_millis(if is_woken { 5_000 } else { 20 });
+                let is_polled = self.poll.poll(&mut self.events, Some(wait)).is_ok();
+                let mut is_token = false;
+                for event in self.events.iter() {
+                    is_token = is_token || event.token() == Token(3);
+                }
+                is_polled && is_token == is_woken
+            }
             _ => false,
         }
     }
 
-    // A round of a loop: whether a client may go on at once.
-    fn round(&mut self, alloc: Global) -> bool {
-        let is_busy = self.socket.serve(alloc, &mut self.echo, &mut self.budget);
-        self.socket.accept(self.poll.registry());
+    // Rounds of a loop: whether a client may go on at once after the last.
+    fn rounds(&mut self, alloc: Global, count: usize) -> bool {
+        let mut is_busy = false;
+        for _ in 0..count {
+            is_busy = self.socket.serve(alloc, &mut self.echo, &mut self.budget);
+            self.socket.accept(self.poll.registry());
+        }
         is_busy
     }
 
-    fn rounds(&mut self, alloc: Global, count: usize) -> bool {
+    fn connect(&mut self, rt: &HostRuntime, count: usize) -> Option<()> {
         for _ in 0..count {
-            let _ = self.round(alloc);
+            let client = UnixStream::connect(rt, self.path.as_str()).ok()?;
+            client.set_nonblocking(true).ok()?;
+            self.clients.push(Some(client)).ok()?;
         }
-        true
+        Some(())
     }
 
-    fn connect(&mut self, rt: &HostRuntime, path: &str, count: usize) -> io::Result<bool> {
-        for _ in 0..count {
-            let client = UnixStream::connect(rt, path)?;
-            client.set_nonblocking(true)?;
-            self.clients.push(Some(client))?;
-        }
-        Ok(true)
-    }
-
-    fn client(&mut self, number: usize) -> io::Result<&mut UnixStream> {
-        match self.clients.get_mut(number) {
-            Some(Some(client)) => Ok(client),
-            _ => Err(io::Error::from(ErrorKind::NotFound)),
-        }
-    }
-
-    fn leaves(&mut self, number: usize) -> bool {
-        match self.clients.get_mut(number) {
-            Some(client) => {
-                *client = None;
-                true
+    // The client of the number, or each of the others, sends the piece so many times. Whether all is taken whole.
+    fn send(&mut self, number: usize, is_itself: bool, piece: &[u8], count: usize) -> bool {
+        let mut is_sent = false;
+        for (other, client) in self.clients.iter_mut().enumerate() {
+            if (other == number) != is_itself {
+                continue;
             }
-            None => false,
-        }
-    }
-
-    fn sends(&mut self, number: usize, text: &str, count: usize) -> io::Result<bool> {
-        for _ in 0..count {
-            if sent(self.client(number)?, text.as_bytes())? < text.len() {
-                return Ok(false);
-            }
-        }
-        Ok(true)
-    }
-
-    fn others_send(&mut self, but: usize, text: &str) -> io::Result<bool> {
-        let mut is_taken = true;
-        for (number, client) in self.clients.iter_mut().enumerate() {
             if let Some(client) = client {
-                if number != but {
-                    is_taken = is_taken && sent(client, text.as_bytes())? == text.len();
+                for _ in 0..count {
+                    match client.write(piece) {
+                        Ok(taken) if taken == piece.len() => is_sent = true,
+                        _ => return false,
+                    }
                 }
             }
         }
-        Ok(is_taken)
+        is_sent
     }
 
-    fn sends_blocks(&mut self, number: usize, count: usize) -> io::Result<bool> {
-        for _ in 0..count {
-            if sent(self.client(number)?, &[b'n'; 4096])? < 4096 {
-                return Ok(false);
+    // Whether what is there for the client to be read is this text, and the end came behind it or did not.
+    fn hears(&mut self, alloc: Global, number: usize, text: Option<&str>, is_last: bool) -> bool {
+        let Some(Some(client)) = self.clients.get_mut(number) else {
+            return false;
+        };
+        let mut heard = Vec::new(alloc);
+        let mut piece = [0u8; 4096];
+        let mut is_end = false;
+        for _ in 0..1_000u32 {
+            match client.read(&mut piece) {
+                Ok(0) => {
+                    is_end = true;
+                    break;
+                }
+                Ok(count) => {
+                    if heard.extend_from_slice(&piece[..count]).is_err() {
+                        return false;
+                    }
+                }
+                Err(error) if error.kind() == ErrorKind::WouldBlock => break,
+                Err(_) => return false,
             }
         }
-        Ok(true)
+        let is_text = match text {
+            Some(text) => heard.as_slice() == text.as_bytes(),
+            None => true,
+        };
+        is_text && is_end == is_last
     }
-
-    // Takes the lines that were asked so far.
-    fn was_asked(&mut self, lines: &str) -> bool {
-        let is_same = self.echo.asked.as_slice() == lines.as_bytes();
-        self.echo.asked.clear();
-        is_same
-    }
-
-    fn hears(
-        &mut self,
-        alloc: Global,
-        number: usize,
-        text: &str,
-        is_last: bool,
-    ) -> io::Result<bool> {
-        let mut heard = Vec::new(alloc);
-        let is_end = read_all(self.client(number)?, &mut heard)?;
-        Ok(heard.as_slice() == text.as_bytes() && is_end == is_last)
-    }
-
-    fn is_woken(&mut self, is_woken: bool) -> io::Result<bool> {
-        let wait = if is_woken { 5_000 } else { 20 };
-        self.poll
-            .poll(&mut self.events, Some(Duration::from_millis(wait)))?;
-        Ok(self.events.iter().any(|event| event.token() == Token(3)) == is_woken)
-    }
-}
-
-fn sent(client: &mut UnixStream, piece: &[u8]) -> io::Result<usize> {
-    match client.write(piece) {
-        Ok(count) => Ok(count),
-        Err(error) if error.kind() == ErrorKind::WouldBlock => Ok(0),
-        Err(error) => Err(error),
-    }
-}
-
-// Adds what is there to be read. True: the end came behind it.
-fn read_all(client: &mut UnixStream, heard: &mut Vec<u8>) -> io::Result<bool> {
-    let mut piece = [0u8; 4096];
-    for _ in 0..1_000u32 {
-        match client.read(&mut piece) {
-            Ok(0) => return Ok(true),
-            Ok(count) => heard.extend_from_slice(&piece[..count])?,
-            Err(error) if error.kind() == ErrorKind::WouldBlock => return Ok(false),
-            Err(error) => return Err(error),
-        }
-    }
-    Ok(false)
 }

@@ -1,84 +1,74 @@
-//! Who answers in a test.
+//! Who answers in a test, and for how long.
 
-use control_socket::Answers;
+use control_socket::{Answers, Limit};
 use history_model::{Refusal, Reply, Text};
 use std::alloc::{AllocError, Global};
 
-/// Keeps each line that is asked, and says it back. `no` is refused, `long` gets a text of 100,000 bytes, `some` one of 10,000, and a line of more
-/// than 100 bytes counts as `much`.
+/// Keeps each line that is asked, and says it back. `long` gets a text of 100,000 bytes, and `some` one of 10,000; a line of more than 100
+/// bytes counts as `much`.
 #[derive(Drop)]
 pub struct Echo {
     /// The lines, each with a newline behind it.
     pub asked: Vec<u8>,
 }
 
-impl Echo {
-    pub fn new(alloc: Global) -> Echo {
-        Echo {
-            asked: Vec::new(alloc),
-        }
-    }
+const HUNDRED: &str =
+    "nnnnnnnnnnnnnnnnnnnnnnnnnnnnnnnnnnnnnnnnnnnnnnnnnnnnnnnnnnnnnnnnnnnnnnnnnnnnnnnnnnnnnnnnnnnnnnnnnnnn";
 
-    fn keep(&mut self, line: &str) -> Result<(), AllocError> {
-        self.asked.extend_from_slice(line.as_bytes())?;
-        self.asked.push(b'\n')?;
-        Ok(())
-    }
-}
-
-// What a line counts as.
-fn word_of(line: &[u8]) -> &str {
-    if line.len() > 100 {
-        return "much";
-    }
-    match str::from_utf8(line) {
-        Ok(text) => text,
+fn said(alloc: Global, line: &[u8], asked: &mut Vec<u8>) -> Result<String, AllocError> {
+    let word = match str::from_utf8(line) {
+        Ok(text) if text.len() <= 100 => text,
+        Ok(_) => "much",
         Err(_) => "no text",
-    }
-}
-
-// Adds so many hundreds of letters.
-fn add_letters(text: &mut String, count: u32) -> Result<(), AllocError> {
-    for _ in 0..count {
-        text.push_str(
-            "nnnnnnnnnnnnnnnnnnnnnnnnnnnnnnnnnnnnnnnnnnnnnnnnnnnnnnnnnnnnnnnnnnnnnnnnnnnnnnnnnnnnnnnnnnnnnnnnnnnn",
-        )?;
-    }
-    Ok(())
-}
-
-fn said(alloc: Global, word: &str) -> Result<Text, AllocError> {
+    };
+    asked.extend_from_slice(word.as_bytes())?;
+    asked.push(b'\n')?;
+    let (piece, count) = match word {
+        "long" => (HUNDRED, 1_000u32),
+        "some" => (HUNDRED, 100),
+        _ => (word, 1),
+    };
     let mut text = String::new(alloc);
-    match word {
-        "long" => add_letters(&mut text, 1_000)?,
-        "some" => add_letters(&mut text, 100)?,
-        _ => text.push_str(word)?,
+    for _ in 0..count {
+        text.push_str(piece)?;
     }
-    Ok(Text::new(text))
-}
-
-fn refused(alloc: Global, refusal: Refusal) -> Reply {
-    Reply {
-        refusal: Some(refusal),
-        text: Text::new(String::new(alloc)),
-    }
+    Ok(text)
 }
 
 impl Answers for Echo {
     fn answer(&mut self, alloc: Global, line: &[u8]) -> Reply {
-        let word = word_of(line);
-        if self.keep(word).is_err() {
-            return refused(alloc, Refusal::NoMemory);
-        }
-        if word == "no" {
-            return refused(alloc, Refusal::NoSuchJob);
-        }
-        match said(alloc, word) {
+        match said(alloc, line, &mut self.asked) {
             Ok(text) => Reply {
                 refusal: None,
-                text,
+                text: Text::new(text),
             },
-            Err(_) => refused(alloc, Refusal::NoMemory),
+            Err(_) => Reply {
+                refusal: Some(Refusal::NoMemory),
+                text: Text::new(String::new(alloc)),
+            },
         }
+    }
+}
+
+/// Time for so many lines in each round. The clock goes on only by the steps of the test.
+#[derive(Drop)]
+pub struct Budget {
+    /// As many lines a round.
+    pub lines: u32,
+    /// The milliseconds that the clock says.
+    pub up: u64,
+    /// As many further lines in this round.
+    pub left: u32,
+}
+
+impl Limit for Budget {
+    fn has_time(&mut self) -> bool {
+        self.left = self.left.saturating_sub(1);
+        self.left > 0
+    }
+
+    fn up(&mut self) -> u64 {
+        self.left = self.lines;
+        self.up
     }
 }

@@ -1,9 +1,9 @@
 //! A system that refuses each call, by a runtime of the tests' own: what the edge answers, counts, keeps and tells. And one
 //! whose clock goes a hundred times as fast.
 
-use crate::stage::{folder_name, free_port, pause};
-use child_edge::{ChildEdge, Client, ClockEdge, EdgeFault, OsEdge, PathEdge, SocketEdge};
-use history_model::Reading;
+use crate::calls::{Told, are_answered};
+use crate::system::{folder_name, free_port, pause};
+use child_edge::{Client, EdgeCall, OsEdge, Scripted, SocketEdge};
 use job_defs::{Def, read_def};
 use mio::net::UnixStream;
 use socket_demand::Exchange;
@@ -14,7 +14,7 @@ use std::net::{Net, SocketAddr, TcpListener, TcpStream};
 use std::process::{Child, Command, ExitStatus, OpenProcess, Processes, Stdio};
 use std::rt::Clock;
 use std::time::Duration;
-use std::{fs, io};
+use std::{fs, io, mem};
 
 /// Refuses everything with this kind of error, but the clock since its start; a spawn gives a child with this process id
 /// if there is one. If there is a host, its files are there, and its clock goes a hundred times as fast.
@@ -173,235 +173,212 @@ impl Net for Refusing {
     }
 }
 
-/// A job with this stream file if it has one, and a socket.
-fn job(alloc: Global, more: &str) -> Option<Def> {
-    let text = format!(in alloc;
-        "{{\"Label\":\"a\",\"Program\":\"/bin/x\"{more},\"inetdCompatibility\":{{\"Wait\":false}},\"Sockets\":{{\"s\":{{\"SockServiceName\":7}}}}}}"
-    ).ok()?;
-    read_def(alloc, text.as_bytes()).ok()
+/// How every call fails, which process id a child has if one starts, the calls, how many of them fail, and what is then told, if that is
+/// looked at.
+struct Case {
+    kind: ErrorKind,
+    pid: Option<u32>,
+    calls: &'static [Told],
+    failures: u64,
+    told: Option<&'static [&'static str]>,
 }
 
-fn system(alloc: Global, kind: ErrorKind, pid: Option<u32>) -> Refusing {
-    Refusing {
-        alloc,
-        kind,
-        pid,
-        host: None,
-    }
-}
+/// Run 1 has no stream of its own; run 2 has one in the cases in which no child starts.
+const START: EdgeCall = EdgeCall::Start {
+    job: 0,
+    run: 1,
+    conn: None,
+};
 
-fn edge(alloc: Global, kind: ErrorKind, pid: Option<u32>) -> Option<OsEdge<Refusing>> {
-    let folder = String::from_str(alloc, "/none").ok()?;
-    OsEdge::new(system(alloc, kind, pid), alloc, folder).ok()
-}
+const SECOND: EdgeCall = EdgeCall::Start {
+    job: 0,
+    run: 2,
+    conn: None,
+};
 
-fn starts(edge: &mut OsEdge<Refusing>, run: u64, def: &Def) -> Result<u32, EdgeFault> {
-    edge.start(0, run, def, None)
-}
+const TERM: EdgeCall = EdgeCall::Term { job: 0, run: 1 };
 
-fn polls(edge: &mut OsEdge<Refusing>) -> Option<EdgeFault> {
-    edge.poll(0, 1).err()
-}
+const KILL: EdgeCall = EdgeCall::Kill { job: 0, run: 1 };
 
-fn terms(edge: &mut OsEdge<Refusing>) -> Option<EdgeFault> {
-    edge.term(0, 1).err()
-}
+const POLL: EdgeCall = EdgeCall::Poll { job: 0, run: 1 };
 
-fn kills(edge: &mut OsEdge<Refusing>) -> Option<EdgeFault> {
-    edge.kill(0, 1).err()
-}
+const BIND: EdgeCall = EdgeCall::Bind { job: 0 };
 
-fn binds(edge: &mut OsEdge<Refusing>, def: &Def) -> Option<EdgeFault> {
-    edge.bind(0, def).err()
-}
+const CLOSE: EdgeCall = EdgeCall::Close { job: 0, conn: 1 };
 
-fn looks(edge: &mut OsEdge<Refusing>) -> Option<EdgeFault> {
-    edge.look("/in").err()
-}
+const RELEASE: EdgeCall = EdgeCall::Release { job: 0 };
 
-fn reads(edge: &mut OsEdge<Refusing>) -> Option<EdgeFault> {
-    edge.read().err()
-}
+/// Each call is answered by its fault, want of memory told apart, and counted; a close and a release count nothing.
+const NO_MEMORY: Case = Case {
+    kind: ErrorKind::OutOfMemory,
+    pid: None,
+    calls: &[
+        (START, Scripted::NoMemory),
+        (SECOND, Scripted::NoMemory),
+        (BIND, Scripted::NoMemory),
+        (EdgeCall::Look, Scripted::NoMemory),
+        (EdgeCall::Clock, Scripted::NoMemory),
+        (CLOSE, Scripted::Done),
+        (RELEASE, Scripted::Done),
+    ],
+    failures: 5,
+    told: None,
+};
 
-fn closes(edge: &mut OsEdge<Refusing>) {
-    edge.close(0, 1);
-}
+const NO_RIGHT: Case = Case {
+    kind: ErrorKind::PermissionDenied,
+    pid: None,
+    calls: &[
+        (START, Scripted::Refused),
+        (SECOND, Scripted::Refused),
+        (BIND, Scripted::Refused),
+        (EdgeCall::Look, Scripted::Refused),
+        (EdgeCall::Clock, Scripted::Refused),
+        (CLOSE, Scripted::Done),
+        (RELEASE, Scripted::Done),
+    ],
+    failures: 5,
+    told: None,
+};
 
-fn releases(edge: &mut OsEdge<Refusing>) {
-    edge.release(0);
-}
+/// A child that can't be waited for is kept, and told; another is started beside it.
+const A_LOST_CHILD: Case = Case {
+    kind: ErrorKind::PermissionDenied,
+    pid: Some(7),
+    calls: &[
+        (START, Scripted::Started(7)),
+        (POLL, Scripted::Refused),
+        (TERM, Scripted::Refused),
+        (KILL, Scripted::Refused),
+        (START, Scripted::Refused),
+        (SECOND, Scripted::Started(7)),
+    ],
+    failures: 4,
+    told: Some(&[
+        "a: run 1: cannot wait for its end: permission denied",
+        "a: run 1: cannot TERM: it can't be waited for, so its number may be another's",
+        "a: run 1: cannot KILL: permission denied",
+        "a: run 1: cannot start /bin/x: entity already exists",
+    ]),
+};
 
-fn has_failed(edge: &OsEdge<Refusing>, count: u64) -> bool {
-    edge.failures() == count
-}
+/// A process id of 0 is no child.
+const CHILD_0: Case = Case {
+    kind: ErrorKind::PermissionDenied,
+    pid: Some(0),
+    calls: &[(START, Scripted::Refused), (POLL, Scripted::Refused)],
+    failures: 2,
+    told: None,
+};
+
+static CASES: &[Case] = &[NO_MEMORY, NO_RIGHT, A_LOST_CHILD, CHILD_0];
+
+const PLAIN: &str =
+    "{\"Label\":\"a\",\"Program\":\"/bin/x\",\"inetdCompatibility\":{\"Wait\":false},\"Sockets\":{\"s\":{\"SockServiceName\":7}}}";
+
+const FILED: &str =
+    "{\"Label\":\"a\",\"Program\":\"/bin/x\",\"StandardInPath\":\"/in\",\"inetdCompatibility\":{\"Wait\":false},\"Sockets\":{\"s\":{\"SockServiceName\":7}}}";
 
 /// Whether these lines wait to be told, and no others.
 fn tells(edge: &mut OsEdge<Refusing>, lines: &[&str]) -> bool {
-    let mut is_so = true;
+    let mut are_next = true;
     for line in lines {
-        is_so = is_so && is_next(edge, line);
+        let is_next = match edge.next_notice() {
+            Some(told) => told.text.as_str() == *line,
+            None => false,
+        };
+        are_next = are_next && is_next;
     }
-    is_so && edge.next_notice().is_none()
+    are_next && edge.next_notice().is_none()
 }
 
-fn is_next(edge: &mut OsEdge<Refusing>, line: &str) -> bool {
-    match edge.next_notice() {
-        Some(told) => told.text.as_str() == line,
-        None => false,
-    }
+/// An edge over this system, that spools in the folder.
+fn edge_over(system: Refusing, folder: &str) -> Option<OsEdge<Refusing>> {
+    let alloc = system.alloc;
+    let spool = String::from_str(alloc, folder).ok()?;
+    OsEdge::new(system, alloc, spool).ok()
 }
 
-/// Whether each call is answered by the fault, and counted.
-fn refuses_all(edge: &mut OsEdge<Refusing>, plain: &Def, filed: &Def, fault: EdgeFault) -> bool {
-    let no_child = starts(edge, 1, plain) == Err(fault);
-    let no_stream = starts(edge, 1, filed) == Err(fault);
-    let no_socket = binds(edge, plain) == Some(fault);
-    let no_look = looks(edge) == Some(fault);
-    let no_reading = reads(edge) == Some(fault);
-    let is_counted = has_failed(edge, 5);
-    closes(edge);
-    releases(edge);
-    let is_kept = has_failed(edge, 5);
-    no_child && no_stream && no_socket && no_look && no_reading && is_counted && is_kept
-}
-
-fn refused(alloc: Global, kind: ErrorKind, fault: EdgeFault) -> Option<bool> {
-    let plain = job(alloc, "")?;
-    let filed = job(alloc, ",\"StandardInPath\":\"/in\"")?;
-    let mut edge = edge(alloc, kind, None)?;
-    Some(refuses_all(&mut edge, &plain, &filed, fault))
-}
-
-/// Whether the child of run 1, that can't be waited for, is kept, and another is started beside it.
-fn keeps_the_child(edge: &mut OsEdge<Refusing>, plain: &Def) -> bool {
-    let is_started = starts(edge, 1, plain) == Ok(7);
-    let is_polled = polls(edge) == Some(EdgeFault::Refused);
-    let is_termed = terms(edge) == Some(EdgeFault::Refused);
-    let is_killed = kills(edge) == Some(EdgeFault::Refused);
-    let is_there = starts(edge, 1, plain) == Err(EdgeFault::Refused);
-    let is_second = starts(edge, 2, plain) == Ok(7);
-    let is_counted = has_failed(edge, 4);
-    is_started && is_polled && is_termed && is_killed && is_there && is_second && is_counted
-}
-
-fn has_no_child(edge: &mut OsEdge<Refusing>, plain: &Def) -> bool {
-    let no_start = starts(edge, 1, plain) == Err(EdgeFault::Refused);
-    let no_poll = polls(edge) == Some(EdgeFault::Refused);
-    let is_counted = has_failed(edge, 2);
-    no_start && no_poll && is_counted
-}
-
-/// What is told of a child that can't be waited for.
-static LOST: &[&str] = &[
-    "a: run 1: cannot wait for its end: permission denied",
-    "a: run 1: cannot TERM: it can't be waited for, so its number may be another's",
-    "a: run 1: cannot KILL: permission denied",
-    "a: run 1: cannot start /bin/x: entity already exists",
-];
-
-/// Whether a child with the process id 7 is kept that can't be waited for, and what is told of it.
-fn keeps_a_lost_child(alloc: Global) -> Option<bool> {
-    let plain = job(alloc, "")?;
-    let mut edge = edge(alloc, ErrorKind::PermissionDenied, Some(7))?;
-    let is_kept = keeps_the_child(&mut edge, &plain);
-    Some(is_kept && tells(&mut edge, LOST))
-}
-
-/// Whether a process id of 0 is no child.
-fn has_no_child_0(alloc: Global) -> Option<bool> {
-    let plain = job(alloc, "")?;
-    let mut edge = edge(alloc, ErrorKind::PermissionDenied, Some(0))?;
-    Some(has_no_child(&mut edge, &plain))
-}
-
-/// A job with a socket at the port.
-fn port_job(alloc: Global, port: u16) -> Option<Def> {
-    let text = format!(in alloc;
-        "{{\"Label\":\"a\",\"Program\":\"/bin/x\",\"inetdCompatibility\":{{\"Wait\":false}},\"Sockets\":{{\"s\":{{\"SockNodeName\":\"localhost\",\"SockServiceName\":{port}}}}}}}"
-    ).ok()?;
-    read_def(alloc, text.as_bytes()).ok()
-}
-
-/// A system with the host's files and a fast clock.
-fn fast_system(rt: &HostRuntime) -> Option<Refusing> {
-    Some(Refusing {
-        alloc: rt.alloc(),
-        kind: ErrorKind::PermissionDenied,
-        pid: None,
-        host: Some(rt.clone().ok()?),
-    })
-}
-
-/// An edge over it that spools in the folder.
-fn fast_edge(rt: &HostRuntime, folder: &str) -> Option<OsEdge<Refusing>> {
-    let spool = String::from_str(rt.alloc(), folder).ok()?;
-    let system = fast_system(rt)?;
-    OsEdge::new(system, rt.alloc(), spool).ok()
-}
-
-/// Holds a client of job 0 under number 1, and answers its far end.
-fn holds(rt: &HostRuntime, edge: &mut OsEdge<Refusing>) -> Option<UnixStream> {
-    let (near, far) = UnixStream::pair(rt).ok()?;
-    let exchange = Exchange::new(rt.alloc()).ok()?;
-    match edge.take(0, 1, Client::Unix(near), exchange) {
-        Ok(()) => Some(far),
-        Err(_) => None,
-    }
-}
-
-/// Makes a reply longer than the system takes for a client that reads none.
-fn lengthen(rt: &HostRuntime, reply: &str) -> bool {
-    match OpenOptions::new().write(true).open(rt, reply) {
-        Ok(file) => file.set_len(400_000).is_ok(),
-        Err(_) => false,
-    }
-}
-
-/// Whether something is told in five seconds while replies are sent on; and this is it.
-fn comes_to_tell(rt: &HostRuntime, edge: &mut OsEdge<Refusing>, line: &str) -> bool {
-    for _ in 0..500u32 {
-        edge.forward();
-        if let Some(told) = edge.next_notice() {
-            return told.text.as_str() == line;
-        }
-        pause(rt);
-    }
-    false
+/// Whether the calls are answered, counted and told as the case says. None without memory.
+fn passes(alloc: Global, case: &Case) -> Option<bool> {
+    let plain = read_def(alloc, PLAIN.as_bytes()).ok()?;
+    let other = if case.pid.is_none() { FILED } else { PLAIN };
+    let other = read_def(alloc, other.as_bytes()).ok()?;
+    let system = Refusing {
+        alloc,
+        kind: case.kind,
+        pid: case.pid,
+        host: None,
+    };
+    let mut edge = edge_over(system, "/none")?;
+    let is_answered = are_answered(&mut edge, &(plain, other), case.calls);
+    let is_counted = edge.failures() == case.failures;
+    let is_told = match case.told {
+        Some(lines) => tells(&mut edge, lines),
+        None => true,
+    };
+    Some(is_answered && is_counted && is_told)
 }
 
 const STILL: &str = "a: a client was let go: it took nothing of its reply for a minute";
 
-/// Whether a client that takes nothing of a long reply is told to be let go.
-fn tells_of_one_who_takes_nothing(rt: &HostRuntime, folder: &str, reply: &str) -> Option<bool> {
-    let port = free_port(rt)?;
-    let def = port_job(rt.alloc(), port)?;
-    let mut edge = fast_edge(rt, folder)?;
-    let is_bound = binds(&mut edge, &def).is_none();
-    let _far = holds(rt, &mut edge)?;
-    let is_long = lengthen(rt, reply);
-    Some(is_bound && is_long && comes_to_tell(rt, &mut edge, STILL))
+/// An edge with the host's files and a fast clock, which has the sockets of job 0, and a client of it under number 1. The client's far
+/// end stays open.
+fn held(rt: &HostRuntime, folder: &str, def: &Def) -> Option<OsEdge<Refusing>> {
+    let (near, far) = UnixStream::pair(rt).ok()?;
+    mem::forget(far);
+    let system = Refusing {
+        alloc: rt.alloc(),
+        kind: ErrorKind::PermissionDenied,
+        pid: None,
+        host: rt.clone().ok(),
+    };
+    let mut edge = edge_over(system, folder)?;
+    edge.bind(0, def).ok()?;
+    let exchange = Exchange::new(rt.alloc()).ok()?;
+    edge.take(0, 1, Client::Unix(near), exchange).ok()?;
+    Some(edge)
 }
 
-/// Whether that client is let go after a minute of the edge's clock, with both files.
+/// Whether it is told in five seconds that a client which takes nothing of a long reply is let go, after a minute of the edge's clock, with
+/// both files.
 fn lets_go_one_who_takes_nothing(rt: &HostRuntime) -> Option<bool> {
     let folder = folder_name(rt, "minute")?;
+    let port = free_port(rt)?;
+    let text = format!(in rt.alloc();
+        "{{\"Label\":\"a\",\"Program\":\"/bin/x\",\"inetdCompatibility\":{{\"Wait\":false}},\"Sockets\":{{\"s\":{{\"SockNodeName\":\"localhost\",\"SockServiceName\":{port}}}}}}}"
+    ).ok()?;
     let reply = format!(in rt.alloc(); "{folder}/0-1.reply").ok()?;
+    let def = read_def(rt.alloc(), text.as_bytes()).ok()?;
     fs::create_dir(rt, folder.as_str()).ok()?;
-    let is_told = tells_of_one_who_takes_nothing(rt, folder.as_str(), reply.as_str())?;
+    let mut edge = held(rt, folder.as_str(), &def)?;
+    let file = OpenOptions::new()
+        .write(true)
+        .open(rt, reply.as_str())
+        .ok()?;
+    file.set_len(400_000).ok()?;
+    let mut is_told = false;
+    for _ in 0..500u32 {
+        edge.forward();
+        if let Some(told) = edge.next_notice() {
+            is_told = told.text.as_str() == STILL;
+            break;
+        }
+        pause(rt);
+    }
     let is_empty = fs::remove_dir(rt, folder.as_str()).is_ok();
     Some(is_told && is_empty)
 }
 
 #[test]
 fn what_a_system_refuses_is_counted_kept_and_told(rt: HostRuntime) {
-    let no_memory = refused(rt.alloc(), ErrorKind::OutOfMemory, EdgeFault::NoMemory);
-    let no_right = refused(rt.alloc(), ErrorKind::PermissionDenied, EdgeFault::Refused);
-    let is_kept = keeps_a_lost_child(rt.alloc());
-    let is_none = has_no_child_0(rt.alloc());
+    let mut passed = 0usize;
+    for case in CASES {
+        if passes(rt.alloc(), case) == Some(true) {
+            passed = passed.saturating_add(1);
+        }
+    }
     let is_let_go = lets_go_one_who_takes_nothing(&rt);
-    assert_eq!(rt; no_memory, Some(true));
-    assert_eq!(rt; no_right, Some(true));
-    assert_eq!(rt; is_kept, Some(true));
-    assert_eq!(rt; is_none, Some(true));
+    assert_eq!(rt; passed, CASES.len());
     assert_eq!(rt; is_let_go, Some(true));
 }

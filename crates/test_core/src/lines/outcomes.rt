@@ -159,7 +159,8 @@ fn is_told(alloc: Global, told: &Told) -> Result<bool, AllocError> {
 #[test]
 fn outcomes_and_replies_are_written(rt: HostRuntime) -> Result<(), Fail> {
     for told in &TOLD {
-        assert!(rt; is_told(rt.alloc(), told)?, "{}", told.3);
+        let is_told = is_told(rt.alloc(), told)?;
+        assert!(rt; is_told, "{}", told.3);
     }
     Ok(())
 }
