@@ -15,7 +15,7 @@ use history_model::Setting;
 use launchctl_words::ZoneWords;
 use launcher::{Host, HostFault};
 use live_loop::{Live, ServeFault, System, serve};
-use load_asking::SettingStore;
+use outside::SettingStore;
 use own_files::LockFile;
 use own_process::{Standing, open_null_streams};
 use sqlite::{Alter, Connection, FileStore};

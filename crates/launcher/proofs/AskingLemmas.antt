@@ -16,18 +16,18 @@ use Rattle.job_table.specs.Loads.{load_of, refused_with}
 use Rattle.job_table.specs.Changes.{set_of}
 use Rattle.job_table.specs.Numbers.{IsNumbered}
 use Rattle.job_table.specs.Outcomes.{UnlessMemory, IsReplyText, Means}
-use Rattle.load_asking.specs.declared.asking.Outside.{Outside}
-use Rattle.load_asking.specs.Asking.{told_of}
-use Rattle.load_asking.specs.Stores.{StoreCall}
-use Rattle.load_asking.proofs.AskLemmas.{told_nothing}
+use Rattle.outside.specs.declared.asking.Outside.{Outside}
+use Rattle.outside.specs.Asking.{told_of}
+use Rattle.outside.specs.Stores.{StoreCall}
+use Rattle.outside.proofs.AskLemmas.{told_nothing}
 use Rattle.event_journal.specs.Journals.{JournalState, Grows}
 use Rattle.event_journal.proofs.JournalsLemmas.{grows_nothing}
 use Rattle.ctl_protocol.specs.EventWriter.{event_line}
-use Rattle.launcher_turn.specs.Turns.{IsLed, TurnsOf, trace}
-use Rattle.launcher_turn.proofs.NumbersLemmas.{same-numbers}
-use Rattle.launcher_load.specs.Lines.{journaled_set}
-use Rattle.launcher_load.specs.LoadTurns.{LoadTurnOf, SetTurnOf, IsUntouched, Standing, is_memory, load_request, set_request, settings_after, standing}
-use Rattle.launcher_load.proofs.LoadTurnsLemmas.{nothing_done}
+use Rattle.launcher.specs.Turns.{IsLed, TurnsOf, trace}
+use Rattle.launcher.proofs.NumbersLemmas.{same-numbers}
+use Rattle.launcher.specs.Lines.{journaled_set}
+use Rattle.launcher.specs.LoadTurns.{LoadTurnOf, SetTurnOf, IsUntouched, Standing, is_memory, load_request, set_request, settings_after, standing}
+use Rattle.launcher.proofs.LoadTurnsLemmas.{nothing_done}
 use Rattle.launcher.specs.Hosts.{HostTurnOf, IsSpared, Hears}
 use Rattle.launcher.proofs.HostsLemmas.{hears, wordless, settled, unsettled}
 use Rattle.child_edge.specs.Calls.{Entry}

@@ -14,23 +14,22 @@ use Rattle.history_model.specs.Step.{outcome, step, step_by}
 use Rattle.history_model.specs.Texts.{text_after}
 use Rattle.job_table.specs.Tables.{Table, Name}
 use Rattle.job_table.specs.Outcomes.{UnlessMemory}
-use Rattle.load_asking.specs.declared.asking.Outside.{Outside}
-use Rattle.load_asking.specs.Stores.{StoreCall}
-use Rattle.load_asking.proofs.AskLemmas.{told_nothing}
-use Rattle.load_asking.specs.Asking.{told_of}
+use Rattle.outside.specs.declared.asking.Outside.{Outside}
+use Rattle.outside.specs.Stores.{StoreCall}
+use Rattle.outside.proofs.AskLemmas.{told_nothing}
+use Rattle.outside.specs.Asking.{told_of}
 use Rattle.event_journal.specs.Journals.{JournalState, Grows}
 use Rattle.event_journal.proofs.JournalsLemmas.{grows_nothing}
 use Rattle.ctl_protocol.specs.EventWriter.{event_line}
-use Rattle.launcher_turn.specs.declared.event_ref.EventRef.{EventRef}
-use Rattle.launcher_turn.specs.declared.event_ref.EventRef.TheVariants as happenings
-use Rattle.launcher_turn.specs.declared.event_ref.News.{News}
-use Rattle.launcher_turn.specs.declared.event_ref.News.TheVariants as news
-use Rattle.launcher_turn.specs.Events as turns
-use Rattle.launcher_turn.specs.Events.{is_clock, item_heard}
-use Rattle.launcher_turn.specs.Lines.{journaled_by, journaled_of, journaled_answer}
-use Rattle.launcher_turn.specs.Turns.{AreNumbered, TurnsOf, Turns, IsUntouched, Trace, trace}
+use Rattle.launcher.specs.declared.event_ref.EventRef.{EventRef}
+use Rattle.launcher.specs.declared.event_ref.EventRef.TheVariants as happenings
+use Rattle.launcher.specs.declared.event_ref.News.{News}
+use Rattle.launcher.specs.declared.event_ref.News.TheVariants as news
+use Rattle.launcher.specs.Events.{event_of_ref, is_clock, item_heard}
+use Rattle.launcher.specs.Lines.{journaled_by, journaled_of, journaled_answer}
+use Rattle.launcher.specs.Turns.{AreNumbered, TurnsOf, Turns, IsUncalled, Trace, trace}
 use Rattle.job_table.specs.Loads.{refused_with}
-use Rattle.launcher_load.specs.LoadTurns.{is_memory, standing}
+use Rattle.launcher.specs.LoadTurns.{is_memory, standing}
 use Rattle.table_opening.specs.Events.{event_of}
 use Rattle.launcher.specs.Inputs.{answered}
 use Rattle.launcher.specs.Hosts.{AsksOutside, IsOwn, Hears}
@@ -82,7 +81,7 @@ news_event label (news.Ended run how) = refl
 news_event label (news.WaitRefused run) = refl
 news_event label (news.Answered a) = answer_event label a
 
-same_event : (what : EventRef) → event_of (journaled_by what) ≡ turns.event_of what
+same_event : (what : EventRef) → event_of (journaled_by what) ≡ event_of_ref what
 same_event (happenings.Clock at) = refl
 same_event (happenings.Saw path obs) = refl
 same_event (happenings.ToJob label n) = news_event label.now n
@@ -140,16 +139,16 @@ own_none happenings.Shutdown names = tt
 
 -- ---- what it does to words and settings
 
-quiet : (what : EventRef) (t : State) → text_after (turns.event_of what) t ≡ []
+quiet : (what : EventRef) (t : State) → text_after (event_of_ref what) t ≡ []
 quiet (happenings.Clock at) t = refl
 quiet (happenings.Saw path obs) t = refl
 quiet (happenings.ToJob label n) t = refl
 quiet (happenings.Unload label) t = refl
 quiet happenings.Shutdown t = refl
 
-unset : (s : State) (what : EventRef) → (step s (turns.event_of what)).settings ≡ s.settings
-unset s what = go what (refusal_in s (turns.event_of what)) where
-  go : (w : EventRef) (o : Option Refusal) → (step_by o s (turns.event_of w)).settings ≡ s.settings
+unset : (s : State) (what : EventRef) → (step s (event_of_ref what)).settings ≡ s.settings
+unset s what = go what (refusal_in s (event_of_ref what)) where
+  go : (w : EventRef) (o : Option Refusal) → (step_by o s (event_of_ref w)).settings ≡ s.settings
   go w (Some refusal) = refl
   go (happenings.Clock at) None = refl
   go (happenings.Saw path obs) None = refl
@@ -169,8 +168,8 @@ abbrev Counted : State → Event → List ℕ → Option Refusal → Table → T
 Counted s e line reply old new before after = (turn : TurnsOf s e line reply new before after) × (reply ≡ None → AreNumbered turn.names old)
 
 pub happened : (what : EventRef) (answer : Result (Unit {0}) Refusal) (old new : Table) (a c : Option (List Entry)) (t : Option (List StoreCall)) (k n : JournalState) (before : List Setting → Type 0) →
-    UnlessMemory answer (Turns (turns.event_of what) (event_line (journaled_by what)) (refused_with answer) old new (trace a k) (trace c n)) →
-    (answer ≡ Err NoMemory → (is_clock what ≡ true) × IsUntouched old new a c × (n ≡ k)) →
+    UnlessMemory answer (Turns (event_of_ref what) (event_line (journaled_by what)) (refused_with answer) old new (trace a k) (trace c n)) →
+    (answer ≡ Err NoMemory → (is_clock what ≡ true) × IsUncalled old new a c × (n ≡ k)) →
     Hears (Some (journaled_by what)) (refused_with answer) [] (standing old a t k) (standing new c t n) before before
 happened what answer old new a c t k n before turned none =
     hears (journaled_by what) (refused_with answer) [] (standing old a t k) (standing new c t n) before before
@@ -184,11 +183,11 @@ happened what answer old new a c t k n before turned none =
       left.2,
     ))
     (λ other s led keeps.
-    let whole = unless (Turns (turns.event_of what) (event_line (journaled_by what)) (refused_with answer) old new (trace a k) (trace c n)) answer turned other s led keeps in
+    let whole = unless (Turns (event_of_ref what) (event_line (journaled_by what)) (refused_with answer) old new (trace a k) (trace c n)) answer turned other s led keeps in
     let turn = whole.0 in
-    let event : event_of (answered well (journaled_by what)) ≡ turns.event_of what = ap event_of (same_line what) ∙ same_event what in
+    let event : event_of (answered well (journaled_by what)) ≡ event_of_ref what = ap event_of (same_line what) ∙ same_event what in
     let told = subst (λ (e : Event). Counted s e (event_line (answered well (journaled_by what))) (refused_with answer) old new (trace a k) (trace c n)) (sym event)
-    (subst (λ (l : journal.Event). Counted s (turns.event_of what) (event_line l) (refused_with answer) old new (trace a k) (trace c n)) (sym (same_line what)) (whole.0, whole.1)) in
+    (subst (λ (l : journal.Event). Counted s (event_of_ref what) (event_line l) (refused_with answer) old new (trace a k) (trace c n)) (sym (same_line what)) (whole.0, whole.1)) in
     record {
       outside = well;
       job = 0;
@@ -198,6 +197,6 @@ happened what answer old new a c t k n before turned none =
       own = λ accepted. own_none what told.0.names;
       numbers = told.1;
       stays = whole.2;
-      text = λ accepted. ap (λ (e : Event). (outcome s e).text) event ∙ wordless s (turns.event_of what) (quiet what) (turn.replies ∙ accepted);
+      text = λ accepted. ap (λ (e : Event). (outcome s e).text) event ∙ wordless s (event_of_ref what) (quiet what) (turn.replies ∙ accepted);
       stored = subst before (sym (ap (λ (e : Event). (step s e).settings) event ∙ unset s what));
     })

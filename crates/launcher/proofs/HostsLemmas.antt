@@ -14,16 +14,16 @@ use Rattle.job_table.specs.Tables.{Table}
 use Rattle.job_table.specs.StandsFor.{KeepsState}
 use Rattle.child_edge.specs.Calls.{Entry}
 use Rattle.child_edge.proofs.CallsLemmas.{tells_nothing}
-use Rattle.order_edge.specs.Calls.{answers_in}
-use Rattle.load_asking.specs.Stores.{StoreCall}
-use Rattle.load_asking.proofs.AskLemmas.{told_nothing}
+use Rattle.outside.specs.Orders.{answers_in}
+use Rattle.outside.specs.Stores.{StoreCall}
+use Rattle.outside.proofs.AskLemmas.{told_nothing}
 use Rattle.ctl_protocol.specs.EventWriter.{event_line}
 use Rattle.event_journal.specs.Journals.{JournalState, Grows}
 use Rattle.event_journal.proofs.JournalsLemmas.{grows_append, grows_nothing}
-use Rattle.launcher_turn.specs.Turns.{IsLed}
+use Rattle.launcher.specs.Turns.{IsLed}
 use Rattle.job_table.specs.Loads.{refused_with}
-use Rattle.launcher_turn.specs.Lines.{answer_texts}
-use Rattle.launcher_load.specs.LoadTurns.{is_memory, settings_after, Standing, standing}
+use Rattle.launcher.specs.Lines.{answer_texts}
+use Rattle.launcher.specs.LoadTurns.{is_memory, settings_after, Standing, standing}
 use Rattle.launcher.specs.Inputs.{answered}
 use Rattle.launcher.specs.Hosts.{HostTurnOf, IsSpared, HearsBy, Hears}
 

@@ -16,11 +16,11 @@ use Rattle.ctl_protocol.specs.declared.header.Header.{Header}
 use Rattle.ctl_protocol.specs.HeaderLines.{header_line}
 use Rattle.job_table.specs.Opening.{opening_refusal}
 use Rattle.job_table.specs.Tables.{Table}
-use Rattle.load_asking.specs.declared.store.StoreFault.{StoreFault}
-use Rattle.load_asking.specs.declared.store.StoreFault.TheVariants as answers
-use Rattle.load_asking.specs.Stores.{StoreCall, AreTold}
+use Rattle.outside.specs.declared.store.StoreFault.{StoreFault}
+use Rattle.outside.specs.declared.store.StoreFault.TheVariants as answers
+use Rattle.outside.specs.Stores.{StoreCall, AreTold}
 use Rattle.event_journal.specs.Journals.{JournalState, Grows}
-use Rattle.launcher_turn.specs.Turns.{IsLed}
+use Rattle.launcher.specs.Turns.{IsLed}
 use Rattle.table_opening.specs.Openings.{OpensBy, StandsOpened}
 use Rattle.launcher.specs.declared.host.HostFault.{HostFault}
 use Rattle.launcher.specs.declared.host.HostFault.TheVariants as faults
@@ -28,7 +28,7 @@ use Rattle.launcher.specs.Faults.{IsFaultOf, fault_of_store}
 use Rattle.launcher.specs.Hosts.{with_settings, IsNewWith}
 use Rattle.launcher.specs.Writable.{IsWritableHeader}
 use Rattle.child_edge.specs.Calls.{Entry}
-use Rattle.launcher_load.specs.LoadTurns.{standing}
+use Rattle.launcher.specs.LoadTurns.{standing}
 
 -- a reading that is refused nowhere is within its limit
 within : (at : Reading) (overrides : List Setting) → opening_refusal at overrides ≡ None → at.up ≤ MAX_UP

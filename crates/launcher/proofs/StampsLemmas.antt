@@ -7,15 +7,14 @@ use Rattle.history_model.specs.Labels.{Label}
 use Rattle.history_model.specs.Machine.{State}
 use Rattle.job_table.specs.Tables.{Table}
 use Rattle.job_table.specs.StandsFor.{KeepsState}
-use Rattle.load_asking.specs.Stores.{HoldsAfter, Stamp}
-use Rattle.launcher_turn.specs.declared.event_ref.EventRef.{EventRef}
-use Rattle.launcher_turn.specs.declared.event_ref.EventRef.TheVariants as happenings
-use Rattle.launcher_turn.specs.declared.event_ref.News.{News}
-use Rattle.launcher_turn.specs.declared.event_ref.News.TheVariants as news
-use Rattle.launcher_turn.specs.Lines.{journaled_answer, journaled_by, journaled_of}
-use Rattle.launcher_load.specs.Lines.{journaled_set}
-use Rattle.launcher_load.specs.LoadTurns.{stamps_after}
-use Rattle.launcher_load.proofs.LoadTurnsLemmas.{unstamped}
+use Rattle.outside.specs.Stores.{HoldsAfter, Stamp}
+use Rattle.launcher.specs.declared.event_ref.EventRef.{EventRef}
+use Rattle.launcher.specs.declared.event_ref.EventRef.TheVariants as happenings
+use Rattle.launcher.specs.declared.event_ref.News.{News}
+use Rattle.launcher.specs.declared.event_ref.News.TheVariants as news
+use Rattle.launcher.specs.Lines.{journaled_answer, journaled_by, journaled_of, journaled_set}
+use Rattle.launcher.specs.LoadTurns.{stamps_after}
+use Rattle.launcher.proofs.LoadTurnsLemmas.{unstamped}
 use Rattle.launcher.specs.Hosts.{label_asked}
 
 -- what was refused left the seconds

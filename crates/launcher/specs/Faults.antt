@@ -7,8 +7,8 @@ use Rattle.history_model.specs.MachineLaws.{AreInOrder}
 use Rattle.history_model.specs.Refusals.{is_clock_refused}
 use Rattle.ctl_protocol.specs.declared.header.Header.{Header}
 use Rattle.job_table.specs.Tables.{Table}
-use Rattle.load_asking.specs.declared.store.StoreFault.{StoreFault}
-use Rattle.load_asking.specs.declared.store.StoreFault.TheVariants as answers
+use Rattle.outside.specs.declared.store.StoreFault.{StoreFault}
+use Rattle.outside.specs.declared.store.StoreFault.TheVariants as answers
 use Rattle.table_opening.specs.Openings.{IsNoZone, StandsOpened}
 use Rattle.launcher.specs.declared.host.HostFault.{HostFault}
 use Rattle.launcher.specs.declared.host.HostFault.TheVariants as faults

@@ -18,12 +18,12 @@ use Rattle.job_table.specs.Tables.{Name, definition_of_number}
 use Rattle.job_table.specs.StandsFor.{KeepsState}
 use Rattle.job_table.specs.Loads.{load_of}
 use Rattle.child_edge.specs.Calls.{Entry}
-use Rattle.load_asking.specs.declared.asking.Outside.{Outside}
-use Rattle.load_asking.specs.Asking.{Told, told_of}
-use Rattle.load_asking.specs.Stores.{HoldsAfter, Stamp, StoreCall, AreTold, set_call}
+use Rattle.outside.specs.declared.asking.Outside.{Outside}
+use Rattle.outside.specs.Asking.{Told, told_of}
+use Rattle.outside.specs.Stores.{HoldsAfter, Stamp, StoreCall, AreTold, set_call}
 use Rattle.event_journal.specs.Journals.{JournalState, Grows}
-use Rattle.launcher_turn.specs.Turns.{AreNumbered, IsLed, KeepsNumbers, TurnsOf, trace}
-use Rattle.launcher_load.specs.LoadTurns.{AsksFor, AsksNothing, AsksStore, IsUntouched, SetRequest, Standing, event_of_set, is_memory, label_written, load_request, set_request, stamps_after, standing}
+use Rattle.launcher.specs.Turns.{AreNumbered, IsLed, KeepsNumbers, TurnsOf, trace}
+use Rattle.launcher.specs.LoadTurns.{AsksFor, AsksNothing, AsksStore, IsUntouched, SetRequest, Standing, event_of_set, is_memory, label_written, load_request, set_request, stamps_after, standing}
 use Rattle.table_opening.specs.Events.{event_of}
 use Rattle.table_opening.specs.Openings.{OpensBy}
 use Rattle.launcher.specs.Inputs.{answered}

@@ -4,7 +4,7 @@ use Rattle.history_model.specs.declared.event.Event as journal
 use Rattle.history_model.specs.declared.event.Event.TheVariants as journaled
 use Rattle.history_model.specs.Labels.{is_label}
 use Rattle.event_reader.specs.EventLines.{request_at}
-use Rattle.load_asking.specs.declared.asking.Outside.{Outside}
+use Rattle.outside.specs.declared.asking.Outside.{Outside}
 use Rattle.launcher.specs.declared.input.Input.{Input}
 use Rattle.launcher.specs.declared.input.Input.TheVariants as inputs
 

@@ -1,5 +1,10 @@
+pub mod Accepting
+pub mod Events
 pub mod Faults
 pub mod Hosts
 pub mod Inputs
 pub mod Lends
+pub mod Lines
+pub mod LoadTurns
+pub mod Turns
 pub mod Writable

@@ -8,7 +8,7 @@ use Rattle.ctl_protocol.specs.EventWriter.{line_members, is_writable}
 use Rattle.ctl_protocol.specs.declared.header.Header.{Header}
 use Rattle.ctl_protocol.specs.declared.header.ZoneText.{ZoneText}
 use Rattle.ctl_protocol.specs.HeaderLines.{plain_members, setting_members, zone_member, is_zone, IsHeader}
-use Rattle.launcher_load.specs.LoadTurns.{is_memory}
+use Rattle.launcher.specs.LoadTurns.{is_memory}
 use Rattle.launcher.specs.declared.input.Input.{Input}
 use Rattle.launcher.specs.declared.input.Input.TheVariants as inputs
 use Rattle.launcher.specs.Inputs.{input_event}

@@ -4,11 +4,14 @@ ghost use Rattle.std.specs.Prelude.{◌≡◌, Some, [], is_some, true, option_a
 ghost use Rattle.history_model.specs.declared.event.Event.TheVariants as events;
 ghost use Rattle.event_reader.specs.EventLines.{request_at};
 ghost use Rattle.job_table.specs.Numbers.{IsNumbered};
-ghost use Rattle.launcher_load.specs.Lines.{journaled_set};
+ghost use Rattle.launcher.specs.Lines.{journaled_set};
 ghost use Rattle.launcher.specs.Hosts.{HostHears, HostStamps};
+ghost use Rattle.launcher.specs.Accepting.{accepted_in};
 ghost use Rattle.launcher.specs.Inputs.{asked_in};
 ghost use Rattle.launcher.specs.Writable.{WritesWhat};
 
+use crate::accepted::{Accepted, kind_of, unless_refused};
+use crate::event_ref::{EventRef, News};
 use crate::fitting::lend_request;
 use crate::host::Host;
 use crate::replies::{done, refused, told};
@@ -16,9 +19,7 @@ use child_edge::{ChildEdge, SocketEdge};
 use ctl_protocol::ReadFault;
 use history_model::{Event, Refusal, Reply};
 use job_table::JobTable;
-use launcher_load::{load, set};
-use launcher_turn::{EventRef, News, list, print};
-use load_asking::SettingStore;
+use outside::SettingStore;
 use std::alloc::Global;
 use std::io::Write;
 
@@ -31,7 +32,7 @@ fn lend_numbers(table: &JobTable)
 
 impl<T: SettingStore, E: ChildEdge + SocketEdge, W: Write> Host<T, E, W> {
     /// A client's line, the newline left out.
-    #[tactic(auto, using(crate::proofs::HostsLemmas::unheard, crate::proofs::HostsLemmas::unread, crate::proofs::StampsLemmas::refused_stamps, crate::proofs::WritableLemmas::line_writable, crate::proofs::WritableLemmas::no_line_writable))]
+    #[tactic(auto, using(crate::proofs::HostsLemmas::unheard, crate::proofs::HostsLemmas::unread, crate::proofs::StampsLemmas::refused_stamps, crate::proofs::WritableLemmas::no_line_writable, crate::proofs::AcceptingLemmas::accepted_line, crate::proofs::AcceptingLemmas::accepted_nothing, crate::proofs::AcceptingLemmas::refused_asks))]
     pub(crate) fn line(&mut self, alloc: Global, line: &[u8]) -> Reply
         ensures hears { HostHears E.told T.told T.holds (option_and_then asked_in (request_at line.now))
             result.refusal result.text self.old self.new }
@@ -39,11 +40,17 @@ impl<T: SettingStore, E: ChildEdge + SocketEdge, W: Write> Host<T, E, W> {
             result.refusal self.old self.new }
         ensures writable { WritesWhat result.refusal (option_and_then asked_in (request_at line.now)) }
         ensures quiet { is_some result.refusal ≡ true → result.text ≡ [] }
+        ensures accepted { self.new.accepted
+            ≡ accepted_in (option_and_then asked_in (request_at line.now)) result.refusal }
     {
+        self.accepted = Accepted::Other;
         match self.reader.request(alloc, line) {
             Ok(outside) => {
-                lend_request(&outside);
-                self.ask(alloc, outside)
+                lend_request(&outside); // for the proof
+                let asked = kind_of(&outside);
+                let reply = self.ask(alloc, outside);
+                self.accepted = unless_refused(asked, reply.refusal);
+                reply
             }
             Err(ReadFault::NoMemory) => refused(alloc, Refusal::NoMemory),
             Err(ReadFault::BadRequest) => refused(alloc, Refusal::BadRequest),
@@ -65,12 +72,12 @@ impl<T: SettingStore, E: ChildEdge + SocketEdge, W: Write> Host<T, E, W> {
                 writes_setting,
                 force,
                 ..
-            } => self.load(alloc, def.as_str(), writes_setting, force),
+            } => self.ask_load(alloc, def.as_str(), writes_setting, force),
             Event::Unload {
                 job,
                 writes_setting,
                 ..
-            } => self.unload(alloc, job.as_str(), writes_setting),
+            } => self.ask_unload(alloc, job.as_str(), writes_setting),
             Event::Start { job } => {
                 self.happen(alloc, EventRef::ToJob(job.as_str(), News::Start))
             }
@@ -81,17 +88,17 @@ impl<T: SettingStore, E: ChildEdge + SocketEdge, W: Write> Host<T, E, W> {
                     EventRef::ToJob(job.as_str(), News::Kickstart(kills_first)),
                 )
             }
-            Event::Enable { job, .. } => self.set(alloc, job.as_str(), false, false),
-            Event::Disable { job, .. } => self.set(alloc, job.as_str(), true, false),
-            Event::List => self.list(alloc),
-            Event::Print { job } => self.print(alloc, job.as_str()),
+            Event::Enable { job, .. } => self.ask_set(alloc, job.as_str(), false, false),
+            Event::Disable { job, .. } => self.ask_set(alloc, job.as_str(), true, false),
+            Event::List => self.ask_list(alloc),
+            Event::Print { job } => self.ask_print(alloc, job.as_str()),
             Event::Shutdown => self.happen(alloc, EventRef::Shutdown),
             _ => refused(alloc, Refusal::BadRequest),
         }
     }
 
     /// A load.
-    fn load(&mut self, alloc: Global, def: &str, writes_setting: bool, force: bool) -> Reply
+    fn ask_load(&mut self, alloc: Global, def: &str, writes_setting: bool, force: bool) -> Reply
         ensures hears { HostHears E.told T.told T.holds
             (Some (events.Load def.now writes_setting force true true))
             result.refusal result.text self.old self.new }
@@ -99,22 +106,12 @@ impl<T: SettingStore, E: ChildEdge + SocketEdge, W: Write> Host<T, E, W> {
             result.refusal self.old self.new }
         ensures quiet { is_some result.refusal ≡ true → result.text ≡ [] }
     {
-        let loaded = load(
-            &mut self.table,
-            &mut self.edge,
-            &mut self.store,
-            &mut self.journal,
-            alloc,
-            &mut self.room,
-            def,
-            writes_setting,
-            force,
-        );
+        let loaded = self.load(alloc, def, writes_setting, force);
         told(alloc, loaded.reply)
     }
 
     /// A setting; with `unload` also an unload.
-    fn set(&mut self, alloc: Global, job: &str, disabled: bool, unload: bool) -> Reply
+    fn ask_set(&mut self, alloc: Global, job: &str, disabled: bool, unload: bool) -> Reply
         ensures hears { HostHears E.told T.told T.holds
             (Some (journaled_set job.now disabled unload true))
             result.refusal result.text self.old self.new }
@@ -122,22 +119,12 @@ impl<T: SettingStore, E: ChildEdge + SocketEdge, W: Write> Host<T, E, W> {
             result.refusal self.old self.new }
         ensures quiet { is_some result.refusal ≡ true → result.text ≡ [] }
     {
-        let changed = set(
-            &mut self.table,
-            &mut self.edge,
-            &mut self.store,
-            &mut self.journal,
-            alloc,
-            &mut self.room,
-            job,
-            disabled,
-            unload,
-        );
+        let changed = self.set(alloc, job, disabled, unload);
         done(alloc, changed.reply)
     }
 
     /// An unload; with `writes_setting` the label is disabled too.
-    fn unload(&mut self, alloc: Global, job: &str, writes_setting: bool) -> Reply
+    fn ask_unload(&mut self, alloc: Global, job: &str, writes_setting: bool) -> Reply
         ensures hears { HostHears E.told T.told T.holds (Some (events.Unload job.now writes_setting true))
             result.refusal result.text self.old self.new }
         ensures stamped { HostStamps T.stamped (Some (events.Unload job.now writes_setting true))
@@ -145,35 +132,35 @@ impl<T: SettingStore, E: ChildEdge + SocketEdge, W: Write> Host<T, E, W> {
         ensures quiet { is_some result.refusal ≡ true → result.text ≡ [] }
     {
         if writes_setting {
-            self.set(alloc, job, true, true)
+            self.ask_set(alloc, job, true, true)
         } else {
             self.happen(alloc, EventRef::Unload(job))
         }
     }
 
     /// The list of the loaded jobs.
-    fn list(&mut self, alloc: Global) -> Reply
+    fn ask_list(&mut self, alloc: Global) -> Reply
         ensures hears { HostHears E.told T.told T.holds (Some events.List)
             result.refusal result.text self.old self.new }
         ensures stamped { HostStamps T.stamped (Some events.List)
             result.refusal self.old self.new }
         ensures quiet { is_some result.refusal ≡ true → result.text ≡ [] }
     {
-        lend_numbers(&self.table);
-        let text = list(&self.table, &mut self.journal, alloc);
+        lend_numbers(&self.table); // for the proof
+        let text = self.list(alloc);
         told(alloc, text)
     }
 
     /// What is known of one job.
-    fn print(&mut self, alloc: Global, job: &str) -> Reply
+    fn ask_print(&mut self, alloc: Global, job: &str) -> Reply
         ensures hears { HostHears E.told T.told T.holds (Some (events.Print job.now))
             result.refusal result.text self.old self.new }
         ensures stamped { HostStamps T.stamped (Some (events.Print job.now))
             result.refusal self.old self.new }
         ensures quiet { is_some result.refusal ≡ true → result.text ≡ [] }
     {
-        lend_numbers(&self.table);
-        let text = print(&self.table, &mut self.journal, alloc, job);
+        lend_numbers(&self.table); // for the proof
+        let text = self.print(alloc, job);
         told(alloc, text)
     }
 }

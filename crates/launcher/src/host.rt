@@ -3,20 +3,22 @@
 ghost use Rattle.std.specs.Prelude.{◌≡◌, ◌↔◌, IfOk, IsTrue, List, Result, is_some, true};
 ghost use Rattle.std.specs.Borrow.{sem};
 ghost use Rattle.history_model.specs.declared.event.Setting.{Setting};
-ghost use Rattle.load_asking.specs.declared.store.StoreFault.{StoreFault};
-ghost use Rattle.load_asking.specs.Stores.{HoldsAfter};
+ghost use Rattle.outside.specs.declared.store.StoreFault.{StoreFault};
+ghost use Rattle.outside.specs.Stores.{HoldsAfter};
 ghost use Rattle.event_journal.specs.Journals.{fresh, held, reported, is_writing};
 ghost use Rattle.launcher.specs.Hosts.{IsNewWith, stands};
 ghost use Rattle.launcher.specs.Faults.{ComesOf, FaultOf};
 ghost use Rattle.launcher.specs.Lends.{lends_edge};
+ghost use Rattle.launcher.specs.declared.accepted.Accepted.TheVariants.{Other};
 
+use crate::accepted::Accepted;
 use crate::making::{Inside, make_inside, store_fault, with_settings};
+use crate::room::Room;
 use child_edge::{ChildEdge, SocketEdge};
 use ctl_protocol::{Header, LineReader};
 use event_journal::{Journal, Phase};
 use job_table::JobTable;
-use launcher_turn::Room;
-use load_asking::SettingStore;
+use outside::SettingStore;
 use std::alloc::Global;
 use std::io::Write;
 
@@ -40,6 +42,7 @@ pub struct Host<T: SettingStore, E: ChildEdge + SocketEdge, W: Write> {
     pub(crate) journal: Journal<W>,
     pub(crate) room: Room,
     pub(crate) reader: LineReader,
+    pub(crate) accepted: Accepted,
 }
 
 impl<T: SettingStore + Drop, E: ChildEdge + SocketEdge + Drop, W: Write + Drop> Host<T, E, W> {
@@ -62,6 +65,7 @@ impl<T: SettingStore + Drop, E: ChildEdge + SocketEdge + Drop, W: Write + Drop> 
             header answer result) }
         ensures stamped { IfOk result (λ host.
             HoldsAfter T.stamped (λ stamps. stamps) store host.store) }
+        ensures accepted { IfOk result (λ host. host.accepted ≡ Other) }
     {
         let mut store = store;
         let settings = match store.all(alloc) {
@@ -83,6 +87,7 @@ impl<T: SettingStore + Drop, E: ChildEdge + SocketEdge + Drop, W: Write + Drop> 
                 journal,
                 room,
                 reader,
+                accepted: Accepted::Other,
             }),
             Err(fault) => Err(fault),
         }
@@ -114,6 +119,13 @@ impl<T: SettingStore, E: ChildEdge + SocketEdge, W: Write> Host<T, E, W> {
         ensures { result.now ≡ self.now.table }
     {
         &self.table
+    }
+
+    /// What the input of the last turn asked, if it was accepted.
+    pub fn accepted(&self) -> Accepted
+        ensures { result ≡ self.now.accepted }
+    {
+        self.accepted
     }
 
     /// The outside, for what is asked of it between turns. All else of the launcher stays as it is.

@@ -2,14 +2,29 @@
 //! One input after another is made an event of the machine, and each answer of the outside too.
 #![tactic(auto)]
 
+mod accepted;
 mod asking;
+mod carrying;
+mod event_ref;
+mod finishing;
 mod fitting;
 mod hearing;
 mod host;
 mod input;
+pub mod laws;
+mod lines;
+mod loading;
 mod making;
+mod noting;
+mod questions;
 mod replies;
+mod room;
+mod setting;
 mod settings;
+mod settling;
+mod turns;
 
+pub use accepted::Accepted;
 pub use host::{Host, HostFault};
 pub use input::Input;
+pub use room::LabelRoom;

@@ -10,13 +10,13 @@ ghost use Rattle.launcher.specs.Writable.{IsWritableHeader};
 
 use crate::fitting::lend_zone;
 use crate::host::HostFault;
+use crate::room::Room;
 use crate::settings::are_in_order;
 use ctl_protocol::{Header, LineReader, Settings};
 use event_journal::Journal;
 use history_model::Setting;
 use job_table::JobTable;
-use launcher_turn::Room;
-use load_asking::StoreFault;
+use outside::StoreFault;
 use std::alloc::{AllocError, Global};
 use std::io::Write;
 use table_opening::{OpeningFault, table_of};
@@ -87,7 +87,7 @@ pub(crate) fn make_inside<W: Write + Drop>(
     if !are_in_order(header.overrides.as_slice()) {
         return Err(HostFault::Store);
     }
-    lend_zone(&header.zone);
+    lend_zone(&header.zone); // for the proof
     let Ok((room, reader)) = reserved(alloc) else {
         return Err(HostFault::NoMemory);
     };

@@ -28,10 +28,10 @@ pub(crate) fn are_in_order(settings: &[Setting]) -> bool
         return true;
     };
     let mut last = first.label.as_str();
-    lend_text(last);
+    lend_text(last); // for the proof
     for setting in rest {
         let label = setting.label.as_str();
-        lend_text(label);
+        lend_text(label); // for the proof
         if !is_before(last, label) {
             return false;
         }

@@ -7,7 +7,7 @@ use Rattle.ctl_protocol.specs.declared.header.Header.{Header}
 use Rattle.override_store.specs.OverrideStores.{HoldsSettings, IsOpenedOn, rows_in}
 use Rattle.override_store.specs.Settings.{HoldsEach, setting_in}
 use Rattle.override_store.proofs.AgainLemmas.{held_on, same_settings}
-use Rattle.load_asking.specs.Stores.{StoreCall}
+use Rattle.outside.specs.Stores.{StoreCall}
 use Rattle.event_journal.specs.Journals.{JournalState}
 use Rattle.launcher.specs.Hosts.{IsNew}
 use Rattle.launcher_laws.specs.Runs.{Snapshot, Turn, AreTurns}

@@ -13,7 +13,7 @@ use Rattle.ctl_protocol.specs.HeaderLines.{header_line}
 use Rattle.ctl_protocol.specs.Outcomes.{outcome_line}
 use Rattle.replay_loop.specs.Outcomes.{input_lines}
 use Rattle.replay.proofs.OneOutputLemmas.{one_output}
-use Rattle.load_asking.specs.Stores.{StoreCall}
+use Rattle.outside.specs.Stores.{StoreCall}
 use Rattle.event_journal.specs.declared.journal.Phase.TheVariants.{Open}
 use Rattle.event_journal.specs.Journals.{fresh}
 use Rattle.table_opening.specs.Events.{event_of, read_as, event_in}

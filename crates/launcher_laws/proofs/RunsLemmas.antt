@@ -15,17 +15,17 @@ use Rattle.history_model.specs.Machine.{State, Event, OfJob}
 use Rattle.history_model.specs.Step.{Outcome, outcome, step, run, outcomes}
 use Rattle.job_table.specs.Tables.{Table, Name, label_of}
 use Rattle.job_table.specs.StandsFor.{KeepsState}
-use Rattle.order_edge.specs.declared.unheard.Unheard.{Unheard}
-use Rattle.order_edge.specs.Calls.{answers_in}
+use Rattle.outside.specs.declared.unheard.Unheard.{Unheard}
+use Rattle.outside.specs.Orders.{answers_in}
 use Rattle.ctl_protocol.specs.EventWriter.{event_line}
 use Rattle.event_journal.specs.declared.journal.Phase.{Phase}
 use Rattle.event_journal.specs.declared.writer.Cause.{Cause}
 use Rattle.event_journal.specs.declared.journal.Phase.TheVariants.{Open, Closed, Reported}
 use Rattle.event_journal.specs.Journals.{JournalState, Grows, GrowsIn, reported}
-use Rattle.launcher_turn.specs.Lines.{journaled_answer, answer_texts}
-use Rattle.launcher_turn.specs.Turns.{IsLed, event_in, events_in}
-use Rattle.launcher_turn.proofs.StoredSettingsLemmas.{turn_settings}
-use Rattle.launcher_load.specs.LoadTurns.{is_memory}
+use Rattle.launcher.specs.Lines.{journaled_answer, answer_texts}
+use Rattle.launcher.specs.Turns.{IsLed, event_in, events_in}
+use Rattle.launcher.proofs.StoredSettingsLemmas.{turn_settings}
+use Rattle.launcher.specs.LoadTurns.{is_memory}
 use Rattle.table_opening.specs.Events.{event_of}
 use Rattle.launcher.specs.Inputs.{answered}
 use Rattle.launcher.specs.Hosts.{HostTurnOf, IsSpared, HearsBy}

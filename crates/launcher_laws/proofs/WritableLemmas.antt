@@ -9,12 +9,12 @@ use Rattle.history_model.specs.declared.event.Event as journal
 use Rattle.history_model.specs.declared.event.Event.TheVariants as events
 use Rattle.history_model.specs.Labels.{Label, is_label}
 use Rattle.job_table.specs.Tables.{Name, label_of}
-use Rattle.order_edge.specs.declared.unheard.Unheard.{Unheard}
-use Rattle.order_edge.specs.Calls.{answers_in, IsTellable, IsTellablePending}
-use Rattle.launcher_turn.specs.Lines.{journaled_answer}
-use Rattle.launcher_turn.specs.Turns.{IsNamedIn, IsTextLabel}
+use Rattle.outside.specs.declared.unheard.Unheard.{Unheard}
+use Rattle.outside.specs.Orders.{answers_in, IsTellable, IsTellablePending}
+use Rattle.launcher.specs.Lines.{journaled_answer}
+use Rattle.launcher.specs.Turns.{IsNamedIn, IsTextLabel}
 use Rattle.launcher_laws.specs.Runs.{Turn, Part, IsPartOf, AreParts, answer_told, events_in}
-use Rattle.load_asking.specs.declared.asking.Outside.{Outside}
+use Rattle.outside.specs.declared.asking.Outside.{Outside}
 use Rattle.launcher.specs.Inputs.{answered}
 use Rattle.launcher.specs.Writable.{IsWritable}
 

@@ -10,13 +10,13 @@ use Rattle.history_model.specs.Step.{Outcome}
 use Rattle.job_table.specs.Tables.{Name, label_of}
 use Rattle.job_table.specs.StandsFor.{labelled}
 use Rattle.child_edge.specs.Calls.{Tells, Entry}
-use Rattle.order_edge.specs.declared.unheard.Unheard.{Unheard}
-use Rattle.order_edge.specs.Calls.{call_of, calls_in, answers_in, IsTellablePending}
+use Rattle.outside.specs.declared.unheard.Unheard.{Unheard}
+use Rattle.outside.specs.Orders.{call_of, calls_in, answers_in, IsTellablePending}
 use Rattle.event_journal.specs.Journals.{reported}
-use Rattle.launcher_turn.specs.Lines.{journaled_answer}
-use Rattle.launcher_turn.specs.Turns.{IsNamedIn}
-use Rattle.load_asking.specs.declared.asking.Outside.{Outside}
-use Rattle.launcher_load.specs.LoadTurns.{is_memory, Standing}
+use Rattle.launcher.specs.Lines.{journaled_answer}
+use Rattle.launcher.specs.Turns.{IsNamedIn}
+use Rattle.outside.specs.declared.asking.Outside.{Outside}
+use Rattle.launcher.specs.LoadTurns.{is_memory, Standing}
 use Rattle.launcher.specs.Inputs.{answered}
 use Rattle.launcher.specs.Hosts.{Hears}
 use Rattle.launcher.specs.Writable.{IsWritable, WritesWhat}

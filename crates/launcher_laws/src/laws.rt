@@ -9,7 +9,7 @@ ghost use Rattle.history_model.specs.declared.event.Setting.{Setting};
 ghost use Rattle.ctl_protocol.specs.declared.header.Header.{Header};
 ghost use Rattle.override_store.specs.OverrideStores.{HoldsSettings, IsOpenedOn, rows_in};
 ghost use Rattle.override_store.specs.Settings.{HoldsEach, ListAlike};
-ghost use Rattle.load_asking.specs.Stores.{StoreCall};
+ghost use Rattle.outside.specs.Stores.{StoreCall};
 ghost use Rattle.stored_settings.specs.declared.StoredSettings.{StoredSettings as Stored};
 ghost use Rattle.event_journal.specs.declared.journal.Phase.TheVariants.{Open};
 ghost use Rattle.event_journal.specs.Journals.{JournalState, fresh};
@@ -19,7 +19,7 @@ ghost use Rattle.launcher_laws.specs.Lasting.{Lasts, settings_of};
 ghost use Rattle.launcher_laws.specs.Replays.{IsReplayed};
 ghost use Rattle.child_edge.specs.Calls.{Entry};
 
-use load_asking::SettingStore;
+use outside::SettingStore;
 use override_store::OverrideStore;
 use sqlite::Alter;
 use stored_settings::StoredSettings;

@@ -10,10 +10,9 @@ use crate::waiting::SHORTEST;
 use child_edge::{Notice, OsEdge};
 use control_socket::ControlSocket;
 use history_model::JobNo;
-use launcher::Host;
-use launcher_turn::LabelRoom;
-use load_asking::SettingStore;
+use launcher::{Host, LabelRoom};
 use mio::{Events, Poll, Token};
+use outside::SettingStore;
 use round_findings::{RoundLauncher, Sights};
 use std::alloc::{AllocError, Global};
 use std::io::Write;
@@ -104,9 +103,6 @@ impl<R: System, T: SettingStore + Drop, W: Write + Drop> Live<R, T, W> {
         let Ok(rooms) = make_rooms(rt, alloc) else {
             return Err(ServeFault::NoMemory);
         };
-        let Ok(inputs) = RoundLauncher::new(alloc, host) else {
-            return Err(ServeFault::NoMemory);
-        };
         let Rooms {
             events,
             sights,
@@ -115,7 +111,7 @@ impl<R: System, T: SettingStore + Drop, W: Write + Drop> Live<R, T, W> {
             voice,
         } = rooms;
         Ok(Live {
-            inputs,
+            inputs: RoundLauncher::new(host),
             control,
             poll,
             events,

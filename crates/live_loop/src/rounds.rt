@@ -9,7 +9,7 @@ use crate::telling::tell;
 use crate::waiting::{next_pause, quick_rounds, round_wait};
 use control_socket::Limit;
 use history_model::SECOND;
-use load_asking::SettingStore;
+use outside::SettingStore;
 use std::alloc::Global;
 use std::io::Write;
 use std::sync::Wait;

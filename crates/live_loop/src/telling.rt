@@ -5,7 +5,7 @@ use crate::live::Live;
 use crate::system::System;
 use child_edge::{Notice, NoticeKind};
 use history_model::Text;
-use load_asking::SettingStore;
+use outside::SettingStore;
 use std::alloc::Global;
 use std::io::Write;
 

@@ -1,8 +1,8 @@
 -- What a store in memory answers if it is asked for its settings.
 use Rattle.std.specs.Prelude.{◌≡◌, ◌⊎◌, List, Option, Some, None, Result, Ok, Err}
 use Rattle.history_model.specs.declared.event.Setting.{Setting}
-use Rattle.load_asking.specs.declared.store.StoreFault.{StoreFault}
-use Rattle.load_asking.specs.declared.store.StoreFault.TheVariants.{NoMemory}
+use Rattle.outside.specs.declared.store.StoreFault.{StoreFault}
+use Rattle.outside.specs.declared.store.StoreFault.TheVariants.{NoMemory}
 
 -- the fault that it was made with, or else all that it holds, if there is memory for the copies
 abbrev pub MayGive : List Setting → Option StoreFault → Result (List Setting) StoreFault → Type 0

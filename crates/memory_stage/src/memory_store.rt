@@ -4,7 +4,7 @@ ghost use Rattle.std.specs.Prelude.{◌≡◌, None, MatchResult};
 ghost use Rattle.memory_stage.specs.Answers.{MayGive};
 
 use history_model::{Setting, Text};
-use load_asking::{SettingStore, StoreFault};
+use outside::{SettingStore, StoreFault};
 use std::alloc::Global;
 
 /// A store that takes each setting, or refuses each; and gives its settings, or does not.

@@ -5,7 +5,7 @@ use child_edge::{ChildEdge, PathEdge, SocketEdge};
 use history_model::{Obs, SECOND};
 use job_table::JobTable;
 use launcher::Input;
-use load_asking::SettingStore;
+use outside::SettingStore;
 use std::alloc::{AllocError, Global};
 use std::collections::BTreeMap;
 use std::io::Write;

@@ -3,11 +3,10 @@
 use crate::quiet::is_news;
 use child_edge::{ChildEdge, ClockEdge, SocketEdge};
 use control_socket::Answers;
-use ctl_protocol::{LineReader, ReadFault};
-use history_model::{Event, Reading, Refusal, Reply, Text};
-use launcher::{Host, Input};
-use load_asking::SettingStore;
-use std::alloc::{AllocError, Global};
+use history_model::{Reading, Reply};
+use launcher::{Accepted, Host, Input};
+use outside::SettingStore;
+use std::alloc::Global;
 use std::io::Write;
 
 /// A launcher at the reading of the present round. That reading is handed to it before any other input of the round, and
@@ -24,36 +23,20 @@ pub struct RoundLauncher<T: SettingStore, E: ChildEdge + SocketEdge, W: Write> {
     has_loaded: bool,
     // A shutdown was accepted.
     is_ending: bool,
-    reader: LineReader,
-}
-
-/// What an accepted line makes known to the loop.
-#[derive(Clone, Copy)]
-enum Asked {
-    Load,
-    Shutdown,
-    Other,
 }
 
 impl<T: SettingStore, E: ChildEdge + SocketEdge, W: Write> RoundLauncher<T, E, W> {
     /// The launcher at its own last reading.
-    pub fn new(alloc: Global, host: Host<T, E, W>) -> Result<RoundLauncher<T, E, W>, AllocError>
-    where
-        T: Drop,
-        E: Drop,
-        W: Drop,
-    {
-        let reader = LineReader::new(alloc)?;
+    pub fn new(host: Host<T, E, W>) -> RoundLauncher<T, E, W> {
         let at = host.table().reading();
-        Ok(RoundLauncher {
+        RoundLauncher {
             host,
             at,
             is_refused: false,
             is_active: false,
             has_loaded: false,
             is_ending: false,
-            reader,
-        })
+        }
     }
 
     /// The reading of the present round.
@@ -141,39 +124,16 @@ impl<T: SettingStore, E: ChildEdge + SocketEdge, W: Write> RoundLauncher<T, E, W
         };
         self.host.turn(alloc, input)
     }
-
-    // What the line asks, as far as the loop has to know.
-    fn asked(&mut self, alloc: Global, line: &[u8]) -> Result<Asked, ReadFault> {
-        match self.reader.request(alloc, line) {
-            Ok(Event::Load { .. }) => Ok(Asked::Load),
-            Ok(Event::Shutdown) => Ok(Asked::Shutdown),
-            Ok(_) | Err(ReadFault::BadRequest) => Ok(Asked::Other),
-            Err(ReadFault::NoMemory) => Err(ReadFault::NoMemory),
-        }
-    }
 }
 
 impl<T: SettingStore, E: ChildEdge + SocketEdge, W: Write> Answers for RoundLauncher<T, E, W> {
     fn answer(&mut self, alloc: Global, line: &[u8]) -> Reply {
-        let Ok(asked) = self.asked(alloc, line) else {
-            return no_memory(alloc);
-        };
         let reply = self.give(alloc, Input::Line(line));
-        if reply.refusal.is_none() {
-            match asked {
-                Asked::Load => self.has_loaded = true,
-                Asked::Shutdown => self.is_ending = true,
-                Asked::Other => {}
-            }
+        match self.host.accepted() {
+            Accepted::Load => self.has_loaded = true,
+            Accepted::Shutdown => self.is_ending = true,
+            Accepted::Other => {}
         }
         reply
-    }
-}
-
-// As the launcher answers a line that it has no memory to read.
-fn no_memory(alloc: Global) -> Reply {
-    Reply {
-        refusal: Some(Refusal::NoMemory),
-        text: Text::new(String::new(alloc)),
     }
 }

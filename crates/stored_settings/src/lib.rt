@@ -5,12 +5,12 @@
 ghost use Rattle.std.specs.Prelude.{◌≡◌, ◌⊎◌, ◌↔◌, IfErr, IfOk, None, [], reverse};
 ghost use Rattle.sqlite.specs.Held.{state};
 ghost use Rattle.override_store.specs.OverrideStores.{AreFit, HoldsAs, HoldsOn, HoldsSettings, HoldsStamps};
-ghost use Rattle.load_asking.specs.declared.store.StoreFault.TheVariants as given;
+ghost use Rattle.outside.specs.declared.store.StoreFault.TheVariants as given;
 ghost use Rattle.sqlite.specs.Tree.{Trees};
 ghost use Rattle.sqlite.specs.View.{IsClean};
 
 use history_model::Setting;
-use load_asking::{self, SettingStore};
+use outside::{self, SettingStore};
 use override_store::again::on_connection;
 use override_store::{OverrideStore, StoreFault};
 use sqlite::{Alter, Connection};
@@ -24,12 +24,12 @@ pub struct StoredSettings<S: Alter> {
 }
 
 /// The fault that the store's is. A name that is no label counts as refused.
-fn fault_of(fault: StoreFault) -> load_asking::StoreFault
+fn fault_of(fault: StoreFault) -> outside::StoreFault
     ensures memory { result ≡ given.NoMemory ↔ (fault ≡ StoreFault.NoMemory) }
 {
     match fault {
-        StoreFault::NoMemory => load_asking::StoreFault::NoMemory,
-        StoreFault::Refused | StoreFault::Foreign => load_asking::StoreFault::Refused,
+        StoreFault::NoMemory => outside::StoreFault::NoMemory,
+        StoreFault::Refused | StoreFault::Foreign => outside::StoreFault::Refused,
     }
 }
 
@@ -49,7 +49,7 @@ impl<S: Alter> SettingStore for StoredSettings<S> {
         }
     }
 
-    fn all(&mut self, alloc: Global) -> Result<Vec<Setting>, load_asking::StoreFault> {
+    fn all(&mut self, alloc: Global) -> Result<Vec<Setting>, outside::StoreFault> {
         match self.store.all(alloc) {
             Ok(all) => Ok(all),
             Err(fault) => Err(fault_of(fault)),

@@ -6,7 +6,7 @@ use crate::runs::*;
 use child_edge::{EdgeCall, Scripted};
 use history_model::Ended;
 use launcher::{HostFault, Input};
-use load_asking::StoreFault;
+use outside::StoreFault;
 
 const STARTED: Scripted = Scripted::Started(812);
 
@@ -167,7 +167,7 @@ fn a_store_out_of_order_opens_none(rt: HostRuntime) {
     }
 }
 
-/// The turn goes on if the journal's writer refuses, and its closing is told once.
+/// Turns go on if the journal's writer refuses, and its closing is told once.
 #[test]
 fn a_refused_line_stops_no_turn(rt: HostRuntime) {
     let holds = is_closed_once(rt.alloc()) == Ok(true);

@@ -1,4 +1,4 @@
-//! A launcher over an edge, a store and a journal that answer by a script: whole turns, and a launcher by its inputs. Nothing but tests
+//! A launcher over an edge, a store and a journal that answer by a script: its turns by their inputs. Nothing but tests
 //! is here, in one crate, so that the libraries are read once.
 #![tactic(auto)]
 

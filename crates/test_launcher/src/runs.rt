@@ -3,8 +3,8 @@
 use child_edge::{EdgeCall, Scripted};
 use history_model::{JobNo, Refusal, Setting, Text};
 use launcher::{HostFault, Input};
-use load_asking::StoreFault;
 use memory_stage::{Stage, edge, header, holds, opened, reading, set_stage, store};
+use outside::StoreFault;
 use std::alloc::Global;
 
 /// The number that the first job has.
@@ -168,13 +168,19 @@ pub fn is_bad_header(alloc: Global, zone: &str, up: u64) -> Result<bool, Refusal
     }
 }
 
-/// Says whether a turn goes on if the journal takes no line but its header, and that this is told once.
+/// Says whether turns go on if the journal takes no line but its header, and that this is told once.
 pub fn is_closed_once(alloc: Global) -> Result<bool, Refusal> {
-    let mut stage = set_stage(alloc, &[(start(1), Scripted::Started(812))], true, 1)?;
+    let calls = [
+        (start(1), Scripted::Started(812)),
+        (EdgeCall::Term { job: FIRST, run: 1 }, Scripted::Done),
+    ];
+    let mut stage = set_stage(alloc, &calls, true, 1)?;
     let quiet = !stage.report_journal_closing();
-    let made = is_answered(alloc, &mut stage, Input::Line(LOAD), 0, "");
+    let made = is_answered(alloc, &mut stage, Input::Line(LOAD_AT_ONCE), 0, "");
+    let stop = Input::Line(b"{\"req\":\"stop\",\"job\":\"a\"}");
+    let stopped = is_answered(alloc, &mut stage, stop, 0, "");
     let first = stage.report_journal_closing();
     let second = stage.report_journal_closing();
-    let called = stage.edge().calls().len() == 1;
-    Ok(quiet && made && first && !second && called)
+    let called = stage.edge().calls() == calls.as_slice();
+    Ok(quiet && made && stopped && first && !second && called)
 }

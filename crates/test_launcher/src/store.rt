@@ -3,7 +3,7 @@
 ghost use Rattle.std.specs.Prelude.{None};
 
 use history_model::Setting;
-use load_asking::{SettingStore, StoreFault};
+use outside::{SettingStore, StoreFault};
 use std::alloc::Global;
 
 /// A store of settings that answers each of them alike.

@@ -3,63 +3,52 @@
 //! the line protocol, and off no run of this code.
 
 use crate::loads::*;
-use crate::stage::FIRST;
+use crate::runs::FIRST;
 use crate::turns::*;
 use child_edge::{EdgeCall, Scripted};
 use history_model::{Ended, Reading};
-use launcher_turn::{EventRef, News};
+use launcher::Input;
 
 const STARTED: Scripted = Scripted::Started(812);
 
-/// The job of a load is started at once if it has RunAtLoad, and the answer has its line.
-#[test]
-fn a_load_and_its_start_have_their_lines(rt: HostRuntime) {
-    let line = b"{\"ev\":\"spawned\",\"job\":\"a\",\"pid\":812,\"run\":1}\n";
-    let holds = is_noted(rt.alloc(), STARTED, line) == Ok(true);
-    assert!(rt; holds);
-    let line = b"{\"ev\":\"spawn_refused\",\"job\":\"a\",\"run\":1}\n";
-    let holds = is_noted(rt.alloc(), Scripted::Refused, line) == Ok(true);
-    assert!(rt; holds);
-}
-
-const AT_999: EventRef<'static> = EventRef::Clock(Reading {
+const AT_999: Input<'static> = Input::Clock(Reading {
     up: 999,
     wall: 1_700_000_000,
 });
 
-const AT_1_000: EventRef<'static> = EventRef::Clock(Reading {
+const AT_1_000: Input<'static> = Input::Clock(Reading {
     up: 1_000,
     wall: 1_700_000_000,
 });
 
-const AT_20_999: EventRef<'static> = EventRef::Clock(Reading {
+const AT_20_999: Input<'static> = Input::Clock(Reading {
     up: 20_999,
     wall: 1_700_000_000,
 });
 
-const AT_21_000: EventRef<'static> = EventRef::Clock(Reading {
+const AT_21_000: Input<'static> = Input::Clock(Reading {
     up: 21_000,
     wall: 1_700_000_000,
 });
 
-const AT_21_999: EventRef<'static> = EventRef::Clock(Reading {
+const AT_21_999: Input<'static> = Input::Clock(Reading {
     up: 21_999,
     wall: 1_700_000_000,
 });
 
-const AT_22_000: EventRef<'static> = EventRef::Clock(Reading {
+const AT_22_000: Input<'static> = Input::Clock(Reading {
     up: 22_000,
     wall: 1_700_000_000,
 });
 
-const AT_60_000: EventRef<'static> = EventRef::Clock(Reading {
+const AT_60_000: Input<'static> = Input::Clock(Reading {
     up: 60_000,
     wall: 1_700_000_000,
 });
 
-const STOP: EventRef<'static> = EventRef::ToJob("a", News::Stop);
+const STOP: Input<'static> = Input::Line(b"{\"req\":\"stop\",\"job\":\"a\"}");
 
-const KILLED: EventRef<'static> = EventRef::ToJob("a", News::Ended(1, Ended::Signal(9)));
+const KILLED: Input<'static> = Input::Ended("a", 1, Ended::Signal(9));
 
 const START_1: EdgeCall = EdgeCall::Start {
     job: FIRST,
@@ -84,7 +73,7 @@ const KILL_2: EdgeCall = EdgeCall::Kill { job: FIRST, run: 2 };
 /// What happens after the load of a job that is started at once, each with how many calls were then made in all; and the calls with
 /// their answers.
 type Row = (
-    &'static [(EventRef<'static>, usize)],
+    &'static [(Input<'static>, usize)],
     &'static [(EdgeCall, Scripted)],
 );
 
@@ -152,10 +141,7 @@ static KILL_REFUSED: Row = (
 );
 
 /// If the system refused to wait for the present child, nothing is asked of the edge.
-static WAIT_REFUSED: Row = (
-    &[(EventRef::ToJob("a", News::WaitRefused(1)), 1)],
-    &[(START_1, STARTED)],
-);
+static WAIT_REFUSED: Row = (&[(Input::WaitRefused("a", 1), 1)], &[(START_1, STARTED)]);
 
 #[test]
 fn each_refused_call_comes_again(rt: HostRuntime) {
@@ -171,7 +157,7 @@ fn each_refused_call_comes_again(rt: HostRuntime) {
     }
 }
 
-/// The sockets are bound, the store refuses, and they are given up again; the load has its line.
+/// The sockets are bound, the store is asked once and refuses, and they are given up again.
 #[test]
 fn a_refused_store_releases_the_sockets(rt: HostRuntime) {
     let holds = is_released(rt.alloc()) == Ok(true);
@@ -181,12 +167,5 @@ fn a_refused_store_releases_the_sockets(rt: HostRuntime) {
 #[test]
 fn a_refused_bind_asks_no_store(rt: HostRuntime) {
     let holds = is_unbound(rt.alloc()) == Ok(true);
-    assert!(rt; holds);
-}
-
-/// The turn goes on if the journal's writer refuses, and its closing is told once.
-#[test]
-fn a_refused_line_stops_no_turn(rt: HostRuntime) {
-    let holds = is_closed_once(rt.alloc()) == Ok(true);
     assert!(rt; holds);
 }

@@ -7,8 +7,8 @@ use child_edge::{EdgeCall, Scripted};
 use control_socket::Answers;
 use history_model::{Reading, Refusal, Reply};
 use launcher::{Host, Input};
-use load_asking::SettingStore;
 use memory_stage::{MemoryStore, Sink, edge, header, reading, store};
+use outside::SettingStore;
 use round_findings::{RoundLauncher, Sights};
 use std::alloc::Global;
 use std::io::Write;
@@ -142,11 +142,11 @@ fn set_pair(
 ) -> Result<Pair<MemoryStore, HandedEdge, Sink>, Refusal> {
     let host = set_stage(alloc, orders)?;
     let whole = set_stage(alloc, orders)?;
-    let (Ok(spared), Ok(looks)) = (RoundLauncher::new(alloc, host), Sights::new(alloc)) else {
+    let Ok(looks) = Sights::new(alloc) else {
         return Err(Refusal::NoMemory);
     };
     Ok(Pair {
-        spared,
+        spared: RoundLauncher::new(host),
         looks,
         whole,
         at: reading(0),

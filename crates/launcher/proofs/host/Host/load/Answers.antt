@@ -1,29 +1,102 @@
--- A load, with its reply.
-use Rattle.std.proofs.Common.{Option, Some, true, refl, sym, subst}
-use Rattle.history_model.specs.declared.Refusal.{Refusal}
-use Rattle.std.specs.String.{string_bytes}
-use Rattle.history_model.specs.declared.event.Event.TheVariants as events
-use Rattle.history_model.specs.Step.{outcome}
+-- The turn of a load, asked about or not.
+use Rattle.std.proofs.Common.{◌≡◌, Bool, true, false, Some, sym, ap, subst, ◌∙◌}
+use Rattle.std.specs.Prelude.{if◌then◌else◌}
+use Rattle.std.proofs.lemmas.Bool.{false≢true}
+use Rattle.history_model.specs.declared.Refusal.TheVariants.{NoMemory}
+use Rattle.history_model.specs.Machine.{State}
+use Rattle.history_model.specs.Acceptance.{refusal_in}
 use Rattle.job_table.specs.StandsFor.{KeepsState}
-use Rattle.job_table.specs.Loads.{load_of, refused_with}
-use Rattle.launcher.proofs.HostsLemmas.{as_replied}
-use Rattle.launcher.proofs.AskingLemmas.{loaded, load_words}
+use Rattle.job_table.specs.Loads.{IsAdmitted, load_of, described_in, refused_with}
+use Rattle.launcher.specs.declared.loading.Loaded.{Loaded}
+use Rattle.launcher.specs.LoadTurns.{LoadTurnOf, is_memory, label_written, load_request, settings_after, stamps_after, standing}
+use Rattle.launcher.proofs.LoadTurnsLemmas.{load_ended, load_sets, load_stamps, never_called, not_memory, told_unless, unstamped}
+use Rattle.job_defs.proofs.LabelLemmas.{label_read}
 use Rattle.launcher.proofs.host.Host.load.Goals as goal
-use Rattle.launcher_load.specs.LoadTurns.{label_written, load_request, stamps_after, standing}
+use Rattle.child_edge.specs.Calls.{is_done}
 
-pub returns-clause-hears : goal.returns-clause-hears
-returns-clause-hears g c =
-    let old = standing c.args.self.now.table (g.E.Edge.told c.args.self.now.edge) (g.T.SettingStore.told c.args.self.now.store) c.args.self.now.journal in
-    let did = c.load-loaded.result in
-    let new = standing c.load-loaded.new.table (g.E.Edge.told c.load-loaded.new.edge) (g.T.SettingStore.told c.load-loaded.new.store) c.load-loaded.new.journal in
-    let before = g.T.SettingStore.holds c.args.self.now.store in
-    let after = g.T.SettingStore.holds c.load-loaded.new.store in
-    as_replied (Some (events.Load c.args.def.now c.args.writes_setting c.args.force true true)) c.told.result.refusal (refused_with did.reply) c.told.result.text c.told.result.text old new before after c.told.ensures.refusal refl
-    (loaded c.args.def.now c.args.writes_setting c.args.force did.outside (refused_with did.reply) c.told.result.text old new before after c.load-loaded.ensures.memory c.load-loaded.ensures.silent c.load-loaded.ensures.turn
-    c.load-loaded.ensures.stored
-    (load_words string_bytes did.reply c.told.result.text (λ s. KeepsState old.table s) (λ s. (outcome s (load_of c.args.def.now c.args.writes_setting c.args.force did.outside.bind did.outside.store)).text) c.load-loaded.ensures.text c.told.ensures.text))
+pub ask_and_load-ended-requires-clause-label : goal.ask_and_load-ended-requires-clause-label
+ask_and_load-ended-requires-clause-label g c = label_read c.as_bytes.result.now (described_in c.in-Ok.ready) c.in-Ok.ensures.admitted.read
 
-pub returns-clause-stamped : goal.returns-clause-stamped
-returns-clause-stamped g c = λ s keeps stamps had.
+pub returns-in-Ok-loaded-clause-turn : goal.returns-in-Ok-loaded-clause-turn
+returns-in-Ok-loaded-clause-turn g c = λ other s led keeps.
+    let admitted = subst (λ b. IsAdmitted c.args.self.now.table b c.args.writes_setting c.args.force (described_in c.in-Ok.ready)) c.as_bytes.ensures.value c.in-Ok.ensures.admitted in
+    let outside = c.ask_and_load-ended.result.outside in
+    let told = g.E.Edge.told c.args.self.now.edge in
+    let told' = g.E.Edge.told c.ask_and_load-ended.new.self.edge in
+    let stored = g.T.SettingStore.told c.args.self.now.store in
+    let stored' = g.T.SettingStore.told c.ask_and_load-ended.new.self.store in
+    let new = c.ask_and_load-ended.new.self.table in
+    let written = c.args.self.now.journal in
+    let written' = c.ask_and_load-ended.new.self.journal in
+    let done = load_ended s c.args.def.now c.args.writes_setting c.args.force outside c.args.self.now.table c.prepare_load.new.self new c.in-Ok.ready told told' stored stored' written written'
+    admitted c.in-Ok.ensures.writes_setting c.in-Ok.ensures.same c.in-Ok.ensures.rows led keeps c.ask_and_load-ended.result.refusal c.ask_and_load-ended.ensures.ends in
+    let request = load_request c.args.def.now c.args.writes_setting c.args.force in
+    let before = standing c.args.self.now.table told stored written in
+    let after = standing new told' stored' written' in
+    subst (λ a. LoadTurnOf s request a (refused_with c.reply_to.result.reply) before after) (sym c.reply_to.ensures.outside)
+    (subst (λ r. LoadTurnOf s request outside r before after) (sym c.reply_to.ensures.reply) done)
+
+pub returns-in-Ok-loaded-clause-stored : goal.returns-in-Ok-loaded-clause-stored
+returns-in-Ok-loaded-clause-stored g c = λ s keeps holds.
+    let admitted = subst (λ b. IsAdmitted c.args.self.now.table b c.args.writes_setting c.args.force (described_in c.in-Ok.ready)) c.as_bytes.ensures.value c.in-Ok.ensures.admitted in
+    let outside = c.ask_and_load-ended.result.outside in
+    let ends = c.ask_and_load-ended.ensures.ends in
+    let store = c.ask_and_load-ended.new.self.store in
+    let sets = load_sets s c.args.def.now c.args.writes_setting c.args.force outside c.args.self.now.table (described_in c.in-Ok.ready) c.ask_and_load-ended.result.refusal admitted keeps ends.answer
+    (λ none. ends.asks.bind ∙ ap (λ h. if h then is_done ends.asks.bound else true) none) ends.asks.store in
+    let kept = subst (g.T.SettingStore.holds store) (sym sets) (c.ask_and_load-ended.ensures.stored s.settings holds) in
+    subst (λ a. g.T.SettingStore.holds store (settings_after (refused_with c.reply_to.result.reply) s (load_of c.args.def.now c.args.writes_setting c.args.force a.bind a.store))) (sym c.reply_to.ensures.outside)
+    (subst (λ r. g.T.SettingStore.holds store (settings_after r s (load_of c.args.def.now c.args.writes_setting c.args.force outside.bind outside.store))) (sym c.reply_to.ensures.reply) kept)
+
+pub returns-in-Err-clause-turn : goal.returns-in-Err-clause-turn
+returns-in-Err-clause-turn g c = λ other s led keeps.
+    let told = g.E.Edge.told c.args.self.now.edge in
+    let stored = g.T.SettingStore.told c.args.self.now.store in
+    let new = c.prepare_load.new.self in
+    let is = c.uncalled-in-Err.ensures in
+    let memory : is_memory (Some c.in-Err.refusal) ≡ false = subst (λ (l : Loaded). is_memory (refused_with l.reply) ≡ false) is other in
+    let refused = told_unless c.in-Err.refusal
+    ((s : State) (bind store : Bool) → KeepsState c.args.self.now.table s → refusal_in s (load_of c.as_bytes.result.now c.args.writes_setting c.args.force bind store) ≡ Some c.in-Err.refusal) c.in-Err.ensures.refused memory in
+    let before = standing c.args.self.now.table told stored c.args.self.now.journal in
+    let after = standing new told stored c.note_load_refused.new.journal in
+    subst (λ (l : Loaded). LoadTurnOf s (load_request c.args.def.now c.args.writes_setting c.args.force) l.outside (refused_with l.reply) before after) (sym is)
+    (never_called s c.args.def.now c.args.writes_setting c.args.force c.in-Err.refusal c.args.self.now.table new told stored c.args.self.now.journal c.note_load_refused.new.journal c.in-Err.ensures.rows
+    (λ bind store. subst (λ b. refusal_in s (load_of b c.args.writes_setting c.args.force bind store) ≡ Some c.in-Err.refusal) c.as_bytes.ensures.value (refused s bind store keeps))
+    (c.note_load_refused.ensures.noted memory) (c.in-Err.ensures.same s keeps) led)
+
+pub returns-in-Ok-loaded-clause-silent : goal.returns-in-Ok-loaded-clause-silent
+returns-in-Ok-loaded-clause-silent g c = λ memory.
+    let outside = c.ask_and_load-ended.result.outside in
+    let told = ap is_memory c.reply_to.ensures.reply ∙ ap is_memory c.ask_and_load-ended.ensures.ends.answer ∙ not_memory (described_in c.in-Ok.ready) c.args.writes_setting outside.bind outside.store in
+    absurd (false≢true (sym told ∙ memory))
+
+pub returns-in-Err-clause-silent : goal.returns-in-Err-clause-silent
+returns-in-Err-clause-silent g c = λ memory.
+    c.note_load_refused.ensures.silent (subst (λ (l : Loaded). is_memory (refused_with l.reply) ≡ true) c.uncalled-in-Err.ensures memory)
+
+pub returns-in-Ok-loaded-clause-stamped : goal.returns-in-Ok-loaded-clause-stamped
+returns-in-Ok-loaded-clause-stamped g c = λ s keeps stamps had.
+    let admitted = subst (λ b. IsAdmitted c.args.self.now.table b c.args.writes_setting c.args.force (described_in c.in-Ok.ready)) c.as_bytes.ensures.value c.in-Ok.ensures.admitted in
+    let outside = c.ask_and_load-ended.result.outside in
+    let ends = c.ask_and_load-ended.ensures.ends in
+    let stamped = g.T.SettingStore.stamped c.ask_and_load-ended.new.self.store in
     let label = label_written (load_request c.args.def.now c.args.writes_setting c.args.force) in
-    subst (λ (r : Option Refusal). g.T.SettingStore.stamped c.load-loaded.new.store (stamps_after label r s.reading.wall stamps)) (sym c.told.ensures.refusal) (c.load-loaded.ensures.stamped s keeps stamps had)
+    let wall = s.reading.wall in
+    let stored = (rw (ap (λ r. r.wall) (c.in-Ok.ensures.same s keeps).reading) at c.ask_and_load-ended.ensures.stamped) stamps had in
+    let is = load_stamps c.args.def.now c.args.writes_setting c.args.force outside (described_in c.in-Ok.ready) c.ask_and_load-ended.result.refusal wall stamps admitted.read ends.answer
+    (λ none. ends.asks.bind ∙ ap (λ h. if h then is_done ends.asks.bound else true) none) in
+    subst (λ r. stamped (stamps_after label r wall stamps)) (sym c.reply_to.ensures.reply) (subst stamped (sym is) stored)
+
+pub returns-in-Err-clause-stamped : goal.returns-in-Err-clause-stamped
+returns-in-Err-clause-stamped g c = λ s keeps stamps had.
+    let stamped = g.T.SettingStore.stamped c.args.self.now.store in
+    let label = label_written (load_request c.args.def.now c.args.writes_setting c.args.force) in
+    let wall = s.reading.wall in
+    subst (λ (l : Loaded). stamped (stamps_after label (refused_with l.reply) wall stamps)) (sym c.uncalled-in-Err.ensures) (subst stamped (sym (unstamped label c.in-Err.refusal wall stamps)) had)
+
+pub returns-in-Err-loaded-clause-stamped : goal.returns-in-Err-loaded-clause-stamped
+returns-in-Err-loaded-clause-stamped g c = λ s keeps stamps had.
+    let stamped = g.T.SettingStore.stamped c.args.self.now.store in
+    let label = label_written (load_request c.args.def.now c.args.writes_setting c.args.force) in
+    let wall = s.reading.wall in
+    subst (λ (l : Loaded). stamped (stamps_after label (refused_with l.reply) wall stamps)) (sym c.uncalled.ensures) (subst stamped (sym (unstamped label NoMemory wall stamps)) had)

@@ -3,7 +3,7 @@ use Rattle.std.proofs.Common.{sym, ◌∙◌}
 use Rattle.launcher.specs.Inputs.{input_event}
 use Rattle.launcher.proofs.HostsLemmas.{flushed}
 use Rattle.launcher.proofs.host.Host.turn.Goals as goal
-use Rattle.launcher_load.specs.LoadTurns.{standing}
+use Rattle.launcher.specs.LoadTurns.{standing}
 
 pub returns-clause-hears : goal.returns-clause-hears
 returns-clause-hears g c =

@@ -1,0 +1,76 @@
+//! What happens to the launcher, as the event that its journal has.
+
+ghost use Rattle.std.specs.Prelude.{◌≡◌, IfOk};
+ghost use Rattle.ctl_protocol.specs.EventWriter.{event_line};
+ghost use Rattle.event_journal.specs.Journals.{Grows};
+ghost use Rattle.launcher.specs.Lines.{journaled_by, journaled_of, journaled_answer};
+
+use crate::event_ref::{EventRef, News};
+use event_journal::Journal;
+use history_model::{Answer, Event, Text};
+use std::alloc::{AllocError, Global};
+use std::io::Write;
+
+/// The event of the journal that says the answer to an order.
+fn answer_line(job: Text, answer: Answer) -> Event
+    ensures { result ≡ journaled_answer job answer }
+{
+    match answer {
+        Answer::Spawned { run, pid } => Event::Spawned { job, run, pid },
+        Answer::SpawnRefused { run } => Event::SpawnRefused { job, run },
+        Answer::Termed { run, ok } => Event::Termed { job, run, ok },
+        Answer::Killed { run, ok } => Event::Killed { job, run, ok },
+    }
+}
+
+/// The event of the journal that says what happens to a job.
+fn job_line(job: Text, news: News) -> Event
+    ensures { result ≡ journaled_of job news }
+{
+    match news {
+        News::Start => Event::Start { job },
+        News::Stop => Event::Stop { job },
+        News::Kickstart(kills_first) => Event::Kickstart { job, kills_first },
+        News::Came(conn) => Event::Came { job, conn },
+        News::Left(conn) => Event::Left { job, conn },
+        News::Ended(run, how) => Event::Ended { job, run, how },
+        News::WaitRefused(run) => Event::WaitRefused { job, run },
+        News::Answered(answer) => answer_line(job, answer),
+    }
+}
+
+/// The event of the journal that says what happens. `AllocError` if memory for a copy of its label or path was refused.
+fn event_made(alloc: Global, what: EventRef<'_>) -> Result<Event, AllocError>
+    ensures { IfOk result (λ event. event ≡ journaled_by what.entry) }
+{
+    match what {
+        EventRef::Clock(at) => Ok(Event::Clock(at)),
+        EventRef::Saw(path, obs) => {
+            let path = Text::copy_of(alloc, path)?;
+            Ok(Event::Saw { path, obs })
+        }
+        EventRef::ToJob(label, news) => {
+            let job = Text::copy_of(alloc, label)?;
+            Ok(job_line(job, news))
+        }
+        EventRef::Unload(label) => {
+            let job = Text::copy_of(alloc, label)?;
+            Ok(Event::Unload {
+                job,
+                writes_setting: false,
+                store: true,
+            })
+        }
+        EventRef::Shutdown => Ok(Event::Shutdown),
+    }
+}
+
+/// Writes the line of what happens. If no line is written, its event is not even made; want of memory for it closes the journal.
+pub(crate) fn note<W: Write>(journal: &mut Journal<W>, alloc: Global, what: EventRef<'_>)
+    ensures { Grows journal.old journal.new (event_line (journaled_by what.entry)) }
+{
+    if !journal.is_writing() {
+        return;
+    }
+    journal.note_made(alloc, event_made(alloc, what));
+}

@@ -1,0 +1,229 @@
+//! The load of a job: it is made ready, the outside is asked, its line is written, and if the outside answered well the
+//! job is loaded.
+
+ghost use Rattle.std.specs.Prelude.{◌≡◌, ◌&&◌, ℕ, Bool, List, [], IfOk, None, true, false};
+ghost use Rattle.std.specs.String.{string_bytes};
+ghost use Rattle.history_model.specs.Acceptance.{refusal_in};
+ghost use Rattle.history_model.specs.Labels.{is_label};
+ghost use Rattle.history_model.specs.Machine.{State};
+ghost use Rattle.history_model.specs.Step.{outcome, set_if};
+ghost use Rattle.job_table.specs.StandsFor.{KeepsState};
+ghost use Rattle.job_table.specs.Loads.{refusal_outside, IsReady, described_in, refused_with};
+ghost use Rattle.event_journal.specs.Journals.{JournalState, Grows};
+ghost use Rattle.outside.specs.Asking.{told_of};
+ghost use Rattle.outside.specs.Stores.{HoldsAfter, stamp_if};
+ghost use Rattle.launcher.specs.Hosts.{stands};
+ghost use Rattle.launcher.specs.Turns.{IsLed, trace};
+ghost use Rattle.launcher.specs.Lines.{load_line};
+ghost use Rattle.launcher.specs.LoadTurns.{LoadTurnOf, IsUntouched, Makes, EndsLoad, event_of_load, is_memory, label_written, load_request, ready_load, settings_after, stamps_after};
+
+use crate::host::Host;
+use crate::noting::{note_load, note_load_refused};
+use child_edge::{ChildEdge, SocketEdge};
+use history_model::Refusal;
+use job_defs::Def;
+use job_table::Ready;
+use job_texts::loaded;
+use outside::{Outside, SettingStore, ask_outside};
+use std::alloc::Global;
+use std::io::Write;
+
+/// What a load came to.
+#[derive(Drop)]
+pub(crate) struct Loaded {
+    /// What the outside answered. What it was not asked counts as true.
+    pub outside: Outside,
+    /// The text of a load that was made, or why it was refused.
+    pub reply: Result<String, Refusal>,
+}
+
+/// What the outside answered, and what it refused.
+#[derive(Clone, Copy)]
+struct Answered {
+    outside: Outside,
+    refusal: Option<Refusal>,
+}
+
+/// What the outside refuses of a load: the sockets of a job that has any, then the store, if a setting is written.
+fn refused_outside(def: &Def, writes_setting: bool, outside: Outside) -> Option<Refusal>
+    ensures { result ≡ refusal_outside def.now writes_setting outside.bind outside.store }
+{
+    if def.has_sockets() && !outside.bind {
+        return Some(Refusal::SocketRefused);
+    }
+    if writes_setting && !outside.store {
+        return Some(Refusal::StoreRefused);
+    }
+    None
+}
+
+/// Lets a load go that was made ready.
+fn discard(_ready: Ready) {}
+
+/// A load that was refused before the outside was asked.
+fn uncalled(refusal: Refusal) -> Loaded
+    ensures { result
+        ≡ record { outside = record { bind = true; store = true }; reply = Err refusal } }
+{
+    Loaded {
+        outside: Outside {
+            bind: true,
+            store: true,
+        },
+        reply: Err(refusal),
+    }
+}
+
+/// A load that the outside was asked about, with the text that it has if it was made.
+fn reply_to(answered: Answered, text: String) -> Loaded
+    ensures outside { result.outside ≡ answered.outside }
+    ensures reply { refused_with result.reply ≡ answered.refusal }
+    ensures text { IfOk result.reply (λ said. string_bytes said ≡ string_bytes text) }
+{
+    let reply = match answered.refusal {
+        Some(refusal) => Err(refusal),
+        None => Ok(text),
+    };
+    Loaded {
+        outside: answered.outside,
+        reply,
+    }
+}
+
+impl<T: SettingStore, E: ChildEdge + SocketEdge, W: Write> Host<T, E, W> {
+    /// Loads the job that was made ready, carries out what is ordered, and makes each answer the next event.
+    fn load_ready(&mut self, alloc: Global, ready: Ready)
+        requires ready { IsReady self.old.table ready }
+        requires label { is_label (described_in ready).label ≡ true }
+        requires empty { self.old.room.answers ≡ [] }
+        ensures made { (s : State) (force bind store : Bool) (line : List ℕ)
+            (written : JournalState) →
+            Grows written self.old.journal line → IsLed s → KeepsState self.old.table s
+            → refusal_in s (ready_load ready force bind store) ≡ None
+            → Makes s (ready_load ready force bind store) line ready self.old.table self.new.table
+            (trace (E.told self.old.edge) written)
+            (trace (E.told self.new.edge) self.new.journal) }
+        ensures store { self.new.store ≡ self.old.store }
+    {
+        self.table.commit_load(ready);
+        self.finish(alloc);
+    }
+
+    /// Asks the outside about the load that was made ready, writes its line, and makes it if the outside answered well.
+    fn ask_and_load(
+        &mut self,
+        alloc: Global,
+        ready: Ready,
+        def: &str,
+        writes_setting: bool,
+        force: bool,
+    ) -> Answered
+        requires ready { IsReady self.old.table ready }
+        requires label { is_label (described_in ready).label ≡ true }
+        requires empty { self.old.room.answers ≡ [] }
+        ensures ends { EndsLoad ready writes_setting self.old.table.reading.wall result.outside
+            result.refusal
+            (load_line def.now writes_setting force result.outside)
+            (stands E.told T.told self.old) (stands E.told T.told self.new) }
+        ensures stored { HoldsAfter T.holds
+            (set_if (writes_setting && (result.outside.bind && result.outside.store))
+            (described_in ready).label false)
+            self.old.store self.new.store }
+        ensures stamped { HoldsAfter T.stamped
+            (stamp_if (writes_setting && (result.outside.bind && result.outside.store))
+            (described_in ready).label self.old.table.reading.wall)
+            self.old.store self.new.store }
+    {
+        let changed = self.table.reading().wall;
+        let outside = ask_outside(
+            &mut self.edge,
+            &mut self.store,
+            ready.job(),
+            ready.def(),
+            writes_setting,
+            changed,
+        );
+        note_load(
+            &mut self.journal,
+            alloc,
+            def,
+            writes_setting,
+            force,
+            outside,
+        );
+        let refusal = refused_outside(ready.def(), writes_setting, outside);
+        match refusal {
+            Some(_) => discard(ready),
+            None => self.load_ready(alloc, ready),
+        }
+        Answered { outside, refusal }
+    }
+
+    /// A turn that begins with a load, as `load` of launchctl(1): with `writes_setting` its label is also enabled, with `force`
+    /// a disabled one is loaded too. All memory is taken before the outside is asked, but for that of the journal's lines: want
+    /// of it closes the journal and changes nothing else. The journal gets the line of the load with what the outside answered,
+    /// also if it is refused, and then the line of each answer.
+    ///
+    /// Refusals, in this order: ShuttingDown, BadDefinition, Removing or AlreadyLoaded, TooManyJobs (1,024), Disabled; NoMemory;
+    /// SocketRefused, if the sockets were not bound, StoreRefused, if the setting was not stored: what was bound is then
+    /// given up. A refused load leaves the table standing for what it stood for. One that found no memory has no line.
+    pub(crate) fn load(
+        &mut self,
+        alloc: Global,
+        def: &str,
+        writes_setting: bool,
+        force: bool,
+    ) -> Loaded
+        ensures memory { is_memory (refused_with result.reply) ≡ true →
+            IsUntouched self.old.table self.new.table
+            (told_of (E.told self.old.edge) (T.told self.old.store))
+            (told_of (E.told self.new.edge) (T.told self.new.store)) }
+        ensures silent { is_memory (refused_with result.reply) ≡ true →
+            self.new.journal ≡ self.old.journal }
+        ensures turn { is_memory (refused_with result.reply) ≡ false → (s : State) → IsLed s →
+            KeepsState self.old.table s
+            → LoadTurnOf s (load_request def.now writes_setting force) result.outside
+            (refused_with result.reply)
+            (stands E.told T.told self.old) (stands E.told T.told self.new) }
+        ensures stored { (s : State) → KeepsState self.old.table s
+            → T.holds self.old.store s.settings
+            → T.holds self.new.store (settings_after (refused_with result.reply) s
+            (event_of_load (load_request def.now writes_setting force) result.outside)) }
+        ensures stamped { (s : State) → KeepsState self.old.table s → HoldsAfter T.stamped
+            (stamps_after (label_written (load_request def.now writes_setting force))
+            (refused_with result.reply) s.reading.wall)
+            self.old.store self.new.store }
+        ensures text { IfOk result.reply (λ text. (s : State) → KeepsState self.old.table s
+            → (outcome s
+            (event_of_load (load_request def.now writes_setting force) result.outside)).text
+            ≡ string_bytes text) }
+    {
+        self.room.answers.clear();
+        match self
+            .table
+            .prepare_load(alloc, def.as_bytes(), writes_setting, force)
+        {
+            Ok(ready) => match loaded(alloc, ready.def().not_acted_on()) {
+                Ok(text) => {
+                    let ended = self.ask_and_load(alloc, ready, def, writes_setting, force);
+                    reply_to(ended, text)
+                }
+                Err(_) => {
+                    discard(ready);
+                    uncalled(Refusal::NoMemory)
+                }
+            },
+            Err(refusal) => {
+                note_load_refused(
+                    &mut self.journal,
+                    alloc,
+                    def,
+                    writes_setting,
+                    force,
+                    refusal,
+                );
+                uncalled(refusal)
+            }
+        }
+    }
+}

@@ -1,0 +1,132 @@
+//! The room that turns need, reserved once: for the answers that are still to be made events, and for one label.
+
+ghost use Rattle.std.specs.Prelude.{◌≡◌, ℕ, ◌<◌, ◌≤◌, ◌*◌, List, [], ◌∷◌, ◌++◌, length, slice_index_or, IsUtf8};
+ghost use Rattle.std.specs.Vec.{vec_capacity};
+ghost use Rattle.std.specs.String.{string_bytes, string_capacity};
+ghost use Rattle.history_model.specs.declared.TheConstants.{MAX_JOBS};
+ghost use Rattle.std.specs.List.{AllByRecursion};
+ghost use Rattle.outside.specs.declared.unheard.Unheard.{Unheard as Answered};
+ghost use Rattle.outside.specs.Orders.{IsTellablePending};
+
+use history_model::MAX_JOBS;
+use outside::Unheard;
+use std::alloc::{AllocError, Global};
+use std::marker::Model;
+
+/// How many answers one turn has at most: of each job one spawn, one KILL and one TERM.
+const MOST_ANSWERS: usize = 3 * MAX_JOBS;
+
+/// How many bytes a label has at most.
+const LONGEST_LABEL: usize = 255;
+
+/// The answers of a turn, oldest first, with room for as many as a turn has. A line can say each. To a contract, their list.
+#[derive(Drop)]
+pub struct AnswerQueue {
+    answers: Vec<Unheard>,
+}
+
+impl Model for AnswerQueue {
+    ghost Value = { List Answered };
+
+    ghost view = { λ q. q.answers.items };
+
+    ghost invariant = { λ q.
+        (3 * MAX_JOBS ≤ vec_capacity q.answers) × (length q.answers.items ≤ 3 * MAX_JOBS)
+        × AllByRecursion IsTellablePending q.answers.items };
+}
+
+impl AnswerQueue {
+    /// A queue with no answer, and with all room that it ever needs. `AllocError` if memory for it was refused.
+    pub fn new(alloc: Global) -> Result<AnswerQueue, AllocError> {
+        let answers = Vec::with_capacity(alloc, MOST_ANSWERS)?;
+        Ok(AnswerQueue { answers })
+    }
+
+    /// Forgets the answers of the turn before. Takes no memory.
+    pub fn clear(&mut self)
+        ensures { self.new ≡ [] }
+    {
+        self.answers.clear();
+    }
+
+    /// How many answers the turn has had, at most 3,072.
+    pub fn len(&self) -> usize
+        ensures length { result ≡ length self.now }
+        ensures few { length self.now ≤ 3 * MAX_JOBS }
+        ensures tellable { AllByRecursion IsTellablePending self.now }
+    {
+        self.answers.len()
+    }
+
+    /// The answer at a place, counted from 0. The caller's condition: the place is below the queue's length.
+    pub(crate) fn at(&self, place: usize) -> Unheard
+        requires { place < length self.now }
+        ensures { result ≡ slice_index_or self.now place result }
+    {
+        self.answers[place]
+    }
+
+    /// Puts an answer behind the others, if there is room for it. Takes no memory. The caller's condition: a line can say it.
+    pub(crate) fn keep(&mut self, answer: Unheard)
+        requires { IsTellablePending answer }
+        ensures { length self.old < 3 * MAX_JOBS → self.new ≡ self.old ++ answer ∷ [] }
+    {
+        if self.len() < MOST_ANSWERS {
+            self.answers.push_reserved(answer);
+        }
+    }
+}
+
+/// Room for a label. To a contract, the text that stands in it.
+#[derive(Drop)]
+pub struct LabelRoom {
+    text: String,
+}
+
+impl Model for LabelRoom {
+    ghost Value = { List ℕ };
+
+    ghost view = { λ r. string_bytes r.text };
+
+    ghost invariant = { λ r. 255 ≤ string_capacity r.text };
+}
+
+impl LabelRoom {
+    /// Room with no text. `AllocError` if memory for it was refused.
+    pub fn new(alloc: Global) -> Result<LabelRoom, AllocError> {
+        let text = String::with_capacity(alloc, LONGEST_LABEL)?;
+        Ok(LabelRoom { text })
+    }
+
+    /// Copies a text of at most 255 bytes, as each label is. Takes no memory for it.
+    pub fn copy(&mut self, text: &str)
+        ensures { length text.now ≤ 255 → self.new ≡ text.now }
+    {
+        self.text.clear();
+        let _copied = self.text.push_str(text);
+    }
+
+    /// The text, lent.
+    pub fn as_str(&self) -> &str
+        ensures text { result.now ≡ self.now }
+        ensures utf8 { IsUtf8 result.now }
+    {
+        self.text.as_str()
+    }
+}
+
+/// What turns need of memory, reserved once, so that no turn is cut short for want of it.
+#[derive(Drop)]
+pub struct Room {
+    pub answers: AnswerQueue,
+    pub label: LabelRoom,
+}
+
+impl Room {
+    /// All room that turns ever need. `AllocError` if memory for it was refused.
+    pub fn new(alloc: Global) -> Result<Room, AllocError> {
+        let answers = AnswerQueue::new(alloc)?;
+        let label = LabelRoom::new(alloc)?;
+        Ok(Room { answers, label })
+    }
+}

@@ -1,0 +1,154 @@
+//! A turn of the launcher, by what comes to it: what happens is one event, and the answers to all that it orders are the next.
+
+ghost use Rattle.std.specs.Prelude.{◌≡◌, Err, Some, [], is_some, true};
+ghost use Rattle.history_model.specs.declared.Refusal.TheVariants.{NoMemory};
+ghost use Rattle.ctl_protocol.specs.EventWriter.{event_line};
+ghost use Rattle.job_table.specs.Loads.{refused_with};
+ghost use Rattle.job_table.specs.Outcomes.{UnlessMemory};
+ghost use Rattle.launcher.specs.Events.{event_of_ref, is_clock};
+ghost use Rattle.launcher.specs.Hosts.{HostHears, HostStamps};
+ghost use Rattle.launcher.specs.Accepting.{accepted_in};
+ghost use Rattle.launcher.specs.Inputs.{input_event, if_label, wants_memory};
+ghost use Rattle.launcher.specs.declared.accepted.Accepted.TheVariants.{Other};
+ghost use Rattle.launcher.specs.Lines.{journaled_by, journaled_of};
+ghost use Rattle.launcher.specs.LoadTurns.{is_memory};
+ghost use Rattle.launcher.specs.Turns.{Turns, IsUncalled, trace};
+ghost use Rattle.launcher.specs.Writable.{WritesWhat};
+
+use crate::accepted::Accepted;
+use crate::event_ref::{EventRef, News};
+use crate::fitting::lend_input;
+use crate::hearing::hear;
+use crate::host::Host;
+use crate::input::Input;
+use crate::lines::note;
+use crate::replies::{done, is_want, refused};
+use child_edge::{ChildEdge, SocketEdge};
+use history_model::{Refusal, Reply};
+use job_defs::is_label;
+use outside::SettingStore;
+use std::alloc::Global;
+use std::io::Write;
+
+impl<T: SettingStore, E: ChildEdge + SocketEdge, W: Write> Host<T, E, W> {
+    /// One turn: the input is made an event, what it orders is carried out, and each answer of the outside is made the next
+    /// event, first in first out, until none remains. The journal gets the line of each event, and is flushed at the end. The
+    /// reply is that of the input; a refusal has no text.
+    ///
+    /// A line that is no request, or what happened under a name that is no label, is answered by BadRequest, and is no event.
+    /// NoMemory comes only to a line or a reading of the clocks, before anything was carried out; it is no event either, and the journal
+    /// is then as it was, not even flushed.
+    pub fn turn(&mut self, alloc: Global, input: Input<'_>) -> Reply
+        ensures hears { HostHears E.told T.told T.holds (input_event input.entry)
+            result.refusal result.text self.old self.new }
+        ensures stamped { HostStamps T.stamped (input_event input.entry)
+            result.refusal self.old self.new }
+        ensures writable { WritesWhat result.refusal (input_event input.entry) }
+        ensures memory { is_memory result.refusal ≡ true → wants_memory input.entry ≡ true }
+        ensures quiet { is_some result.refusal ≡ true → result.text ≡ [] }
+        ensures accepted { self.new.accepted ≡ accepted_in (input_event input.entry) result.refusal }
+    {
+        let reply = self.hear(alloc, input);
+        if is_want(reply.refusal) {
+            return reply;
+        }
+        self.journal.flush();
+        reply
+    }
+
+    /// The turn, without the flush.
+    #[tactic(auto, using(crate::proofs::AcceptingLemmas::label_asks))]
+    fn hear(&mut self, alloc: Global, input: Input<'_>) -> Reply
+        ensures hears { HostHears E.told T.told T.holds (input_event input.entry)
+            result.refusal result.text self.old self.new }
+        ensures stamped { HostStamps T.stamped (input_event input.entry)
+            result.refusal self.old self.new }
+        ensures writable { WritesWhat result.refusal (input_event input.entry) }
+        ensures memory { is_memory result.refusal ≡ true → wants_memory input.entry ≡ true }
+        ensures quiet { is_some result.refusal ≡ true → result.text ≡ [] }
+        ensures accepted { self.new.accepted ≡ accepted_in (input_event input.entry) result.refusal }
+    {
+        lend_input(input); // for the proof
+        match input {
+            Input::Line(line) => self.line(alloc, line),
+            Input::Clock(at) => self.happen(alloc, EventRef::Clock(at)),
+            Input::Saw(path, obs) => self.happen(alloc, EventRef::Saw(path, obs)),
+            Input::Came(job, conn) => self.happen_to(alloc, job, News::Came(conn)),
+            Input::Left(job, conn) => self.happen_to(alloc, job, News::Left(conn)),
+            Input::Ended(job, run, how) => self.happen_to(alloc, job, News::Ended(run, how)),
+            Input::WaitRefused(job, run) => self.happen_to(alloc, job, News::WaitRefused(run)),
+        }
+    }
+
+    /// What happens to the job of this label. A name that is no label is answered by BadRequest.
+    fn happen_to(&mut self, alloc: Global, job: &str, what: News) -> Reply
+        ensures hears { HostHears E.told T.told T.holds
+            (if_label job.now (journaled_of job.now what))
+            result.refusal result.text self.old self.new }
+        ensures stamped { HostStamps T.stamped (if_label job.now (journaled_of job.now what))
+            result.refusal self.old self.new }
+        ensures memory { is_memory result.refusal ≡ true → ⊥ }
+        ensures quiet { is_some result.refusal ≡ true → result.text ≡ [] }
+        ensures accepted { self.new.accepted ≡ Other }
+    {
+        if is_label(job) {
+            self.happen(alloc, EventRef::ToJob(job, what))
+        } else {
+            self.accepted = Accepted::Other;
+            refused(alloc, Refusal::BadRequest)
+        }
+    }
+
+    /// What happens, if the outside is first asked nothing, with its reply.
+    pub(crate) fn happen(&mut self, alloc: Global, what: EventRef<'_>) -> Reply
+        ensures hears { HostHears E.told T.told T.holds (Some (journaled_by what.entry))
+            result.refusal result.text self.old self.new }
+        ensures stamped { HostStamps T.stamped (Some (journaled_by what.entry))
+            result.refusal self.old self.new }
+        ensures memory { is_memory result.refusal ≡ true → is_clock what.entry ≡ true }
+        ensures quiet { is_some result.refusal ≡ true → result.text ≡ [] }
+        ensures accepted { self.new.accepted ≡ Other }
+    {
+        let answer = self.take_in(alloc, what);
+        self.accepted = Accepted::Other;
+        done(alloc, answer)
+    }
+
+    /// Makes what happens an event, carries out what it orders, each order by its one call of the edge, and makes each answer the
+    /// next event, first in first out, until none remains. The journal gets the line of each event. The refusals are those of the
+    /// event, and then no call was made: BadRequest (the name is no label), NoSuchJob, Removing, NotRunning, TooManyConnections,
+    /// Stale, ClockRefused, ShuttingDown. NoMemory only to a reading of the clocks, which is then not taken in: nothing was carried
+    /// out, and no line was written.
+    pub(crate) fn take_in(&mut self, alloc: Global, what: EventRef<'_>) -> Result<(), Refusal>
+        ensures turn { UnlessMemory result
+            (Turns (event_of_ref what.entry) (event_line (journaled_by what.entry))
+            (refused_with result) self.old.table self.new.table
+            (trace (E.told self.old.edge) self.old.journal)
+            (trace (E.told self.new.edge) self.new.journal)) }
+        ensures memory { result ≡ Err NoMemory →
+            (is_clock what.entry ≡ true) × IsUncalled self.old.table self.new.table
+            (E.told self.old.edge) (E.told self.new.edge)
+            × (self.new.journal ≡ self.old.journal) }
+        ensures store { self.new.store ≡ self.old.store }
+    {
+        self.room.answers.clear();
+        match hear(
+            &mut self.table,
+            &mut self.edge,
+            alloc,
+            what,
+            &mut self.room.answers,
+        ) {
+            Ok(()) => {
+                note(&mut self.journal, alloc, what);
+                self.settle(alloc);
+                Ok(())
+            }
+            Err(Refusal::NoMemory) => Err(Refusal::NoMemory),
+            Err(refusal) => {
+                note(&mut self.journal, alloc, what);
+                Err(refusal)
+            }
+        }
+    }
+}

@@ -1,3 +1,0 @@
-pub mod FinishingLemmas
-pub mod LoadTurnsLemmas
-pub mod SetTurnsLemmas

@@ -1,8 +1,0 @@
--- The line of the question.
-use Rattle.history_model.specs.declared.event.Event.TheVariants as journaled
-use Rattle.launcher_turn.proofs.NotingLemmas.{made-line}
-use Rattle.launcher_turn.proofs.questions.print.Goals as goal
-
-pub returns-in-Ok-clause-noted : goal.returns-in-Ok-clause-noted
-returns-in-Ok-clause-noted g c =
-    made-line (journaled.Print c.args.label.now) c.print_event.result _ _ c.print_event.ensures c.note_made.ensures.ok c.note_made.ensures.err
