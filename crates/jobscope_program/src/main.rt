@@ -1,8 +1,9 @@
 //! The program `jobscope`, which reads definitions before they are loaded, and journals after.
 #![tactic(auto)]
 
+use exit_status::{NO_MEMORY, USAGE};
 use own_process::own_words;
-use scope::{NO_MEMORY, USAGE, jobscope};
+use scope::jobscope;
 use std::io;
 use std::process::ExitCode;
 

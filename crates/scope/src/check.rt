@@ -1,9 +1,10 @@
 //! What a load would say of definitions, and what may be wrong with them.
 
 use crate::next::{bytes_of, now};
-use crate::telling::{BAD_CLOCK, BAD_FILE, tell_of};
+use crate::telling::tell_of;
 use crate::there::add_missing;
 use crate::zone::zone_of;
+use exit_status::{BAD_CLOCK, BAD_FILE, REFUSED};
 use history_model::KeyName;
 use job_defs::Def;
 use path_files::{Found, Kind, files_at};
@@ -13,9 +14,6 @@ use scope_check::{
 use scope_words::{Paths, ZoneWords};
 use std::alloc::{AllocError, Global};
 use std::io;
-
-/// The exit status if a definition is refused, or has a warning where none may be.
-const REFUSED: u8 = 1;
 
 /// A label, and the file that has it.
 #[derive(Drop)]

@@ -1,14 +1,12 @@
 //! Lines of a crontab as definitions.
 
-use crate::telling::{BAD_FILE, tell_of};
+use crate::telling::tell_of;
+use exit_status::{BAD_FILE, REFUSED};
 use scope_cron::{Line, LineFault, definition_of, read_line};
 use scope_words::Paths;
 use std::alloc::Global;
 use std::io;
 use std::io::{ErrorKind, Read};
-
-/// The exit status if a line is refused.
-const REFUSED: u8 = 1;
 
 /// The longest crontab that is read from standard input, in bytes.
 const LONGEST: u64 = 1_048_576;

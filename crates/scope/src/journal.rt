@@ -1,6 +1,7 @@
 //! A journal that words name: where it is, and its reading to the end of what is there.
 
-use crate::telling::{BAD_FILE, tell_of};
+use crate::telling::tell_of;
+use exit_status::BAD_FILE;
 use journal_reading::{JournalFault, JournalReader};
 use scope_words::JournalWords;
 use std::alloc::Global;

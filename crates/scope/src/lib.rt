@@ -15,5 +15,4 @@ mod there;
 mod why;
 mod zone;
 
-pub use program::{USAGE, jobscope};
-pub use telling::NO_MEMORY;
+pub use program::jobscope;

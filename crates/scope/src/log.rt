@@ -3,8 +3,8 @@
 use crate::journal::{
     Feed, Source, journal_path, name_of, open_journal, source_of, take_piece, tell_bad, tell_fault,
 };
-use crate::telling::BAD_FILE;
 use calendar_due::Zone;
+use exit_status::BAD_FILE;
 use history_model::Text;
 use journal_reading::{JournalFault, JournalReader};
 use journal_texts::{begin_line, log_lines};

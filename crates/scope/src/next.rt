@@ -3,10 +3,11 @@
 ghost use Rattle.std.specs.Prelude.{◌≤◌, IfOk};
 
 use crate::coming::{calendar_after, interval_after};
-use crate::telling::{BAD_CLOCK, BAD_FILE, tell_of};
+use crate::telling::tell_of;
 use crate::zone::zone_of;
 use calendar_due::Zone;
 use ctl_protocol::LINE_LIMIT;
+use exit_status::{BAD_CLOCK, BAD_FILE};
 use history_model::MAX_WALL;
 use job_defs::{Def, DefFault, read_def};
 use path_files::{Found, Kind, files_at, read_file};

@@ -5,8 +5,9 @@ use crate::coming::calendar_after;
 use crate::journal::{
     Feed, Source, journal_path, name_of, source_of, take_piece, tell_bad, tell_fault,
 };
-use crate::telling::{BAD_FILE, tell_of};
+use crate::telling::tell_of;
 use calendar_due::Zone;
+use exit_status::BAD_FILE;
 use history_model::{MAX_WALL, Text};
 use job_defs::Def;
 use journal_reading::{Job, Journal, JournalFault, JournalReader};

@@ -7,13 +7,11 @@ use crate::next::next;
 use crate::picture::picture;
 use crate::telling::{tell_end, want_memory};
 use crate::why::{runs, why};
+use exit_status::USAGE;
 use scope_words::{ScopeCommand, WordFault, explain_scope, read_scope_words};
 use std::alloc::Global;
 use std::io;
 use std::sync::Wait;
-
-/// The exit status for words that are no command (`EX_USAGE` of sysexits.h).
-pub const USAGE: u8 = 64;
 
 /// Does what the words ask, the program's own name being the first, and answers the exit status. What is asked for goes to the
 /// standard output; a fault is one line on the standard error. 64 for words that are no command, 65 for a file, 71 for the clock,

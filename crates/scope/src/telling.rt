@@ -1,23 +1,9 @@
 //! What a run tells on standard error.
 
+use exit_status::{BAD_OUTPUT, NO_MEMORY, READER_GONE};
 use std::fmt::Display;
 use std::io;
 use std::io::ErrorKind;
-
-/// The exit status for want of memory.
-pub const NO_MEMORY: u8 = 1;
-
-/// The exit status of a file that can't be read or used (`EX_DATAERR` of sysexits.h).
-pub(crate) const BAD_FILE: u8 = 65;
-
-/// The exit status of a clock that can't be read (`EX_OSERR`).
-pub(crate) const BAD_CLOCK: u8 = 71;
-
-/// The exit status if the standard output failed (`EX_IOERR`).
-const BAD_OUTPUT: u8 = 74;
-
-/// The exit status if the standard output's reader has gone: that of a program which a shell's pipe ended by SIGPIPE.
-const READER_GONE: u8 = 141;
 
 /// Tells a fault, or what is to be known, of the file in one line.
 pub(crate) fn tell_of<D: Display>(host: &HostRuntime, path: &str, told: &D) {

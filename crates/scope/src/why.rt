@@ -1,7 +1,7 @@
 //! Why each job stands as it does at a journal's end, and what its runs came to.
 
 use crate::journal::{Feed, read_journal};
-use crate::telling::BAD_FILE;
+use exit_status::BAD_FILE;
 use journal_texts::{runs_table, why_text};
 use scope_times::utc;
 use scope_words::JournalWords;
