@@ -1,18 +1,12 @@
-//! The exit statuses of the three programs: each number once. Those from 64 on are of sysexits.h. A `jobctl` that was refused ends
-//! with the code of the first refusal (`Refusal::code`) in place of these.
+//! The exit statuses of the three programs. Those from 64 on are of sysexits.h. How `jobd replay` ended is told by `replay::status_of`,
+//! by a contract. A `jobctl` that was refused ends with the code of the first refusal (`Refusal::code`) in place of these.
 #![tactic(auto)]
 
 /// Memory was refused: all three programs.
 pub const NO_MEMORY: u8 = 1;
 
-/// `jobd replay`: the header can't be read.
-pub const HEADER: u8 = 2;
-
-/// `jobd replay`, `jobd overrides`, a help of `jobd`: a read or a write of the standard streams failed.
+/// `jobd overrides`, and a help of `jobd`: the standard output failed.
 pub const STREAMS: u8 = 3;
-
-/// `jobd replay`: a line is too long.
-pub const LONG_LINE: u8 = 4;
 
 /// `jobd`: the store.
 pub const STORE: u8 = 5;
