@@ -10,18 +10,18 @@ use Rattle.child_edge.specs.declared.plain.Scripted.{Scripted}
 use Rattle.child_edge.specs.declared.plain.Scripted.TheVariants.{Started, Done, Running, Over, Seen, At, Refused, NoMemory}
 
 -- a call with its answer
-abbrev pub Entry : Type 0
-Entry = EdgeCall × Scripted
+abbrev pub ToldCall : Type 0
+ToldCall = EdgeCall × Scripted
 
 -- From old to new the edge was called for exactly these entries, in this order. Nothing is claimed
 -- of an edge that does not tell, nor from the call on at which it stops telling.
-abbrev pub Tells : Option (List Entry) → List Entry → Option (List Entry) → Type 0
+abbrev pub Tells : Option (List ToldCall) → List ToldCall → Option (List ToldCall) → Type 0
 Tells old entries new =
-    (after : List Entry) → new ≡ Some after
-    → (before : List Entry) × (old ≡ Some before) × (after ≡ before ++ entries)
+    (after : List ToldCall) → new ≡ Some after
+    → (before : List ToldCall) × (old ≡ Some before) × (after ≡ before ++ entries)
 
 -- it was called once
-abbrev pub TellsOne : Option (List Entry) → Entry → Option (List Entry) → Type 0
+abbrev pub TellsOne : Option (List ToldCall) → ToldCall → Option (List ToldCall) → Type 0
 TellsOne old entry new = Tells old (entry ∷ []) new
 
 -- the count of failures after one more; after the greatest u64 comes 0

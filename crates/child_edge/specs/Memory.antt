@@ -4,14 +4,14 @@ use Rattle.child_edge.specs.declared.plain.EdgeCall.{EdgeCall}
 use Rattle.child_edge.specs.declared.plain.EdgeCall.TheVariants.{Start, Term, Kill, Poll, Bind, Close, Release, Look, Clock}
 use Rattle.child_edge.specs.declared.plain.Scripted.{Scripted}
 use Rattle.child_edge.specs.declared.plain.Scripted.TheVariants.{Started, Done, Running, Over, Seen, At, Refused, NoMemory}
-use Rattle.child_edge.specs.Calls.{one_more, is_done, Entry}
+use Rattle.child_edge.specs.Calls.{one_more, is_done, ToldCall}
 
 -- The script, how many of its answers were given, the calls with their answers, how many of them
 -- there is room for, whether all calls that were made are among them, and the count of failures.
 pub record Memory : Type 0 where
   pub script : List Scripted
   pub used : ℕ
-  pub calls : List Entry
+  pub calls : List ToldCall
   pub room : ℕ
   pub is_telling : Bool
   pub failures : ℕ
@@ -28,7 +28,7 @@ uncalled script room = record {
 }
 
 -- what the edge tells
-abbrev pub calls_told : Memory → Option (List Entry)
+abbrev pub calls_told : Memory → Option (List ToldCall)
 calls_told m = if m.is_telling then Some m.calls else None
 
 -- a further call can be listed

@@ -4,7 +4,7 @@ use crate::fault::Fault;
 use crate::request::{load_event, unload_event};
 use crate::session::Session;
 use crate::settings::{SettingFault, Settings, settings_of};
-use history_model::Event;
+use history_model::{Ask, Event, JobItem, Text};
 use launchctl_words::{Command, Paths, WordFault, Words, explain, read_words, read_words_beside};
 use path_files::{Found, Kind, files_at};
 use std::alloc::Global;
@@ -32,6 +32,21 @@ enum Task {
     Request(Event),
 }
 
+fn asked(label: Text, ask: Ask) -> Task {
+    Task::Request(Event::OfJob {
+        job: label,
+        item: JobItem::Asked(ask),
+    })
+}
+
+fn set(label: Text, disabled: bool) -> Task {
+    Task::Request(Event::Set {
+        job: label,
+        disabled,
+        store: true,
+    })
+}
+
 fn task_of(command: Command) -> Task {
     match command {
         Command::Load {
@@ -49,20 +64,11 @@ fn task_of(command: Command) -> Task {
             writes_setting,
             paths,
         } => Task::Files(Deed::Unload { writes_setting }, paths),
-        Command::Start { label } => Task::Request(Event::Start { job: label }),
-        Command::Stop { label } => Task::Request(Event::Stop { job: label }),
-        Command::Enable { label } => Task::Request(Event::Enable {
-            job: label,
-            store: true,
-        }),
-        Command::Disable { label } => Task::Request(Event::Disable {
-            job: label,
-            store: true,
-        }),
-        Command::Kickstart { kills_first, label } => Task::Request(Event::Kickstart {
-            job: label,
-            kills_first,
-        }),
+        Command::Start { label } => asked(label, Ask::Start),
+        Command::Stop { label } => asked(label, Ask::Stop),
+        Command::Enable { label } => set(label, false),
+        Command::Disable { label } => set(label, true),
+        Command::Kickstart { kills_first, label } => asked(label, Ask::Kickstart(kills_first)),
         Command::List => Task::Request(Event::List),
         Command::Print { label } => Task::Request(Event::Print { job: label }),
         Command::Shutdown => Task::Request(Event::Shutdown),

@@ -10,6 +10,9 @@ use Rattle.history_model.specs.Labels.{is_label, is_forbidden}
 use Rattle.history_model.specs.declared.Ended.TheVariants.{Code, Signal}
 use Rattle.history_model.specs.declared.event.Event.{Event}
 use Rattle.history_model.specs.declared.event.Event.TheVariants as events
+use Rattle.history_model.specs.declared.event.JobItem.TheVariants as happens
+use Rattle.history_model.specs.declared.Ask.TheVariants as asks
+use Rattle.history_model.specs.declared.Answer.TheVariants as answers
 use Rattle.event_reader.specs.declared.members.Form.TheVariants as forms
 use Rattle.event_reader.specs.Targets.{is_slash, behind_domain, label_named}
 use Rattle.event_reader.specs.Members.{◌>>=◌, text_key, number_key, flag_key, flag_or, label_key, target_key, has_only}
@@ -42,28 +45,30 @@ pub journal_shape_back : (e : Event) → is_writable e ≡ true → event_shape 
 unfolding event_shape journal_shape asked_shape load_shape unload_shape job_shape target_shape setting_shape kickstart_shape bare_shape clock_shape sight_keys has_saw_keys saw_shape connection_shape pid_key spawned_shape run_shape answer_shape byte_key end_key ended_shape text_key number_key flag_key flag_or label_key target_key has_only
 journal_shape_back (events.Load def writes_setting force bind store) h = refl
 journal_shape_back (events.Unload job writes_setting store) h = rw (kept (is_label job) job h) refl
-journal_shape_back (events.Start job) h = rw (kept (is_label job) job h) refl
-journal_shape_back (events.Stop job) h = rw (kept (is_label job) job h) refl
-journal_shape_back (events.Kickstart job kills_first) h = rw (named job h) refl
-journal_shape_back (events.Enable job store) h = rw (named job h) refl
-journal_shape_back (events.Disable job store) h = rw (named job h) refl
+journal_shape_back (events.Set job true store) h = rw (named job h) refl
+journal_shape_back (events.Set job false store) h = rw (named job h) refl
 journal_shape_back events.List h = refl
 journal_shape_back (events.Print job) h = rw (named job h) refl
 journal_shape_back events.Shutdown h = refl
 journal_shape_back (events.Clock at) h = refl
 journal_shape_back (events.Saw path obs) h = refl
-journal_shape_back (events.Came job conn) h = rw (kept (is_label job) job h) refl
-journal_shape_back (events.Left job conn) h = rw (kept (is_label job) job h) refl
-journal_shape_back (events.Spawned job run pid) h =
+journal_shape_back (events.OfJob job (happens.Asked asks.Start)) h = rw (kept (is_label job) job (and-left (is_label job) _ h)) refl
+journal_shape_back (events.OfJob job (happens.Asked asks.Stop)) h = rw (kept (is_label job) job (and-left (is_label job) _ h)) refl
+journal_shape_back (events.OfJob job (happens.Asked (asks.Kickstart kills_first))) h = rw (named job (and-left (is_label job) _ h)) refl
+journal_shape_back (events.OfJob job (happens.Asked asks.Unload)) h = absurd (true≢false (sym (and-right (is_label job) _ h)))
+journal_shape_back (events.OfJob job (happens.Asked asks.Shutdown)) h = absurd (true≢false (sym (and-right (is_label job) _ h)))
+journal_shape_back (events.OfJob job (happens.Came conn)) h = rw (kept (is_label job) job (and-left (is_label job) _ h)) refl
+journal_shape_back (events.OfJob job (happens.Left conn)) h = rw (kept (is_label job) job (and-left (is_label job) _ h)) refl
+journal_shape_back (events.OfJob job (happens.Answered (answers.Spawned run pid))) h =
     rw (kept (is_label job) job (and-left (is_label job) _ h), kept (nat_lt 0 pid && nat_lt pid (2 ^ 32)) pid (and-right (is_label job) _ h)) refl
-journal_shape_back (events.SpawnRefused job run) h = rw (kept (is_label job) job h) refl
-journal_shape_back (events.Termed job run ok) h = rw (kept (is_label job) job h) refl
-journal_shape_back (events.Killed job run ok) h = rw (kept (is_label job) job h) refl
-journal_shape_back (events.Ended job run (Code n)) h =
+journal_shape_back (events.OfJob job (happens.Answered (answers.SpawnRefused run))) h = rw (kept (is_label job) job (and-left (is_label job) _ h)) refl
+journal_shape_back (events.OfJob job (happens.Answered (answers.Termed run ok))) h = rw (kept (is_label job) job (and-left (is_label job) _ h)) refl
+journal_shape_back (events.OfJob job (happens.Answered (answers.Killed run ok))) h = rw (kept (is_label job) job (and-left (is_label job) _ h)) refl
+journal_shape_back (events.OfJob job (happens.Ended run (Code n))) h =
     rw (kept (is_label job) job (and-left (is_label job) _ h), kept (nat_lt n 256) n (and-right (is_label job) _ h)) refl
-journal_shape_back (events.Ended job run (Signal n)) h =
+journal_shape_back (events.OfJob job (happens.Ended run (Signal n))) h =
     rw (kept (is_label job) job (and-left (is_label job) _ h), kept (nat_lt n 256) n (and-right (is_label job) _ h)) refl
-journal_shape_back (events.WaitRefused job run) h = rw (kept (is_label job) job h) refl
+journal_shape_back (events.OfJob job (happens.WaitRefused run)) h = rw (kept (is_label job) job (and-left (is_label job) _ h)) refl
 
 pub request_shape_back : (e : Event) → is_request e ≡ true → request_shape_of (event_object forms.Request e) ≡ Some e
 unfolding request_shape_of asked_shape load_shape unload_shape job_shape target_shape setting_shape kickstart_shape bare_shape text_key flag_or label_key target_key has_only
@@ -72,26 +77,25 @@ request_shape_back (events.Load def writes_setting force false store) h = absurd
 request_shape_back (events.Load def writes_setting force true false) h = absurd (true≢false (sym h))
 request_shape_back (events.Unload job writes_setting true) h = rw (kept (is_label job) job (and-left (is_label job) _ h)) refl
 request_shape_back (events.Unload job writes_setting false) h = absurd (true≢false (sym (and-right (is_label job) _ h)))
-request_shape_back (events.Start job) h = rw (kept (is_label job) job h) refl
-request_shape_back (events.Stop job) h = rw (kept (is_label job) job h) refl
-request_shape_back (events.Kickstart job kills_first) h = rw (named job h) refl
-request_shape_back (events.Enable job true) h = rw (named job (and-left (is_label job) _ h)) refl
-request_shape_back (events.Enable job false) h = absurd (true≢false (sym (and-right (is_label job) _ h)))
-request_shape_back (events.Disable job true) h = rw (named job (and-left (is_label job) _ h)) refl
-request_shape_back (events.Disable job false) h = absurd (true≢false (sym (and-right (is_label job) _ h)))
+request_shape_back (events.Set job true true) h = rw (named job (and-left (is_label job) _ h)) refl
+request_shape_back (events.Set job false true) h = rw (named job (and-left (is_label job) _ h)) refl
+request_shape_back (events.Set job true false) h = absurd (true≢false (sym (and-right (is_label job) _ h)))
+request_shape_back (events.Set job false false) h = absurd (true≢false (sym (and-right (is_label job) _ h)))
 request_shape_back events.List h = refl
 request_shape_back (events.Print job) h = rw (named job h) refl
 request_shape_back events.Shutdown h = refl
 request_shape_back (events.Clock at) h = absurd (true≢false (sym h))
 request_shape_back (events.Saw path obs) h = absurd (true≢false (sym h))
-request_shape_back (events.Came job conn) h = absurd (true≢false (sym h))
-request_shape_back (events.Left job conn) h = absurd (true≢false (sym h))
-request_shape_back (events.Spawned job run pid) h = absurd (true≢false (sym h))
-request_shape_back (events.SpawnRefused job run) h = absurd (true≢false (sym h))
-request_shape_back (events.Termed job run ok) h = absurd (true≢false (sym h))
-request_shape_back (events.Killed job run ok) h = absurd (true≢false (sym h))
-request_shape_back (events.Ended job run how) h = absurd (true≢false (sym h))
-request_shape_back (events.WaitRefused job run) h = absurd (true≢false (sym h))
+request_shape_back (events.OfJob job (happens.Asked asks.Start)) h = rw (kept (is_label job) job (and-left (is_label job) _ h)) refl
+request_shape_back (events.OfJob job (happens.Asked asks.Stop)) h = rw (kept (is_label job) job (and-left (is_label job) _ h)) refl
+request_shape_back (events.OfJob job (happens.Asked (asks.Kickstart kills_first))) h = rw (named job (and-left (is_label job) _ h)) refl
+request_shape_back (events.OfJob job (happens.Asked asks.Unload)) h = absurd (true≢false (sym (and-right (is_label job) _ h)))
+request_shape_back (events.OfJob job (happens.Asked asks.Shutdown)) h = absurd (true≢false (sym (and-right (is_label job) _ h)))
+request_shape_back (events.OfJob job (happens.Came conn)) h = absurd (true≢false (sym (and-right (is_label job) _ h)))
+request_shape_back (events.OfJob job (happens.Left conn)) h = absurd (true≢false (sym (and-right (is_label job) _ h)))
+request_shape_back (events.OfJob job (happens.Answered answer)) h = absurd (true≢false (sym (and-right (is_label job) _ h)))
+request_shape_back (events.OfJob job (happens.Ended run how)) h = absurd (true≢false (sym (and-right (is_label job) _ h)))
+request_shape_back (events.OfJob job (happens.WaitRefused run)) h = absurd (true≢false (sym (and-right (is_label job) _ h)))
 
 -- ---- whole lines
 

@@ -5,34 +5,58 @@ use Rattle.history_model.specs.declared.Ended.{Ended}
 use Rattle.history_model.specs.declared.Ended.TheVariants.{Code, Signal}
 use Rattle.history_model.specs.declared.event.Event.{Event}
 use Rattle.history_model.specs.declared.event.Event.TheVariants as events
+use Rattle.history_model.specs.declared.event.JobItem.{JobItem}
+use Rattle.history_model.specs.declared.event.JobItem.TheVariants as happens
+use Rattle.history_model.specs.declared.Ask.{Ask}
+use Rattle.history_model.specs.declared.Ask.TheVariants as asks
+use Rattle.history_model.specs.declared.Answer.{Answer}
+use Rattle.history_model.specs.declared.Answer.TheVariants as answers
 use Rattle.history_model.specs.Labels.{is_label}
 use Rattle.event_reader.specs.declared.members.Form.{Form}
 use Rattle.event_reader.specs.declared.members.Form.TheVariants as forms
 use Rattle.event_reader.specs.Members.{tag_of, has_answers}
 use Rattle.ctl_protocol.specs.Objects.{Plain, text, flag, count, with_members, line_of}
 
+-- the name of what a client asks of a job
+abbrev pub name_of_ask : Ask → List ℕ
+name_of_ask asks.Start = codes "start"
+name_of_ask asks.Stop = codes "stop"
+name_of_ask (asks.Kickstart kills_first) = codes "kickstart"
+name_of_ask asks.Unload = codes "unload"
+name_of_ask asks.Shutdown = codes "shutdown"
+
+-- the name of an answer to an order
+abbrev pub name_of_answer : Answer → List ℕ
+name_of_answer (answers.Spawned run pid) = codes "spawned"
+name_of_answer (answers.SpawnRefused run) = codes "spawn_refused"
+name_of_answer (answers.Termed run ok) = codes "termed"
+name_of_answer (answers.Killed run ok) = codes "killed"
+
+-- the name of what happens to a job
+abbrev pub name_of_item : JobItem → List ℕ
+name_of_item (happens.Asked ask) = name_of_ask ask
+name_of_item (happens.Came conn) = codes "came"
+name_of_item (happens.Left conn) = codes "left"
+name_of_item (happens.Answered answer) = name_of_answer answer
+name_of_item (happens.Ended run how) = codes "ended"
+name_of_item (happens.WaitRefused run) = codes "wait_refused"
+
+-- the name of a setting
+abbrev pub name_of_setting : Bool → List ℕ
+name_of_setting true = codes "disable"
+name_of_setting false = codes "enable"
+
 -- the name that stands under the tag
 abbrev pub name_of : Event → List ℕ
 name_of (events.Load def writes_setting force bind store) = codes "load"
 name_of (events.Unload job writes_setting store) = codes "unload"
-name_of (events.Start job) = codes "start"
-name_of (events.Stop job) = codes "stop"
-name_of (events.Kickstart job kills_first) = codes "kickstart"
-name_of (events.Enable job store) = codes "enable"
-name_of (events.Disable job store) = codes "disable"
+name_of (events.Set job disabled store) = name_of_setting disabled
 name_of events.List = codes "list"
 name_of (events.Print job) = codes "print"
 name_of events.Shutdown = codes "shutdown"
 name_of (events.Clock at) = codes "clock"
 name_of (events.Saw path obs) = codes "saw"
-name_of (events.Came job conn) = codes "came"
-name_of (events.Left job conn) = codes "left"
-name_of (events.Spawned job run pid) = codes "spawned"
-name_of (events.SpawnRefused job run) = codes "spawn_refused"
-name_of (events.Termed job run ok) = codes "termed"
-name_of (events.Killed job run ok) = codes "killed"
-name_of (events.Ended job run how) = codes "ended"
-name_of (events.WaitRefused job run) = codes "wait_refused"
+name_of (events.OfJob job item) = name_of_item item
 
 -- the key `job`
 abbrev pub of_job : List ℕ → List ℕ × Plain
@@ -55,17 +79,36 @@ abbrev pub end_member : Ended → List ℕ × Plain
 end_member (Code n) = (codes "code", count n)
 end_member (Signal n) = (codes "signal", count n)
 
+-- the keys of what a client asks of a job
+abbrev pub ask_members : List ℕ → Ask → List (List ℕ × Plain)
+ask_members job (asks.Kickstart kills_first) = of_job job ∷ (codes "k", flag kills_first) ∷ []
+ask_members job _ = of_job job ∷ []
+
+-- the keys of an answer to an order
+abbrev pub order_members : List ℕ → Answer → List (List ℕ × Plain)
+order_members job (answers.Spawned run pid) =
+    of_job job ∷ (codes "pid", count pid) ∷ (codes "run", count run) ∷ []
+order_members job (answers.SpawnRefused run) = of_run job run
+order_members job (answers.Termed run ok) = of_answer job run ok
+order_members job (answers.Killed run ok) = of_answer job run ok
+
+-- the keys of what happens to a job
+abbrev pub item_members : List ℕ → JobItem → List (List ℕ × Plain)
+item_members job (happens.Asked ask) = ask_members job ask
+item_members job (happens.Came conn) = of_connection job conn
+item_members job (happens.Left conn) = of_connection job conn
+item_members job (happens.Answered answer) = order_members job answer
+item_members job (happens.Ended run how) =
+    end_member how ∷ of_job job ∷ (codes "run", count run) ∷ []
+item_members job (happens.WaitRefused run) = of_run job run
+
 -- the keys of its shape, but for the tag and the answers
 abbrev pub line_members : Event → List (List ℕ × Plain)
 line_members (events.Load def writes_setting force bind store) =
     (codes "F", flag force) ∷ (codes "def", text def) ∷ (codes "w", flag writes_setting) ∷ []
 line_members (events.Unload job writes_setting store) =
     of_job job ∷ (codes "w", flag writes_setting) ∷ []
-line_members (events.Start job) = of_job job ∷ []
-line_members (events.Stop job) = of_job job ∷ []
-line_members (events.Kickstart job kills_first) = of_job job ∷ (codes "k", flag kills_first) ∷ []
-line_members (events.Enable job store) = of_job job ∷ []
-line_members (events.Disable job store) = of_job job ∷ []
+line_members (events.Set job disabled store) = of_job job ∷ []
 line_members events.List = []
 line_members (events.Print job) = of_job job ∷ []
 line_members events.Shutdown = []
@@ -73,24 +116,14 @@ line_members (events.Clock at) = (codes "up", count at.up) ∷ (codes "wall", co
 line_members (events.Saw path obs) =
     (codes "exists", flag obs.present) ∷ (codes "nonempty", flag obs.nonempty_dir)
     ∷ (codes "path", text path) ∷ (codes "stamp", count obs.stamp) ∷ []
-line_members (events.Came job conn) = of_connection job conn
-line_members (events.Left job conn) = of_connection job conn
-line_members (events.Spawned job run pid) =
-    of_job job ∷ (codes "pid", count pid) ∷ (codes "run", count run) ∷ []
-line_members (events.SpawnRefused job run) = of_run job run
-line_members (events.Termed job run ok) = of_answer job run ok
-line_members (events.Killed job run ok) = of_answer job run ok
-line_members (events.Ended job run how) =
-    end_member how ∷ of_job job ∷ (codes "run", count run) ∷ []
-line_members (events.WaitRefused job run) = of_run job run
+line_members (events.OfJob job item) = item_members job item
 
 -- what the outside answered
 abbrev pub answer_members : Event → List (List ℕ × Plain)
 answer_members (events.Load def writes_setting force bind store) =
     (codes "bind", flag bind) ∷ (codes "store", flag store) ∷ []
 answer_members (events.Unload job writes_setting store) = (codes "store", flag store) ∷ []
-answer_members (events.Enable job store) = (codes "store", flag store) ∷ []
-answer_members (events.Disable job store) = (codes "store", flag store) ∷ []
+answer_members (events.Set job disabled store) = (codes "store", flag store) ∷ []
 answer_members _ = []
 
 -- the object of a line: its tag with the name, the keys of its shape, and an event's answers
@@ -119,39 +152,43 @@ abbrev is_byte_end : Ended → Bool
 is_byte_end (Code n) = nat_lt n 256
 is_byte_end (Signal n) = nat_lt n 256
 
+-- it is neither an unload nor a shutdown, which are events of their own
+abbrev is_ask_of_job : Ask → Bool
+is_ask_of_job asks.Unload = false
+is_ask_of_job asks.Shutdown = false
+is_ask_of_job _ = true
+
+-- each number of the item is one of its shape
+abbrev is_writable_item : JobItem → Bool
+is_writable_item (happens.Asked ask) = is_ask_of_job ask
+is_writable_item (happens.Answered (answers.Spawned run pid)) = nat_lt 0 pid && nat_lt pid (2 ^ 32)
+is_writable_item (happens.Ended run how) = is_byte_end how
+is_writable_item _ = true
+
 -- the job is a label, and each number is one of its shape
 abbrev pub is_writable : Event → Bool
 is_writable (events.Load def writes_setting force bind store) = true
 is_writable (events.Unload job writes_setting store) = is_label job
-is_writable (events.Start job) = is_label job
-is_writable (events.Stop job) = is_label job
-is_writable (events.Kickstart job kills_first) = is_label job
-is_writable (events.Enable job store) = is_label job
-is_writable (events.Disable job store) = is_label job
+is_writable (events.Set job disabled store) = is_label job
 is_writable events.List = true
 is_writable (events.Print job) = is_label job
 is_writable events.Shutdown = true
 is_writable (events.Clock at) = true
 is_writable (events.Saw path obs) = true
-is_writable (events.Came job conn) = is_label job
-is_writable (events.Left job conn) = is_label job
-is_writable (events.Spawned job run pid) = is_label job && (nat_lt 0 pid && nat_lt pid (2 ^ 32))
-is_writable (events.SpawnRefused job run) = is_label job
-is_writable (events.Termed job run ok) = is_label job
-is_writable (events.Killed job run ok) = is_label job
-is_writable (events.Ended job run how) = is_label job && is_byte_end how
-is_writable (events.WaitRefused job run) = is_label job
+is_writable (events.OfJob job item) = is_label job && is_writable_item item
+
+-- a client asks for it
+abbrev is_asked : JobItem → Bool
+is_asked (happens.Asked ask) = is_ask_of_job ask
+is_asked _ = false
 
 -- what a client may ask, with answers that count as given
 abbrev pub is_request : Event → Bool
 is_request (events.Load def writes_setting force bind store) = bind && store
 is_request (events.Unload job writes_setting store) = is_label job && store
-is_request (events.Start job) = is_label job
-is_request (events.Stop job) = is_label job
-is_request (events.Kickstart job kills_first) = is_label job
-is_request (events.Enable job store) = is_label job && store
-is_request (events.Disable job store) = is_label job && store
+is_request (events.Set job disabled store) = is_label job && store
 is_request events.List = true
 is_request (events.Print job) = is_label job
 is_request events.Shutdown = true
+is_request (events.OfJob job item) = is_label job && is_asked item
 is_request _ = false

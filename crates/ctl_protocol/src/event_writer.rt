@@ -2,17 +2,20 @@
 
 ghost use Rattle.std.specs.Prelude.{◌≡◌, IfOk, OnOk, Some, codes, ◌∷◌, [], true};
 ghost use Rattle.history_model.specs.declared.event.Event.TheVariants as events;
+ghost use Rattle.history_model.specs.declared.event.JobItem.TheVariants as happens;
+ghost use Rattle.history_model.specs.declared.Ask.TheVariants as asks;
+ghost use Rattle.history_model.specs.declared.Answer.TheVariants as answers;
 ghost use Rattle.serde_json.specs.View.{view};
 ghost use Rattle.serde_json.specs.Written.{compact_text};
 ghost use Rattle.event_reader.specs.EventLines.{event_at, request_at};
 ghost use Rattle.event_reader.specs.declared.members.Form.TheVariants as forms;
 ghost use Rattle.ctl_protocol.specs.Objects.{flag, flags_of, plains_of, plain_of};
 ghost use Rattle.ctl_protocol.specs.EventWriter as lines;
-ghost use Rattle.ctl_protocol.specs.EventWriter.{end_member, event_object, of_answer, of_connection, of_job, of_run, is_request, is_writable, line_object};
+ghost use Rattle.ctl_protocol.specs.EventWriter.{end_member, event_object, name_of_setting, of_answer, of_connection, of_job, of_run, is_request, is_writable, line_object};
 
 use crate::object::{Cell, line_from, put_all, put_flags};
 use event_reader::Form;
-use history_model::{Ended, Event, Obs, Reading, Text};
+use history_model::{Answer, Ask, Ended, Event, JobItem, Obs, Reading, Text};
 use serde_json::{Map, Value};
 use std::alloc::{AllocError, Global};
 
@@ -51,18 +54,30 @@ fn job_value(alloc: Global, form: Form, name: &str, job: &Text) -> Result<Value,
     line_value(alloc, form, name, &[("job", Cell::Text(job.as_str()))], &[])
 }
 
+/// The name of a setting.
+fn setting_name(disabled: bool) -> &'static str
+    ensures { result.now ≡ name_of_setting disabled }
+{
+    if disabled { "disable" } else { "enable" }
+}
+
 fn setting_value(
     alloc: Global,
     form: Form,
-    name: &str,
     job: &Text,
+    disabled: bool,
     store: bool,
 ) -> Result<Value, AllocError>
-    ensures { IfOk result (λ v. view v
-        ≡ line_object form name.now (of_job job.now ∷ []) ((codes "store", flag store) ∷ [])) }
+    ensures { IfOk result (λ v. view v ≡ event_object form (events.Set job.now disabled store)) }
 {
     let keys = [("job", Cell::Text(job.as_str()))];
-    line_value(alloc, form, name, &keys, &[("store", store)])
+    line_value(
+        alloc,
+        form,
+        setting_name(disabled),
+        &keys,
+        &[("store", store)],
+    )
 }
 
 fn connection_value(
@@ -95,7 +110,7 @@ fn run_value(
     line_value(alloc, form, name, &keys, &[])
 }
 
-fn answer_value(
+fn ok_value(
     alloc: Global,
     form: Form,
     name: &str,
@@ -125,60 +140,11 @@ fn saw_value(alloc: Global, form: Form, path: &Text, obs: Obs) -> Result<Value, 
     line_value(alloc, form, "saw", &keys, &[])
 }
 
-fn ended_value(
-    alloc: Global,
-    form: Form,
-    job: &Text,
-    run: u64,
-    how: Ended,
-) -> Result<Value, AllocError>
-    ensures { IfOk result (λ v. view v ≡ event_object form (events.Ended job.now run how)) }
-{
-    let keys = [
-        end_cell(how),
-        ("job", Cell::Text(job.as_str())),
-        ("run", Cell::Count(run)),
-    ];
-    line_value(alloc, form, "ended", &keys, &[])
-}
-
 fn clock_value(alloc: Global, form: Form, at: Reading) -> Result<Value, AllocError>
     ensures { IfOk result (λ v. view v ≡ event_object form (events.Clock at)) }
 {
     let keys = [("up", Cell::Count(at.up)), ("wall", Cell::Count(at.wall))];
     line_value(alloc, form, "clock", &keys, &[])
-}
-
-fn spawned_value(
-    alloc: Global,
-    form: Form,
-    job: &Text,
-    run: u64,
-    pid: u32,
-) -> Result<Value, AllocError>
-    ensures { IfOk result (λ v. view v ≡ event_object form (events.Spawned job.now run pid)) }
-{
-    let keys = [
-        ("job", Cell::Text(job.as_str())),
-        ("pid", Cell::Count(pid as u64)),
-        ("run", Cell::Count(run)),
-    ];
-    line_value(alloc, form, "spawned", &keys, &[])
-}
-
-fn kickstart_value(
-    alloc: Global,
-    form: Form,
-    job: &Text,
-    kills_first: bool,
-) -> Result<Value, AllocError>
-    ensures { IfOk result (λ v. view v ≡ event_object form (events.Kickstart job.now kills_first)) }
-{
-    let keys = [
-        ("job", Cell::Text(job.as_str())),
-        ("k", Cell::Flag(kills_first)),
-    ];
-    line_value(alloc, form, "kickstart", &keys, &[])
 }
 
 fn unload_value(
@@ -196,6 +162,104 @@ fn unload_value(
         ("w", Cell::Flag(writes_setting)),
     ];
     line_value(alloc, form, "unload", &keys, &[("store", store)])
+}
+
+fn kickstart_value(
+    alloc: Global,
+    form: Form,
+    job: &Text,
+    kills_first: bool,
+) -> Result<Value, AllocError>
+    ensures { IfOk result (λ v. view v
+        ≡ event_object form (events.OfJob job.now (happens.Asked (asks.Kickstart kills_first)))) }
+{
+    let keys = [
+        ("job", Cell::Text(job.as_str())),
+        ("k", Cell::Flag(kills_first)),
+    ];
+    line_value(alloc, form, "kickstart", &keys, &[])
+}
+
+/// The object of what a client asks of a job.
+fn asked_value(alloc: Global, form: Form, job: &Text, ask: Ask) -> Result<Value, AllocError>
+    ensures { IfOk result (λ v. view v
+        ≡ event_object form (events.OfJob job.now (happens.Asked ask))) }
+{
+    match ask {
+        Ask::Start => job_value(alloc, form, "start", job),
+        Ask::Stop => job_value(alloc, form, "stop", job),
+        Ask::Kickstart(kills_first) => kickstart_value(alloc, form, job, kills_first),
+        Ask::Unload => job_value(alloc, form, "unload", job),
+        Ask::Shutdown => job_value(alloc, form, "shutdown", job),
+    }
+}
+
+fn spawned_value(
+    alloc: Global,
+    form: Form,
+    job: &Text,
+    run: u64,
+    pid: u32,
+) -> Result<Value, AllocError>
+    ensures { IfOk result (λ v. view v
+        ≡ event_object form (events.OfJob job.now (happens.Answered (answers.Spawned run pid)))) }
+{
+    let keys = [
+        ("job", Cell::Text(job.as_str())),
+        ("pid", Cell::Count(pid as u64)),
+        ("run", Cell::Count(run)),
+    ];
+    line_value(alloc, form, "spawned", &keys, &[])
+}
+
+/// The object of an answer to an order.
+fn answered_value(
+    alloc: Global,
+    form: Form,
+    job: &Text,
+    answer: Answer,
+) -> Result<Value, AllocError>
+    ensures { IfOk result (λ v. view v
+        ≡ event_object form (events.OfJob job.now (happens.Answered answer))) }
+{
+    match answer {
+        Answer::Spawned { run, pid } => spawned_value(alloc, form, job, run, pid),
+        Answer::SpawnRefused { run } => run_value(alloc, form, "spawn_refused", job, run),
+        Answer::Termed { run, ok } => ok_value(alloc, form, "termed", job, run, ok),
+        Answer::Killed { run, ok } => ok_value(alloc, form, "killed", job, run, ok),
+    }
+}
+
+fn ended_value(
+    alloc: Global,
+    form: Form,
+    job: &Text,
+    run: u64,
+    how: Ended,
+) -> Result<Value, AllocError>
+    ensures { IfOk result (λ v. view v
+        ≡ event_object form (events.OfJob job.now (happens.Ended run how))) }
+{
+    let keys = [
+        end_cell(how),
+        ("job", Cell::Text(job.as_str())),
+        ("run", Cell::Count(run)),
+    ];
+    line_value(alloc, form, "ended", &keys, &[])
+}
+
+/// The object of what happens to a job.
+fn item_value(alloc: Global, form: Form, job: &Text, item: JobItem) -> Result<Value, AllocError>
+    ensures { IfOk result (λ v. view v ≡ event_object form (events.OfJob job.now item)) }
+{
+    match item {
+        JobItem::Asked(ask) => asked_value(alloc, form, job, ask),
+        JobItem::Came(conn) => connection_value(alloc, form, "came", job, conn),
+        JobItem::Left(conn) => connection_value(alloc, form, "left", job, conn),
+        JobItem::Answered(answer) => answered_value(alloc, form, job, answer),
+        JobItem::Ended { run, how } => ended_value(alloc, form, job, run, how),
+        JobItem::WaitRefused { run } => run_value(alloc, form, "wait_refused", job, run),
+    }
 }
 
 /// The object of an event.
@@ -223,24 +287,17 @@ fn event_value(alloc: Global, form: Form, event: &Event) -> Result<Value, AllocE
             writes_setting,
             store,
         } => unload_value(alloc, form, job, *writes_setting, *store),
-        Event::Start { job } => job_value(alloc, form, "start", job),
-        Event::Stop { job } => job_value(alloc, form, "stop", job),
-        Event::Kickstart { job, kills_first } => kickstart_value(alloc, form, job, *kills_first),
-        Event::Enable { job, store } => setting_value(alloc, form, "enable", job, *store),
-        Event::Disable { job, store } => setting_value(alloc, form, "disable", job, *store),
+        Event::Set {
+            job,
+            disabled,
+            store,
+        } => setting_value(alloc, form, job, *disabled, *store),
         Event::List => line_value(alloc, form, "list", &[], &[]),
         Event::Print { job } => job_value(alloc, form, "print", job),
         Event::Shutdown => line_value(alloc, form, "shutdown", &[], &[]),
         Event::Clock(at) => clock_value(alloc, form, *at),
         Event::Saw { path, obs } => saw_value(alloc, form, path, *obs),
-        Event::Came { job, conn } => connection_value(alloc, form, "came", job, *conn),
-        Event::Left { job, conn } => connection_value(alloc, form, "left", job, *conn),
-        Event::Spawned { job, run, pid } => spawned_value(alloc, form, job, *run, *pid),
-        Event::SpawnRefused { job, run } => run_value(alloc, form, "spawn_refused", job, *run),
-        Event::Termed { job, run, ok } => answer_value(alloc, form, "termed", job, *run, *ok),
-        Event::Killed { job, run, ok } => answer_value(alloc, form, "killed", job, *run, *ok),
-        Event::Ended { job, run, how } => ended_value(alloc, form, job, *run, *how),
-        Event::WaitRefused { job, run } => run_value(alloc, form, "wait_refused", job, *run),
+        Event::OfJob { job, item } => item_value(alloc, form, job, *item),
     }
 }
 

@@ -10,6 +10,10 @@ use Rattle.history_model.specs.declared.Ended.{Ended}
 use Rattle.history_model.specs.declared.Ended.TheVariants.{Code, Signal}
 use Rattle.history_model.specs.declared.event.Event.{Event}
 use Rattle.history_model.specs.declared.event.Event.TheVariants as events
+use Rattle.history_model.specs.declared.event.JobItem.TheVariants as happens
+use Rattle.history_model.specs.declared.Ask.{Ask}
+use Rattle.history_model.specs.declared.Ask.TheVariants as asks
+use Rattle.history_model.specs.declared.Answer.TheVariants as answers
 use Rattle.event_reader.specs.declared.members.Form.{Form}
 use Rattle.event_reader.specs.declared.members.Form.TheVariants as forms
 use Rattle.json_kinds.specs.Json.{json_in}
@@ -42,8 +46,10 @@ unload_shape form d =
       Some (events.Unload job writes_setting store)) else None
 
 -- `start` and `stop`: the label `job`
-unfoldable pub job_shape : Form → Data → Option (List ℕ)
-job_shape form d = if has_only form (codes "job" ∷ []) [] d then label_key (codes "job") d else None
+unfoldable pub job_shape : Ask → Form → Data → Option Event
+job_shape ask form d = if has_only form (codes "job" ∷ []) [] d then (do
+  job ← label_key (codes "job") d
+  Some (events.OfJob job (happens.Asked ask))) else None
 
 -- `print`: the target `job`
 unfoldable pub target_shape : Form → Data → Option (List ℕ)
@@ -51,18 +57,18 @@ target_shape form d =
     if has_only form (codes "job" ∷ []) [] d then target_key (codes "job") d else None
 
 -- `enable` and `disable`: the target `job`; the answer `store` (true)
-unfoldable pub setting_shape : Form → Data → Option (List ℕ × Bool)
-setting_shape form d = if has_only form (codes "job" ∷ []) (codes "store" ∷ []) d then (do
+unfoldable pub setting_shape : Bool → Form → Data → Option Event
+setting_shape disabled form d = if has_only form (codes "job" ∷ []) (codes "store" ∷ []) d then (do
   job ← target_key (codes "job") d
   store ← flag_or (codes "store") true d
-  Some (job, store)) else None
+  Some (events.Set job disabled store)) else None
 
 -- `kickstart`: the target `job`; the flag `k` (false)
 unfoldable pub kickstart_shape : Form → Data → Option Event
 kickstart_shape form d = if has_only form (codes "job" ∷ codes "k" ∷ []) [] d then (do
   job ← target_key (codes "job") d
   kills_first ← flag_or (codes "k") false d
-  Some (events.Kickstart job kills_first)) else None
+  Some (events.OfJob job (happens.Asked (asks.Kickstart kills_first)))) else None
 
 -- `list` and `shutdown`: no key beside the tag
 unfoldable pub bare_shape : Event → Form → Data → Option Event
@@ -82,11 +88,11 @@ abbrev pub request_shapes : Form → List Shape
 request_shapes form =
     (codes "load", load_shape form)
     ∷ (codes "unload", unload_shape form)
-    ∷ (codes "start", λ d. job_shape form d >>= λ job. Some (events.Start job))
-    ∷ (codes "stop", λ d. job_shape form d >>= λ job. Some (events.Stop job))
+    ∷ (codes "start", job_shape asks.Start form)
+    ∷ (codes "stop", job_shape asks.Stop form)
     ∷ (codes "kickstart", kickstart_shape form)
-    ∷ (codes "enable", λ d. setting_shape form d >>= λ s. Some (events.Enable s.0 s.1))
-    ∷ (codes "disable", λ d. setting_shape form d >>= λ s. Some (events.Disable s.0 s.1))
+    ∷ (codes "enable", setting_shape false form)
+    ∷ (codes "disable", setting_shape true form)
     ∷ (codes "list", bare_shape events.List form)
     ∷ (codes "print", λ d. target_shape form d >>= λ job. Some (events.Print job))
     ∷ (codes "shutdown", bare_shape events.Shutdown form)
@@ -145,7 +151,7 @@ spawned_shape d =
       job ← label_key (codes "job") d
       run ← number_key (codes "run") d
       pid ← pid_key d
-      Some (events.Spawned job run pid)) else None
+      Some (events.OfJob job (happens.Answered (answers.Spawned run pid)))) else None
 
 -- `spawn_refused` and `wait_refused`: the label `job`; the number `run`
 unfoldable pub run_shape : Data → Option (List ℕ × ℕ)
@@ -188,21 +194,37 @@ ended_shape d = if has_ended_keys d then (do
   job ← label_key (codes "job") d
   run ← number_key (codes "run") d
   how ← end_key d
-  Some (events.Ended job run how)) else None
+  Some (events.OfJob job (happens.Ended run how))) else None
 
 -- the shapes of what the outside says
 abbrev pub journal_shapes : List Shape
 journal_shapes =
     (codes "clock", clock_shape)
     ∷ (codes "saw", saw_shape)
-    ∷ (codes "came", λ d. connection_shape d >>= λ c. Some (events.Came c.0 c.1))
-    ∷ (codes "left", λ d. connection_shape d >>= λ c. Some (events.Left c.0 c.1))
+    ∷ (codes "came", λ d. connection_shape d >>= λ c. Some (events.OfJob c.0 (happens.Came c.1)))
+    ∷ (codes "left", λ d. connection_shape d >>= λ c. Some (events.OfJob c.0 (happens.Left c.1)))
     ∷ (codes "spawned", spawned_shape)
-    ∷ (codes "spawn_refused", λ d. run_shape d >>= λ r. Some (events.SpawnRefused r.0 r.1))
-    ∷ (codes "termed", λ d. answer_shape d >>= λ a. Some (events.Termed a.0 a.1 a.2))
-    ∷ (codes "killed", λ d. answer_shape d >>= λ a. Some (events.Killed a.0 a.1 a.2))
+    ∷ (
+      codes "spawn_refused",
+      λ d. run_shape d >>= λ r.
+          Some (events.OfJob r.0 (happens.Answered (answers.SpawnRefused r.1))),
+    )
+    ∷ (
+      codes "termed",
+      λ d. answer_shape d >>= λ a.
+          Some (events.OfJob a.0 (happens.Answered (answers.Termed a.1 a.2))),
+    )
+    ∷ (
+      codes "killed",
+      λ d. answer_shape d >>= λ a.
+          Some (events.OfJob a.0 (happens.Answered (answers.Killed a.1 a.2))),
+    )
     ∷ (codes "ended", ended_shape)
-    ∷ (codes "wait_refused", λ d. run_shape d >>= λ r. Some (events.WaitRefused r.0 r.1))
+    ∷ (
+      codes "wait_refused",
+      λ d. run_shape d >>= λ r.
+          Some (events.OfJob r.0 (happens.WaitRefused r.1)),
+    )
     ∷ []
 
 -- a line of a journal has a shape of either table

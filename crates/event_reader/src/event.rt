@@ -9,7 +9,7 @@ use crate::line::Line;
 use crate::members::{
     Form, ReadFault, flag_in, flag_or_in, has_only_keys, label_in, number_in, target_in, text_in,
 };
-use history_model::{Ended, Event, Obs, Reading, Text};
+use history_model::{Answer, Ask, Ended, Event, JobItem, Obs, Reading, Text};
 use json::Scratch;
 use std::alloc::{AllocError, Global};
 
@@ -53,13 +53,17 @@ fn unload_in(alloc: Global, form: Form, line: &Line<'_>) -> Result<Event, ReadFa
 }
 
 #[tactic(auto, unfolding(crate::specs::EventLines::job_shape))]
-fn job_in(alloc: Global, form: Form, line: &Line<'_>) -> Result<Text, ReadFault>
-    ensures { Reads result (job_shape form (seen line.now)) }
+fn job_in(alloc: Global, ask: Ask, form: Form, line: &Line<'_>) -> Result<Event, ReadFault>
+    ensures { Reads result (job_shape ask form (seen line.now)) }
 {
     if !has_only_keys(form, line, &["job"], &[]) {
         return Err(ReadFault::BadRequest);
     }
-    label_in(alloc, line, "job")
+    let job = label_in(alloc, line, "job")?;
+    Ok(Event::OfJob {
+        job,
+        item: JobItem::Asked(ask),
+    })
 }
 
 #[tactic(auto, unfolding(crate::specs::EventLines::target_shape))]
@@ -73,15 +77,24 @@ fn lone_target_in(alloc: Global, form: Form, line: &Line<'_>) -> Result<Text, Re
 }
 
 #[tactic(auto, unfolding(crate::specs::EventLines::setting_shape))]
-fn setting_in(alloc: Global, form: Form, line: &Line<'_>) -> Result<(Text, bool), ReadFault>
-    ensures { Reads result (setting_shape form (seen line.now)) }
+fn setting_in(
+    alloc: Global,
+    disabled: bool,
+    form: Form,
+    line: &Line<'_>,
+) -> Result<Event, ReadFault>
+    ensures { Reads result (setting_shape disabled form (seen line.now)) }
 {
     if !has_only_keys(form, line, &["job"], &["store"]) {
         return Err(ReadFault::BadRequest);
     }
     let job = target_in(alloc, line, "job")?;
     let store = flag_or_in(line, "store", true)?;
-    Ok((job, store))
+    Ok(Event::Set {
+        job,
+        disabled,
+        store,
+    })
 }
 
 #[tactic(auto, unfolding(crate::specs::EventLines::kickstart_shape))]
@@ -93,7 +106,10 @@ fn kickstart_in(alloc: Global, form: Form, line: &Line<'_>) -> Result<Event, Rea
     }
     let job = target_in(alloc, line, "job")?;
     let kills_first = flag_or_in(line, "k", false)?;
-    Ok(Event::Kickstart { job, kills_first })
+    Ok(Event::OfJob {
+        job,
+        item: JobItem::Asked(Ask::Kickstart(kills_first)),
+    })
 }
 
 #[tactic(auto, unfolding(crate::specs::EventLines::bare_shape))]
@@ -114,23 +130,11 @@ fn request_named(alloc: Global, name: &str, form: Form, line: &Line<'_>) -> Resu
     match name {
         "load" => load_in(alloc, form, line),
         "unload" => unload_in(alloc, form, line),
-        "start" => {
-            let job = job_in(alloc, form, line)?;
-            Ok(Event::Start { job })
-        }
-        "stop" => {
-            let job = job_in(alloc, form, line)?;
-            Ok(Event::Stop { job })
-        }
+        "start" => job_in(alloc, Ask::Start, form, line),
+        "stop" => job_in(alloc, Ask::Stop, form, line),
         "kickstart" => kickstart_in(alloc, form, line),
-        "enable" => {
-            let (job, store) = setting_in(alloc, form, line)?;
-            Ok(Event::Enable { job, store })
-        }
-        "disable" => {
-            let (job, store) = setting_in(alloc, form, line)?;
-            Ok(Event::Disable { job, store })
-        }
+        "enable" => setting_in(alloc, false, form, line),
+        "disable" => setting_in(alloc, true, form, line),
         "list" => bare_in(Event::List, form, line),
         "print" => {
             let job = lone_target_in(alloc, form, line)?;
@@ -226,7 +230,10 @@ fn spawned_in(alloc: Global, line: &Line<'_>) -> Result<Event, ReadFault>
     let job = label_in(alloc, line, "job")?;
     let run = number_in(line, "run")?;
     let pid = pid_in(line)?;
-    Ok(Event::Spawned { job, run, pid })
+    Ok(Event::OfJob {
+        job,
+        item: JobItem::Answered(Answer::Spawned { run, pid }),
+    })
 }
 
 #[tactic(auto, unfolding(crate::specs::EventLines::run_shape))]
@@ -292,7 +299,10 @@ fn ended_in(alloc: Global, line: &Line<'_>) -> Result<Event, ReadFault>
     let job = label_in(alloc, line, "job")?;
     let run = number_in(line, "run")?;
     let how = end_in(line)?;
-    Ok(Event::Ended { job, run, how })
+    Ok(Event::OfJob {
+        job,
+        item: JobItem::Ended { run, how },
+    })
 }
 
 /// The shape of any event.
@@ -305,29 +315,35 @@ fn journal_in(alloc: Global, name: &str, line: &Line<'_>) -> Result<Event, ReadF
         "saw" => saw_in(alloc, line),
         "came" => {
             let (job, conn) = connection_in(alloc, line)?;
-            Ok(Event::Came { job, conn })
+            let item = JobItem::Came(conn);
+            Ok(Event::OfJob { job, item })
         }
         "left" => {
             let (job, conn) = connection_in(alloc, line)?;
-            Ok(Event::Left { job, conn })
+            let item = JobItem::Left(conn);
+            Ok(Event::OfJob { job, item })
         }
         "spawned" => spawned_in(alloc, line),
         "spawn_refused" => {
             let (job, run) = run_in(alloc, line)?;
-            Ok(Event::SpawnRefused { job, run })
+            let item = JobItem::Answered(Answer::SpawnRefused { run });
+            Ok(Event::OfJob { job, item })
         }
         "termed" => {
             let (job, run, ok) = answer_in(alloc, line)?;
-            Ok(Event::Termed { job, run, ok })
+            let item = JobItem::Answered(Answer::Termed { run, ok });
+            Ok(Event::OfJob { job, item })
         }
         "killed" => {
             let (job, run, ok) = answer_in(alloc, line)?;
-            Ok(Event::Killed { job, run, ok })
+            let item = JobItem::Answered(Answer::Killed { run, ok });
+            Ok(Event::OfJob { job, item })
         }
         "ended" => ended_in(alloc, line),
         "wait_refused" => {
             let (job, run) = run_in(alloc, line)?;
-            Ok(Event::WaitRefused { job, run })
+            let item = JobItem::WaitRefused { run };
+            Ok(Event::OfJob { job, item })
         }
         _ => request_named(alloc, name, Form::Event, line),
     }

@@ -1,6 +1,6 @@
 //! What happens to the launcher: the events of a journal, with what the outside answered.
 use crate::text::Text;
-use crate::{Ended, Obs, Reading};
+use crate::{Answer, Ask, Ended, Obs, Reading};
 
 /// A label's setting, made by `enable` and `disable` and by `-w` of load and unload (launchctl(1)): it decides over the
 /// definition's `Disabled`, and needs no loaded job.
@@ -8,6 +8,24 @@ use crate::{Ended, Obs, Reading};
 pub struct Setting {
     pub label: Text,
     pub disabled: bool,
+}
+
+/// What happens to one job, and is no reading of the clocks and no sight of a path: what a client asks of it, what comes to its
+/// sockets, what the outside answers to its orders, and how its run ends. To a contract, the item that its past grows by.
+#[derive(Clone, Copy)]
+pub enum JobItem {
+    /// A client asks (launchctl(1)).
+    Asked(Ask),
+    /// A connection came to one of the job's sockets, under this number; numbers rise within a load.
+    Came(u64),
+    /// A waiting connection was given up by its client.
+    Left(u64),
+    /// The answer to an order. It names the order's run.
+    Answered(Answer),
+    /// The run's child was waited for.
+    Ended { run: u64, how: Ended },
+    /// The system refused to wait for the run's child, which keeps its process id.
+    WaitRefused { run: u64 },
 }
 
 /// An event of the launcher, as a line of a journal says it (launchctl(1) for what a control client asks). `bind` and `store`
@@ -29,27 +47,10 @@ pub enum Event {
         writes_setting: bool,
         store: bool,
     },
-    /// A demand, unless the job runs.
-    Start {
+    /// From now on the label is to be loaded whatever its definition says (`enable`), or is not to be loaded (`disable`).
+    Set {
         job: Text,
-    },
-    /// The job's run is to be ended: TERM, and KILL after ExitTimeOut.
-    Stop {
-        job: Text,
-    },
-    /// A start; with `kills_first` also an end of the present run by KILL.
-    Kickstart {
-        job: Text,
-        kills_first: bool,
-    },
-    /// The label is to be loaded from now on, whatever its definition says.
-    Enable {
-        job: Text,
-        store: bool,
-    },
-    /// The label is not to be loaded from now on.
-    Disable {
-        job: Text,
+        disabled: bool,
         store: bool,
     },
     /// A line for each loaded job is asked for.
@@ -67,48 +68,9 @@ pub enum Event {
         path: Text,
         obs: Obs,
     },
-    /// A connection came to one of the job's sockets.
-    Came {
+    /// What happens to the job of this label: each of its items but an unload and a shutdown, which are events of their own.
+    OfJob {
         job: Text,
-        conn: u64,
-    },
-    /// A waiting connection was given up by its client.
-    Left {
-        job: Text,
-        conn: u64,
-    },
-    /// The child of the run was started, under this process id.
-    Spawned {
-        job: Text,
-        run: u64,
-        pid: u32,
-    },
-    /// The child of the run could not be started.
-    SpawnRefused {
-        job: Text,
-        run: u64,
-    },
-    /// TERM was sent to the run's child, or could not be.
-    Termed {
-        job: Text,
-        run: u64,
-        ok: bool,
-    },
-    /// KILL was sent to the run's child, or could not be.
-    Killed {
-        job: Text,
-        run: u64,
-        ok: bool,
-    },
-    /// The run's child was waited for.
-    Ended {
-        job: Text,
-        run: u64,
-        how: Ended,
-    },
-    /// The system refused to wait for the run's child, which keeps its process id.
-    WaitRefused {
-        job: Text,
-        run: u64,
+        item: JobItem,
     },
 }

@@ -10,7 +10,7 @@ pub mod laws;
 mod reasons;
 mod text;
 
-pub use event::{Event, Setting};
+pub use event::{Event, JobItem, Setting};
 pub use reasons::{DemandKind, Reasons, StandingChild, Wants};
 pub use text::Text;
 

@@ -16,8 +16,7 @@ use crate::calendar::Calendar;
 use crate::paths::{Queues, Watches};
 use conditions::Conditions;
 use history_model::{
-    Act, Answer, Ask, DemandKind, Ended, JobState, MAX_UP, MAX_WALL, Obs, Reading, Refusal,
-    ShownJob,
+    Act, Answer, DemandKind, JobItem, JobState, MAX_UP, MAX_WALL, Obs, Reading, Refusal, ShownJob,
 };
 use job_defs::Def;
 use pace::{Ending, Interval, Signal, Throttle};
@@ -52,7 +51,8 @@ pub struct Job {
 }
 
 impl Job {
-    ghost use Rattle.job_core.specs.Events.{item_of};
+    ghost use Rattle.history_model.specs.JobItems.{item_of};
+    ghost use Rattle.job_core.specs.Events.{item_of_event};
     ghost use Rattle.job_defs.specs.Definitions.{definition};
     ghost use Rattle.history_model.specs.Shown.{shown_by, state_by};
     ghost use Rattle.job_core.specs.Fields.{facts};
@@ -101,22 +101,44 @@ impl Job {
     /// Takes in what happened. `now` is the reading before it.
     pub fn apply(&mut self, event: JobEvent<'_>, now: Reading) -> Result<(), Refusal>
         requires { now.up ≤ MAX_UP }
-        ensures follows { Follows (facts self.old) (item_of event.entry) now result
+        ensures follows { Follows (facts self.old) (item_of_event event.entry) now result
             (facts self.new) }
         ensures unchanged { OnErr result (self.new ≡ self.old) }
     {
         match event {
             JobEvent::Read(at, calendar) => self.read(at, calendar, now),
-            JobEvent::Answered(Answer::Spawned { run, pid }) => self.spawned(run, pid, now),
-            JobEvent::Answered(Answer::SpawnRefused { run }) => self.spawn_refused(run, now),
-            JobEvent::Ended(run, how) => self.ended(run, how, now),
-            JobEvent::Asked(ask) => self.asked(ask, now),
-            JobEvent::Answered(Answer::Termed { run, ok }) => self.termed(run, ok, now),
-            JobEvent::Answered(Answer::Killed { run, ok }) => self.killed(run, ok, now),
-            JobEvent::WaitRefused { run } => self.wait_refused(run, now),
             JobEvent::Saw(path, obs) => self.saw(path, obs, now),
-            JobEvent::Came(conn) => self.came(conn, now),
-            JobEvent::Left(conn) => self.left(conn, now),
+            JobEvent::Item(item) => self.take_in(item, now),
+        }
+    }
+
+    /// Takes in an item of the job.
+    fn take_in(&mut self, item: JobItem, now: Reading) -> Result<(), Refusal>
+        requires { now.up ≤ MAX_UP }
+        ensures follows { Follows (facts self.old) (item_of item) now result (facts self.new) }
+        ensures unchanged { OnErr result (self.new ≡ self.old) }
+    {
+        match item {
+            JobItem::Asked(ask) => self.asked(ask, now),
+            JobItem::Came(conn) => self.came(conn, now),
+            JobItem::Left(conn) => self.left(conn, now),
+            JobItem::Answered(answer) => self.answered(answer, now),
+            JobItem::Ended { run, how } => self.ended(run, how, now),
+            JobItem::WaitRefused { run } => self.wait_refused(run, now),
+        }
+    }
+
+    /// Takes in the answer to an order.
+    fn answered(&mut self, answer: Answer, now: Reading) -> Result<(), Refusal>
+        requires { now.up ≤ MAX_UP }
+        ensures follows { Follows (facts self.old) (Answered answer) now result (facts self.new) }
+        ensures unchanged { OnErr result (self.new ≡ self.old) }
+    {
+        match answer {
+            Answer::Spawned { run, pid } => self.spawned(run, pid, now),
+            Answer::SpawnRefused { run } => self.spawn_refused(run, now),
+            Answer::Termed { run, ok } => self.termed(run, ok, now),
+            Answer::Killed { run, ok } => self.killed(run, ok, now),
         }
     }
 

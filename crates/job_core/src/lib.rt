@@ -20,32 +20,20 @@ mod calendar;
 mod job;
 mod paths;
 
-use history_model::{
-    Act, Answer, Ask, DemandKind, Ended, MAX_UP, Obs, Reading, Reasons, Refusal, ShownJob,
-};
+use history_model::{Act, DemandKind, JobItem, MAX_UP, Obs, Reading, Reasons, Refusal, ShownJob};
 use job::Job;
 use job_defs::Def;
 use std::alloc::{AllocError, Global};
 use std::marker::Model;
 
-/// What happens to a job.
+/// What happens to a job: a reading of the clocks, a sight of a path, or an item of its own.
 #[derive(Clone, Copy)]
 pub enum JobEvent<'a> {
     /// The clock, and whether a calendar entry matches a minute that it crossed.
     Read(Reading, bool),
     /// What was seen at a path.
     Saw(&'a str, Obs),
-    Asked(Ask),
-    /// A connection came; numbers rise within a load.
-    Came(u64),
-    /// A waiting connection left.
-    Left(u64),
-    /// The answer to an order. It names the order's run.
-    Answered(Answer),
-    /// The run is over.
-    Ended(u64, Ended),
-    /// Whether the run is over could not be learned.
-    WaitRefused { run: u64 },
+    Item(JobItem),
 }
 
 /// One loaded job: to a contract, the facts of its past, and how often it was asked for its order.
@@ -66,7 +54,7 @@ impl Model for JobCore {
 }
 
 impl JobCore {
-    ghost use Rattle.job_core.specs.Events.{item_of};
+    ghost use Rattle.job_core.specs.Events.{item_of_event};
     ghost use Rattle.history_model.specs.Shown.{shown_of};
     ghost use Rattle.job_core.specs.Memory.{NeedsNoMemory};
     ghost use Rattle.job_defs.specs.Definitions.{definition};
@@ -98,14 +86,14 @@ impl JobCore {
     pub fn event(&mut self, event: JobEvent<'_>, now: Reading) -> Result<(), Refusal>
         requires { now.up ≤ MAX_UP }
         ensures refused { (past : History) → Keeps self.old.facts past → now ≡ clock.now past →
-            result ≡ reply (refusal_of (item_of event.entry) past) }
+            result ≡ reply (refusal_of (item_of_event event.entry) past) }
         ensures kept { (past : History) → Keeps self.old.facts past → now ≡ clock.now past →
-            OnOk result (Keeps self.new.facts (item_of event.entry ∷ past)) }
+            OnOk result (Keeps self.new.facts (item_of_event event.entry ∷ past)) }
         ensures unchanged { OnErr result (self.new ≡ self.old) }
         ensures decided { self.new.decided ≡ self.old.decided }
         ensures memory { NeedsNoMemory result }
         ensures in_range { OnOk result
-            ((clock.present_after (item_of event.entry) now).up ≤ MAX_UP) }
+            ((clock.present_after (item_of_event event.entry) now).up ≤ MAX_UP) }
     {
         self.job.apply(event, now)
     }

@@ -24,13 +24,13 @@ use Rattle.job_table.specs.Tables.{Name, IsOnce, definition_of_number, label_of}
 use Rattle.job_table.specs.StandsFor.{KeepsJob, KeepsJobs, IsAtRest, numbered, numbered_all, labelled}
 use Rattle.job_table.specs.Counts.{counts, count_in, next_count, went_up, is_near, IsCounted}
 use Rattle.job_table.specs.Entries.{row, name, rows, AllStay}
-use Rattle.job_table.specs.News.{item_for}
+use Rattle.job_table.specs.Touch.{item_for}
 use Rattle.job_table.specs.Hearing.{refusal_if, IsHeard, AreFor, IsAccepted}
 use Rattle.job_table.specs.Visiting.{is_spared, AreSpared, AreAtRest, AreVisitedOnce, count_visited}
 use Rattle.job_table.specs.Index.{moment_for, place_in, AreTimed, AreAlone, ArePlaced, is_minute_among, IsSpare}
 use Rattle.job_table.specs.Marking.{HavePlaces, IsMarked, IsReachedAt, IsMinuteAt}
 use Rattle.job_table.specs.declared.entry.Entry.{Entry}
-use Rattle.job_table.specs.declared.entry.News.TheVariants as news
+use Rattle.job_table.specs.declared.entry.Touch.TheVariants as touch
 use Rattle.job_table.proofs.TouchingLemmas.{IsReason}
 use Rattle.job_table.proofs.ListLemmas.{map-append}
 use Rattle.job_table.proofs.PlacesLemmas.{rows-all}
@@ -186,7 +186,7 @@ module _ (before at : Moment) (minutes : Bor (List CivilMinute)) (order : before
   kept-flag e false none later past keeps present fine =
       skipped e.core.facts past at keeps (subst (λ r. r.up ≤ at.up) present order) fine (subst (λ r. IsLater at.up (next_by e.core.facts r.up)) present later)
 
-  pub heard-spare : (e : Entry) → IsSpare before at minutes.now e → IsHeard before (item_for (news.Reading at minutes) e.def) e e
+  pub heard-spare : (e : Entry) → IsSpare before at minutes.now e → IsHeard before (item_for (touch.Reading at minutes) e.def) e e
   heard-spare e spare = record {
     name = refl;
     going = refl;
@@ -200,7 +200,7 @@ module _ (before at : Moment) (minutes : Bor (List CivilMinute)) (order : before
   rest-flag e job false none later keeps present fine rest =
       (skipped-due e.core.facts job.past at keeps (subst (λ r. r.up ≤ at.up) present order) fine (subst (λ r. IsLater at.up (next_by e.core.facts r.up)) present later) ∙ rest.0, rest.1)
 
-  rest-spare : (e : Entry) (job : Job) (o : Option Item) → item_for (news.Reading at minutes) e.def ≡ o → IsSpare before at minutes.now e → KeepsJob before (row e) job →
+  rest-spare : (e : Entry) (job : Job) (o : Option Item) → item_for (touch.Reading at minutes) e.def ≡ o → IsSpare before at minutes.now e → KeepsJob before (row e) job →
       refusal_if o job.past ≡ None → IsAtRest job → IsAtRest (with_item job o)
   rest-spare e job o same spare keeps fine rest =
       subst (λ p. IsAtRest (with_item job p)) same
@@ -209,7 +209,7 @@ module _ (before at : Moment) (minutes : Bor (List CivilMinute)) (order : before
 
   module _ (ready : Timers) where
     pub spared-all : (place : ℕ) (es : List Entry) → ((k : ℕ) (e : Entry) → slice_get es k ≡ Some e → is_spared ready (place + k) ≡ true → IsSpare before at minutes.now e) →
-        AreSpared ready before (news.Reading at minutes) place es
+        AreSpared ready before (touch.Reading at minutes) place es
     spared-all place [] spares = tt
     spared-all place (e ∷ es) spares = (
       λ none. heard-spare e (spares 0 e refl (subst (λ p. is_spared ready p ≡ true) (omega arith) none)),
@@ -218,7 +218,7 @@ module _ (before at : Moment) (minutes : Bor (List CivilMinute)) (order : before
 
     pub rest-all : (item : Job → Option Item) → IsAccepted before item → (place : ℕ) (es : List Entry) (jobs : List Job) →
         ((k : ℕ) (e : Entry) → slice_get es k ≡ Some e → is_spared ready (place + k) ≡ true → IsSpare before at minutes.now e) →
-        AreFor (news.Reading at minutes) item (map row es) jobs → KeepsJobs before (map row es) jobs → AllByRecursion IsAtRest jobs → AreAtRest ready place (heard item jobs)
+        AreFor (touch.Reading at minutes) item (map row es) jobs → KeepsJobs before (map row es) jobs → AllByRecursion IsAtRest jobs → AreAtRest ready place (heard item jobs)
     rest-all item accepted place [] [] spares for keeps rests = tt
     rest-all item accepted place [] (job ∷ jobs) spares for keeps rests = absurd keeps
     rest-all item accepted place (e ∷ es) [] spares for keeps rests = tt

@@ -11,8 +11,11 @@ use Rattle.history_model.specs.declared.Refusal.TheVariants.{ClockRefused}
 use Rattle.history_model.specs.Acceptance.{refused_if}
 use Rattle.history_model.specs.Items.{Saw, Read, Asked, History}
 use Rattle.history_model.specs.declared.Ask.TheVariants as asks
+use Rattle.history_model.specs.declared.event.JobItem.{JobItem}
+use Rattle.history_model.specs.declared.event.JobItem.TheVariants as happens
+use Rattle.history_model.specs.JobItems.{item_of}
 use Rattle.history_model.specs.Search.{first, or_else}
-use Rattle.history_model.specs.Clock.{definition_of}
+use Rattle.history_model.specs.Clock.{definition_of, reading_in}
 use Rattle.history_model.specs.Refusals.{is_clock_refused, unless}
 use Rattle.history_model.specs.Calendar.{Zone, crossed, matches, calendar_fires}
 use Rattle.history_model.specs.Machine.{State, Job, sets}
@@ -25,11 +28,11 @@ use Rattle.job_table.specs.Entries.{row, name, rows, AllStay}
 use Rattle.job_table.specs.Sound.{seen}
 use Rattle.job_table.specs.Alike.{IsAlike}
 use Rattle.job_table.specs.Minutes.{is_some_entry, has_calendars, some_calendar}
-use Rattle.job_table.specs.News.{item_for}
+use Rattle.job_table.specs.Touch.{item_for}
 use Rattle.job_table.specs.Hearing.{refusal_if, AreFor, IsAccepted}
 use Rattle.job_table.specs.declared.jobs.Jobs.{Jobs}
-use Rattle.job_table.specs.declared.entry.News.{News}
-use Rattle.job_table.specs.declared.entry.News.TheVariants as news
+use Rattle.job_table.specs.declared.entry.Touch.{Touch}
+use Rattle.job_table.specs.declared.entry.Touch.TheVariants as touch
 use Rattle.job_table.proofs.ListLemmas.{any-map}
 use Rattle.job_table.proofs.PlacesLemmas.{rows-all}
 use Rattle.job_table.specs.declared.entry.Entry.{Entry}
@@ -85,19 +88,19 @@ with_orders-so begun new t is same kept orders = record {
   orders = orders;
 }
 
--- ---- news
+-- ---- touches
 
-sight-for : (at : Moment) (path : List ℕ) (obs : Obs) (news : News) (rs : List Row) (jobs : List Job) →
-    ((row : Row) → item_for news row.described ≡ (if lists (definition row.described) path then Some (Saw path obs) else None)) →
-    KeepsJobs at rs jobs → AreFor news (sight_of path (Saw path obs)) rs jobs
-sight-for at path obs news [] jobs is keeps = tt
-sight-for at path obs news (row ∷ rs) [] is keeps = tt
-sight-for at path obs news (row ∷ rs) (job ∷ jobs) is keeps =
-    (is row ∙ ap (λ d. if lists d path then Some (Saw path obs) else None) keeps.0.definition, sight-for at path obs news rs jobs is keeps.1)
+sight-for : (at : Moment) (path : List ℕ) (obs : Obs) (touch : Touch) (rs : List Row) (jobs : List Job) →
+    ((row : Row) → item_for touch row.described ≡ (if lists (definition row.described) path then Some (Saw path obs) else None)) →
+    KeepsJobs at rs jobs → AreFor touch (sight_of path (Saw path obs)) rs jobs
+sight-for at path obs touch [] jobs is keeps = tt
+sight-for at path obs touch (row ∷ rs) [] is keeps = tt
+sight-for at path obs touch (row ∷ rs) (job ∷ jobs) is keeps =
+    (is row ∙ ap (λ d. if lists d path then Some (Saw path obs) else None) keeps.0.definition, sight-for at path obs touch rs jobs is keeps.1)
 
 pub sights : (at : Moment) (path : Bor (List ℕ)) (obs : Obs) (rs : List Row) (jobs : List Job) → KeepsJobs at rs jobs →
-    AreFor (news.Sight path obs) (sight_of path.now (Saw path.now obs)) rs jobs
-sights at path obs rs jobs keeps = sight-for at path.now obs (news.Sight path obs) rs jobs (λ row. refl) keeps
+    AreFor (touch.Sight path obs) (sight_of path.now (Saw path.now obs)) rs jobs
+sights at path obs rs jobs keeps = sight-for at path.now obs (touch.Sight path obs) rs jobs (λ row. refl) keeps
 
 pub sights-fine : (at : Moment) (path : List ℕ) (obs : Obs) → IsAccepted at (sight_of path (Saw path obs))
 sights-fine at path obs = λ job present. go (lists (definition_of job.past) path) job.past
@@ -121,29 +124,38 @@ fires-same zone [] minutes previous wall is = any-none minutes ∙ sym (any-none
 fires-same zone (entry ∷ entries) minutes previous wall is =
     ap (list_any (λ minute. list_any (λ e. matches e minute) (entry ∷ entries))) (is refl) ∙ any-map (λ minute. list_any (λ e. matches e minute) (entry ∷ entries)) zone (crossed previous wall)
 
-reading-for : (zone : Zone) (before at : Moment) (news : News) (minutes : List CivilMinute) (rs : List Row) (jobs : List Job) →
-    ((row : Row) → item_for news row.described ≡ Some (Read at (list_any (λ minute. list_any (λ entry. matches entry minute) row.described.calendar) minutes))) →
+reading-for : (zone : Zone) (before at : Moment) (touch : Touch) (minutes : List CivilMinute) (rs : List Row) (jobs : List Job) →
+    ((row : Row) → item_for touch row.described ≡ Some (Read at (list_any (λ minute. list_any (λ entry. matches entry minute) row.described.calendar) minutes))) →
     (has_calendars rs ≡ true → minutes ≡ map zone (crossed before.wall at.wall)) → KeepsJobs before rs jobs →
-    AreFor news (λ job. Some (Read at (calendar_fires zone (definition_of job.past).calendar before.wall at.wall))) rs jobs
-reading-for zone before at news minutes [] jobs is crosses keeps = tt
-reading-for zone before at news minutes (row ∷ rs) [] is crosses keeps = tt
-reading-for zone before at news minutes (row ∷ rs) (job ∷ jobs) is crosses keeps =
+    AreFor touch (λ job. Some (Read at (calendar_fires zone (definition_of job.past).calendar before.wall at.wall))) rs jobs
+reading-for zone before at touch minutes [] jobs is crosses keeps = tt
+reading-for zone before at touch minutes (row ∷ rs) [] is crosses keeps = tt
+reading-for zone before at touch minutes (row ∷ rs) (job ∷ jobs) is crosses keeps =
     let fires = fires-same zone row.described.calendar minutes before.wall at.wall (λ some. crosses (ap (λ b. b || has_calendars rs) some)) in (
       is row ∙ ap (λ b. Some (Read at b)) (fires ∙ ap (λ d. calendar_fires zone d.calendar before.wall at.wall) keeps.0.definition),
-      reading-for zone before at news minutes rs jobs is (λ some. crosses (ap (λ b. is_some_entry row.described.calendar || b) some ∙ or-true (is_some_entry row.described.calendar))) keeps.1,
+      reading-for zone before at touch minutes rs jobs is (λ some. crosses (ap (λ b. is_some_entry row.described.calendar || b) some ∙ or-true (is_some_entry row.described.calendar))) keeps.1,
     )
 
 pub readings : (zone : Zone) (before at : Moment) (minutes : Bor (List CivilMinute)) (rs : List Row) (jobs : List Job) →
     (has_calendars rs ≡ true → minutes.now ≡ map zone (crossed before.wall at.wall)) → KeepsJobs before rs jobs →
-    AreFor (news.Reading at minutes) (λ job. Some (Read at (calendar_fires zone (definition_of job.past).calendar before.wall at.wall))) rs jobs
-readings zone before at minutes rs jobs crosses keeps = reading-for zone before at (news.Reading at minutes) minutes.now rs jobs (λ row. refl) crosses keeps
+    AreFor (touch.Reading at minutes) (λ job. Some (Read at (calendar_fires zone (definition_of job.past).calendar before.wall at.wall))) rs jobs
+readings zone before at minutes rs jobs crosses keeps = reading-for zone before at (touch.Reading at minutes) minutes.now rs jobs (λ row. refl) crosses keeps
 
-pub shutdowns : (rs : List Row) (jobs : List Job) → AreFor news.Shutdown (λ job. Some (Asked asks.Shutdown)) rs jobs
+pub shutdowns : (rs : List Row) (jobs : List Job) → AreFor touch.Shutdown (λ job. Some (Asked asks.Shutdown)) rs jobs
 shutdowns [] jobs = tt
 shutdowns (row ∷ rs) [] = tt
 shutdowns (row ∷ rs) (job ∷ jobs) = (refl, shutdowns rs jobs)
 
 -- ---- an event to one job
+
+-- what happens to a job is no reading of the clocks
+pub silent : (item : JobItem) → reading_in (item_of item) ≡ None
+silent (happens.Asked ask) = refl
+silent (happens.Came conn) = refl
+silent (happens.Left conn) = refl
+silent (happens.Answered answer) = refl
+silent (happens.Ended run how) = refl
+silent (happens.WaitRefused run) = refl
 
 pub past-refused : (a b : Bool) (r : Refusal) (rest : Option Refusal) → a ≡ true → b ≡ true → refused_if (not (a && b)) r rest ≡ rest
 past-refused a b r rest ea eb = λ i. refused_if (not (ea i && eb i)) r rest

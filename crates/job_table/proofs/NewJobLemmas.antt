@@ -23,11 +23,11 @@ use Rattle.job_table.specs.Loads.{IsReady}
 use Rattle.job_table.specs.Minutes.{is_some_entry, some_calendar}
 use Rattle.job_table.specs.Triggers.{under, listed_in, AreOrdered}
 use Rattle.job_table.specs.declared.trigger.Listed.{Listed}
-use Rattle.job_table.specs.News.{is_touched}
+use Rattle.job_table.specs.Touch.{is_touched}
 use Rattle.job_table.specs.Sound.{seen, AreHeld, AreFree, IsSound}
 use Rattle.job_table.specs.Touched.{AreTimedBut, RestBut}
 use Rattle.job_table.specs.declared.entry.Entry.{Entry}
-use Rattle.job_table.specs.declared.entry.News.TheVariants.{Heard}
+use Rattle.job_table.specs.declared.entry.Touch.TheVariants.{Heard}
 use Rattle.job_table.specs.declared.jobs.Jobs.{Jobs}
 use Rattle.job_table.specs.declared.loading.Ready.{Ready}
 use Rattle.job_table.proofs.FirstLemmas.{IsFirstWhere, NonePasses, first-where, none-where, within-where}

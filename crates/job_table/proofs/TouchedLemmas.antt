@@ -1,4 +1,4 @@
--- The jobs that the news do not touch have nothing to do, and are left as they are.
+-- The jobs that the touch does not reach have nothing to do, and are left as they are.
 use Rattle.std.proofs.Common.{◌≡◌, ◌≢◌, ℕ, zero, suc, ◌+◌, ◌==◌, ◌<◌, Bool, true, false, not, ◌||◌, cond, List, [], ◌∷◌, map, length, get_or, Option, Some, None, refl, sym, ap, ◌∙◌, subst, arith, Bor}
 use Rattle.std.specs.Prelude.{slice_get, slice_set, if◌then◌else◌, Result, Ok, Err, OnOk, IfOk}
 use Rattle.std.specs.List.{position, filter, filter_map, flat_map, AllByRecursion}
@@ -25,12 +25,12 @@ use Rattle.job_table.specs.Loads.{refused_with}
 use Rattle.job_table.specs.Index.{moment_for, place_in, ArePlaced, IsIndexed}
 use Rattle.job_table.specs.Counts.{counts, count_in}
 use Rattle.job_table.specs.Entries.{row, name, rows, AllStay, has_label}
-use Rattle.job_table.specs.News.{item_for, concerns, heard_at, is_at, is_touched}
+use Rattle.job_table.specs.Touch.{item_for, concerns, heard_at, is_at, is_touched}
 use Rattle.job_table.specs.Hearing.{AreFor, IsAccepted}
 use Rattle.job_table.specs.Touched.{heard_with, IsHandedAt, AreTimedBut, RestBut, SparesBut}
 use Rattle.job_table.specs.Visiting.{is_spared, AreSpared, AreAtRest, AreVisitedOnce}
-use Rattle.job_table.specs.declared.entry.News.{News}
-use Rattle.job_table.specs.declared.entry.News.TheVariants.{Heard, Shutdown, Reading, Sight}
+use Rattle.job_table.specs.declared.entry.Touch.{Touch}
+use Rattle.job_table.specs.declared.entry.Touch.TheVariants.{Heard, Shutdown, Reading, Sight}
 use Rattle.job_table.proofs.HearingLemmas.{heard-as, heard-nothing}
 use Rattle.job_table.specs.declared.entry.Entry.{Entry}
 use Rattle.job_table.specs.declared.jobs.Jobs.{Jobs}
@@ -45,52 +45,52 @@ use Rattle.history_model.proofs.BooleanLemmas.{or-false}
 use Rattle.history_model.proofs.LabelOrderLemmas.{same_self}
 use Rattle.history_model.proofs.FreshOrdersLemmas.{differ-sym}
 
--- ---- a job that the news do not touch
+-- ---- a job that the touch does not reach
 
-none-of : (news : News) (d : Described) → concerns news d ≡ false → item_for news d ≡ None
+none-of : (touch : Touch) (d : Described) → concerns touch d ≡ false → item_for touch d ≡ None
 none-of (Heard place) d apart = refl
 none-of Shutdown d apart = cc
 none-of (Reading at minutes) d apart = cc
 none-of (Sight path obs) d apart = ap (λ b. if b then Some (Saw path.now obs) else None) apart
 
-none-for : (news : News) (place : ℕ) (d : Described) → is_touched news place d ≡ false → item_for news d ≡ None
-none-for news place d apart = none-of news d (or-false (concerns news d) (is_at (heard_at news) place) apart).0
+none-for : (touch : Touch) (place : ℕ) (d : Described) → is_touched touch place d ≡ false → item_for touch d ≡ None
+none-for touch place d apart = none-of touch d (or-false (concerns touch d) (is_at (heard_at touch) place) apart).0
 
 pub not-true : (s b : Bool) → s ≡ not b → s ≡ true → b ≡ false
 not-true s true is held = let clash : true ≡ false = sym held ∙ is in absurd (cc clash)
 not-true s false is held = refl
 
-module _ (news : News) (ready : Timers) where
-  -- from this place on: the jobs that the news touch have a mark, and no other
+module _ (touch : Touch) (ready : Timers) where
+  -- from this place on: the jobs that the touch reaches have a mark, and no other
   abbrev pub AreMarked : ℕ → List Entry → Type 0
-  AreMarked place es = (k : ℕ) (e : Entry) → slice_get es k ≡ Some e → is_spared ready (place + k) ≡ not (is_touched news (place + k) e.def)
+  AreMarked place es = (k : ℕ) (e : Entry) → slice_get es k ≡ Some e → is_spared ready (place + k) ≡ not (is_touched touch (place + k) e.def)
 
-  at-head : (place : ℕ) (e : Entry) (es : List Entry) → AreMarked place (e ∷ es) → is_spared ready place ≡ true → is_touched news place e.def ≡ false
+  at-head : (place : ℕ) (e : Entry) (es : List Entry) → AreMarked place (e ∷ es) → is_spared ready place ≡ true → is_touched touch place e.def ≡ false
   at-head place e es marked none =
-      not-true (is_spared ready place) (is_touched news place e.def) (subst (λ p. is_spared ready p ≡ not (is_touched news p e.def)) (omega arith) (marked 0 e refl)) none
+      not-true (is_spared ready place) (is_touched touch place e.def) (subst (λ p. is_spared ready p ≡ not (is_touched touch p e.def)) (omega arith) (marked 0 e refl)) none
 
   at-tail : (place : ℕ) (e : Entry) (es : List Entry) → AreMarked place (e ∷ es) → AreMarked (suc place) es
-  at-tail place e es marked = λ k x there. subst (λ p. is_spared ready p ≡ not (is_touched news p x.def)) (omega arith) (marked (suc k) x there)
+  at-tail place e es marked = λ k x there. subst (λ p. is_spared ready p ≡ not (is_touched touch p x.def)) (omega arith) (marked (suc k) x there)
 
-  pub spared-all : (at : Moment) (place : ℕ) (es : List Entry) → AreMarked place es → AreSpared ready at news place es
+  pub spared-all : (at : Moment) (place : ℕ) (es : List Entry) → AreMarked place es → AreSpared ready at touch place es
   spared-all at place [] marked = tt
   spared-all at place (e ∷ es) marked =
-      (λ none. heard-as (sym (none-for news place e.def (at-head place e es marked none))) heard-nothing, spared-all at (suc place) es (at-tail place e es marked))
+      (λ none. heard-as (sym (none-for touch place e.def (at-head place e es marked none))) heard-nothing, spared-all at (suc place) es (at-tail place e es marked))
 
-  pub rest-all : (at : Moment) (item : Job → Option Item) (place : ℕ) (es : List Entry) (jobs : List Job) → AreMarked place es → AreFor news item (map row es) jobs → KeepsJobs at (map row es) jobs →
-      RestBut news place (map row es) jobs → AreAtRest ready place (heard item jobs)
+  pub rest-all : (at : Moment) (item : Job → Option Item) (place : ℕ) (es : List Entry) (jobs : List Job) → AreMarked place es → AreFor touch item (map row es) jobs → KeepsJobs at (map row es) jobs →
+      RestBut touch place (map row es) jobs → AreAtRest ready place (heard item jobs)
   rest-all at item place [] [] marked for keeps rests = tt
   rest-all at item place [] (job ∷ jobs) marked for keeps rests = absurd keeps
   rest-all at item place (e ∷ es) [] marked for keeps rests = tt
   rest-all at item place (e ∷ es) (job ∷ jobs) marked for keeps rests = (
-    λ none. (let apart = at-head place e es marked none in subst (λ o. IsAtRest (with_item job o)) (sym (none-for news place e.def apart) ∙ for.0) (rests.0 apart)),
+    λ none. (let apart = at-head place e es marked none in subst (λ o. IsAtRest (with_item job o)) (sym (none-for touch place e.def apart) ∙ for.0) (rests.0 apart)),
     rest-all at item (suc place) es jobs (at-tail place e es marked) for.1 keeps.1 rests.1,
   )
 
-pub marked-at : (news : News) (ready : Timers) (lent es : List Entry) → lent ≡ es →
-    ((k : ℕ) (e : Entry) → slice_get lent k ≡ Some e → is_spared ready k ≡ not (is_touched news k e.def)) → AreMarked news ready 0 es
-marked-at news ready lent es same marked k e there =
-    subst (λ p. is_spared ready p ≡ not (is_touched news p e.def)) (omega arith) (marked k e (ap (λ xs. slice_get xs k) same ∙ there))
+pub marked-at : (touch : Touch) (ready : Timers) (lent es : List Entry) → lent ≡ es →
+    ((k : ℕ) (e : Entry) → slice_get lent k ≡ Some e → is_spared ready k ≡ not (is_touched touch k e.def)) → AreMarked touch ready 0 es
+marked-at touch ready lent es same marked k e there =
+    subst (λ p. is_spared ready p ≡ not (is_touched touch p e.def)) (omega arith) (marked k e (ap (λ xs. slice_get xs k) same ∙ there))
 
 -- ---- the count of a label that no job at a mark has
 
@@ -187,10 +187,10 @@ for-none place [] jobs = tt
 for-none place (row ∷ rs) [] = tt
 for-none place (row ∷ rs) (job ∷ jobs) = (refl, for-none place rs jobs)
 
-pub rest-each : (news : News) (place : ℕ) (rs : List Row) (jobs : List Job) → AllByRecursion IsAtRest jobs → RestBut news place rs jobs
-rest-each news place [] jobs rests = tt
-rest-each news place (row ∷ rs) [] rests = tt
-rest-each news place (row ∷ rs) (job ∷ jobs) rests = ((λ apart. rests.0), rest-each news (suc place) rs jobs rests.1)
+pub rest-each : (touch : Touch) (place : ℕ) (rs : List Row) (jobs : List Job) → AllByRecursion IsAtRest jobs → RestBut touch place rs jobs
+rest-each touch place [] jobs rests = tt
+rest-each touch place (row ∷ rs) [] rests = tt
+rest-each touch place (row ∷ rs) (job ∷ jobs) rests = ((λ apart. rests.0), rest-each touch (suc place) rs jobs rests.1)
 
 -- the others rest as they did
 pub rest-handed : (at : Moment) (label : Label) (item : Item) (heard : ℕ) (rs : List Row) (es : List Entry) (k place : ℕ) (jobs : List Job) → KeepsJobs at (map row es) jobs → IsFirstAt label es k →
@@ -207,7 +207,7 @@ rest-handed at label item heard (row ∷ rs) (e ∷ es) (suc k) place (job ∷ j
     subst (RestBut (Heard heard) place (row ∷ rs)) (ap (λ b. cond b (with_item job (Some item) ∷ jobs) (job ∷ heard_one label item jobs)) (sym of))
     ((λ apart. rests.0), rest-handed at label item heard rs es k (suc place) jobs keeps.1 here.1 (omega (arith, is)) rests.1)
 
--- the table once the jobs that the news touch are visited, which heard already
+-- the table once the jobs that the touch reaches are visited, which heard already
 pub heard-already : (heard new : Jobs) (t : State) (place : ℕ) → IsAlike heard new → IsHead heard t → KeepsJobs heard.reading (rows heard.entries.items) t.jobs →
     RestBut (Heard place) 0 (rows heard.entries.items) t.jobs →
     ((jobs : List Job) (what : Job → Option Item) → AreFor (Heard place) what (rows heard.entries.items) jobs → IsAccepted heard.reading what → RestBut (Heard place) 0 (rows heard.entries.items) jobs →

@@ -9,10 +9,10 @@ use Rattle.history_model.specs.FactsOfPast.{Keeps}
 use Rattle.history_model.specs.Machine.{Job}
 use Rattle.job_table.specs.Tables.{Row}
 use Rattle.job_table.specs.Entries.{name}
-use Rattle.job_table.specs.News.{item_for}
+use Rattle.job_table.specs.Touch.{item_for}
 use Rattle.job_table.specs.declared.entry.Entry.{Entry}
-use Rattle.job_table.specs.declared.entry.News.{News}
-use Rattle.job_table.specs.declared.entry.News.TheVariants as news
+use Rattle.job_table.specs.declared.entry.Touch.{Touch}
+use Rattle.job_table.specs.declared.entry.Touch.TheVariants as touch
 
 -- the past with the item, if there is one
 abbrev pub followed : Option Item → History → History
@@ -31,25 +31,25 @@ pub record IsHeard (at : Reading) (item : Option Item) (e new : Entry) : Type 0 
   pub kept : (past : History) → Keeps e.core.facts past → at ≡ now past →
       refusal_if item past ≡ None → Keeps new.core.facts (followed item past)
 
-abbrev pub AreHeard : Reading → News → List Entry → List Entry → Type 0
-AreHeard at news [] [] = Unit {0}
-AreHeard at news [] (new ∷ rest) = ⊥
-AreHeard at news (e ∷ es) [] = ⊥
-AreHeard at news (e ∷ es) (new ∷ rest) =
-    IsHeard at (item_for news e.def) e new × AreHeard at news es rest
+abbrev pub AreHeard : Reading → Touch → List Entry → List Entry → Type 0
+AreHeard at touch [] [] = Unit {0}
+AreHeard at touch [] (new ∷ rest) = ⊥
+AreHeard at touch (e ∷ es) [] = ⊥
+AreHeard at touch (e ∷ es) (new ∷ rest) =
+    IsHeard at (item_for touch e.def) e new × AreHeard at touch es rest
 
--- the items that the news are for each job are these
-abbrev pub AreFor : News → (Job → Option Item) → List Row → List Job → Type 0
-AreFor news item [] jobs = Unit {0}
-AreFor news item (row ∷ rows) [] = Unit {0}
-AreFor news item (row ∷ rows) (job ∷ jobs) =
-    (item_for news row.described ≡ item job) × AreFor news item rows jobs
+-- the items that the touch is for each job are these
+abbrev pub AreFor : Touch → (Job → Option Item) → List Row → List Job → Type 0
+AreFor touch item [] jobs = Unit {0}
+AreFor touch item (row ∷ rows) [] = Unit {0}
+AreFor touch item (row ∷ rows) (job ∷ jobs) =
+    (item_for touch row.described ≡ item job) × AreFor touch item rows jobs
 
 -- no job refuses its item
 abbrev pub IsAccepted : Reading → (Job → Option Item) → Type 0
 IsAccepted at item = (job : Job) → at ≡ now job.past → refusal_if (item job) job.past ≡ None
 
--- the reading once the news are heard
-abbrev pub present_with : News → Reading → Reading
-present_with (news.Reading at minutes) before = at
+-- the reading once the touch is heard
+abbrev pub present_with : Touch → Reading → Reading
+present_with (touch.Reading at minutes) before = at
 present_with _ before = before

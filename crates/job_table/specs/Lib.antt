@@ -9,7 +9,7 @@ pub mod Triggers
 pub mod Entries
 pub mod Sound
 pub mod Alike
-pub mod News
+pub mod Touch
 pub mod Numbers
 pub mod Room
 pub mod Hearing

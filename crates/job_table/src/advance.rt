@@ -11,7 +11,7 @@ ghost use Rattle.job_table.specs.Counts.{counts, IsCounted};
 ghost use Rattle.job_table.specs.Numbers.{names_of};
 ghost use Rattle.job_table.specs.Room.{HasSameRoom};
 
-use crate::entry::News;
+use crate::entry::Touch;
 use crate::jobs::Jobs;
 use crate::mark::{mark_due, mark_minutes};
 use crate::visit::visit_ready;
@@ -57,7 +57,7 @@ impl Jobs {
             &mut self.entries,
             &mut self.index.ready,
             &mut self.index.timers,
-            News::Reading(at, minutes),
+            Touch::Reading(at, minutes),
             self.reading,
             at,
             &mut self.orders,

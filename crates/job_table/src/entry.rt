@@ -13,16 +13,18 @@ ghost use Rattle.history_model.specs.FactsOfPast.{Keeps, ordered};
 ghost use Rattle.history_model.specs.Step.{acts_of, lists};
 ghost use Rattle.history_model.specs.Clock as clock;
 ghost use Rattle.job_defs.specs.Definitions.{definition};
-ghost use Rattle.job_core.specs.Events.{item_of};
+ghost use Rattle.job_core.specs.Events.{item_of_event};
 ghost use Rattle.job_table.specs.StandsFor.{numbered};
-ghost use Rattle.job_table.specs.News.{item_for};
+ghost use Rattle.job_table.specs.Touch.{item_for};
 ghost use Rattle.job_table.specs.Hearing.{IsHeard};
 ghost use Rattle.job_table.specs.Visiting.{IsVisit};
 ghost use Rattle.job_table.specs.Entries.{name};
 ghost use Rattle.job_table.specs.Tables.{Name, definition_of_number, is_known};
 
 use calendar_due::Calendar;
-use history_model::{Act, Ask, CivilMinute, JobNo, MAX_CONNECTIONS, Obs, Order, Reading, Text};
+use history_model::{
+    Act, Ask, CivilMinute, JobItem, JobNo, MAX_CONNECTIONS, Obs, Order, Reading, Text,
+};
 use job_core::{JobCore, JobEvent};
 use job_defs::{Def, PathState};
 
@@ -38,9 +40,9 @@ pub struct Entry {
     pub has_gone: bool,
 }
 
-/// What the jobs hear of an event.
+/// How an event touches the jobs: what they hear of it.
 #[derive(Clone, Copy)]
-pub enum News<'a> {
+pub enum Touch<'a> {
     /// Nothing: the job at this place, and no other, heard already.
     Heard(usize),
     /// The launcher shuts down.
@@ -52,19 +54,19 @@ pub enum News<'a> {
 }
 
 impl Entry {
-    /// Takes in what is news for this job. It hears nothing that it refuses.
-    pub fn hear(&mut self, news: News<'_>, now: Reading)
+    /// Takes in what the touch is for this job. It hears nothing that it refuses.
+    pub fn hear(&mut self, touch: Touch<'_>, now: Reading)
         requires { now.up ≤ MAX_UP }
-        ensures { IsHeard now (item_for news.entry self.old.def) self.old self.new }
+        ensures { IsHeard now (item_for touch.entry self.old.def) self.old self.new }
     {
-        match news {
-            News::Heard(_) => {}
-            News::Shutdown => self.take_in(JobEvent::Asked(Ask::Shutdown), now),
-            News::Reading(at, minutes) => {
+        match touch {
+            Touch::Heard(_) => {}
+            Touch::Shutdown => self.take_in(JobEvent::Item(JobItem::Asked(Ask::Shutdown)), now),
+            Touch::Reading(at, minutes) => {
                 let fires = Calendar::fires(self.def.calendar(), minutes);
                 self.take_in(JobEvent::Read(at, fires), now);
             }
-            News::Sight(path, obs) => {
+            Touch::Sight(path, obs) => {
                 if lists(&self.def, path) {
                     self.take_in(JobEvent::Saw(path, obs), now);
                 }
@@ -75,17 +77,23 @@ impl Entry {
     /// Takes in an event that the job does not refuse.
     fn take_in(&mut self, event: JobEvent<'_>, now: Reading)
         requires { now.up ≤ MAX_UP }
-        ensures { IsHeard now (Some (item_of event.entry)) self.old self.new }
+        ensures { IsHeard now (Some (item_of_event event.entry)) self.old self.new }
     {
         let _accepted = self.core.event(event, now);
     }
 
-    /// Takes in what is news for this job, and asks it for its orders.
-    pub fn visit(&mut self, news: News<'_>, before: Reading, now: Reading, orders: &mut Vec<Order>)
+    /// Takes in what the touch is for this job, and asks it for its orders.
+    pub fn visit(
+        &mut self,
+        touch: Touch<'_>,
+        before: Reading,
+        now: Reading,
+        orders: &mut Vec<Order>,
+    )
         requires before_in_range { before.up ≤ MAX_UP }
         requires in_range { now.up ≤ MAX_UP }
         requires room { vec_len orders.old + ORDERS ≤ vec_capacity orders.old }
-        ensures visit { IsVisit before now (item_for news.entry self.old.def)
+        ensures visit { IsVisit before now (item_for touch.entry self.old.def)
             self.old self.new orders.old.items orders.new.items }
         ensures decided { self.new.core.decided
             ≡ cond self.new.has_gone self.old.core.decided ((self.old.core.decided + 1) % 2 ^ 64) }
@@ -97,7 +105,7 @@ impl Entry {
         ensures count { vec_len orders.new ≤ vec_len orders.old + ORDERS }
         ensures capacity { vec_capacity orders.new ≡ vec_capacity orders.old }
     {
-        self.hear(news, before);
+        self.hear(touch, before);
         self.ask(now, orders);
     }
 

@@ -1,14 +1,13 @@
 //! The fields of the table, and the parts of which its events are made.
 
-ghost use Rattle.std.specs.Prelude.{◌≡◌, ◌<◌, [], List, Option, None, OnOk, OnErr, IfOk, map, length, Some};
+ghost use Rattle.std.specs.Prelude.{◌≡◌, ◌<◌, [], List, Option, OnOk, OnErr, IfOk, map, length, Some};
 ghost use Rattle.std.specs.List.{filter_map, flat_map, filter};
 ghost use Rattle.history_model.specs.Search.{first};
-ghost use Rattle.history_model.specs.Clock.{reading_in};
 ghost use Rattle.history_model.specs.Items.{Item};
 ghost use Rattle.history_model.specs.Machine.{Job, is_of, past_in};
 ghost use Rattle.history_model.specs.Acceptance.{refusal_at};
 ghost use Rattle.history_model.specs.Step.{heard, heard_one, stays, orders_of};
-ghost use Rattle.job_core.specs.Events.{item_of};
+ghost use Rattle.history_model.specs.JobItems.{item_of};
 ghost use Rattle.job_table.specs.StandsFor.{KeepsJobs, labelled};
 ghost use Rattle.job_table.specs.Numbers.{names_of};
 ghost use Rattle.job_table.specs.Room.{HasSameRoom};
@@ -19,10 +18,10 @@ ghost use Rattle.job_table.specs.Hearing.{AreFor, IsAccepted, present_with};
 ghost use Rattle.job_table.specs.Loads.{refused_with};
 ghost use Rattle.job_table.specs.Touched.{heard_with, IsHandedAt, AreTimedBut, RestBut, SparesBut};
 ghost use Rattle.job_table.specs.Index.{ArePlaced};
-ghost use Rattle.job_table.specs.News.{heard_at};
+ghost use Rattle.job_table.specs.Touch.{heard_at};
 ghost use Rattle.std.specs.Option.{ForSome};
 
-use crate::entry::{Entry, News};
+use crate::entry::{Entry, Touch};
 use crate::find::place_of;
 use crate::index::place_all;
 use crate::mark::mark_touched;
@@ -32,7 +31,7 @@ use crate::trigger::Listed;
 use crate::triggers::forget;
 use crate::visit::visit_ready;
 use calendar_due::Zone;
-use history_model::{Order, Reading, Refusal};
+use history_model::{JobItem, Order, Reading, Refusal};
 use job_core::JobEvent;
 use slab::Slab;
 use timer_heap::TimerHeap;
@@ -96,22 +95,21 @@ impl Jobs {
         self.all_stay = true;
     }
 
-    /// Hands an event to the job with this label, and gives the job's place.
-    pub fn hand(&mut self, label: &str, event: JobEvent<'_>) -> Result<usize, Refusal>
+    /// Tells the job with this label what happened to it, and gives the job's place.
+    pub fn hand(&mut self, label: &str, item: JobItem) -> Result<usize, Refusal>
         requires sound { IsSound self.old }
         requires stay { AllStay self.old.entries.items }
-        requires silent { reading_in (item_of event) ≡ None }
         ensures answer { (jobs : List Job) →
             KeepsJobs self.old.reading (rows self.old.entries.items) jobs →
             refused_with result
-            ≡ refusal_at (past_in (first (filter (is_of label.now) jobs))) (item_of event.entry) }
+            ≡ refusal_at (past_in (first (filter (is_of label.now) jobs))) (item_of item) }
         ensures place { IfOk result (λ place.
             IsHandedAt label.now place self.old.entries.items self.new.entries.items) }
         ensures kept { (jobs : List Job) →
             KeepsJobs self.old.reading (rows self.old.entries.items) jobs →
             OnOk result
             (KeepsJobs self.old.reading (rows self.new.entries.items)
-            (heard_one label.now (item_of event.entry) jobs)) }
+            (heard_one label.now (item_of item) jobs)) }
         ensures rows { OnErr result (rows self.new.entries.items ≡ rows self.old.entries.items) }
         ensures names { map name self.new.entries.items ≡ map name self.old.entries.items }
         ensures counts { counts (rows self.new.entries.items)
@@ -128,37 +126,37 @@ impl Jobs {
             return Err(Refusal::NoSuchJob);
         };
         let entry = &mut self.entries[place];
-        let answer = entry.core.event(event, self.reading);
+        let answer = entry.core.event(JobEvent::Item(item), self.reading);
         heard_with(answer, place)
     }
 
-    /// Tells the jobs that the news touch what is new to them, and asks them alone. The reading stays.
-    pub fn ask_touched(&mut self, news: News<'_>)
+    /// Tells the jobs that the touch reaches what it is for them, and asks them alone. The reading stays.
+    pub fn ask_touched(&mut self, touch: Touch<'_>)
         requires sound { IsSound self.old }
         requires stay { AllStay self.old.entries.items }
         requires empty { self.old.orders.items ≡ [] }
-        requires still { present_with news self.old.reading ≡ self.old.reading }
-        requires inside { ForSome (heard_at news) (λ place. place < length self.old.entries.items) }
+        requires still { present_with touch self.old.reading ≡ self.old.reading }
+        requires inside { ForSome (heard_at touch) (λ place. place < length self.old.entries.items) }
         requires placed { ArePlaced self.old.index.places.items self.old.entries.items }
-        requires timed { AreTimedBut news self.old }
+        requires timed { AreTimedBut touch self.old }
         ensures kept { (jobs : List Job) (item : Job → Option Item) →
-            AreFor news.entry item (rows self.old.entries.items) jobs →
+            AreFor touch.entry item (rows self.old.entries.items) jobs →
             IsAccepted self.old.reading item →
-            RestBut news.entry 0 (rows self.old.entries.items) jobs →
+            RestBut touch.entry 0 (rows self.old.entries.items) jobs →
             KeepsJobs self.old.reading (rows self.old.entries.items) jobs →
             KeepsJobs self.old.reading (rows self.new.entries.items)
             (filter_map stays (heard item jobs)) }
         ensures orders { (jobs : List Job) (item : Job → Option Item) →
-            AreFor news.entry item (rows self.old.entries.items) jobs →
+            AreFor touch.entry item (rows self.old.entries.items) jobs →
             IsAccepted self.old.reading item →
-            RestBut news.entry 0 (rows self.old.entries.items) jobs →
+            RestBut touch.entry 0 (rows self.old.entries.items) jobs →
             KeepsJobs self.old.reading (rows self.old.entries.items) jobs →
             labelled (map name self.new.entries.items) self.new.orders.items
             ≡ flat_map orders_of (heard item jobs) }
         ensures names { map name self.new.entries.items ≡ map name self.old.entries.items }
         ensures counted { IsCounted (counts (rows self.old.entries.items))
             (rows self.new.entries.items) self.new.visited }
-        ensures spared { SparesBut news.entry self.old.entries.items self.new.entries.items }
+        ensures spared { SparesBut touch.entry self.old.entries.items self.new.entries.items }
         ensures triggers { self.new.triggers ≡ self.old.triggers }
         ensures whole { IsWhole self.new }
         ensures alike { IsAlike self.old self.new }
@@ -166,7 +164,7 @@ impl Jobs {
     {
         mark_touched(
             &self.entries,
-            news,
+            touch,
             &self.triggers,
             &self.index.places,
             &mut self.index.ready,
@@ -175,7 +173,7 @@ impl Jobs {
             &mut self.entries,
             &mut self.index.ready,
             &mut self.index.timers,
-            news,
+            touch,
             self.reading,
             self.reading,
             &mut self.orders,

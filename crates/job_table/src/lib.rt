@@ -6,17 +6,16 @@ ghost use Rattle.std.specs.Borrow.{sem};
 ghost use Rattle.std.specs.String.{string_bytes};
 ghost use Rattle.std.specs.Option.{option_map};
 ghost use Rattle.history_model.specs.Reasons.{reasons_of};
-ghost use Rattle.history_model.specs.declared.Answer.TheVariants as answers;
 ghost use Rattle.history_model.specs.declared.TheConstants.{MAX_UP, MAX_WALL};
 ghost use Rattle.calendar_due.specs.Rules.{minute_at};
 ghost use Rattle.history_model.specs.Acceptance.{refusal_in};
-ghost use Rattle.history_model.specs.Items.{Asked, Answered, Came, Left, RunEnded, WaitRefused};
 ghost use Rattle.history_model.specs.declared.Refusal.TheVariants.{NoMemory};
 ghost use Rattle.history_model.specs.Machine.{State, opened, past_of, ListJobs, PrintJob, OfJob, UnloadJob, ShutDown, Tick, Sight};
 
 mod advance;
 mod after;
 mod byte_order;
+mod calls;
 mod changing;
 mod entry;
 mod events;
@@ -40,10 +39,7 @@ mod why;
 
 use calendar_due::Zone;
 pub use changing::NewSetting;
-use history_model::{
-    Answer, Ask, DemandKind, Ended, JobNo, Obs, Order, Reading, Reasons, Refusal, Setting,
-};
-pub use job_core::JobEvent;
+use history_model::{DemandKind, JobItem, JobNo, Obs, Order, Reading, Reasons, Refusal, Setting};
 use job_defs::Def;
 use jobs::Jobs;
 pub use loading::Ready;
@@ -113,8 +109,7 @@ impl JobTable {
     ghost use Rattle.job_table.specs.Numbers.{IsNumbered};
     ghost use Rattle.job_table.specs.Waking.{waking, spawning, demanding, holding};
     ghost use Rattle.job_table.specs.Triggers.{listed_in};
-    ghost use Rattle.history_model.specs.Clock.{reading_in};
-    ghost use Rattle.job_core.specs.Events.{item_of};
+    ghost use Rattle.history_model.specs.JobItems.{item_of};
 
     /// A table with no job, opened at a reading in a zone, with the overrides that `enable` and `disable` left, oldest
     /// first: of a label given twice the last counts. Refusals: BadRequest, if an override's name is no label; then
@@ -162,160 +157,16 @@ impl JobTable {
         }
     }
 
-    /// Tells the job with this label what happened to it: any event but a reading of the clocks, which is every job's. The
-    /// named calls below are this one, each for its event. Refusals: BadRequest (no label, or a process id of 0), NoSuchJob,
-    /// and those of the event.
-    pub fn hear(&mut self, label: &str, event: JobEvent<'_>) -> Result<Step<'_>, Refusal>
-        requires silent { reading_in (item_of event) ≡ None }
-        ensures answer { IsAnswer (OfJob label.now (item_of event.entry)) self.old result }
+    /// Tells the job with this label what happened to it. The calls of `calls.rt` are this one, each for its event. Refusals:
+    /// BadRequest (no label, a process id of 0, or an unload or a shutdown, which are the calls `unload` and `shutdown`), NoSuchJob, and
+    /// those of the event.
+    pub fn hear(&mut self, label: &str, item: JobItem) -> Result<Step<'_>, Refusal>
+        ensures answer { IsAnswer (OfJob label.now (item_of item)) self.old result }
         ensures memory { NeedsNoMemory result }
         ensures known { IfOk result AreKnown }
-        ensures* kept { sem 𝓛 (GoesOn self.entry result (OfJob label.now (item_of event.entry))) }
+        ensures* kept { sem 𝓛 (GoesOn self.entry result (OfJob label.now (item_of item))) }
     {
-        self.jobs.hear(label, event)?;
-        Ok(self.last_step())
-    }
-
-    /// Starts the job, as `start` of launchctl(1): a demand that is pending until a later spawn went well. A job whose child
-    /// runs and is not being stopped is left as it is. Refusals: BadRequest (no label), NoSuchJob, Removing.
-    pub fn start(&mut self, label: &str) -> Result<Step<'_>, Refusal>
-        ensures answer { IsAnswer (OfJob label.now (Asked Ask.Start)) self.old result }
-        ensures memory { NeedsNoMemory result }
-        ensures known { IfOk result AreKnown }
-        ensures* kept { sem 𝓛 (GoesOn self.entry result (OfJob label.now (Asked Ask.Start))) }
-    {
-        self.jobs.hear(label, JobEvent::Asked(Ask::Start))?;
-        Ok(self.last_step())
-    }
-
-    /// Stops the job's child, as `stop` of launchctl(1): by TERM, and by KILL once the definition's `ExitTimeOut` is over.
-    /// Refusals: BadRequest (no label), NoSuchJob, Removing, NotRunning.
-    pub fn stop(&mut self, label: &str) -> Result<Step<'_>, Refusal>
-        ensures answer { IsAnswer (OfJob label.now (Asked Ask.Stop)) self.old result }
-        ensures memory { NeedsNoMemory result }
-        ensures known { IfOk result AreKnown }
-        ensures* kept { sem 𝓛 (GoesOn self.entry result (OfJob label.now (Asked Ask.Stop))) }
-    {
-        self.jobs.hear(label, JobEvent::Asked(Ask::Stop))?;
-        Ok(self.last_step())
-    }
-
-    /// Starts the job; with `kills_first` its child is first ended by KILL, as `kickstart -k` of launchctl(1). Refusals:
-    /// BadRequest (no label), NoSuchJob, Removing.
-    pub fn kickstart(&mut self, label: &str, kills_first: bool) -> Result<Step<'_>, Refusal>
-        ensures answer { IsAnswer (OfJob label.now (Asked (Ask.Kickstart kills_first)))
-            self.old result }
-        ensures memory { NeedsNoMemory result }
-        ensures known { IfOk result AreKnown }
-        ensures* kept { sem 𝓛
-            (GoesOn self.entry result (OfJob label.now (Asked (Ask.Kickstart kills_first)))) }
-    {
-        self.jobs
-            .hear(label, JobEvent::Asked(Ask::Kickstart(kills_first)))?;
-        Ok(self.last_step())
-    }
-
-    /// A connection came to one of the job's sockets; its number is above every earlier one of this load. Refusals: BadRequest
-    /// (no label), NoSuchJob, Removing, Stale (no sockets, or a number that is not new), TooManyConnections (`MAX_CONNECTIONS` wait).
-    pub fn came(&mut self, label: &str, conn: u64) -> Result<Step<'_>, Refusal>
-        ensures answer { IsAnswer (OfJob label.now (Came conn)) self.old result }
-        ensures memory { NeedsNoMemory result }
-        ensures known { IfOk result AreKnown }
-        ensures* kept { sem 𝓛 (GoesOn self.entry result (OfJob label.now (Came conn))) }
-    {
-        self.jobs.hear(label, JobEvent::Came(conn))?;
-        Ok(self.last_step())
-    }
-
-    /// A waiting connection was given up by its client. Refusals: BadRequest (no label), NoSuchJob, Stale (it does not wait).
-    pub fn left(&mut self, label: &str, conn: u64) -> Result<Step<'_>, Refusal>
-        ensures answer { IsAnswer (OfJob label.now (Left conn)) self.old result }
-        ensures memory { NeedsNoMemory result }
-        ensures known { IfOk result AreKnown }
-        ensures* kept { sem 𝓛 (GoesOn self.entry result (OfJob label.now (Left conn))) }
-    {
-        self.jobs.hear(label, JobEvent::Left(conn))?;
-        Ok(self.last_step())
-    }
-
-    /// The spawn of a run went well, under this process id. Refusals: BadRequest (no label, or an id of 0), NoSuchJob, Stale
-    /// (this answer is not awaited).
-    pub fn spawned(&mut self, label: &str, run: u64, pid: u32) -> Result<Step<'_>, Refusal>
-        ensures answer { IsAnswer (OfJob label.now (Answered (answers.Spawned run pid)))
-            self.old result }
-        ensures memory { NeedsNoMemory result }
-        ensures known { IfOk result AreKnown }
-        ensures* kept { sem 𝓛
-            (GoesOn self.entry result (OfJob label.now (Answered (answers.Spawned run pid)))) }
-    {
-        self.jobs
-            .hear(label, JobEvent::Answered(Answer::Spawned { run, pid }))?;
-        Ok(self.last_step())
-    }
-
-    /// The spawn of a run was refused. Its demand stays, and the next spawn waits at least a second. Refusals: BadRequest (no
-    /// label), NoSuchJob, Stale (this answer is not awaited).
-    pub fn spawn_refused(&mut self, label: &str, run: u64) -> Result<Step<'_>, Refusal>
-        ensures answer { IsAnswer (OfJob label.now (Answered (answers.SpawnRefused run)))
-            self.old result }
-        ensures memory { NeedsNoMemory result }
-        ensures known { IfOk result AreKnown }
-        ensures* kept { sem 𝓛
-            (GoesOn self.entry result (OfJob label.now (Answered (answers.SpawnRefused run)))) }
-    {
-        self.jobs
-            .hear(label, JobEvent::Answered(Answer::SpawnRefused { run }))?;
-        Ok(self.last_step())
-    }
-
-    /// TERM was given to a run, or refused. Refusals: BadRequest (no label), NoSuchJob, Stale (this answer is not awaited).
-    pub fn term_answered(&mut self, label: &str, run: u64, ok: bool) -> Result<Step<'_>, Refusal>
-        ensures answer { IsAnswer (OfJob label.now (Answered (answers.Termed run ok)))
-            self.old result }
-        ensures memory { NeedsNoMemory result }
-        ensures known { IfOk result AreKnown }
-        ensures* kept { sem 𝓛
-            (GoesOn self.entry result (OfJob label.now (Answered (answers.Termed run ok)))) }
-    {
-        self.jobs
-            .hear(label, JobEvent::Answered(Answer::Termed { run, ok }))?;
-        Ok(self.last_step())
-    }
-
-    /// KILL was given to a run, or refused. Refusals: BadRequest (no label), NoSuchJob, Stale (this answer is not awaited).
-    pub fn kill_answered(&mut self, label: &str, run: u64, ok: bool) -> Result<Step<'_>, Refusal>
-        ensures answer { IsAnswer (OfJob label.now (Answered (answers.Killed run ok)))
-            self.old result }
-        ensures memory { NeedsNoMemory result }
-        ensures known { IfOk result AreKnown }
-        ensures* kept { sem 𝓛
-            (GoesOn self.entry result (OfJob label.now (Answered (answers.Killed run ok)))) }
-    {
-        self.jobs
-            .hear(label, JobEvent::Answered(Answer::Killed { run, ok }))?;
-        Ok(self.last_step())
-    }
-
-    /// A run ended. Refusals: BadRequest (no label), NoSuchJob, Stale (it is not the present child's run).
-    pub fn ended(&mut self, label: &str, run: u64, how: Ended) -> Result<Step<'_>, Refusal>
-        ensures answer { IsAnswer (OfJob label.now (RunEnded run how)) self.old result }
-        ensures memory { NeedsNoMemory result }
-        ensures known { IfOk result AreKnown }
-        ensures* kept { sem 𝓛 (GoesOn self.entry result (OfJob label.now (RunEnded run how))) }
-    {
-        self.jobs.hear(label, JobEvent::Ended(run, how))?;
-        Ok(self.last_step())
-    }
-
-    /// The wait for a run was refused: nothing is known of its end. Refusals: BadRequest (no label), NoSuchJob, Stale (it is
-    /// not the present child's run).
-    pub fn wait_refused(&mut self, label: &str, run: u64) -> Result<Step<'_>, Refusal>
-        ensures answer { IsAnswer (OfJob label.now (WaitRefused run)) self.old result }
-        ensures memory { NeedsNoMemory result }
-        ensures known { IfOk result AreKnown }
-        ensures* kept { sem 𝓛 (GoesOn self.entry result (OfJob label.now (WaitRefused run))) }
-    {
-        self.jobs.hear(label, JobEvent::WaitRefused { run })?;
+        self.jobs.hear(label, item)?;
         Ok(self.last_step())
     }
 
@@ -434,6 +285,13 @@ impl JobTable {
             option_map (λ path. path.now) result ≡ holding (past_of s label.now) }
     {
         self.jobs.path_that_holds(label)
+    }
+
+    /// Whether a shutdown was accepted, after which no load is accepted. It takes no memory, and changes nothing.
+    pub fn is_shutting_down(&self) -> bool
+        ensures { (s : State) → KeepsState self.now s → result ≡ s.is_shutting_down }
+    {
+        self.jobs.is_shutting_down
     }
 
     /// Whether no job is loaded.

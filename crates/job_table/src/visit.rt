@@ -18,31 +18,31 @@ ghost use Rattle.job_table.specs.Visiting.{is_spared, AreSpared, AreAtRest, AreV
 ghost use Rattle.job_table.specs.Tables.{Name, IsOnce, is_known};
 ghost use Rattle.job_table.specs.Entries.{is_named, rows, name, AllStay};
 
-use crate::entry::{Entry, News};
+use crate::entry::{Entry, Touch};
 use history_model::{Order, Reading};
 use timer_heap::TimerHeap;
 
-/// Tells the jobs at the places with a mark the news and asks them, in rising order of places, and takes the marks away. A mark is a
+/// Tells the touch to the jobs at the places with a mark and asks them, in rising order of places, and takes the marks away. A mark is a
 /// moment of 0 in `ready`. It counts the jobs that it visits, and says whether all stay.
 pub fn visit_ready(
     entries: &mut [Entry],
     ready: &mut TimerHeap,
     timers: &mut TimerHeap,
-    news: News<'_>,
+    touch: Touch<'_>,
     before: Reading,
     now: Reading,
     orders: &mut Vec<Order>,
 ) -> (u32, bool)
     requires before_in_range { before.up ≤ MAX_UP }
     requires in_range { now.up ≤ MAX_UP }
-    requires now { now ≡ present_with news before }
+    requires now { now ≡ present_with touch before }
     requires stay { AllStay entries.old }
     requires few { length entries.old ≤ MAX_JOBS }
     requires room { vec_len orders.old + ORDERS * length entries.old ≤ vec_capacity orders.old }
     requires inside { (place moment : ℕ) → moment_in ready.old place ≡ Some moment →
         place < length entries.old }
     requires marks { (place moment : ℕ) → moment_in ready.old place ≡ Some moment → moment ≡ 0 }
-    requires spared { AreSpared ready.old before news 0 entries.old }
+    requires spared { AreSpared ready.old before touch 0 entries.old }
     requires once { IsOnce (map name entries.old) }
     requires numbers { HaveRoom timers.old (map name entries.old) }
     requires timed { (place : ℕ) (entry : Entry) → slice_get entries.old place ≡ Some entry →
@@ -50,12 +50,12 @@ pub fn visit_ready(
         moment_in timers.old entry.number ≡ moment_for entry now.up }
     requires alone { AreAlone timers.old (map name entries.old) }
     ensures kept { (jobs : List Job) (item : Job → Option Item) →
-        AreFor news.entry item (rows entries.old) jobs → IsAccepted before item →
+        AreFor touch.entry item (rows entries.old) jobs → IsAccepted before item →
         AreAtRest ready.old 0 (heard item jobs) →
         KeepsJobs before (rows entries.old) jobs →
         KeepsJobs now (rows entries.new) (filter_map job_stays (heard item jobs)) }
     ensures orders { (jobs : List Job) (item : Job → Option Item) →
-        AreFor news.entry item (rows entries.old) jobs → IsAccepted before item →
+        AreFor touch.entry item (rows entries.old) jobs → IsAccepted before item →
         AreAtRest ready.old 0 (heard item jobs) →
         KeepsJobs before (rows entries.old) jobs →
         orders.new.items ≡ orders.old.items ++ numbered_all (rows entries.old) (heard item jobs) }
@@ -79,7 +79,7 @@ pub fn visit_ready(
     while let Some(number) = ready.pop_due(0) {
         let place = number as usize;
         let entry = &mut entries[place];
-        entry.visit(news, before, now, orders);
+        entry.visit(touch, before, now, orders);
         retime(timers, entry, now);
         if !entry.has_gone {
             visited += 1;

@@ -1,12 +1,9 @@
 //! An event of a journal goes to the table, and what it says.
-ghost use Rattle.std.specs.Prelude.{◌≡◌, None};
-ghost use Rattle.history_model.specs.Clock.{reading_in};
-ghost use Rattle.job_core.specs.Events.{item_of};
 
 use crate::job::Asked;
 use crate::run::Run;
-use history_model::{Answer, Ask, DemandKind, Event, Refusal, Wants};
-use job_table::{JobEvent, JobTable, Step};
+use history_model::{DemandKind, Event, Refusal, Wants};
+use job_table::{JobTable, Step};
 use std::alloc::Global;
 
 /// When a job that has no run starts again.
@@ -81,12 +78,6 @@ fn answer(answer: Result<Step<'_>, Refusal>) -> Result<bool, Refusal> {
     }
 }
 
-fn tell(table: &mut JobTable, job: &str, event: JobEvent<'_>) -> Result<bool, Refusal>
-    requires silent { reading_in (item_of event) ≡ None }
-{
-    answer(table.hear(job, event))
-}
-
 /// The words of a load, and what the outside answered.
 #[derive(Clone, Copy)]
 struct LoadWords {
@@ -149,51 +140,16 @@ pub(crate) fn hear(alloc: Global, table: &mut JobTable, event: &Event) -> Result
             store,
         } => set(alloc, table, job.as_str(), true, true, *store),
         Event::Unload { job, .. } => answer(table.unload(job.as_str())),
-        Event::Enable { job, store } => set(alloc, table, job.as_str(), false, false, *store),
-        Event::Disable { job, store } => set(alloc, table, job.as_str(), true, false, *store),
+        Event::Set {
+            job,
+            disabled,
+            store,
+        } => set(alloc, table, job.as_str(), *disabled, false, *store),
         Event::Clock(at) => answer(table.clock(alloc, *at)),
         Event::Saw { path, obs } => answer(table.saw(path.as_str(), *obs)),
         Event::Shutdown => answer(table.shutdown()),
         Event::List => Ok(false),
         Event::Print { .. } => Ok(false),
-        _ => hear_of_job(table, event),
+        Event::OfJob { job, item } => answer(table.hear(job.as_str(), *item)),
     }
-}
-
-// An event of one job, told by its label.
-fn hear_of_job(table: &mut JobTable, event: &Event) -> Result<bool, Refusal> {
-    match event {
-        Event::Start { job } => tell(table, job.as_str(), JobEvent::Asked(Ask::Start)),
-        Event::Stop { job } => tell(table, job.as_str(), JobEvent::Asked(Ask::Stop)),
-        Event::Kickstart { job, kills_first } => tell(
-            table,
-            job.as_str(),
-            JobEvent::Asked(Ask::Kickstart(*kills_first)),
-        ),
-        Event::Came { job, conn } => tell(table, job.as_str(), JobEvent::Came(*conn)),
-        Event::Left { job, conn } => tell(table, job.as_str(), JobEvent::Left(*conn)),
-        Event::Ended { job, run, how } => tell(table, job.as_str(), JobEvent::Ended(*run, *how)),
-        Event::WaitRefused { job, run } => {
-            tell(table, job.as_str(), JobEvent::WaitRefused { run: *run })
-        }
-        _ => hear_answer(table, event),
-    }
-}
-
-// What the outside answered to an order.
-fn hear_answer(table: &mut JobTable, event: &Event) -> Result<bool, Refusal> {
-    let (job, answered) = match event {
-        Event::Spawned { job, run, pid } => (
-            job,
-            Answer::Spawned {
-                run: *run,
-                pid: *pid,
-            },
-        ),
-        Event::SpawnRefused { job, run } => (job, Answer::SpawnRefused { run: *run }),
-        Event::Termed { job, run, ok } => (job, Answer::Termed { run: *run, ok: *ok }),
-        Event::Killed { job, run, ok } => (job, Answer::Killed { run: *run, ok: *ok }),
-        _ => return Ok(false),
-    };
-    tell(table, job.as_str(), JobEvent::Answered(answered))
 }

@@ -6,7 +6,7 @@ use crate::job::Asked;
 use crate::past::Past;
 use calendar_due::Zone;
 use ctl_protocol::{LineReader, ReadFault, read_header};
-use history_model::{Act, Event, Reading, Refusal};
+use history_model::{Act, Answer, Ask, Ended, Event, JobItem, Reading, Refusal};
 use job_defs::read_def;
 use job_table::{JobTable, Step};
 use std::alloc::{AllocError, Global};
@@ -136,9 +136,8 @@ impl Journal {
         }
         match event {
             Event::Load { def, .. } => self.note_load(alloc, def.as_str()),
-            Event::Came { job, conn } => self.tell(alloc, job.as_str(), What::Came(*conn)),
-            Event::Left { job, conn } => self.tell(alloc, job.as_str(), What::Left(*conn)),
-            _ => self.note_run(alloc, event),
+            Event::OfJob { job, item } => self.note_item(alloc, job.as_str(), *item),
+            _ => Ok(()),
         }
     }
 
@@ -168,38 +167,39 @@ impl Journal {
         }
     }
 
-    // An answer, or an end.
-    fn note_run(&mut self, alloc: Global, event: &Event) -> Result<(), AllocError> {
-        match event {
-            Event::Spawned { job, run, pid } => self.note_begun(alloc, job.as_str(), *run, *pid),
-            Event::SpawnRefused { job, run } => self.note_refused(alloc, job.as_str(), *run),
-            Event::Termed {
-                job,
-                run,
-                ok: false,
-            } => self.tell(
+    // What came to a job's sockets, an answer, or an end.
+    fn note_item(&mut self, alloc: Global, label: &str, item: JobItem) -> Result<(), AllocError> {
+        match item {
+            JobItem::Asked(_) => Ok(()),
+            JobItem::Came(conn) => self.tell(alloc, label, What::Came(conn)),
+            JobItem::Left(conn) => self.tell(alloc, label, What::Left(conn)),
+            JobItem::Answered(answer) => self.note_answer(alloc, label, answer),
+            JobItem::Ended { how, .. } => self.note_ended(alloc, label, how),
+            JobItem::WaitRefused { run } => self.note_lost(alloc, label, run),
+        }
+    }
+
+    // The answer to an order. A signal that was sent is told by its order.
+    fn note_answer(
+        &mut self,
+        alloc: Global,
+        label: &str,
+        answer: Answer,
+    ) -> Result<(), AllocError> {
+        match answer {
+            Answer::Spawned { run, pid } => self.note_begun(alloc, label, run, pid),
+            Answer::SpawnRefused { run } => self.note_refused(alloc, label, run),
+            Answer::Termed { run, ok: false } => self.tell(
                 alloc,
-                job.as_str(),
-                What::Untold {
-                    run: *run,
-                    kills: false,
-                },
+                label,
+                What::Untold { run, kills: false },
             ),
-            Event::Killed {
-                job,
-                run,
-                ok: false,
-            } => self.tell(
+            Answer::Killed { run, ok: false } => self.tell(
                 alloc,
-                job.as_str(),
-                What::Untold {
-                    run: *run,
-                    kills: true,
-                },
+                label,
+                What::Untold { run, kills: true },
             ),
-            Event::Ended { job, .. } => self.note_ended(alloc, job.as_str(), event),
-            Event::WaitRefused { job, run } => self.note_lost(alloc, job.as_str(), *run),
-            _ => Ok(()),
+            Answer::Termed { .. } | Answer::Killed { .. } => Ok(()),
         }
     }
 
@@ -228,12 +228,12 @@ impl Journal {
         self.tell(alloc, label, What::NotBegun { run, wait })
     }
 
-    fn note_ended(&mut self, alloc: Global, label: &str, event: &Event) -> Result<(), AllocError> {
+    fn note_ended(&mut self, alloc: Global, label: &str, how: Ended) -> Result<(), AllocError> {
         let at = self.reading();
         let wait = wait_of(&self.table, label);
         let mut over = None;
-        if let (Event::Ended { how, .. }, Some(job)) = (event, self.past.jobs.get_mut(label)) {
-            over = job.end(*how, at);
+        if let Some(job) = self.past.jobs.get_mut(label) {
+            over = job.end(how, at);
         }
         self.past.keep(over)?;
         match over {
@@ -311,24 +311,37 @@ fn ordered(table: &JobTable, past: &mut Past, label: &str, act: Act, at: Reading
     }
 }
 
+// What a client asks of one job.
+fn asked_by(ask: Ask) -> Asked {
+    match ask {
+        Ask::Start => Asked::Start,
+        Ask::Stop => Asked::Stop,
+        Ask::Kickstart(false) => Asked::Kickstart,
+        Ask::Kickstart(true) => Asked::Strike,
+        Ask::Unload => Asked::Unload,
+        Ask::Shutdown => Asked::Shutdown,
+    }
+}
+
 // What a client asked, and of which label; the empty one for all jobs.
 fn asked_in(event: &Event) -> Option<(&str, Asked)> {
     match event {
-        Event::Start { job } => Some((job.as_str(), Asked::Start)),
-        Event::Stop { job } => Some((job.as_str(), Asked::Stop)),
-        Event::Kickstart {
+        Event::OfJob {
             job,
-            kills_first: false,
-        } => Some((job.as_str(), Asked::Kickstart)),
-        Event::Kickstart { job, .. } => Some((job.as_str(), Asked::Strike)),
+            item: JobItem::Asked(ask),
+        } => Some((job.as_str(), asked_by(*ask))),
         Event::Unload {
             job,
             writes_setting: false,
             ..
         } => Some((job.as_str(), Asked::Unload)),
         Event::Unload { job, .. } => Some((job.as_str(), Asked::UnloadForGood)),
-        Event::Enable { job, .. } => Some((job.as_str(), Asked::Enable)),
-        Event::Disable { job, .. } => Some((job.as_str(), Asked::Disable)),
+        Event::Set {
+            job,
+            disabled: false,
+            ..
+        } => Some((job.as_str(), Asked::Enable)),
+        Event::Set { job, .. } => Some((job.as_str(), Asked::Disable)),
         Event::Shutdown => Some(("", Asked::Shutdown)),
         _ => None,
     }

@@ -1,62 +1,43 @@
--- What an accepted input asked.
-use Rattle.std.proofs.Common.{◌≡◌, Bool, true, false, List, ℕ, Option, Some, None, refl, sym, ap, subst, ◌∙◌}
-use Rattle.std.specs.Prelude.{option_and_then, if◌then◌else◌}
+-- Whether an input was a load that was accepted.
+use Rattle.std.proofs.Common.{◌≡◌, Bool, true, false, ◌&&◌, Option, Some, None, refl, sym, ap, subst}
+use Rattle.std.specs.Prelude.{is_none, option_and_then, if◌then◌else◌}
 use Rattle.history_model.specs.declared.Refusal.{Refusal}
 use Rattle.history_model.specs.declared.event.Event as journal
 use Rattle.history_model.specs.declared.event.Event.TheVariants as journaled
 use Rattle.history_model.specs.Labels.{Label, is_label}
-use Rattle.launcher.specs.declared.accepted.Accepted.{Accepted}
-use Rattle.launcher.specs.declared.accepted.Accepted.TheVariants.{Load, Shutdown, Other}
-use Rattle.launcher.specs.declared.event_ref.EventRef.{EventRef}
-use Rattle.launcher.specs.declared.event_ref.EventRef.TheVariants as happenings
-use Rattle.launcher.specs.Accepting.{accepted_in, asked_kind, unless_refused}
-use Rattle.launcher.specs.Inputs.{asked_in, if_label}
+use Rattle.history_model.proofs.BooleanLemmas.{and-false}
+use Rattle.launcher.specs.Accepting.{is_accepted_load, is_load}
+use Rattle.launcher.specs.Inputs.{asked_in, if_label, is_asked}
 
--- a line that is a request asks what its event asks
-pub line_asks : (e : journal.Event) → asked_kind (asked_in e) ≡ asked_kind (Some e)
-line_asks (journaled.Load def writes_setting force bind store) = refl
-line_asks (journaled.Unload job writes_setting store) = refl
-line_asks (journaled.Start job) = refl
-line_asks (journaled.Stop job) = refl
-line_asks (journaled.Kickstart job kills_first) = refl
-line_asks (journaled.Enable job store) = refl
-line_asks (journaled.Disable job store) = refl
-line_asks journaled.List = refl
-line_asks (journaled.Print job) = refl
-line_asks journaled.Shutdown = refl
-line_asks (journaled.Clock at) = refl
-line_asks (journaled.Saw path obs) = refl
-line_asks (journaled.Came job conn) = refl
-line_asks (journaled.Left job conn) = refl
-line_asks (journaled.Spawned job run pid) = refl
-line_asks (journaled.SpawnRefused job run) = refl
-line_asks (journaled.Termed job run ok) = refl
-line_asks (journaled.Killed job run ok) = refl
-line_asks (journaled.Ended job run how) = refl
-line_asks (journaled.WaitRefused job run) = refl
+-- a line that is a request is a load if its event is
+pub line_loads : (e : journal.Event) → is_load (asked_in e) ≡ is_load (Some e)
+line_loads (journaled.Load def writes_setting force bind store) = refl
+line_loads (journaled.Unload job writes_setting store) = refl
+line_loads (journaled.Set job disabled store) = refl
+line_loads journaled.List = refl
+line_loads (journaled.Print job) = refl
+line_loads journaled.Shutdown = refl
+line_loads (journaled.Clock at) = refl
+line_loads (journaled.Saw path obs) = refl
+line_loads (journaled.OfJob job item) = go (is_asked item) where
+  go : (b : Bool) → is_load (if b then Some (journaled.OfJob job item) else None) ≡ false
+  go true = refl
+  go false = refl
 
 -- so it is for the line
 pub accepted_line : (line : Option journal.Event) (e : journal.Event) (refusal : Option Refusal) → line ≡ Some e →
-    unless_refused (asked_kind (Some e)) refusal ≡ accepted_in (option_and_then asked_in line) refusal
+    (is_load (Some e) && is_none refusal) ≡ is_accepted_load (option_and_then asked_in line) refusal
 accepted_line line e refusal is =
-    subst (λ (l : Option journal.Event). unless_refused (asked_kind (Some e)) refusal ≡ accepted_in (option_and_then asked_in l) refusal) (sym is)
-    (ap (λ kind. unless_refused kind refusal) (sym (line_asks e)))
+    subst (λ (l : Option journal.Event). (is_load (Some e) && is_none refusal) ≡ is_accepted_load (option_and_then asked_in l) refusal) (sym is)
+    (ap (λ b. b && is_none refusal) (sym (line_loads e)))
 
--- nothing was heard
-pub accepted_nothing : (line : Option journal.Event) (refusal : Option Refusal) → line ≡ None → Other ≡ accepted_in (option_and_then asked_in line) refusal
-accepted_nothing line refusal is = subst (λ (l : Option journal.Event). Other ≡ accepted_in (option_and_then asked_in l) refusal) (sym is) refl
+-- what was refused loaded nothing
+pub refused_load : (event : Option journal.Event) (refusal : Refusal) → false ≡ is_accepted_load event (Some refusal)
+refused_load event refusal = sym (and-false (is_load event))
 
--- a refused input asked nothing
-pub refused_asks : (event : Option journal.Event) (refusal : Refusal) → Other ≡ accepted_in event (Some refusal)
-refused_asks event refusal = go (asked_kind event) where
-  go : (kind : Accepted) → Other ≡ unless_refused kind (Some refusal)
-  go Load = refl
-  go Shutdown = refl
-  go Other = refl
-
--- what happens to a job asks nothing, whether its name is a label or not
-pub label_asks : (name : Label) (e : journal.Event) (refusal : Option Refusal) → asked_kind (Some e) ≡ Other → Other ≡ accepted_in (if_label name e) refusal
-label_asks name e refusal is = go (is_label name) where
-  go : (b : Bool) → Other ≡ unless_refused (asked_kind (if b then Some e else None)) refusal
-  go true = sym (ap (λ kind. unless_refused kind refusal) is)
+-- nor does what happens to a job, whether its name is a label or not
+pub label_loads : (name : Label) (e : journal.Event) (refusal : Option Refusal) → is_load (Some e) ≡ false → false ≡ is_accepted_load (if_label name e) refusal
+label_loads name e refusal is = go (is_label name) where
+  go : (b : Bool) → false ≡ (is_load (if b then Some e else None) && is_none refusal)
+  go true = sym (ap (λ c. c && is_none refusal) is)
   go false = refl

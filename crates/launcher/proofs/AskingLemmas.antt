@@ -30,7 +30,7 @@ use Rattle.launcher.specs.LoadTurns.{LoadTurnOf, SetTurnOf, IsUntouched, Standin
 use Rattle.launcher.proofs.LoadTurnsLemmas.{nothing_done}
 use Rattle.launcher.specs.Hosts.{HostTurnOf, IsSpared, Hears}
 use Rattle.launcher.proofs.HostsLemmas.{hears, wordless, settled, unsettled}
-use Rattle.child_edge.specs.Calls.{Entry}
+use Rattle.child_edge.specs.Calls.{ToldCall}
 use Rattle.child_edge.proofs.CallsLemmas.{tells_nothing}
 
 -- ---- loads and settings
@@ -82,18 +82,6 @@ set_turn s label true true kept refusal old new before after turn stored = recor
   text = λ none. wordless s (set_of label true true kept) (λ t. refl) (turn.turn.replies ∙ none);
   stored = stored;
 }
-set_turn s label true false kept refusal old new before after turn stored = record {
-  outside = record { bind = true; store = kept };
-  job = 0;
-  mid = old.calls;
-  asks = (refl, refl, turn.asks);
-  turn = turn.turn;
-  own = λ none. tt;
-  numbers = turn.numbers;
-  stays = turn.stays;
-  text = λ none. wordless s (set_of label true false kept) (λ t. refl) (turn.turn.replies ∙ none);
-  stored = stored;
-}
 set_turn s label false true kept refusal old new before after turn stored = record {
   outside = record { bind = true; store = kept };
   job = 0;
@@ -106,7 +94,7 @@ set_turn s label false true kept refusal old new before after turn stored = reco
   text = λ none. wordless s (set_of label false true kept) (λ t. refl) (turn.turn.replies ∙ none);
   stored = stored;
 }
-set_turn s label false false kept refusal old new before after turn stored = record {
+set_turn s label disabled false kept refusal old new before after turn stored = record {
   outside = record { bind = true; store = kept };
   job = 0;
   mid = old.calls;
@@ -115,7 +103,7 @@ set_turn s label false false kept refusal old new before after turn stored = rec
   own = λ none. tt;
   numbers = turn.numbers;
   stays = turn.stays;
-  text = λ none. wordless s (set_of label false false kept) (λ t. refl) (turn.turn.replies ∙ none);
+  text = λ none. wordless s (set_of label disabled false kept) (λ t. refl) (turn.turn.replies ∙ none);
   stored = stored;
 }
 
@@ -140,7 +128,7 @@ changed label disabled unload kept refusal old new before after untouched silent
 -- ---- questions
 
 -- a question that is answered is the whole turn
-question : (s : State) (e : Event) (line text : List ℕ) (table : Table) (a : Option (List Entry)) (k n : JournalState) → (outcome s e ≡ record { refusal = None; orders = []; text = text }) × (step s e ≡ s) →
+question : (s : State) (e : Event) (line text : List ℕ) (table : Table) (a : Option (List ToldCall)) (k n : JournalState) → (outcome s e ≡ record { refusal = None; orders = []; text = text }) × (step s e ≡ s) →
     IsNumbered table → Grows k n line → KeepsState table s → IsLed s → TurnsOf s e line None table (trace a k) (trace a n)
 question s e line text table a k n (is, same) numbered noted keeps led = record {
   names = table.names;
@@ -162,14 +150,14 @@ question s e line text table a k n (is, same) numbered noted keeps led = record 
 }
 
 -- no memory, and no line
-uncalled : (table : Table) (a : Option (List Entry)) (t : Option (List StoreCall)) (k n : JournalState) (before : List Setting → Type 0) → n ≡ k → IsSpared (standing table a t k) (standing table a t n) before before
+uncalled : (table : Table) (a : Option (List ToldCall)) (t : Option (List StoreCall)) (k n : JournalState) (before : List Setting → Type 0) → n ≡ k → IsSpared (standing table a t k) (standing table a t n) before before
 uncalled table a t k n before is = record {
   untouched = record { same = λ s keeps. keeps; rows = refl; tells = tells_nothing a; stores = told_nothing t };
   silent = subst (λ (x : JournalState). Grows k x []) (sym is) (grows_nothing k);
   stored = λ s keeps holds. holds;
 }
 
-module _ {A : Type 0} (bytes : A → List ℕ) (table : Table) (a : Option (List Entry)) (t : Option (List StoreCall)) (k n : JournalState) (before : List Setting → Type 0) (words : List ℕ) where
+module _ {A : Type 0} (bytes : A → List ℕ) (table : Table) (a : Option (List ToldCall)) (t : Option (List StoreCall)) (k n : JournalState) (before : List Setting → Type 0) (words : List ℕ) where
   pub listed : (answer : Result A Refusal) → IfOk answer (λ x. IsReplyText ListJobs table (bytes x)) → IfErr answer (λ r. r ≡ NoMemory) → OnOk answer (Grows k n (event_line journaled.List)) → OnErr answer (n ≡ k) →
       IsNumbered table → IfOk answer (λ x. words ≡ bytes x) → Hears (Some journaled.List) (refused_with answer) words (standing table a t k) (standing table a t n) before before
   unfolding question

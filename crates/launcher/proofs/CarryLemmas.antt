@@ -4,7 +4,7 @@ use Rattle.std.specs.List.{list_all, cons_option}
 use Rattle.std.proofs.lemmas.List.{append-nil, map-append, take_more}
 use Rattle.std.proofs.lemmas.List.Elements.{filter_map-append}
 use Rattle.history_model.specs.declared.Order.{Order}
-use Rattle.child_edge.specs.Calls.{Tells, Entry}
+use Rattle.child_edge.specs.Calls.{Tells, ToldCall}
 use Rattle.child_edge.proofs.CallsLemmas.{tells_nothing, tells_append}
 use Rattle.outside.specs.declared.unheard.Unheard.{Unheard}
 use Rattle.outside.specs.Orders.{call_of, calls_in, answer_in, answers_in, Carries}
@@ -12,7 +12,7 @@ use Rattle.launcher.specs.Turns.{Carried}
 use Rattle.history_model.proofs.BooleanLemmas.{and-both}
 use Rattle.history_model.specs.declared.TheConstants.{MAX_JOBS}
 
-pub none_carried : (old : List Unheard) (told : Option (List Entry)) → Carried [] old old told told
+pub none_carried : (old : List Unheard) (told : Option (List ToldCall)) → Carried [] old old told told
 none_carried old told = record { entries = []; tells = tells_nothing told; calls = refl; kept = λ fits. sym (append-nil old) }
 
 -- the answer, if there is one, is kept if there is room
@@ -33,10 +33,10 @@ kept-more (Some p) old mid new made before is fits =
     let below : length mid < 3 * MAX_JOBS = omega (arith, size, long, fits) in
     is below ∙ ap (λ xs. xs ++ p ∷ []) same ∙ append_assoc old made (p ∷ [])
 
-pub carried-more : (orders : List Order) (order : Order) (old mid new : List Unheard) (pending : Option Unheard) (a b c : Option (List Entry)) →
+pub carried-more : (orders : List Order) (order : Order) (old mid new : List Unheard) (pending : Option Unheard) (a b c : Option (List ToldCall)) →
     Carried orders old mid a b → Carries order pending b c → IsKept pending mid new → Carried (orders ++ order ∷ []) old new a c
 carried-more orders order old mid new pending a b c before one kept =
-    let entry : Entry = (call_of order, one.answer) in
+    let entry : ToldCall = (call_of order, one.answer) in
     let gives : answers_in (entry ∷ []) ≡ cons_option pending [] = ap (λ o. cons_option o []) (sym one.gives) in
     let all : answers_in (before.entries ++ entry ∷ []) ≡ answers_in before.entries ++ cons_option pending [] =
     filter_map-append answer_in before.entries (entry ∷ []) ∙ ap (λ xs. answers_in before.entries ++ xs) gives in
@@ -47,7 +47,7 @@ carried-more orders order old mid new pending a b c before one kept =
       kept = λ fits. kept-more pending old mid new (answers_in before.entries) before.kept kept (omega (arith, ap length all, fits)) ∙ ap (λ xs. old ++ xs) (sym all);
     }
 
-pub turn-more : (orders : List Order) (i : ℕ) (d : Order) (old mid new : List Unheard) (pending : Option Unheard) (a b c : Option (List Entry)) → i < length orders →
+pub turn-more : (orders : List Order) (i : ℕ) (d : Order) (old mid new : List Unheard) (pending : Option Unheard) (a b c : Option (List ToldCall)) → i < length orders →
     Carried (take i orders) old mid a b → Carries (get_or orders i d) pending b c → IsKept pending mid new → Carried (take (i + 1) orders) old new a c
 turn-more orders i d old mid new pending a b c within before one kept =
     subst (λ os. Carried os old new a c) (sym (take_more orders i d within)) (carried-more (take i orders) (get_or orders i d) old mid new pending a b c before one kept)
@@ -58,8 +58,8 @@ all-at p (x ∷ xs) zero d within all = (and-both (p x) (list_all p xs) all).0
 all-at p (x ∷ xs) (suc i) d within all = all-at p xs i d (omega (arith, within)) (and-both (p x) (list_all p xs) all).1
 
 -- no order, no call
-pub none-called : (orders : List Order) (old new : List Unheard) (told told' : Option (List Entry)) → orders ≡ [] → Carried orders old new told told' → Tells told [] told'
+pub none-called : (orders : List Order) (old new : List Unheard) (told told' : Option (List ToldCall)) → orders ≡ [] → Carried orders old new told told' → Tells told [] told'
 none-called orders old new told told' none carried = go carried.entries (carried.calls ∙ ap (map call_of) none) carried.tells where
-  go : (entries : List Entry) → calls_in entries ≡ [] → Tells told entries told' → Tells told [] told'
+  go : (entries : List ToldCall) → calls_in entries ≡ [] → Tells told entries told' → Tells told [] told'
   go [] is tells = tells
   go (entry ∷ entries) is tells = cc

@@ -12,10 +12,10 @@ use Rattle.event_journal.specs.Journals.{JournalState, Grows}
 use Rattle.launcher.specs.Turns.{Begins, Carried, IsLed, NamesLabel, trace}
 use Rattle.launcher.proofs.TurnsLemmas.{Settles, turned-at}
 use Rattle.launcher.specs.LoadTurns.{Finishes, HasTaken}
-use Rattle.child_edge.specs.Calls.{Entry}
+use Rattle.child_edge.specs.Calls.{ToldCall}
 
 -- the orders of the step are those of the event, and the turn goes by the names of the table that the event left
-pub finished : (before mid new : Table) (s : State) (e : Event) (line : List ℕ) (lent : Step) (first after : List Unheard) (a b c : Option (List Entry)) (k m n : JournalState) →
+pub finished : (before mid new : Table) (s : State) (e : Event) (line : List ℕ) (lent : Step) (first after : List Unheard) (a b c : Option (List ToldCall)) (k m n : JournalState) →
     acts_of lent ≡ acts_in mid → AreKnown lent → names_in lent ≡ mid.names → IsNumbered mid → Carried lent.orders.now [] first a b → Settles mid first after new b c m n →
     Grows k m line → NamesLabel e → IsLed s → KeepsState before s → HasTaken s e mid → Finishes s e line mid.names new (trace a k) (trace c n)
 unfolding turned-at

@@ -1,14 +1,11 @@
 -- The turn of what happens, if the outside is first asked nothing.
 use Rattle.std.proofs.Common.{◌≡◌, ℕ, true, false, List, [], Option, Some, None, refl, sym, ap, subst, ◌∙◌}
 use Rattle.std.specs.Prelude.{Result, Ok, Err}
-use Rattle.history_model.specs.declared.Answer.{Answer}
-use Rattle.history_model.specs.declared.Answer.TheVariants as answers
 use Rattle.history_model.specs.declared.Refusal.{Refusal}
 use Rattle.history_model.specs.declared.Refusal.TheVariants.{NoMemory}
 use Rattle.history_model.specs.declared.event.Event as journal
 use Rattle.history_model.specs.declared.event.Setting.{Setting}
-use Rattle.history_model.specs.Labels.{Label}
-use Rattle.history_model.specs.Machine.{State, Event, OfJob}
+use Rattle.history_model.specs.Machine.{State, Event}
 use Rattle.history_model.specs.Acceptance.{refusal_in}
 use Rattle.history_model.specs.Step.{outcome, step, step_by}
 use Rattle.history_model.specs.Texts.{text_after}
@@ -23,18 +20,16 @@ use Rattle.event_journal.proofs.JournalsLemmas.{grows_nothing}
 use Rattle.ctl_protocol.specs.EventWriter.{event_line}
 use Rattle.launcher.specs.declared.event_ref.EventRef.{EventRef}
 use Rattle.launcher.specs.declared.event_ref.EventRef.TheVariants as happenings
-use Rattle.launcher.specs.declared.event_ref.News.{News}
-use Rattle.launcher.specs.declared.event_ref.News.TheVariants as news
-use Rattle.launcher.specs.Events.{event_of_ref, is_clock, item_heard}
-use Rattle.launcher.specs.Lines.{journaled_by, journaled_of, journaled_answer}
+use Rattle.launcher.specs.Events.{event_of_ref, is_clock}
+use Rattle.launcher.specs.Lines.{journaled_by}
 use Rattle.launcher.specs.Turns.{AreNumbered, TurnsOf, Turns, IsUncalled, Trace, trace}
 use Rattle.job_table.specs.Loads.{refused_with}
 use Rattle.launcher.specs.LoadTurns.{is_memory, standing}
-use Rattle.table_opening.specs.Events.{event_of}
+use Rattle.table_opening.specs.Events.{machine_event}
 use Rattle.launcher.specs.Inputs.{answered}
 use Rattle.launcher.specs.Hosts.{AsksOutside, IsOwn, Hears}
 use Rattle.launcher.proofs.HostsLemmas.{hears, wordless, is_want}
-use Rattle.child_edge.specs.Calls.{Entry}
+use Rattle.child_edge.specs.Calls.{ToldCall}
 use Rattle.child_edge.proofs.CallsLemmas.{tells_nothing}
 
 abbrev well : Outside
@@ -42,98 +37,34 @@ well = record { bind = true; store = true }
 
 -- ---- the line tells the event that happened
 
-same_answer : (label : Label) (a : Answer) → answered well (journaled_answer label a) ≡ journaled_answer label a
-same_answer label (answers.Spawned run pid) = refl
-same_answer label (answers.SpawnRefused run) = refl
-same_answer label (answers.Termed run ok) = refl
-same_answer label (answers.Killed run ok) = refl
-
-same_news : (label : Label) (n : News) → answered well (journaled_of label n) ≡ journaled_of label n
-same_news label news.Start = refl
-same_news label news.Stop = refl
-same_news label (news.Kickstart kills_first) = refl
-same_news label (news.Came conn) = refl
-same_news label (news.Left conn) = refl
-same_news label (news.Ended run how) = refl
-same_news label (news.WaitRefused run) = refl
-same_news label (news.Answered a) = same_answer label a
-
 same_line : (what : EventRef) → answered well (journaled_by what) ≡ journaled_by what
 same_line (happenings.Clock at) = refl
 same_line (happenings.Saw path obs) = refl
-same_line (happenings.ToJob label n) = same_news label.now n
+same_line (happenings.ToJob label item) = refl
 same_line (happenings.Unload label) = refl
 same_line happenings.Shutdown = refl
 
-answer_event : (label : Label) (a : Answer) → event_of (journaled_answer label a) ≡ OfJob label (item_heard (news.Answered a))
-answer_event label (answers.Spawned run pid) = refl
-answer_event label (answers.SpawnRefused run) = refl
-answer_event label (answers.Termed run ok) = refl
-answer_event label (answers.Killed run ok) = refl
-
-news_event : (label : Label) (n : News) → event_of (journaled_of label n) ≡ OfJob label (item_heard n)
-news_event label news.Start = refl
-news_event label news.Stop = refl
-news_event label (news.Kickstart kills_first) = refl
-news_event label (news.Came conn) = refl
-news_event label (news.Left conn) = refl
-news_event label (news.Ended run how) = refl
-news_event label (news.WaitRefused run) = refl
-news_event label (news.Answered a) = answer_event label a
-
-same_event : (what : EventRef) → event_of (journaled_by what) ≡ event_of_ref what
+same_event : (what : EventRef) → machine_event (journaled_by what) ≡ event_of_ref what
 same_event (happenings.Clock at) = refl
 same_event (happenings.Saw path obs) = refl
-same_event (happenings.ToJob label n) = news_event label.now n
+same_event (happenings.ToJob label item) = refl
 same_event (happenings.Unload label) = refl
 same_event happenings.Shutdown = refl
 
 -- ---- nothing is asked for it
 
-module _ (s : State) (a : Option (List Entry)) (t : Option (List StoreCall)) where
-  asks_answer : (label : Label) (x : Answer) → AsksOutside s (journaled_answer label x) 0 well (told_of a t) (told_of a t)
-  asks_answer label (answers.Spawned run pid) = record { bind = refl; store = refl; tells = tells_nothing a; stores = told_nothing t }
-  asks_answer label (answers.SpawnRefused run) = record { bind = refl; store = refl; tells = tells_nothing a; stores = told_nothing t }
-  asks_answer label (answers.Termed run ok) = record { bind = refl; store = refl; tells = tells_nothing a; stores = told_nothing t }
-  asks_answer label (answers.Killed run ok) = record { bind = refl; store = refl; tells = tells_nothing a; stores = told_nothing t }
-
-  asks_news : (label : Label) (n : News) → AsksOutside s (journaled_of label n) 0 well (told_of a t) (told_of a t)
-  asks_news label news.Start = record { bind = refl; store = refl; tells = tells_nothing a; stores = told_nothing t }
-  asks_news label news.Stop = record { bind = refl; store = refl; tells = tells_nothing a; stores = told_nothing t }
-  asks_news label (news.Kickstart kills_first) = record { bind = refl; store = refl; tells = tells_nothing a; stores = told_nothing t }
-  asks_news label (news.Came conn) = record { bind = refl; store = refl; tells = tells_nothing a; stores = told_nothing t }
-  asks_news label (news.Left conn) = record { bind = refl; store = refl; tells = tells_nothing a; stores = told_nothing t }
-  asks_news label (news.Ended run how) = record { bind = refl; store = refl; tells = tells_nothing a; stores = told_nothing t }
-  asks_news label (news.WaitRefused run) = record { bind = refl; store = refl; tells = tells_nothing a; stores = told_nothing t }
-  asks_news label (news.Answered x) = asks_answer label x
-
+module _ (s : State) (a : Option (List ToldCall)) (t : Option (List StoreCall)) where
   asks_none : (what : EventRef) → AsksOutside s (journaled_by what) 0 well (told_of a t) (told_of a t)
   asks_none (happenings.Clock at) = record { bind = refl; store = refl; tells = tells_nothing a; stores = told_nothing t }
   asks_none (happenings.Saw path obs) = record { bind = refl; store = refl; tells = tells_nothing a; stores = told_nothing t }
-  asks_none (happenings.ToJob label n) = asks_news label.now n
+  asks_none (happenings.ToJob label item) = record { bind = refl; store = refl; tells = tells_nothing a; stores = told_nothing t }
   asks_none (happenings.Unload label) = record { bind = refl; store = refl; tells = tells_nothing a; stores = told_nothing t }
   asks_none happenings.Shutdown = record { bind = refl; store = refl; tells = tells_nothing a; stores = told_nothing t }
-
-own_answer : (label : Label) (x : Answer) (names : List Name) → IsOwn (journaled_answer label x) names 0
-own_answer label (answers.Spawned run pid) names = tt
-own_answer label (answers.SpawnRefused run) names = tt
-own_answer label (answers.Termed run ok) names = tt
-own_answer label (answers.Killed run ok) names = tt
-
-own_news : (label : Label) (n : News) (names : List Name) → IsOwn (journaled_of label n) names 0
-own_news label news.Start names = tt
-own_news label news.Stop names = tt
-own_news label (news.Kickstart kills_first) names = tt
-own_news label (news.Came conn) names = tt
-own_news label (news.Left conn) names = tt
-own_news label (news.Ended run how) names = tt
-own_news label (news.WaitRefused run) names = tt
-own_news label (news.Answered x) names = own_answer label x names
 
 own_none : (what : EventRef) (names : List Name) → IsOwn (journaled_by what) names 0
 own_none (happenings.Clock at) names = tt
 own_none (happenings.Saw path obs) names = tt
-own_none (happenings.ToJob label n) names = own_news label.now n names
+own_none (happenings.ToJob label item) names = tt
 own_none (happenings.Unload label) names = tt
 own_none happenings.Shutdown names = tt
 
@@ -142,7 +73,7 @@ own_none happenings.Shutdown names = tt
 quiet : (what : EventRef) (t : State) → text_after (event_of_ref what) t ≡ []
 quiet (happenings.Clock at) t = refl
 quiet (happenings.Saw path obs) t = refl
-quiet (happenings.ToJob label n) t = refl
+quiet (happenings.ToJob label item) t = refl
 quiet (happenings.Unload label) t = refl
 quiet happenings.Shutdown t = refl
 
@@ -152,7 +83,7 @@ unset s what = go what (refusal_in s (event_of_ref what)) where
   go w (Some refusal) = refl
   go (happenings.Clock at) None = refl
   go (happenings.Saw path obs) None = refl
-  go (happenings.ToJob label n) None = refl
+  go (happenings.ToJob label item) None = refl
   go (happenings.Unload label) None = refl
   go happenings.Shutdown None = refl
 
@@ -167,7 +98,7 @@ unless P (Err _) holds other = holds
 abbrev Counted : State → Event → List ℕ → Option Refusal → Table → Table → Trace → Trace → Type 0
 Counted s e line reply old new before after = (turn : TurnsOf s e line reply new before after) × (reply ≡ None → AreNumbered turn.names old)
 
-pub happened : (what : EventRef) (answer : Result (Unit {0}) Refusal) (old new : Table) (a c : Option (List Entry)) (t : Option (List StoreCall)) (k n : JournalState) (before : List Setting → Type 0) →
+pub happened : (what : EventRef) (answer : Result (Unit {0}) Refusal) (old new : Table) (a c : Option (List ToldCall)) (t : Option (List StoreCall)) (k n : JournalState) (before : List Setting → Type 0) →
     UnlessMemory answer (Turns (event_of_ref what) (event_line (journaled_by what)) (refused_with answer) old new (trace a k) (trace c n)) →
     (answer ≡ Err NoMemory → (is_clock what ≡ true) × IsUncalled old new a c × (n ≡ k)) →
     Hears (Some (journaled_by what)) (refused_with answer) [] (standing old a t k) (standing new c t n) before before
@@ -185,7 +116,7 @@ happened what answer old new a c t k n before turned none =
     (λ other s led keeps.
     let whole = unless (Turns (event_of_ref what) (event_line (journaled_by what)) (refused_with answer) old new (trace a k) (trace c n)) answer turned other s led keeps in
     let turn = whole.0 in
-    let event : event_of (answered well (journaled_by what)) ≡ event_of_ref what = ap event_of (same_line what) ∙ same_event what in
+    let event : machine_event (answered well (journaled_by what)) ≡ event_of_ref what = ap machine_event (same_line what) ∙ same_event what in
     let told = subst (λ (e : Event). Counted s e (event_line (answered well (journaled_by what))) (refused_with answer) old new (trace a k) (trace c n)) (sym event)
     (subst (λ (l : journal.Event). Counted s (event_of_ref what) (event_line l) (refused_with answer) old new (trace a k) (trace c n)) (sym (same_line what)) (whole.0, whole.1)) in
     record {

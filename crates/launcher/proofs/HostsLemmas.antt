@@ -12,7 +12,7 @@ use Rattle.history_model.specs.Step.{outcome, outcome_by, step}
 use Rattle.history_model.specs.Texts.{text_after}
 use Rattle.job_table.specs.Tables.{Table}
 use Rattle.job_table.specs.StandsFor.{KeepsState}
-use Rattle.child_edge.specs.Calls.{Entry}
+use Rattle.child_edge.specs.Calls.{ToldCall}
 use Rattle.child_edge.proofs.CallsLemmas.{tells_nothing}
 use Rattle.outside.specs.Orders.{answers_in}
 use Rattle.outside.specs.Stores.{StoreCall}
@@ -68,7 +68,7 @@ unread event refusal words old before is = subst (λ (r : Option Refusal). Hears
 line_flushed : (k m n : JournalState) (line : List ℕ) → Grows k m line → Grows m n [] → Grows k n line
 line_flushed k m n line noted grew = subst (Grows k n) (append-nil line) (grows_append k m n line [] noted grew)
 
-spared_flushed : (old : Standing) (table : Table) (calls : Option (List Entry)) (stores : Option (List StoreCall)) (m n : JournalState) (before after : List Setting → Type 0) →
+spared_flushed : (old : Standing) (table : Table) (calls : Option (List ToldCall)) (stores : Option (List StoreCall)) (m n : JournalState) (before after : List Setting → Type 0) →
     IsSpared old (standing table calls stores m) before after → Grows m n [] → IsSpared old (standing table calls stores n) before after
 spared_flushed old table calls stores m n before after none grew = record {
   untouched = none.untouched;
@@ -76,7 +76,7 @@ spared_flushed old table calls stores m n before after none grew = record {
   stored = none.stored;
 }
 
-pub flushed : (event : Option journal.Event) (refusal : Option Refusal) (words : List ℕ) (old : Standing) (table : Table) (calls : Option (List Entry)) (stores : Option (List StoreCall)) (m n : JournalState) (before after : List Setting → Type 0) → is_memory refusal ≡ false →
+pub flushed : (event : Option journal.Event) (refusal : Option Refusal) (words : List ℕ) (old : Standing) (table : Table) (calls : Option (List ToldCall)) (stores : Option (List StoreCall)) (m n : JournalState) (before after : List Setting → Type 0) → is_memory refusal ≡ false →
     Hears event refusal words old (standing table calls stores m) before after → Grows m n [] → Hears event refusal words old (standing table calls stores n) before after
 flushed event refusal words old table calls stores m n before after other heard grew = go (is_memory refusal) event other heard where
   go : (b : Bool) (e : Option journal.Event) → b ≡ false → HearsBy b e refusal words old (standing table calls stores m) before after → HearsBy b e refusal words old (standing table calls stores n) before after

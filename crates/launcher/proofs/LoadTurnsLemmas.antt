@@ -18,7 +18,7 @@ use Rattle.job_table.specs.StandsFor.{KeepsState}
 use Rattle.job_table.specs.Loads.{IsAdmitted, load_of, given_in, refusal_outside, described_in, number_in, setting_in}
 use Rattle.job_table.specs.Outcomes.{IsSameFor, Means}
 use Rattle.job_table.specs.declared.loading.Ready.{Ready}
-use Rattle.child_edge.specs.Calls.{Entry}
+use Rattle.child_edge.specs.Calls.{ToldCall}
 use Rattle.child_edge.proofs.CallsLemmas.{tells_nothing}
 use Rattle.outside.specs.declared.asking.Outside.{Outside}
 use Rattle.outside.specs.Asking.{Asks, told_of}
@@ -62,7 +62,7 @@ not_memory d writes_setting bind store = go (has_sockets d && not bind) (writes_
 -- ---- turns
 
 -- an event that is refused is the whole turn
-pub nothing_done : (s : State) (e : Event) (line : List ℕ) (new : Table) (r : Refusal) (a : Option (List Entry)) (k n : JournalState) → refusal_in s e ≡ Some r → Grows k n line → KeepsState new s → IsLed s →
+pub nothing_done : (s : State) (e : Event) (line : List ℕ) (new : Table) (r : Refusal) (a : Option (List ToldCall)) (k n : JournalState) → refusal_in s e ≡ Some r → Grows k n line → KeepsState new s → IsLed s →
     TurnsOf s e line (Some r) new (trace a k) (trace a n)
 nothing_done s e line new r a k n is noted keeps led = record {
   names = [];
@@ -92,7 +92,7 @@ pub named-alike : (old mid : Table) (names : List Name) → mid.rows ≡ old.row
 named-alike old mid names same numbers = record { once = numbers.once; named = subst (λ (rows : List Row). AreNamed names rows) same numbers.named }
 
 -- a load that was refused before the outside was asked
-pub never_called : (s : State) (bytes : List ℕ) (writes_setting force : Bool) (r : Refusal) (old new : Table) (a : Option (List Entry)) (t : Option (List StoreCall)) (k n : JournalState) → new.rows ≡ old.rows →
+pub never_called : (s : State) (bytes : List ℕ) (writes_setting force : Bool) (r : Refusal) (old new : Table) (a : Option (List ToldCall)) (t : Option (List StoreCall)) (k n : JournalState) → new.rows ≡ old.rows →
     ((bind store : Bool) → refusal_in s (load_of bytes writes_setting force bind store) ≡ Some r) → Grows k n (load_line bytes writes_setting force (record { bind = true; store = true })) → KeepsState new s → IsLed s →
     LoadTurnOf s (load_request bytes writes_setting force) (record { bind = true; store = true }) (Some r) (standing old a t k) (standing new a t n)
 never_called s bytes writes_setting force r old new a t k n same is noted keeps led = record {
@@ -106,12 +106,12 @@ never_called s bytes writes_setting force r old new a t k n same is noted keeps 
   stays = same-numbers old new same;
 }
 
-module _ (s : State) (bytes : List ℕ) (writes_setting force : Bool) (outside : Outside) (old mid new : Table) (ready : Ready) (a c : Option (List Entry)) (t u : Option (List StoreCall)) (k n : JournalState)
+module _ (s : State) (bytes : List ℕ) (writes_setting force : Bool) (outside : Outside) (old mid new : Table) (ready : Ready) (a c : Option (List ToldCall)) (t u : Option (List StoreCall)) (k n : JournalState)
     (admitted : IsAdmitted old bytes writes_setting force (described_in ready)) (setting : is_some (setting_in ready) ≡ writes_setting) (same : IsSameFor old mid) (rows : mid.rows ≡ old.rows) (led : IsLed s) (keeps : KeepsState old s) where
   as_read : Load (Ok (given (described_in ready))) (is_some (setting_in ready)) force outside.bind outside.store ≡ load_of bytes writes_setting force outside.bind outside.store
   as_read = λ i. Load (given_in (sym admitted.read i)) (setting i) force outside.bind outside.store
 
-  asks_for : (middle : Option (List Entry)) → Asks (number_in ready) (described_in ready) writes_setting mid.reading.wall outside (told_of a t) (told_of middle u) →
+  asks_for : (middle : Option (List ToldCall)) → Asks (number_in ready) (described_in ready) writes_setting mid.reading.wall outside (told_of a t) (told_of middle u) →
       AsksFor (refusal_in s (load_of bytes writes_setting force true true)) (def_of bytes) (number_in ready) writes_setting s.reading.wall outside (told_of a t) (told_of middle u)
   asks_for middle asks =
       subst (λ o. AsksFor o (def_of bytes) (number_in ready) writes_setting s.reading.wall outside (told_of a t) (told_of middle u)) (sym (admitted.remains s true true keeps ∙ well_answered (described_in ready) writes_setting))

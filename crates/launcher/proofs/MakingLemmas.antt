@@ -27,7 +27,7 @@ use Rattle.launcher.specs.declared.host.HostFault.TheVariants as faults
 use Rattle.launcher.specs.Faults.{IsFaultOf, fault_of_store}
 use Rattle.launcher.specs.Hosts.{with_settings, IsNewWith}
 use Rattle.launcher.specs.Writable.{IsWritableHeader}
-use Rattle.child_edge.specs.Calls.{Entry}
+use Rattle.child_edge.specs.Calls.{ToldCall}
 use Rattle.launcher.specs.LoadTurns.{standing}
 
 -- a reading that is refused nowhere is within its limit
@@ -46,7 +46,7 @@ led_opened h high = record { orderly = record { range = high; order = tt; labels
 pub led_first : (header : Header) (s : State) → OpensBy header s → opening_refusal header.reading header.overrides ≡ None → IsLed s
 led_first header s opens admitted = subst IsLed (sym opens.state) (led_opened (record { reading = header.reading; zone = shown_by opens.ahead; overrides = header.overrides }) (within header.reading header.overrides admitted))
 
-pub made_new : (header : Header) (settings : List Setting) (table : Table) (calls : Option (List Entry)) (stores stores' : Option (List StoreCall)) (first noted : JournalState) (before after : List Setting → Type 0) →
+pub made_new : (header : Header) (settings : List Setting) (table : Table) (calls : Option (List ToldCall)) (stores stores' : Option (List StoreCall)) (first noted : JournalState) (before after : List Setting → Type 0) →
     StandsOpened (with_settings header settings) table → IsWritableHeader (with_settings header settings) → AreTold stores [] stores' → Grows first noted (header_line (with_settings header settings)) → ((list : List Setting) → before list → after (reverse settings)) →
     IsNewWith settings header calls stores first (standing table calls stores' noted) before after
 made_new header settings table calls stores stores' first noted before after stands told uncalled grew holds = (

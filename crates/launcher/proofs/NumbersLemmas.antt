@@ -21,7 +21,7 @@ use Rattle.job_table.specs.StandsFor.{KeepsJobs, labelled}
 use Rattle.job_table.specs.Numbers.{name_of, names_of}
 use Rattle.child_edge.specs.declared.plain.Scripted.{Scripted}
 use Rattle.child_edge.specs.declared.plain.Scripted.TheVariants.{Started, Done, Running, Over, Seen, At, Refused, NoMemory}
-use Rattle.child_edge.specs.Calls.{Entry}
+use Rattle.child_edge.specs.Calls.{ToldCall}
 use Rattle.outside.specs.declared.unheard.Unheard.{Unheard}
 use Rattle.outside.specs.Orders.{call_by, call_of, calls_in, answers_in, spawn_answer}
 use Rattle.history_model.specs.Turns.{JobOrder, wanting}
@@ -189,7 +189,7 @@ spawn-fits run conn Refused = eqb-self run
 spawn-fits run conn NoMemory = eqb-self run
 
 -- the answers of the calls are those to the orders by which they were made
-pub made-theirs : (names : List Name) (orders : List Order) (made : List Entry) → list_all (is_known names) orders ≡ true → calls_in made ≡ map call_of orders →
+pub made-theirs : (names : List Name) (orders : List Order) (made : List ToldCall) → list_all (is_known names) orders ≡ true → calls_in made ≡ map call_of orders →
     AreTheirs names (wanting (labelled names orders)) (answers_in made)
 made-theirs names [] [] all same = tt
 made-theirs names [] (entry ∷ made) all same = cc

@@ -33,7 +33,7 @@ use Rattle.event_journal.specs.Journals.{JournalState, Grows}
 use Rattle.launcher.specs.Lines.{journaled_answer}
 use Rattle.launcher.proofs.CarryLemmas.{none-called}
 use Rattle.launcher.proofs.NumbersLemmas.{AreNamed, label-short, rows-named, label-is, named-next, orders-known, once-number, loaded, keeps-numbers, same-numbers, theirs-append, made-theirs}
-use Rattle.child_edge.specs.Calls.{Entry}
+use Rattle.child_edge.specs.Calls.{ToldCall}
 use Rattle.job_table.proofs.OutcomesLemmas.{resting}
 
 pub unless : {A : Type 0} {P : Type 0} (result : Result A Refusal) → P → UnlessMemory result P
@@ -42,7 +42,7 @@ unless (Err NoMemory) holds = tt
 unless (Err _) holds = holds
 
 -- what the table answered, and the orders that were then carried out
-pub happens : (e : Event) (old new : Table) (result : Result Step Refusal) (before after : List Unheard) (told told' : Option (List Entry)) →
+pub happens : (e : Event) (old new : Table) (result : Result Step Refusal) (before after : List Unheard) (told told' : Option (List ToldCall)) →
     IsAnswer e old result → IfOk result AreKnown → IsNext e old new × Visits result old new × Numbers result old new → Carried (orders_lent result) before after told told' →
     Happens e (refused_with result) old new before after told told'
 happens e old new (Ok lent) before after told told' answer known ends carried = λ s keeps.
@@ -92,7 +92,7 @@ happens e old new (Err refusal) before after told told' answer known ends carrie
 }
 
 -- what is handed on: the answer is that of the table
-pub handed-on : (e e' : Event) (old new : Table) (lent : Result Step Refusal) (result : Result (Unit {0}) Refusal) (before after : List Unheard) (told told' : Option (List Entry)) → e ≡ e' →
+pub handed-on : (e e' : Event) (old new : Table) (lent : Result Step Refusal) (result : Result (Unit {0}) Refusal) (before after : List Unheard) (told told' : Option (List ToldCall)) → e ≡ e' →
     refused_with result ≡ refused_with lent → IsAnswer e old lent → IfOk lent AreKnown → IsNext e old new × Visits lent old new × Numbers lent old new →
     Carried (orders_lent lent) before after told told' → UnlessMemory result (Happens e' (refused_with result) old new before after told told')
 handed-on e e' old new lent result before after told told' is same answer known ends carried =
@@ -101,7 +101,7 @@ handed-on e e' old new lent result before after told told' is same answer known 
     (subst (λ x. Happens x (refused_with lent) old new before after told told') is (happens e old new lent before after told told' answer known ends carried)))
 
 -- of a reading, which may find no memory
-pub read-on : (e e' : Event) (old new : Table) (lent : Result Step Refusal) (result : Result (Unit {0}) Refusal) (before after : List Unheard) (told told' : Option (List Entry)) → e ≡ e' →
+pub read-on : (e e' : Event) (old new : Table) (lent : Result Step Refusal) (result : Result (Unit {0}) Refusal) (before after : List Unheard) (told told' : Option (List ToldCall)) → e ≡ e' →
     refused_with result ≡ refused_with lent → UnlessMemory lent (IsAnswer e old lent) → IfOk lent AreKnown → IsNextUnless lent e old new × Visits lent old new × Numbers lent old new →
     Carried (orders_lent lent) before after told told' → UnlessMemory result (Happens e' (refused_with result) old new before after told told')
 read-on e e' old new (Ok lent) result before after told told' is same answer known ends carried = handed-on e e' old new (Ok lent) result before after told told' is same answer known ends carried
@@ -128,7 +128,7 @@ taken-in (Err NoMemory) holds memory = absurd (false≢true (memory refl).0)
 taken-in (Err _) holds memory = holds
 
 -- a reading that found no memory was not taken in
-pub not-read : (e : Event) (old new : Table) (lent : Result Step Refusal) (result : Result (Unit {0}) Refusal) (before after : List Unheard) (told told' : Option (List Entry)) →
+pub not-read : (e : Event) (old new : Table) (lent : Result Step Refusal) (result : Result (Unit {0}) Refusal) (before after : List Unheard) (told told' : Option (List ToldCall)) →
     refused_with result ≡ refused_with lent → IsNextUnless lent e old new → Visits lent old new → Carried (orders_lent lent) before after told told' → result ≡ Err NoMemory → IsUncalled old new told told'
 not-read e old new (Ok lent) result before after told told' same next visits carried is = let none : Some NoMemory ≡ None = ap refused_with (sym is) ∙ same in cc
 not-read e old new (Err refusal) result before after told told' same next visits carried is =
@@ -160,7 +160,7 @@ orderly-next s label x is = record {
   labels None = all-stays IsLabel (heard_one label x s.jobs) (subst (AllByRecursion IsLabel) (sym (heard_one-labels label x s.jobs)) is.labels)
 
 -- the answer goes to its job, and then those that it ordered wait behind the others
-pub handled : (reply : Option Refusal) (old new : Table) (before after : List Unheard) (told told' : Option (List Entry)) (written written' : JournalState) (pending : Unheard) (found said : Label) →
+pub handled : (reply : Option Refusal) (old new : Table) (before after : List Unheard) (told told' : Option (List ToldCall)) (written written' : JournalState) (pending : Unheard) (found said : Label) →
     found ≡ label_of old.names pending.job → IsNumbered old → (length found ≤ 255 → said ≡ found) → IsUtf8 said → Happens (OfJob said (Answered pending.answer)) reply old new before after told told' → Grows written written' (event_line (journaled_answer said pending.answer)) →
     (s : State) (names : List Name) (job_order : JobOrder) (waits : List JobOrder) (rest : List Unheard) → IsWaiting old s names (job_order ∷ waits) (pending ∷ rest) →
     Handled s names job_order waits pending rest before after new (trace told written) (trace told' written')

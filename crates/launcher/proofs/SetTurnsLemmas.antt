@@ -19,7 +19,7 @@ use Rattle.launcher.proofs.NumbersLemmas.{same-numbers}
 use Rattle.launcher.specs.Lines.{set_line}
 use Rattle.launcher.specs.LoadTurns.{AsksStore, SetTurnOf, set_request, standing}
 use Rattle.launcher.proofs.LoadTurnsLemmas.{nothing_done}
-use Rattle.child_edge.specs.Calls.{Entry}
+use Rattle.child_edge.specs.Calls.{ToldCall}
 use Rattle.job_table.proofs.ChangesLemmas.{set_same}
 
 -- a setting names no label that comes
@@ -37,7 +37,7 @@ bad_label s label disabled true store is = ap (λ b. refused_if (not b) BadReque
 bad_label s label disabled false store is = ap (λ b. refused_if (not b) BadRequest (refusal_stored true store)) is
 
 -- a setting that was refused before the store was asked
-pub never_set : (s : State) (label : Label) (disabled unload : Bool) (r : Refusal) (old new : Table) (a : Option (List Entry)) (t : Option (List StoreCall)) (k n : JournalState) → new.rows ≡ old.rows →
+pub never_set : (s : State) (label : Label) (disabled unload : Bool) (r : Refusal) (old new : Table) (a : Option (List ToldCall)) (t : Option (List StoreCall)) (k n : JournalState) → new.rows ≡ old.rows →
     ((store : Bool) → refusal_in s (set_of label disabled unload store) ≡ Some r) → Grows k n (set_line label disabled unload true) → KeepsState new s → IsLed s →
     SetTurnOf s (set_request label disabled unload) true (Some r) (standing old a t k) (standing new a t n)
 never_set s label disabled unload r old new a t k n same is noted keeps led = record {

@@ -7,7 +7,7 @@ use Rattle.history_model.specs.Machine.{State, Event}
 use Rattle.history_model.specs.Step.{outcome, step, run, orders_in}
 use Rattle.job_table.specs.Tables.{Table, Name}
 use Rattle.job_table.specs.StandsFor.{KeepsState, labelled}
-use Rattle.child_edge.specs.Calls.{Tells, Entry}
+use Rattle.child_edge.specs.Calls.{Tells, ToldCall}
 use Rattle.child_edge.proofs.CallsLemmas.{tells_append, tells_nothing}
 use Rattle.outside.specs.declared.unheard.Unheard.{Unheard}
 use Rattle.outside.specs.Orders.{call_of, calls_in, answer_in, answers_in, IsTellablePending}
@@ -46,8 +46,8 @@ all-more P (y ∷ ys) x all more = (all.0, all-more P ys x all.1 more)
 
 -- ---- the loop
 
-pub record IsSoFar (s : State) (names : List Name) (first answers : List Unheard) (k : ℕ) (table : Table) (told told' : Option (List Entry)) (written written' : JournalState) : Type 0 where
-  pub made : List Entry
+pub record IsSoFar (s : State) (names : List Name) (first answers : List Unheard) (k : ℕ) (table : Table) (told told' : Option (List ToldCall)) (written written' : JournalState) : Type 0 where
+  pub made : List ToldCall
   pub tells : Tells told made told'
   pub all : answers ≡ first ++ answers_in made
   pub orders : List Order
@@ -60,7 +60,7 @@ pub record IsSoFar (s : State) (names : List Name) (first answers : List Unheard
   pub fits : k + weigh_orders waits ≤ 3 * MAX_JOBS
   pub named : AllByRecursion (IsNamedIn names) (take k answers)
 
-pub so-far-start : (s : State) (names : List Name) (waits : List JobOrder) (first : List Unheard) (table : Table) (told : Option (List Entry)) (written : JournalState) →
+pub so-far-start : (s : State) (names : List Name) (waits : List JobOrder) (first : List Unheard) (table : Table) (told : Option (List ToldCall)) (written : JournalState) →
     IsWaiting table s names waits first → weigh_orders waits ≤ 3 * MAX_JOBS → IsSoFar s names first first 0 table told told written written
 so-far-start s names waits first table told written waiting fits = record {
   made = [];
@@ -77,7 +77,7 @@ so-far-start s names waits first table told written waiting fits = record {
   named = tt;
 }
 
-pub so-far-end : (s : State) (names : List Name) (first answers : List Unheard) (k : ℕ) (table : Table) (told told' : Option (List Entry)) (written written' : JournalState) →
+pub so-far-end : (s : State) (names : List Name) (first answers : List Unheard) (k : ℕ) (table : Table) (told told' : Option (List ToldCall)) (written written' : JournalState) →
     IsSoFar s names first answers k table told told' written written' → length answers ≤ k → AllByRecursion IsTellablePending answers → Settled s names first answers table (trace told written) (trace told' written')
 so-far-end s names first answers k table told told' written written' far all tellable =
     let whole : take k answers ≡ answers = take_all k answers all in
@@ -97,7 +97,7 @@ so-far-end s names first answers k table told told' written written' far all tel
     }
 
 -- one more answer
-pub so-far-next : (s : State) (names : List Name) (first answers answers' : List Unheard) (k : ℕ) (d : Unheard) (table table' : Table) (told told' told'' : Option (List Entry)) (written written' written'' : JournalState) → k < length answers →
+pub so-far-next : (s : State) (names : List Name) (first answers answers' : List Unheard) (k : ℕ) (d : Unheard) (table table' : Table) (told told' told'' : Option (List ToldCall)) (written written' written'' : JournalState) → k < length answers →
     IsSoFar s names first answers k table told told' written written' →
     ((t : State) (ns : List Name) (job_order : JobOrder) (waits : List JobOrder) (rest : List Unheard) → IsWaiting table t ns (job_order ∷ waits) (get_or answers k d ∷ rest) →
     Handled t ns job_order waits (get_or answers k d) rest answers answers' table' (trace told' written') (trace told'' written'')) →
@@ -119,7 +119,7 @@ so-far-next s names first answers answers' k d table table' told told' told'' wr
   go [] fits waiting = absurd waiting.theirs
   go (job_order ∷ waits) fits waiting =
       let did = handles t names job_order waits (drop (suc k) answers) waiting in
-      let made : List Entry = did.carried.entries in
+      let made : List ToldCall = did.carried.entries in
       let next = did.waiting made did.carried.calls in
       let new : List JobOrder = wanting (outcome t e).orders in
       let many : length (drop (suc k) answers ++ answers_in made) ≡ length (waits ++ new) = same-length names (waits ++ new) (drop (suc k) answers ++ answers_in made) next.theirs in
@@ -152,12 +152,12 @@ so-far-next s names first answers answers' k d table table' told told' told'' wr
         named = subst (AllByRecursion (IsNamedIn names)) (sym taken) (all-more (IsNamedIn names) (take k answers) p far.named did.named);
       }
 
-abbrev pub Handles : Table → Table → List Unheard → List Unheard → Option (List Entry) → Option (List Entry) → JournalState → JournalState → Unheard → Type 0
+abbrev pub Handles : Table → Table → List Unheard → List Unheard → Option (List ToldCall) → Option (List ToldCall) → JournalState → JournalState → Unheard → Type 0
 Handles table table' answers answers' told' told'' written' written'' p =
     (t : State) (ns : List Name) (job_order : JobOrder) (waits : List JobOrder) (rest : List Unheard) → IsWaiting table t ns (job_order ∷ waits) (p ∷ rest) →
     Handled t ns job_order waits p rest answers answers' table' (trace told' written') (trace told'' written'')
 
-pub so-far-turn : (s : State) (names : List Name) (first answers answers' : List Unheard) (k : ℕ) (p : Unheard) (table table' : Table) (told told' told'' : Option (List Entry)) (written written' written'' : JournalState) → k < length answers →
+pub so-far-turn : (s : State) (names : List Name) (first answers answers' : List Unheard) (k : ℕ) (p : Unheard) (table table' : Table) (told told' told'' : Option (List ToldCall)) (written written' written'' : JournalState) → k < length answers →
     p ≡ get_or answers k p → IsSoFar s names first answers k table told told' written written' → Handles table table' answers answers' told' told'' written' written'' p →
     IsSoFar s names first answers' (k + 1) table' told told'' written written''
 so-far-turn s names first answers answers' k p table table' told told' told'' written written' written'' in_range is far handles =

@@ -15,7 +15,7 @@ use Rattle.job_table.specs.Loads.{load_of, given_in, refusal_outside}
 use Rattle.outside.specs.declared.unheard.Unheard.{Unheard}
 use Rattle.outside.specs.Orders.{answers_in}
 use Rattle.launcher.specs.Turns.{event_in, events_in}
-use Rattle.child_edge.specs.Calls.{Entry}
+use Rattle.child_edge.specs.Calls.{ToldCall}
 
 answer-settings : (names : List Name) (p : Unheard) (s : State) → (step s (event_in names p)).settings ≡ s.settings
 answer-settings names p s = go (refusal_in s (event_in names p)) where
@@ -27,7 +27,7 @@ answers-settings : (names : List Name) (ps : List Unheard) (s : State) → (run 
 answers-settings names [] s = refl
 answers-settings names (p ∷ ps) s = answers-settings names ps (step s (event_in names p)) ∙ answer-settings names p s
 
-pub turn_settings : (s : State) (input : Event) (names : List Name) (entries : List Entry) → (run (input ∷ events_in names entries) s).settings ≡ (step s input).settings
+pub turn_settings : (s : State) (input : Event) (names : List Name) (entries : List ToldCall) → (run (input ∷ events_in names entries) s).settings ≡ (step s input).settings
 turn_settings s input names entries = answers-settings names (answers_in entries) (step s input)
 
 load-given : (s : State) (d : Described) (writes_setting force bind store : Bool) → refusal_in s (Load (Ok (given d)) writes_setting force bind store) ≡ refusal_outside d writes_setting bind store →

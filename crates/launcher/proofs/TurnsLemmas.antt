@@ -40,7 +40,7 @@ use Rattle.launcher.proofs.NumbersLemmas.{keeps-numbers, made-theirs}
 use Rattle.launcher.proofs.OneEventLemmas.{good, orderly-next}
 use Rattle.launcher.proofs.SettlingLemmas.{same-length}
 use Rattle.history_model.specs.declared.TheConstants.{MAX_JOBS}
-use Rattle.child_edge.specs.Calls.{Entry}
+use Rattle.child_edge.specs.Calls.{ToldCall}
 use Rattle.child_edge.proofs.CallsLemmas.{tells_append}
 
 -- ---- where an event leads
@@ -93,7 +93,7 @@ labelled-none names [] is = refl
 labelled-none names (order ∷ orders) is = cc
 
 -- its orders were carried out, and their answers wait
-pub begun : (s : State) (e : Event) (old new : Table) (after : List Unheard) (told told' : Option (List Entry)) → NamesLabel e → IsLed s → KeepsState old s →
+pub begun : (s : State) (e : Event) (old new : Table) (after : List Unheard) (told told' : Option (List ToldCall)) → NamesLabel e → IsLed s → KeepsState old s →
     (did : Begins s e None new [] after told told') →
     IsWaiting new (step s e) new.names (wanting (outcome s e).orders) after × (weigh_orders (wanting (outcome s e).orders) ≤ 3 * MAX_JOBS) × (after ≡ answers_in did.carried.entries)
 begun s e old new after told told' is led keeps did =
@@ -116,17 +116,17 @@ begun s e old new after told told' is led keeps did =
       kept,
     )
 
-abbrev pub Settles : Table → List Unheard → List Unheard → Table → Option (List Entry) → Option (List Entry) → JournalState → JournalState → Type 0
+abbrev pub Settles : Table → List Unheard → List Unheard → Table → Option (List ToldCall) → Option (List ToldCall) → JournalState → JournalState → Type 0
 Settles mid first after new b c written written' =
     (s : State) (names : List Name) (waits : List JobOrder) → IsWaiting mid s names waits first → weigh_orders waits ≤ 3 * MAX_JOBS → Settled s names first after new (trace b written) (trace c written')
 
 -- and so the whole turn
-unfoldable pub turned-at : (s : State) (e : Event) (line : List ℕ) (old mid new : Table) (first after : List Unheard) (a b c : Option (List Entry)) (k m n : JournalState) → NamesLabel e → IsLed s → KeepsState old s →
+unfoldable pub turned-at : (s : State) (e : Event) (line : List ℕ) (old mid new : Table) (first after : List Unheard) (a b c : Option (List ToldCall)) (k m n : JournalState) → NamesLabel e → IsLed s → KeepsState old s →
     Begins s e None mid [] first a b → Grows k m line → Settles mid first after new b c m n → TurnsOf s e line None new (trace a k) (trace c n)
 turned-at s e line old mid new first after a b c k m n is led keeps did noted settles =
     let start = begun s e old mid first a b is led keeps did in
     let done = settles (step s e) mid.names (wanting (outcome s e).orders) start.0 start.1 in
-    let entries : List Entry = did.carried.entries ++ done.made in
+    let entries : List ToldCall = did.carried.entries ++ done.made in
     let all : answers_in entries ≡ after =
     filter_map-append answer_in did.carried.entries done.made ∙ ap (λ xs. xs ++ answers_in done.made) (sym start.2) ∙ sym done.all in
     let events : events_in mid.names entries ≡ map (event_in mid.names) after = ap (map (event_in mid.names)) all in
@@ -150,7 +150,7 @@ turned-at s e line old mid new first after a b c k m n is led keeps did noted se
     }
 
 -- a refused event is the whole turn
-pub refused-turn : (e : Event) (line : List ℕ) (refusal : Refusal) (old new : Table) (first : List Unheard) (a b : Option (List Entry)) (k n : JournalState) → NamesLabel e → Grows k n line →
+pub refused-turn : (e : Event) (line : List ℕ) (refusal : Refusal) (old new : Table) (first : List Unheard) (a b : Option (List ToldCall)) (k n : JournalState) → NamesLabel e → Grows k n line →
     Happens e (Some refusal) old new [] first a b → Turns e line (Some refusal) old new (trace a k) (trace b n)
 refused-turn e line refusal old new first a b k n is noted happened = λ s led keeps.
     let happens = happened s keeps in
@@ -189,7 +189,7 @@ label-event (happenings.Unload label) = tt
 label-event happenings.Shutdown = tt
 
 -- the answer of the turn is that of its event
-pub turned-from : (what : EventRef) (result : Result (Unit {0}) Refusal) (old mid new : Table) (before first after : List Unheard) (a b c : Option (List Entry)) (k m n : JournalState) → result ≡ Ok tt → before ≡ [] →
+pub turned-from : (what : EventRef) (result : Result (Unit {0}) Refusal) (old mid new : Table) (before first after : List Unheard) (a b c : Option (List ToldCall)) (k m n : JournalState) → result ≡ Ok tt → before ≡ [] →
     UnlessMemory result (Happens (event_of_ref what) (refused_with result) old mid before first a b) → Grows k m (event_line (journaled_by what)) → Settles mid first after new b c m n → Turns (event_of_ref what) (event_line (journaled_by what)) None old new (trace a k) (trace c n)
 unfolding turned-at
 turned-from what (Err refusal) old mid new before first after a b c k m n ok empty happened noted settles = cc
@@ -207,7 +207,7 @@ unless-memory : {P Q : Type 0} (refusal : Refusal) → (P → Q) → UnlessMemor
 unless-memory NoMemory follows holds = tt
 unless-memory _ follows holds = follows holds
 
-pub refused-from : (what : EventRef) (result : Result (Unit {0}) Refusal) (refusal : Refusal) (old new : Table) (before first : List Unheard) (a b : Option (List Entry)) (k n : JournalState) →
+pub refused-from : (what : EventRef) (result : Result (Unit {0}) Refusal) (refusal : Refusal) (old new : Table) (before first : List Unheard) (a b : Option (List ToldCall)) (k n : JournalState) →
     result ≡ Err refusal → before ≡ [] → Grows k n (event_line (journaled_by what)) → UnlessMemory result (Happens (event_of_ref what) (refused_with result) old new before first a b) →
     UnlessMemory {A = Unit {0}} (Err refusal) (Turns (event_of_ref what) (event_line (journaled_by what)) (Some refusal) old new (trace a k) (trace b n))
 refused-from what result refusal old new before first a b k n is empty noted happened =

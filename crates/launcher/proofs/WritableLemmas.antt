@@ -11,6 +11,10 @@ use Rattle.history_model.specs.declared.Obs.{Obs}
 use Rattle.history_model.specs.declared.Ended.TheVariants.{Code, Signal}
 use Rattle.history_model.specs.declared.event.Event.{Event}
 use Rattle.history_model.specs.declared.event.Event.TheVariants as events
+use Rattle.history_model.specs.declared.event.JobItem.{JobItem}
+use Rattle.history_model.specs.declared.event.JobItem.TheVariants as happens
+use Rattle.history_model.specs.declared.Ask.{Ask}
+use Rattle.history_model.specs.declared.Ask.TheVariants as asks
 use Rattle.history_model.specs.Labels.{is_label}
 use Rattle.json_kinds.specs.Json.{json_in}
 use Rattle.event_reader.specs.declared.members.Form.{Form}
@@ -20,7 +24,7 @@ use Rattle.event_reader.specs.Members.{◌>>=◌, text_key, flag_or, label_key, 
 use Rattle.event_reader.specs.EventLines.{has_load_keys, load_shape, unload_shape, job_shape, target_shape, setting_shape, kickstart_shape, bare_shape, asked_shape, request_shape_of, request_at}
 use Rattle.ctl_protocol.specs.EventWriter.{is_writable}
 use Rattle.launcher.specs.declared.input.Input.TheVariants as inputs
-use Rattle.launcher.specs.Inputs.{asked_in, if_label}
+use Rattle.launcher.specs.Inputs.{asked_in, if_label, is_asked}
 use Rattle.launcher.specs.Writable.{SaysFitIf, IsWritable, IsWritableIf, IsWritableInput}
 
 -- ---- what is read of a request names a label
@@ -77,24 +81,23 @@ unload_labels form d =
     among HasLabel _ _ None (bound IsNamed HasLabel (label_key (codes "job") d) _ (labelled_key (codes "job") d)
     (λ job is. after HasLabel (flag_or (codes "w") false d) _ (λ w. after HasLabel (flag_or (codes "store") true d) _ (λ store. is)))) tt
 
-job_labels : (form : Form) (d : Data) → IfSome (job_shape form d) IsNamed
+job_labels : (ask : Ask) (form : Form) (d : Data) → ((job : List ℕ) → IsNamed job → HasLabel (events.OfJob job (happens.Asked ask))) → IfSome (job_shape ask form d) HasLabel
 unfolding job_shape
-job_labels form d = among IsNamed _ _ None (labelled_key (codes "job") d) tt
+job_labels ask form d has = among HasLabel _ _ None (bound IsNamed HasLabel (label_key (codes "job") d) _ (labelled_key (codes "job") d) has) tt
 
 target_labels : (form : Form) (d : Data) → IfSome (target_shape form d) IsNamed
 unfolding target_shape
 target_labels form d = among IsNamed _ _ None (labelled_target (codes "job") d) tt
 
-setting_labels : (form : Form) (d : Data) → IfSome (setting_shape form d) (λ s. IsNamed s.0)
+setting_labels : (disabled : Bool) (form : Form) (d : Data) → IfSome (setting_shape disabled form d) HasLabel
 unfolding setting_shape
-setting_labels form d =
-    among (λ (s : List ℕ × Bool). IsNamed s.0) _ _ None (bound IsNamed (λ (s : List ℕ × Bool). IsNamed s.0) (target_key (codes "job") d) _ (labelled_target (codes "job") d)
-    (λ job is. after (λ (s : List ℕ × Bool). IsNamed s.0) (flag_or (codes "store") true d) _ (λ store. is))) tt
+setting_labels disabled form d =
+    among HasLabel _ _ None (bound IsNamed HasLabel (target_key (codes "job") d) _ (labelled_target (codes "job") d) (λ job is. after HasLabel (flag_or (codes "store") true d) _ (λ store. is))) tt
 
 kickstart_labels : (form : Form) (d : Data) → IfSome (kickstart_shape form d) HasLabel
 unfolding kickstart_shape
 kickstart_labels form d =
-    among HasLabel _ _ None (bound IsNamed HasLabel (target_key (codes "job") d) _ (labelled_target (codes "job") d) (λ job is. after HasLabel (flag_or (codes "k") false d) _ (λ k. is))) tt
+    among HasLabel _ _ None (bound IsNamed HasLabel (target_key (codes "job") d) _ (labelled_target (codes "job") d) (λ job is. after HasLabel (flag_or (codes "k") false d) _ (λ k. and_from (is_label job) true is refl))) tt
 
 bare_labels : (e : Event) (form : Form) (d : Data) → HasLabel e → IfSome (bare_shape e form d) HasLabel
 unfolding bare_shape
@@ -105,11 +108,11 @@ unfolding asked_shape
 asked_labels name form d =
     among HasLabel (bytes_eq name (codes "load")) _ _ (load_labels form d)
     (among HasLabel (bytes_eq name (codes "unload")) _ _ (unload_labels form d)
-    (among HasLabel (bytes_eq name (codes "start")) _ _ (bound IsNamed HasLabel (job_shape form d) _ (job_labels form d) (λ job is. is))
-    (among HasLabel (bytes_eq name (codes "stop")) _ _ (bound IsNamed HasLabel (job_shape form d) _ (job_labels form d) (λ job is. is))
+    (among HasLabel (bytes_eq name (codes "start")) _ _ (job_labels asks.Start form d (λ job is. and_from (is_label job) true is refl))
+    (among HasLabel (bytes_eq name (codes "stop")) _ _ (job_labels asks.Stop form d (λ job is. and_from (is_label job) true is refl))
     (among HasLabel (bytes_eq name (codes "kickstart")) _ _ (kickstart_labels form d)
-    (among HasLabel (bytes_eq name (codes "enable")) _ _ (bound (λ (s : List ℕ × Bool). IsNamed s.0) HasLabel (setting_shape form d) _ (setting_labels form d) (λ s is. is))
-    (among HasLabel (bytes_eq name (codes "disable")) _ _ (bound (λ (s : List ℕ × Bool). IsNamed s.0) HasLabel (setting_shape form d) _ (setting_labels form d) (λ s is. is))
+    (among HasLabel (bytes_eq name (codes "enable")) _ _ (setting_labels false form d)
+    (among HasLabel (bytes_eq name (codes "disable")) _ _ (setting_labels true form d)
     (among HasLabel (bytes_eq name (codes "list")) _ _ (bare_labels events.List form d refl)
     (among HasLabel (bytes_eq name (codes "print")) _ _ (bound IsNamed HasLabel (target_shape form d) _ (target_labels form d) (λ job is. is))
     (among HasLabel (bytes_eq name (codes "shutdown")) _ _ (bare_labels events.Shutdown form d refl) tt)))))))))
@@ -121,15 +124,29 @@ request_labels line = after HasLabel (json_in line) request_shape_of (λ d. afte
 asked_writable : (e : Event) → HasLabel e → SaysFitIf (asked_in e) → IsWritableIf (asked_in e)
 asked_writable (events.Load def writes_setting force bind store) is fit = record { writable = is; fit = fit }
 asked_writable (events.Unload job writes_setting store) is fit = record { writable = is; fit = fit }
-asked_writable (events.Start job) is fit = record { writable = is; fit = fit }
-asked_writable (events.Stop job) is fit = record { writable = is; fit = fit }
-asked_writable (events.Kickstart job kills_first) is fit = record { writable = is; fit = fit }
-asked_writable (events.Enable job store) is fit = record { writable = is; fit = fit }
-asked_writable (events.Disable job store) is fit = record { writable = is; fit = fit }
+asked_writable (events.Set job disabled store) is fit = record { writable = is; fit = fit }
 asked_writable events.List is fit = record { writable = is; fit = fit }
 asked_writable (events.Print job) is fit = record { writable = is; fit = fit }
 asked_writable events.Shutdown is fit = record { writable = is; fit = fit }
-asked_writable _ is fit = tt
+asked_writable (events.Clock at) is fit = tt
+asked_writable (events.Saw path obs) is fit = tt
+asked_writable (events.OfJob job item) is fit = go (is_asked item) fit where
+  go : (b : Bool) → SaysFitIf (if b then Some (events.OfJob job item) else None) → IsWritableIf (if b then Some (events.OfJob job item) else None)
+  go true fits = record { writable = is; fit = fits }
+  go false fits = tt
+
+-- what a client asks of a job says no more than its label, and a flag
+pub ask_fits : (job : List ℕ) (item : JobItem) → IsUtf8 job → SaysFitIf (asked_in (events.OfJob job item))
+ask_fits job (happens.Asked asks.Start) text = (text, tt)
+ask_fits job (happens.Asked asks.Stop) text = (text, tt)
+ask_fits job (happens.Asked (asks.Kickstart kills_first)) text = (text, (tt, tt))
+ask_fits job (happens.Asked asks.Unload) text = tt
+ask_fits job (happens.Asked asks.Shutdown) text = tt
+ask_fits job (happens.Came conn) text = tt
+ask_fits job (happens.Left conn) text = tt
+ask_fits job (happens.Answered answer) text = tt
+ask_fits job (happens.Ended run how) text = tt
+ask_fits job (happens.WaitRefused run) text = tt
 
 -- a line that asks for this can be written
 pub line_writable : (line : List ℕ) (e : Event) → request_at line ≡ Some e → SaysFitIf (asked_in e) → IsWritableIf (option_and_then asked_in (request_at line))
@@ -156,13 +173,13 @@ pub saw_writable : (path : Bor (List ℕ)) (obs : Obs) → IsUtf8 path.now → o
 saw_writable path obs text stamp = record { writable = refl; fit = (tt, (tt, (text, (stamp, tt)))) }
 
 pub came_writable : (job : Bor (List ℕ)) (conn : ℕ) → IsUtf8 job.now → conn < 2 ^ 64 → IsWritableInput (inputs.Came job conn)
-came_writable job conn text number = if_writable job.now (events.Came job.now conn) (λ is. record { writable = is; fit = (number, (text, tt)) })
+came_writable job conn text number = if_writable job.now (events.OfJob job.now (happens.Came conn)) (λ is. record { writable = and_from (is_label job.now) true is refl; fit = (number, (text, tt)) })
 
 pub left_writable : (job : Bor (List ℕ)) (conn : ℕ) → IsUtf8 job.now → conn < 2 ^ 64 → IsWritableInput (inputs.Left job conn)
-left_writable job conn text number = if_writable job.now (events.Left job.now conn) (λ is. record { writable = is; fit = (number, (text, tt)) })
+left_writable job conn text number = if_writable job.now (events.OfJob job.now (happens.Left conn)) (λ is. record { writable = and_from (is_label job.now) true is refl; fit = (number, (text, tt)) })
 
 pub refused_writable : (job : Bor (List ℕ)) (run : ℕ) → IsUtf8 job.now → run < 2 ^ 64 → IsWritableInput (inputs.WaitRefused job run)
-refused_writable job run text number = if_writable job.now (events.WaitRefused job.now run) (λ is. record { writable = is; fit = (text, (number, tt)) })
+refused_writable job run text number = if_writable job.now (events.OfJob job.now (happens.WaitRefused run)) (λ is. record { writable = and_from (is_label job.now) true is refl; fit = (text, (number, tt)) })
 
 byte_is : (n : ℕ) → n < 2 ^ 8 → nat_lt n 256 ≡ true
 byte_is n few = grind (arith, nat_tests, few)
@@ -172,8 +189,8 @@ byte_fits n few = omega (arith, few)
 
 pub code_writable : (job : Bor (List ℕ)) (run n : ℕ) → IsUtf8 job.now → run < 2 ^ 64 → n < 2 ^ 8 → IsWritableInput (inputs.Ended job run (Code n))
 code_writable job run n text number few =
-    if_writable job.now (events.Ended job.now run (Code n)) (λ is. record { writable = and_from (is_label job.now) (nat_lt n 256) is (byte_is n few); fit = (byte_fits n few, (text, (number, tt))) })
+    if_writable job.now (events.OfJob job.now (happens.Ended run (Code n))) (λ is. record { writable = and_from (is_label job.now) (nat_lt n 256) is (byte_is n few); fit = (byte_fits n few, (text, (number, tt))) })
 
 pub signal_writable : (job : Bor (List ℕ)) (run n : ℕ) → IsUtf8 job.now → run < 2 ^ 64 → n < 2 ^ 8 → IsWritableInput (inputs.Ended job run (Signal n))
 signal_writable job run n text number few =
-    if_writable job.now (events.Ended job.now run (Signal n)) (λ is. record { writable = and_from (is_label job.now) (nat_lt n 256) is (byte_is n few); fit = (byte_fits n few, (text, (number, tt))) })
+    if_writable job.now (events.OfJob job.now (happens.Ended run (Signal n))) (λ is. record { writable = and_from (is_label job.now) (nat_lt n 256) is (byte_is n few); fit = (byte_fits n few, (text, (number, tt))) })

@@ -17,14 +17,14 @@ use Rattle.ctl_protocol.specs.HeaderLines.{header_line}
 use Rattle.job_table.specs.Tables.{Name, definition_of_number}
 use Rattle.job_table.specs.StandsFor.{KeepsState}
 use Rattle.job_table.specs.Loads.{load_of}
-use Rattle.child_edge.specs.Calls.{Entry}
+use Rattle.child_edge.specs.Calls.{ToldCall}
 use Rattle.outside.specs.declared.asking.Outside.{Outside}
 use Rattle.outside.specs.Asking.{Told, told_of}
 use Rattle.outside.specs.Stores.{HoldsAfter, Stamp, StoreCall, AreTold, set_call}
 use Rattle.event_journal.specs.Journals.{JournalState, Grows}
 use Rattle.launcher.specs.Turns.{AreNumbered, IsLed, KeepsNumbers, TurnsOf, trace}
 use Rattle.launcher.specs.LoadTurns.{AsksFor, AsksNothing, AsksStore, IsUntouched, SetRequest, Standing, event_of_set, is_memory, label_written, load_request, set_request, stamps_after, standing}
-use Rattle.table_opening.specs.Events.{event_of}
+use Rattle.table_opening.specs.Events.{machine_event}
 use Rattle.table_opening.specs.Openings.{OpensBy}
 use Rattle.launcher.specs.Inputs.{answered}
 use Rattle.launcher.specs.Writable.{IsWritableHeader}
@@ -32,7 +32,7 @@ use Rattle.launcher.specs.declared.host.Host.{Host}
 
 -- the launcher as it stands, by what its outside and its store tell
 abbrev pub stands : {T E W : Type 0} →
-    (E → Option (List Entry)) → (T → Option (List StoreCall)) → Host T E W → Standing
+    (E → Option (List ToldCall)) → (T → Option (List StoreCall)) → Host T E W → Standing
 stands calls stores host =
     standing host.table (calls host.edge) (stores host.store) host.journal
 
@@ -53,10 +53,8 @@ AsksOutside s (journaled.Load def writes_setting force bind store) job outside b
     (def_of def) job writes_setting s.reading.wall outside before after
 AsksOutside s (journaled.Unload label true store) job outside before after =
     AsksSetting s (set_request label true true) outside before after
-AsksOutside s (journaled.Enable label store) job outside before after =
-    AsksSetting s (set_request label false false) outside before after
-AsksOutside s (journaled.Disable label store) job outside before after =
-    AsksSetting s (set_request label true false) outside before after
+AsksOutside s (journaled.Set label disabled store) job outside before after =
+    AsksSetting s (set_request label disabled false) outside before after
 AsksOutside s _ job outside before after = AsksNothing outside before after
 
 -- a load asked for the job with the number that it then has
@@ -76,17 +74,17 @@ pub record HostTurnOf (s : State) (event : journal.Event) (refusal : Option Refu
     (words : List ℕ) (old new : Standing) (before after : List Setting → Type 0) : Type 0 where
   pub outside : Outside
   pub job : ℕ
-  pub mid : Option (List Entry)
+  pub mid : Option (List ToldCall)
   pub asks : AsksOutside s event job outside
       (told_of old.calls old.stores) (told_of mid new.stores)
-  pub turn : TurnsOf s (event_of (answered outside event))
+  pub turn : TurnsOf s (machine_event (answered outside event))
       (event_line (answered outside event)) refusal new.table
       (trace mid old.journal) (trace new.calls new.journal)
   pub own : refusal ≡ None → IsOwn event turn.names job
   pub numbers : refusal ≡ None → AreNumbered turn.names old.table
   pub stays : KeepsNumbers old.table new.table
-  pub text : refusal ≡ None → (outcome s (event_of (answered outside event))).text ≡ words
-  pub stored : before s.settings → after (step s (event_of (answered outside event))).settings
+  pub text : refusal ≡ None → (outcome s (machine_event (answered outside event))).text ≡ words
+  pub stored : before s.settings → after (step s (machine_event (answered outside event))).settings
 
 -- Nothing happened: the table stands for what it stood for, nothing was asked of the outside, no
 -- line was written, and the store holds the settings of the machine as before.
@@ -118,7 +116,7 @@ Hears event refusal words old new before after =
 -- a launcher heard it: so it stands before and after, by what its outside tells, and by what its
 -- store tells and holds
 abbrev pub HostHears : {T E W : Type 0} →
-    (E → Option (List Entry)) → (T → Option (List StoreCall)) → (T → List Setting → Type 0) →
+    (E → Option (List ToldCall)) → (T → Option (List StoreCall)) → (T → List Setting → Type 0) →
     Option journal.Event → Option Refusal → List ℕ → Host T E W → Host T E W → Type 0
 HostHears calls stores holds event refusal words old new =
     Hears event refusal words (stands calls stores old) (stands calls stores new)
@@ -131,8 +129,7 @@ abbrev pub label_asked : Option journal.Event → Option Label
 label_asked (Some (journaled.Load def writes_setting force bind store)) =
     label_written (load_request def writes_setting force)
 label_asked (Some (journaled.Unload label true store)) = Some label
-label_asked (Some (journaled.Enable label store)) = Some label
-label_asked (Some (journaled.Disable label store)) = Some label
+label_asked (Some (journaled.Set label disabled store)) = Some label
 label_asked _ = None
 
 -- The store has the seconds that it had; and if the event was accepted and asked for a setting, its
@@ -152,7 +149,7 @@ with_settings header settings =
 -- A new launcher: it stands for the machine that the header opens with the settings that the store
 -- gave, has asked the outside nothing, and its journal has that header's line, or a front of it. A
 -- line can tell that header. If the store held any settings, it holds those of this machine.
-pub record IsNew (header : Header) (calls : Option (List Entry)) (stores : Option (List StoreCall))
+pub record IsNew (header : Header) (calls : Option (List ToldCall)) (stores : Option (List StoreCall))
     (journal : JournalState) (new : Standing) (before after : List Setting → Type 0) : Type 0 where
   pub settings : List Setting
   pub machine : State
@@ -166,7 +163,7 @@ pub record IsNew (header : Header) (calls : Option (List Entry)) (stores : Optio
   pub stored : (list : List Setting) → before list → after machine.settings
 
 -- and these are the settings that the store gave
-abbrev pub IsNewWith : List Setting → Header → Option (List Entry) → Option (List StoreCall) →
+abbrev pub IsNewWith : List Setting → Header → Option (List ToldCall) → Option (List StoreCall) →
     JournalState → Standing → (List Setting → Type 0) → (List Setting → Type 0) → Type 0
 IsNewWith settings header calls stores journal new before after =
     (made : IsNew header calls stores journal new before after) × (made.settings ≡ settings)

@@ -2,11 +2,21 @@
 use Rattle.std.specs.Prelude.{ℕ, Bool, true, false, if◌then◌else◌, List, Option, Some, None, option_and_then}
 use Rattle.history_model.specs.declared.event.Event as journal
 use Rattle.history_model.specs.declared.event.Event.TheVariants as journaled
+use Rattle.history_model.specs.declared.event.JobItem.{JobItem}
+use Rattle.history_model.specs.declared.event.JobItem.TheVariants as happens
+use Rattle.history_model.specs.declared.Ask.TheVariants as asks
 use Rattle.history_model.specs.Labels.{is_label}
 use Rattle.event_reader.specs.EventLines.{request_at}
 use Rattle.outside.specs.declared.asking.Outside.{Outside}
 use Rattle.launcher.specs.declared.input.Input.{Input}
 use Rattle.launcher.specs.declared.input.Input.TheVariants as inputs
+
+-- what a client may ask of a job: start, stop or kickstart
+abbrev pub is_asked : JobItem → Bool
+is_asked (happens.Asked asks.Start) = true
+is_asked (happens.Asked asks.Stop) = true
+is_asked (happens.Asked (asks.Kickstart kills_first)) = true
+is_asked _ = false
 
 -- what a client may ask, with the outside's answers as given; whatever else a line could tell is no
 -- request
@@ -15,24 +25,14 @@ asked_in (journaled.Load def writes_setting force bind store) =
     Some (journaled.Load def writes_setting force true true)
 asked_in (journaled.Unload job writes_setting store) =
     Some (journaled.Unload job writes_setting true)
-asked_in (journaled.Start job) = Some (journaled.Start job)
-asked_in (journaled.Stop job) = Some (journaled.Stop job)
-asked_in (journaled.Kickstart job kills_first) = Some (journaled.Kickstart job kills_first)
-asked_in (journaled.Enable job store) = Some (journaled.Enable job true)
-asked_in (journaled.Disable job store) = Some (journaled.Disable job true)
+asked_in (journaled.Set job disabled store) = Some (journaled.Set job disabled true)
 asked_in journaled.List = Some journaled.List
 asked_in (journaled.Print job) = Some (journaled.Print job)
 asked_in journaled.Shutdown = Some journaled.Shutdown
 asked_in (journaled.Clock at) = None
 asked_in (journaled.Saw path obs) = None
-asked_in (journaled.Came job conn) = None
-asked_in (journaled.Left job conn) = None
-asked_in (journaled.Spawned job run pid) = None
-asked_in (journaled.SpawnRefused job run) = None
-asked_in (journaled.Termed job run ok) = None
-asked_in (journaled.Killed job run ok) = None
-asked_in (journaled.Ended job run how) = None
-asked_in (journaled.WaitRefused job run) = None
+asked_in (journaled.OfJob job item) =
+    if is_asked item then Some (journaled.OfJob job item) else None
 
 -- what happens to the job of this label; under a name that is no label nothing does
 abbrev pub if_label : List ℕ → journal.Event → Option journal.Event
@@ -43,10 +43,12 @@ abbrev pub input_event : Input → Option journal.Event
 input_event (inputs.Line line) = option_and_then asked_in (request_at line.now)
 input_event (inputs.Clock at) = Some (journaled.Clock at)
 input_event (inputs.Saw path obs) = Some (journaled.Saw path.now obs)
-input_event (inputs.Came job conn) = if_label job.now (journaled.Came job.now conn)
-input_event (inputs.Left job conn) = if_label job.now (journaled.Left job.now conn)
-input_event (inputs.Ended job run how) = if_label job.now (journaled.Ended job.now run how)
-input_event (inputs.WaitRefused job run) = if_label job.now (journaled.WaitRefused job.now run)
+input_event (inputs.Came job conn) = if_label job.now (journaled.OfJob job.now (happens.Came conn))
+input_event (inputs.Left job conn) = if_label job.now (journaled.OfJob job.now (happens.Left conn))
+input_event (inputs.Ended job run how) =
+    if_label job.now (journaled.OfJob job.now (happens.Ended run how))
+input_event (inputs.WaitRefused job run) =
+    if_label job.now (journaled.OfJob job.now (happens.WaitRefused run))
 
 -- the event with what the outside answered to it
 abbrev pub answered : Outside → journal.Event → journal.Event
@@ -54,8 +56,7 @@ answered outside (journaled.Load def writes_setting force bind store) =
     journaled.Load def writes_setting force outside.bind outside.store
 answered outside (journaled.Unload job writes_setting store) =
     journaled.Unload job writes_setting outside.store
-answered outside (journaled.Enable job store) = journaled.Enable job outside.store
-answered outside (journaled.Disable job store) = journaled.Disable job outside.store
+answered outside (journaled.Set job disabled store) = journaled.Set job disabled outside.store
 answered outside event = event
 
 -- only a line and a reading of the clocks want memory

@@ -2,7 +2,7 @@
 use Rattle.std.specs.Prelude.{ℕ, Bool, true, false, List, if◌then◌else◌}
 use Rattle.std.specs.List.{flat_map}
 use Rattle.history_model.specs.declared.Answer.{Answer}
-use Rattle.history_model.specs.declared.Answer.TheVariants as answers
+use Rattle.history_model.specs.declared.event.JobItem.TheVariants as happens
 use Rattle.history_model.specs.declared.event.Event as journal
 use Rattle.history_model.specs.declared.event.Event.TheVariants as journaled
 use Rattle.history_model.specs.Labels.{Label}
@@ -10,34 +10,18 @@ use Rattle.ctl_protocol.specs.EventWriter.{event_line}
 use Rattle.job_table.specs.Tables.{Name, label_of}
 use Rattle.outside.specs.declared.asking.Outside.{Outside}
 use Rattle.outside.specs.declared.unheard.Unheard.{Unheard}
-use Rattle.launcher.specs.declared.event_ref.News.{News}
-use Rattle.launcher.specs.declared.event_ref.News.TheVariants as news
 use Rattle.launcher.specs.declared.event_ref.EventRef.{EventRef}
 use Rattle.launcher.specs.declared.event_ref.EventRef.TheVariants as happenings
 
 -- the journal's event of the answer to an order of the label's job
 abbrev pub journaled_answer : Label → Answer → journal.Event
-journaled_answer job (answers.Spawned run pid) = journaled.Spawned job run pid
-journaled_answer job (answers.SpawnRefused run) = journaled.SpawnRefused job run
-journaled_answer job (answers.Termed run ok) = journaled.Termed job run ok
-journaled_answer job (answers.Killed run ok) = journaled.Killed job run ok
-
--- of what happens to the label's job
-abbrev pub journaled_of : Label → News → journal.Event
-journaled_of job news.Start = journaled.Start job
-journaled_of job news.Stop = journaled.Stop job
-journaled_of job (news.Kickstart kills_first) = journaled.Kickstart job kills_first
-journaled_of job (news.Came conn) = journaled.Came job conn
-journaled_of job (news.Left conn) = journaled.Left job conn
-journaled_of job (news.Ended run how) = journaled.Ended job run how
-journaled_of job (news.WaitRefused run) = journaled.WaitRefused job run
-journaled_of job (news.Answered answer) = journaled_answer job answer
+journaled_answer job answer = journaled.OfJob job (happens.Answered answer)
 
 -- and of what happens
 abbrev pub journaled_by : EventRef → journal.Event
 journaled_by (happenings.Clock at) = journaled.Clock at
 journaled_by (happenings.Saw path obs) = journaled.Saw path.now obs
-journaled_by (happenings.ToJob label what) = journaled_of label.now what
+journaled_by (happenings.ToJob label item) = journaled.OfJob label.now item
 journaled_by (happenings.Unload label) = journaled.Unload label.now false true
 journaled_by happenings.Shutdown = journaled.Shutdown
 
@@ -61,7 +45,7 @@ journaled_load bytes writes_setting force outside =
 abbrev pub journaled_set : Label → (disabled unload store : Bool) → journal.Event
 journaled_set label disabled unload store =
     if unload then journaled.Unload label true store
-    else (if disabled then journaled.Disable label store else journaled.Enable label store)
+    else journaled.Set label disabled store
 
 -- the journal's line of such a load
 abbrev pub load_line : List ℕ → (writes_setting force : Bool) → Outside → List ℕ

@@ -16,7 +16,7 @@ use Rattle.job_table.specs.Loads.{load_of, refusal_outside, described_in, number
 use Rattle.job_table.specs.declared.loading.Ready.{Ready}
 use Rattle.job_table.specs.Changes.{set_of}
 use Rattle.job_table.specs.Outcomes.{IsSameFor}
-use Rattle.child_edge.specs.Calls.{Tells, Entry}
+use Rattle.child_edge.specs.Calls.{Tells, ToldCall}
 use Rattle.outside.specs.declared.asking.Outside.{Outside}
 use Rattle.outside.specs.Asking.{Asks, Told, told_of}
 use Rattle.outside.specs.Stores.{Stamp, StoreCall, AreTold, set_call}
@@ -80,13 +80,13 @@ AsksStore None call stored stored' = AreTold stored (call ∷ []) stored'
 -- tells that it was asked, and the journal.
 pub record Standing : Type 0 where
   pub table : Table
-  pub calls : Option (List Entry)
+  pub calls : Option (List ToldCall)
   pub stores : Option (List StoreCall)
   pub journal : JournalState
 
 -- as it stands with these
 abbrev pub standing :
-    Table → Option (List Entry) → Option (List StoreCall) → JournalState → Standing
+    Table → Option (List ToldCall) → Option (List StoreCall) → JournalState → Standing
 standing table calls stores journal =
     record { table = table; calls = calls; stores = stores; journal = journal }
 
@@ -138,7 +138,7 @@ event_of_set request kept = set_of request.label request.disabled request.unload
 pub record LoadTurnOf (s : State) (request : LoadRequest) (outside : Outside)
     (reply : Option Refusal) (before after : Standing) : Type 0 where
   pub job : ℕ
-  pub mid : Option (List Entry)
+  pub mid : Option (List ToldCall)
   pub asks : AsksFor
       (refusal_in s (event_of_load request (record { bind = true; store = true })))
       (def_of request.bytes) job request.writes_setting s.reading.wall outside
@@ -204,7 +204,7 @@ pub record Sets (s : State) (e : Event) (line : List ℕ) (old new : Table) (bef
 -- outside refused, nothing more happened, and else the load was made
 pub record EndsLoad (ready : Ready) (writes_setting : Bool) (wall : ℕ) (outside : Outside)
     (refusal : Option Refusal) (line : List ℕ) (before after : Standing) : Type 0 where
-  pub mid : Option (List Entry)
+  pub mid : Option (List ToldCall)
   pub asks : Asks (number_in ready) (described_in ready) writes_setting wall outside
       (told_of before.calls before.stores) (told_of mid after.stores)
   pub answer : refusal

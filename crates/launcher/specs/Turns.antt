@@ -17,7 +17,7 @@ use Rattle.job_table.specs.StandsFor.{KeepsState, labelled}
 use Rattle.job_table.specs.Outcomes.{IsSameFor}
 use Rattle.job_table.specs.Ends.{AreKnown}
 use Rattle.job_table.specs.declared.Step.{Step}
-use Rattle.child_edge.specs.Calls.{Tells, Entry}
+use Rattle.child_edge.specs.Calls.{Tells, ToldCall}
 use Rattle.outside.specs.declared.unheard.Unheard.{Unheard}
 use Rattle.event_journal.specs.Journals.{JournalState, Grows}
 use Rattle.launcher.specs.Lines.{answer_text, answer_texts}
@@ -27,11 +27,11 @@ use Rattle.history_model.specs.AwaitedOrders.{AreFresh, weight, weigh_orders}
 
 -- what a turn leaves behind outside the table: the calls that the edge tells, and the journal
 pub record Trace : Type 0 where
-  pub calls : Option (List Entry)
+  pub calls : Option (List ToldCall)
   pub journal : JournalState
 
 -- the trace with these
-abbrev pub trace : Option (List Entry) → JournalState → Trace
+abbrev pub trace : Option (List ToldCall) → JournalState → Trace
 trace calls journal = record { calls = calls; journal = journal }
 
 -- ---- orders that are carried out
@@ -39,8 +39,8 @@ trace calls journal = record { calls = calls; journal = journal }
 -- the orders were carried out one after another, each by its one call, and if there is room for
 -- them the answers are kept
 pub record Carried (orders : List Order) (old new : List Unheard)
-    (told told' : Option (List Entry)) : Type 0 where
-  pub entries : List Entry
+    (told told' : Option (List ToldCall)) : Type 0 where
+  pub entries : List ToldCall
   pub tells : Tells told entries told'
   pub calls : calls_in entries ≡ map call_of orders
   pub kept : length old + length (answers_in entries) ≤ 3 * MAX_JOBS →
@@ -63,13 +63,13 @@ abbrev pub event_in : List Name → Unheard → Event
 event_in names pending = OfJob (label_of names pending.job) (Answered pending.answer)
 
 -- the events that the answers of these calls are
-abbrev pub events_in : List Name → List Entry → List Event
+abbrev pub events_in : List Name → List ToldCall → List Event
 events_in names entries = map (event_in names) (answers_in entries)
 
 -- A whole turn of the machine s. Its events are the input and then the answers of the calls, in the
 -- order of the calls. The calls are the orders of all these events, in order, each once: so none is
 -- left out, and no answer is invented.
-pub record IsTurn (s : State) (input : Event) (names : List Name) (entries : List Entry)
+pub record IsTurn (s : State) (input : Event) (names : List Name) (entries : List ToldCall)
     (new : Table) : Type 0 where
   pub orders : List Order
   pub calls : calls_in entries ≡ map call_of orders
@@ -136,7 +136,7 @@ pub record IsWaiting (table : Table) (s : State) (names : List Name) (waits : Li
 -- One event happened, and this was its answer: its orders, by number, were carried out. If it
 -- was accepted, the table's own names stand for the jobs after it, and for those that went at it.
 pub record Begins (s : State) (e : Event) (reply : Option Refusal) (new : Table)
-    (before after : List Unheard) (told told' : Option (List Entry)) : Type 0 where
+    (before after : List Unheard) (told told' : Option (List ToldCall)) : Type 0 where
   pub orders : List Order
   pub carried : Carried orders before after told told'
   pub kept : KeepsState new (step s e)
@@ -148,7 +148,7 @@ pub record Begins (s : State) (e : Event) (reply : Option Refusal) (new : Table)
 -- one event happened to jobs that were loaded: names that stand for the jobs before it do so after
 -- it, and the table's own are such
 pub record HappensTo (s : State) (e : Event) (reply : Option Refusal) (old new : Table)
-    (before after : List Unheard) (told told' : Option (List Entry)) : Type 0 where
+    (before after : List Unheard) (told told' : Option (List ToldCall)) : Type 0 where
   pub begins : Begins s e reply new before after told told'
   pub loaded : reply ≡ None → AreNumbered new.names old
   pub stays : KeepsNumbers old new
@@ -158,7 +158,7 @@ pub record HappensTo (s : State) (e : Event) (reply : Option Refusal) (old new :
 
 -- so it is for each machine that the table stood for
 abbrev pub Happens : Event → Option Refusal → Table → Table → List Unheard → List Unheard →
-    Option (List Entry) → Option (List Entry) → Type 0
+    Option (List ToldCall) → Option (List ToldCall) → Type 0
 Happens e reply old new before after told told' =
     (s : State) → KeepsState old s → HappensTo s e reply old new before after told told'
 
@@ -169,7 +169,7 @@ pub record Handled (s : State) (names : List Name) (job_order : JobOrder) (waits
   pub orders : List Order
   pub carried : Carried orders answers answers' before.calls after.calls
   pub ordered : labelled names orders ≡ (outcome s (event_in names pending)).orders
-  pub waiting : (made : List Entry) → calls_in made ≡ map call_of orders →
+  pub waiting : (made : List ToldCall) → calls_in made ≡ map call_of orders →
       IsWaiting new (step s (event_in names pending)) names
       (waits ++ wanting (outcome s (event_in names pending)).orders) (rest ++ answers_in made)
   pub noted : Grows before.journal after.journal (answer_text names pending)
@@ -180,7 +180,7 @@ pub record Handled (s : State) (names : List Name) (job_order : JobOrder) (waits
 -- each answer was made an event, and none remains; `made` are the calls of these events
 pub record Settled (s : State) (names : List Name) (waited settled : List Unheard) (new : Table)
     (before after : Trace) : Type 0 where
-  pub made : List Entry
+  pub made : List ToldCall
   pub tells : Tells before.calls made after.calls
   pub all : settled ≡ waited ++ answers_in made
   pub orders : List Order
@@ -213,7 +213,7 @@ NamesLabel _ = Unit {0}
 pub record TurnsOf (s : State) (input : Event) (line : List ℕ) (reply : Option Refusal)
     (new : Table) (before after : Trace) : Type 0 where
   pub names : List Name
-  pub entries : List Entry
+  pub entries : List ToldCall
   pub tells : Tells before.calls entries after.calls
   pub turn : IsTurn s input names entries new
   pub led : IsLed (run (input ∷ events_in names entries) s)
@@ -235,7 +235,7 @@ Turns input line reply old new before after =
 
 -- nothing happened: the table stands for what it stood for, with the same jobs under the same
 -- numbers, and no call was made
-pub record IsUncalled (old new : Table) (told told' : Option (List Entry)) : Type 0 where
+pub record IsUncalled (old new : Table) (told told' : Option (List ToldCall)) : Type 0 where
   pub same : IsSameFor old new
   pub rows : new.rows ≡ old.rows
   pub tells : Tells told [] told'

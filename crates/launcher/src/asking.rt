@@ -1,23 +1,22 @@
 //! What a control client's line asks.
 
-ghost use Rattle.std.specs.Prelude.{◌≡◌, Some, [], is_some, true, option_and_then};
+ghost use Rattle.std.specs.Prelude.{◌≡◌, ◌&&◌, Some, [], is_none, is_some, true, option_and_then};
 ghost use Rattle.history_model.specs.declared.event.Event.TheVariants as events;
 ghost use Rattle.event_reader.specs.EventLines.{request_at};
 ghost use Rattle.job_table.specs.Numbers.{IsNumbered};
 ghost use Rattle.launcher.specs.Lines.{journaled_set};
 ghost use Rattle.launcher.specs.Hosts.{HostHears, HostStamps};
-ghost use Rattle.launcher.specs.Accepting.{accepted_in};
-ghost use Rattle.launcher.specs.Inputs.{asked_in};
+ghost use Rattle.launcher.specs.Accepting.{is_accepted_load, is_load as loads};
+ghost use Rattle.launcher.specs.Inputs.{asked_in, is_asked};
 ghost use Rattle.launcher.specs.Writable.{WritesWhat};
 
-use crate::accepted::{Accepted, kind_of, unless_refused};
-use crate::event_ref::{EventRef, News};
+use crate::event_ref::EventRef;
 use crate::fitting::lend_request;
 use crate::host::Host;
 use crate::replies::{done, refused, told};
 use child_edge::{ChildEdge, SocketEdge};
 use ctl_protocol::ReadFault;
-use history_model::{Event, Refusal, Reply};
+use history_model::{Ask, Event, JobItem, Refusal, Reply};
 use job_table::JobTable;
 use outside::SettingStore;
 use std::alloc::Global;
@@ -30,9 +29,36 @@ fn lend_numbers(table: &JobTable)
     let _step = table.last_step();
 }
 
+/// Whether the event is a load.
+fn is_load(event: &Event) -> bool
+    ensures { result ≡ loads (Some event.now) }
+{
+    match event {
+        Event::Load { .. } => true,
+        _ => false,
+    }
+}
+
+/// Whether a load was asked for and not refused.
+fn unless_refused(is_load: bool, refusal: Option<Refusal>) -> bool
+    ensures { result ≡ (is_load && is_none refusal) }
+{
+    is_load && refusal.is_none()
+}
+
+/// Whether it is what a client may ask of a job, `start`, `stop` or `kickstart`.
+fn is_asked(item: JobItem) -> bool
+    ensures { result ≡ is_asked item }
+{
+    match item {
+        JobItem::Asked(Ask::Start | Ask::Stop | Ask::Kickstart(_)) => true,
+        _ => false,
+    }
+}
+
 impl<T: SettingStore, E: ChildEdge + SocketEdge, W: Write> Host<T, E, W> {
     /// A client's line, the newline left out.
-    #[tactic(auto, using(crate::proofs::HostsLemmas::unheard, crate::proofs::HostsLemmas::unread, crate::proofs::StampsLemmas::refused_stamps, crate::proofs::WritableLemmas::no_line_writable, crate::proofs::AcceptingLemmas::accepted_line, crate::proofs::AcceptingLemmas::accepted_nothing, crate::proofs::AcceptingLemmas::refused_asks))]
+    #[tactic(auto, using(crate::proofs::HostsLemmas::unheard, crate::proofs::HostsLemmas::unread, crate::proofs::StampsLemmas::refused_stamps, crate::proofs::WritableLemmas::no_line_writable, crate::proofs::AcceptingLemmas::accepted_line, crate::proofs::AcceptingLemmas::refused_load))]
     pub(crate) fn line(&mut self, alloc: Global, line: &[u8]) -> Reply
         ensures hears { HostHears E.told T.told T.holds (option_and_then asked_in (request_at line.now))
             result.refusal result.text self.old self.new }
@@ -40,16 +66,16 @@ impl<T: SettingStore, E: ChildEdge + SocketEdge, W: Write> Host<T, E, W> {
             result.refusal self.old self.new }
         ensures writable { WritesWhat result.refusal (option_and_then asked_in (request_at line.now)) }
         ensures quiet { is_some result.refusal ≡ true → result.text ≡ [] }
-        ensures accepted { self.new.accepted
-            ≡ accepted_in (option_and_then asked_in (request_at line.now)) result.refusal }
+        ensures loaded { self.new.has_loaded
+            ≡ is_accepted_load (option_and_then asked_in (request_at line.now)) result.refusal }
     {
-        self.accepted = Accepted::Other;
+        self.has_loaded = false;
         match self.reader.request(alloc, line) {
             Ok(outside) => {
                 lend_request(&outside); // for the proof
-                let asked = kind_of(&outside);
+                let is_load = is_load(&outside);
                 let reply = self.ask(alloc, outside);
-                self.accepted = unless_refused(asked, reply.refusal);
+                self.has_loaded = unless_refused(is_load, reply.refusal);
                 reply
             }
             Err(ReadFault::NoMemory) => refused(alloc, Refusal::NoMemory),
@@ -78,18 +104,16 @@ impl<T: SettingStore, E: ChildEdge + SocketEdge, W: Write> Host<T, E, W> {
                 writes_setting,
                 ..
             } => self.ask_unload(alloc, job.as_str(), writes_setting),
-            Event::Start { job } => {
-                self.happen(alloc, EventRef::ToJob(job.as_str(), News::Start))
+            Event::Set { job, disabled, .. } => {
+                self.ask_set(alloc, job.as_str(), disabled, false)
             }
-            Event::Stop { job } => self.happen(alloc, EventRef::ToJob(job.as_str(), News::Stop)),
-            Event::Kickstart { job, kills_first } => {
-                self.happen(
-                    alloc,
-                    EventRef::ToJob(job.as_str(), News::Kickstart(kills_first)),
-                )
+            Event::OfJob { job, item } => {
+                if is_asked(item) {
+                    self.happen(alloc, EventRef::ToJob(job.as_str(), item))
+                } else {
+                    refused(alloc, Refusal::BadRequest)
+                }
             }
-            Event::Enable { job, .. } => self.ask_set(alloc, job.as_str(), false, false),
-            Event::Disable { job, .. } => self.ask_set(alloc, job.as_str(), true, false),
             Event::List => self.ask_list(alloc),
             Event::Print { job } => self.ask_print(alloc, job.as_str()),
             Event::Shutdown => self.happen(alloc, EventRef::Shutdown),

@@ -25,18 +25,16 @@ fn lend_inner(text: &Text)
 }
 
 /// All texts of what a client asks are UTF-8.
+#[tactic(auto, using(crate::proofs::WritableLemmas::ask_fits))]
 pub(crate) fn lend_request(event: &Event)
     ensures { SaysFitIf (asked_in event.now) }
 {
     match event {
         Event::Load { def, .. } => lend_inner(def),
-        Event::Unload { job, .. }
-        | Event::Start { job }
-        | Event::Stop { job }
-        | Event::Kickstart { job, .. }
-        | Event::Enable { job, .. }
-        | Event::Disable { job, .. }
-        | Event::Print { job } => lend_inner(job),
+        Event::Unload { job, .. } | Event::Set { job, .. } | Event::Print { job } => {
+            lend_inner(job)
+        }
+        Event::OfJob { job, .. } => lend_inner(job),
         _ => {}
     }
 }

@@ -8,7 +8,7 @@ ghost use Rattle.launcher.specs.Turns.{Happens, IsUncalled};
 ghost use Rattle.job_table.specs.Loads.{refused_with};
 
 use crate::carrying::carry_step;
-use crate::event_ref::{EventRef, job_event};
+use crate::event_ref::EventRef;
 use crate::room::AnswerQueue;
 use child_edge::{ChildEdge, SocketEdge};
 use history_model::Refusal;
@@ -34,9 +34,7 @@ pub(crate) fn hear<E: ChildEdge + SocketEdge>(
     match what {
         EventRef::Clock(at) => carry_step(edge, table.clock(alloc, at), answers),
         EventRef::Saw(path, obs) => carry_step(edge, table.saw(path, obs), answers),
-        EventRef::ToJob(label, news) => {
-            carry_step(edge, table.hear(label, job_event(news)), answers)
-        }
+        EventRef::ToJob(label, item) => carry_step(edge, table.hear(label, item), answers),
         EventRef::Unload(label) => carry_step(edge, table.unload(label), answers),
         EventRef::Shutdown => carry_step(edge, table.shutdown(), answers),
     }

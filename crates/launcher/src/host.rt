@@ -1,6 +1,6 @@
 //! The launcher: how it is made, and what it lends.
 
-ghost use Rattle.std.specs.Prelude.{◌≡◌, ◌↔◌, IfOk, IsTrue, List, Result, is_some, true};
+ghost use Rattle.std.specs.Prelude.{◌≡◌, ◌↔◌, IfOk, IsTrue, List, Result, is_some, true, false};
 ghost use Rattle.std.specs.Borrow.{sem};
 ghost use Rattle.history_model.specs.declared.event.Setting.{Setting};
 ghost use Rattle.outside.specs.declared.store.StoreFault.{StoreFault};
@@ -9,9 +9,7 @@ ghost use Rattle.event_journal.specs.Journals.{fresh, held, reported, is_writing
 ghost use Rattle.launcher.specs.Hosts.{IsNewWith, stands};
 ghost use Rattle.launcher.specs.Faults.{ComesOf, FaultOf};
 ghost use Rattle.launcher.specs.Lends.{lends_edge};
-ghost use Rattle.launcher.specs.declared.accepted.Accepted.TheVariants.{Other};
 
-use crate::accepted::Accepted;
 use crate::making::{Inside, make_inside, store_fault, with_settings};
 use crate::room::Room;
 use child_edge::{ChildEdge, SocketEdge};
@@ -42,7 +40,8 @@ pub struct Host<T: SettingStore, E: ChildEdge + SocketEdge, W: Write> {
     pub(crate) journal: Journal<W>,
     pub(crate) room: Room,
     pub(crate) reader: LineReader,
-    pub(crate) accepted: Accepted,
+    // The input of the last turn was a load that was accepted.
+    pub(crate) has_loaded: bool,
 }
 
 impl<T: SettingStore + Drop, E: ChildEdge + SocketEdge + Drop, W: Write + Drop> Host<T, E, W> {
@@ -65,7 +64,7 @@ impl<T: SettingStore + Drop, E: ChildEdge + SocketEdge + Drop, W: Write + Drop> 
             header answer result) }
         ensures stamped { IfOk result (λ host.
             HoldsAfter T.stamped (λ stamps. stamps) store host.store) }
-        ensures accepted { IfOk result (λ host. host.accepted ≡ Other) }
+        ensures loaded { IfOk result (λ host. host.has_loaded ≡ false) }
     {
         let mut store = store;
         let settings = match store.all(alloc) {
@@ -87,7 +86,7 @@ impl<T: SettingStore + Drop, E: ChildEdge + SocketEdge + Drop, W: Write + Drop> 
                 journal,
                 room,
                 reader,
-                accepted: Accepted::Other,
+                has_loaded: false,
             }),
             Err(fault) => Err(fault),
         }
@@ -121,11 +120,11 @@ impl<T: SettingStore, E: ChildEdge + SocketEdge, W: Write> Host<T, E, W> {
         &self.table
     }
 
-    /// What the input of the last turn asked, if it was accepted.
-    pub fn accepted(&self) -> Accepted
-        ensures { result ≡ self.now.accepted }
+    /// Whether the input of the last turn was a load that was accepted.
+    pub fn has_loaded(&self) -> bool
+        ensures { result ≡ self.now.has_loaded }
     {
-        self.accepted
+        self.has_loaded
     }
 
     /// The outside, for what is asked of it between turns. All else of the launcher stays as it is.

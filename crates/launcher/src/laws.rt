@@ -11,12 +11,12 @@ ghost use Rattle.job_defs.specs.Keys.{def_of};
 ghost use Rattle.job_table.specs.Tables.{Name};
 ghost use Rattle.job_table.specs.Loads.{load_of, refusal_outside};
 ghost use Rattle.launcher.specs.Turns.{events_in};
-ghost use Rattle.child_edge.specs.Calls.{Entry};
+ghost use Rattle.child_edge.specs.Calls.{ToldCall};
 
 /// Only the first event of a turn sets anything.
 #[tactic(auto, using(crate::proofs::StoredSettingsLemmas::turn_settings))]
 pub fn answers_set_nothing()
-    ensures { (s : State) (input : Event) (names : List Name) (entries : List Entry) →
+    ensures { (s : State) (input : Event) (names : List Name) (entries : List ToldCall) →
         (run (input ∷ events_in names entries) s).settings ≡ (step s input).settings }
 {}
 

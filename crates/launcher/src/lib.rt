@@ -2,7 +2,6 @@
 //! One input after another is made an event of the machine, and each answer of the outside too.
 #![tactic(auto)]
 
-mod accepted;
 mod asking;
 mod carrying;
 mod event_ref;
@@ -24,7 +23,6 @@ mod settings;
 mod settling;
 mod turns;
 
-pub use accepted::Accepted;
 pub use host::{Host, HostFault};
 pub use input::Input;
 pub use room::LabelRoom;

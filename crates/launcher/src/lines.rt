@@ -3,41 +3,13 @@
 ghost use Rattle.std.specs.Prelude.{◌≡◌, IfOk};
 ghost use Rattle.ctl_protocol.specs.EventWriter.{event_line};
 ghost use Rattle.event_journal.specs.Journals.{Grows};
-ghost use Rattle.launcher.specs.Lines.{journaled_by, journaled_of, journaled_answer};
+ghost use Rattle.launcher.specs.Lines.{journaled_by};
 
-use crate::event_ref::{EventRef, News};
+use crate::event_ref::EventRef;
 use event_journal::Journal;
-use history_model::{Answer, Event, Text};
+use history_model::{Event, Text};
 use std::alloc::{AllocError, Global};
 use std::io::Write;
-
-/// The event of the journal that says the answer to an order.
-fn answer_line(job: Text, answer: Answer) -> Event
-    ensures { result ≡ journaled_answer job answer }
-{
-    match answer {
-        Answer::Spawned { run, pid } => Event::Spawned { job, run, pid },
-        Answer::SpawnRefused { run } => Event::SpawnRefused { job, run },
-        Answer::Termed { run, ok } => Event::Termed { job, run, ok },
-        Answer::Killed { run, ok } => Event::Killed { job, run, ok },
-    }
-}
-
-/// The event of the journal that says what happens to a job.
-fn job_line(job: Text, news: News) -> Event
-    ensures { result ≡ journaled_of job news }
-{
-    match news {
-        News::Start => Event::Start { job },
-        News::Stop => Event::Stop { job },
-        News::Kickstart(kills_first) => Event::Kickstart { job, kills_first },
-        News::Came(conn) => Event::Came { job, conn },
-        News::Left(conn) => Event::Left { job, conn },
-        News::Ended(run, how) => Event::Ended { job, run, how },
-        News::WaitRefused(run) => Event::WaitRefused { job, run },
-        News::Answered(answer) => answer_line(job, answer),
-    }
-}
 
 /// The event of the journal that says what happens. `AllocError` if memory for a copy of its label or path was refused.
 fn event_made(alloc: Global, what: EventRef<'_>) -> Result<Event, AllocError>
@@ -49,9 +21,9 @@ fn event_made(alloc: Global, what: EventRef<'_>) -> Result<Event, AllocError>
             let path = Text::copy_of(alloc, path)?;
             Ok(Event::Saw { path, obs })
         }
-        EventRef::ToJob(label, news) => {
+        EventRef::ToJob(label, item) => {
             let job = Text::copy_of(alloc, label)?;
-            Ok(job_line(job, news))
+            Ok(Event::OfJob { job, item })
         }
         EventRef::Unload(label) => {
             let job = Text::copy_of(alloc, label)?;

@@ -51,10 +51,11 @@ fn set_event(
             store,
         });
     }
-    if disabled {
-        return Ok(Event::Disable { job, store });
-    }
-    Ok(Event::Enable { job, store })
+    Ok(Event::Set {
+        job,
+        disabled,
+        store,
+    })
 }
 
 /// The journal's event of `print`. `AllocError` if memory for a copy of the label was refused.

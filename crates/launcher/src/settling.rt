@@ -9,11 +9,12 @@ ghost use Rattle.job_table.specs.Tables.{Name};
 ghost use Rattle.outside.specs.declared.unheard.Unheard.{Unheard as Answered};
 ghost use Rattle.launcher.specs.Turns.{IsWaiting, Handled, Settled, trace};
 
-use crate::event_ref::{EventRef, News};
+use crate::event_ref::EventRef;
 use crate::hearing::hear;
 use crate::host::Host;
 use crate::lines::note;
 use child_edge::{ChildEdge, SocketEdge};
+use history_model::JobItem;
 use outside::{SettingStore, Unheard};
 use std::alloc::Global;
 use std::io::Write;
@@ -33,7 +34,7 @@ impl<T: SettingStore, E: ChildEdge + SocketEdge, W: Write> Host<T, E, W> {
         self.room
             .label
             .copy(self.table.last_step().label(pending.job));
-        let told = EventRef::ToJob(self.room.label.as_str(), News::Answered(pending.answer));
+        let told = EventRef::ToJob(self.room.label.as_str(), JobItem::Answered(pending.answer));
         let _accepted = hear(
             &mut self.table,
             &mut self.edge,

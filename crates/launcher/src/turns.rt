@@ -1,22 +1,21 @@
 //! A turn of the launcher, by what comes to it: what happens is one event, and the answers to all that it orders are the next.
 
-ghost use Rattle.std.specs.Prelude.{◌≡◌, Err, Some, [], is_some, true};
+ghost use Rattle.std.specs.Prelude.{◌≡◌, Err, Some, [], is_some, true, false};
 ghost use Rattle.history_model.specs.declared.Refusal.TheVariants.{NoMemory};
+ghost use Rattle.history_model.specs.declared.event.Event.TheVariants as journaled;
 ghost use Rattle.ctl_protocol.specs.EventWriter.{event_line};
 ghost use Rattle.job_table.specs.Loads.{refused_with};
 ghost use Rattle.job_table.specs.Outcomes.{UnlessMemory};
 ghost use Rattle.launcher.specs.Events.{event_of_ref, is_clock};
 ghost use Rattle.launcher.specs.Hosts.{HostHears, HostStamps};
-ghost use Rattle.launcher.specs.Accepting.{accepted_in};
+ghost use Rattle.launcher.specs.Accepting.{is_accepted_load};
 ghost use Rattle.launcher.specs.Inputs.{input_event, if_label, wants_memory};
-ghost use Rattle.launcher.specs.declared.accepted.Accepted.TheVariants.{Other};
-ghost use Rattle.launcher.specs.Lines.{journaled_by, journaled_of};
+ghost use Rattle.launcher.specs.Lines.{journaled_by};
 ghost use Rattle.launcher.specs.LoadTurns.{is_memory};
 ghost use Rattle.launcher.specs.Turns.{Turns, IsUncalled, trace};
 ghost use Rattle.launcher.specs.Writable.{WritesWhat};
 
-use crate::accepted::Accepted;
-use crate::event_ref::{EventRef, News};
+use crate::event_ref::EventRef;
 use crate::fitting::lend_input;
 use crate::hearing::hear;
 use crate::host::Host;
@@ -24,7 +23,7 @@ use crate::input::Input;
 use crate::lines::note;
 use crate::replies::{done, is_want, refused};
 use child_edge::{ChildEdge, SocketEdge};
-use history_model::{Refusal, Reply};
+use history_model::{JobItem, Refusal, Reply};
 use job_defs::is_label;
 use outside::SettingStore;
 use std::alloc::Global;
@@ -46,7 +45,8 @@ impl<T: SettingStore, E: ChildEdge + SocketEdge, W: Write> Host<T, E, W> {
         ensures writable { WritesWhat result.refusal (input_event input.entry) }
         ensures memory { is_memory result.refusal ≡ true → wants_memory input.entry ≡ true }
         ensures quiet { is_some result.refusal ≡ true → result.text ≡ [] }
-        ensures accepted { self.new.accepted ≡ accepted_in (input_event input.entry) result.refusal }
+        ensures loaded { self.new.has_loaded
+            ≡ is_accepted_load (input_event input.entry) result.refusal }
     {
         let reply = self.hear(alloc, input);
         if is_want(reply.refusal) {
@@ -57,7 +57,7 @@ impl<T: SettingStore, E: ChildEdge + SocketEdge, W: Write> Host<T, E, W> {
     }
 
     /// The turn, without the flush.
-    #[tactic(auto, using(crate::proofs::AcceptingLemmas::label_asks))]
+    #[tactic(auto, using(crate::proofs::AcceptingLemmas::label_loads))]
     fn hear(&mut self, alloc: Global, input: Input<'_>) -> Reply
         ensures hears { HostHears E.told T.told T.holds (input_event input.entry)
             result.refusal result.text self.old self.new }
@@ -66,35 +66,40 @@ impl<T: SettingStore, E: ChildEdge + SocketEdge, W: Write> Host<T, E, W> {
         ensures writable { WritesWhat result.refusal (input_event input.entry) }
         ensures memory { is_memory result.refusal ≡ true → wants_memory input.entry ≡ true }
         ensures quiet { is_some result.refusal ≡ true → result.text ≡ [] }
-        ensures accepted { self.new.accepted ≡ accepted_in (input_event input.entry) result.refusal }
+        ensures loaded { self.new.has_loaded
+            ≡ is_accepted_load (input_event input.entry) result.refusal }
     {
         lend_input(input); // for the proof
         match input {
             Input::Line(line) => self.line(alloc, line),
             Input::Clock(at) => self.happen(alloc, EventRef::Clock(at)),
             Input::Saw(path, obs) => self.happen(alloc, EventRef::Saw(path, obs)),
-            Input::Came(job, conn) => self.happen_to(alloc, job, News::Came(conn)),
-            Input::Left(job, conn) => self.happen_to(alloc, job, News::Left(conn)),
-            Input::Ended(job, run, how) => self.happen_to(alloc, job, News::Ended(run, how)),
-            Input::WaitRefused(job, run) => self.happen_to(alloc, job, News::WaitRefused(run)),
+            Input::Came(job, conn) => self.happen_to(alloc, job, JobItem::Came(conn)),
+            Input::Left(job, conn) => self.happen_to(alloc, job, JobItem::Left(conn)),
+            Input::Ended(job, run, how) => self.happen_to(alloc, job, JobItem::Ended { run, how }),
+            Input::WaitRefused(job, run) => self.happen_to(
+                alloc,
+                job,
+                JobItem::WaitRefused { run },
+            ),
         }
     }
 
     /// What happens to the job of this label. A name that is no label is answered by BadRequest.
-    fn happen_to(&mut self, alloc: Global, job: &str, what: News) -> Reply
+    fn happen_to(&mut self, alloc: Global, job: &str, item: JobItem) -> Reply
         ensures hears { HostHears E.told T.told T.holds
-            (if_label job.now (journaled_of job.now what))
+            (if_label job.now (journaled.OfJob job.now item))
             result.refusal result.text self.old self.new }
-        ensures stamped { HostStamps T.stamped (if_label job.now (journaled_of job.now what))
+        ensures stamped { HostStamps T.stamped (if_label job.now (journaled.OfJob job.now item))
             result.refusal self.old self.new }
         ensures memory { is_memory result.refusal ≡ true → ⊥ }
         ensures quiet { is_some result.refusal ≡ true → result.text ≡ [] }
-        ensures accepted { self.new.accepted ≡ Other }
+        ensures loaded { self.new.has_loaded ≡ false }
     {
         if is_label(job) {
-            self.happen(alloc, EventRef::ToJob(job, what))
+            self.happen(alloc, EventRef::ToJob(job, item))
         } else {
-            self.accepted = Accepted::Other;
+            self.has_loaded = false;
             refused(alloc, Refusal::BadRequest)
         }
     }
@@ -107,10 +112,10 @@ impl<T: SettingStore, E: ChildEdge + SocketEdge, W: Write> Host<T, E, W> {
             result.refusal self.old self.new }
         ensures memory { is_memory result.refusal ≡ true → is_clock what.entry ≡ true }
         ensures quiet { is_some result.refusal ≡ true → result.text ≡ [] }
-        ensures accepted { self.new.accepted ≡ Other }
+        ensures loaded { self.new.has_loaded ≡ false }
     {
         let answer = self.take_in(alloc, what);
-        self.accepted = Accepted::Other;
+        self.has_loaded = false;
         done(alloc, answer)
     }
 

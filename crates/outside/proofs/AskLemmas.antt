@@ -2,7 +2,7 @@
 use Rattle.std.proofs.Common.{◌≡◌, ℕ, Bool, true, false, not, ◌&&◌, List, [], ◌∷◌, Option, refl, sym, ap, subst, ◌∙◌}
 use Rattle.std.specs.Prelude.{if◌then◌else◌}
 use Rattle.std.proofs.lemmas.List.{append-nil}
-use Rattle.child_edge.specs.Calls.{Tells, fault_answer, is_done, Entry}
+use Rattle.child_edge.specs.Calls.{Tells, fault_answer, is_done, ToldCall}
 use Rattle.child_edge.specs.declared.plain.EdgeCall.TheVariants.{Bind, Release}
 use Rattle.child_edge.specs.declared.plain.EdgeFault.{EdgeFault}
 use Rattle.child_edge.specs.declared.plain.EdgeFault.TheVariants as faults
@@ -18,7 +18,7 @@ use Rattle.history_model.proofs.BooleanLemmas.{and-true, and-false}
 pub told_nothing : (a : Option (List StoreCall)) → AreTold a [] a
 told_nothing a = λ after is. (after, is, sym (append-nil after))
 
-module _ (job : ℕ) (d : Described) (writes_setting : Bool) (changed : ℕ) (a b c : Option (List Entry)) (s t : Option (List StoreCall)) where
+module _ (job : ℕ) (d : Described) (writes_setting : Bool) (changed : ℕ) (a b c : Option (List ToldCall)) (s t : Option (List StoreCall)) where
   -- once the sockets are bound, or if there are none, the store is asked as writes_setting says
   store_calls_made : (store : Bool) → AreTold s (store_calls writes_setting d.label changed store) t → AreTold s (store_calls (writes_setting && true) d.label changed store) t
   store_calls_made store told = subst (λ v. AreTold s (store_calls v d.label changed store) t) (sym (and-true writes_setting)) told
@@ -63,7 +63,7 @@ fault-not-done : (fault : EdgeFault) → is_done (fault_answer fault) ≡ false
 fault-not-done faults.NoMemory = refl
 fault-not-done faults.Refused = refl
 
-pub unbound : (job : ℕ) (d : Described) (writes_setting : Bool) (changed : ℕ) (fault : EdgeFault) (a b : Option (List Entry)) (s : Option (List StoreCall)) → has_sockets d ≡ true →
+pub unbound : (job : ℕ) (d : Described) (writes_setting : Bool) (changed : ℕ) (fault : EdgeFault) (a b : Option (List ToldCall)) (s : Option (List StoreCall)) → has_sockets d ≡ true →
     Tells a ((Bind job, fault_answer fault) ∷ []) b → Asks job d writes_setting changed (record { bind = false; store = true }) (told_of a s) (told_of b s)
 unbound job d writes_setting changed fault a b s some tells = record {
   bound = fault_answer fault;

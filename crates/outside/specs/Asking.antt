@@ -1,6 +1,6 @@
 -- What a load asks of the outside: sockets to be bound, and a setting to be stored.
 use Rattle.std.specs.Prelude.{◌≡◌, ℕ, Bool, true, false, not, ◌&&◌, List, [], ◌∷◌, Option, if◌then◌else◌}
-use Rattle.child_edge.specs.Calls.{Tells, is_done, Entry}
+use Rattle.child_edge.specs.Calls.{Tells, is_done, ToldCall}
 use Rattle.child_edge.specs.declared.plain.EdgeCall.TheVariants.{Bind, Release}
 use Rattle.child_edge.specs.declared.plain.Scripted.{Scripted}
 use Rattle.child_edge.specs.declared.plain.Scripted.TheVariants.{Done}
@@ -11,18 +11,18 @@ use Rattle.outside.specs.Stores.{StoreCall, AreTold, store_calls}
 
 -- The calls of a load, with this answer to the bind: none for a job without sockets. Sockets that
 -- were bound are given up if the store then refused.
-abbrev pub load_entries : Bool → ℕ → Outside → Scripted → List Entry
+abbrev pub load_entries : Bool → ℕ → Outside → Scripted → List ToldCall
 load_entries false job outside bound = []
 load_entries true job outside bound =
     (Bind job, bound) ∷ (if outside.bind && not outside.store then (Release job, Done) ∷ [] else [])
 
 -- what the edge and the store were told: the calls of each, as far as they tell
 pub record Told : Type 0 where
-  pub calls : Option (List Entry)
+  pub calls : Option (List ToldCall)
   pub stores : Option (List StoreCall)
 
 -- as they tell it
-abbrev pub told_of : Option (List Entry) → Option (List StoreCall) → Told
+abbrev pub told_of : Option (List ToldCall) → Option (List StoreCall) → Told
 told_of calls stores = record { calls = calls; stores = stores }
 
 -- Each was asked once, in this order: the sockets; then, if they are bound and a setting is to be

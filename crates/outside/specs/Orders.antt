@@ -6,7 +6,7 @@ use Rattle.history_model.specs.declared.Act.TheVariants as acts
 use Rattle.history_model.specs.declared.Answer.{Answer}
 use Rattle.history_model.specs.declared.Answer.TheVariants.{Spawned, SpawnRefused, Termed, Killed}
 use Rattle.history_model.specs.declared.Order.{Order}
-use Rattle.child_edge.specs.Calls.{Tells, Entry, is_done}
+use Rattle.child_edge.specs.Calls.{Tells, ToldCall, is_done}
 use Rattle.child_edge.specs.declared.plain.EdgeCall.{EdgeCall}
 use Rattle.child_edge.specs.declared.plain.EdgeCall.TheVariants.{Start, Term, Kill, Close, Release}
 use Rattle.child_edge.specs.declared.plain.Scripted.{Scripted}
@@ -31,23 +31,23 @@ spawn_answer run (Started pid) = Spawned run pid
 spawn_answer run _ = SpawnRefused run
 
 -- the answer that the call gave, of the job with that number; the others have none
-abbrev pub answer_in : Entry → Option Unheard
+abbrev pub answer_in : ToldCall → Option Unheard
 answer_in (Start job run conn, a) = Some (record { job = job; answer = spawn_answer run a })
 answer_in (Term job run, a) = Some (record { job = job; answer = Termed run (is_done a) })
 answer_in (Kill job run, a) = Some (record { job = job; answer = Killed run (is_done a) })
 answer_in _ = None
 
 -- the answers of these calls, in their order
-abbrev pub answers_in : List Entry → List Unheard
+abbrev pub answers_in : List ToldCall → List Unheard
 answers_in entries = filter_map answer_in entries
 
 -- the calls, without their answers
-abbrev pub calls_in : List Entry → List EdgeCall
+abbrev pub calls_in : List ToldCall → List EdgeCall
 calls_in entries = map (λ entry. entry.0) entries
 
 -- the order is carried out by its one call, and the answer is that call's
 pub record Carries (order : Order) (pending : Option Unheard)
-    (old new : Option (List Entry)) : Type 0 where
+    (old new : Option (List ToldCall)) : Type 0 where
   pub answer : Scripted
   pub tells : Tells old ((call_of order, answer) ∷ []) new
   pub gives : pending ≡ answer_in (call_of order, answer)

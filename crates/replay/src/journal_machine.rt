@@ -1,15 +1,15 @@
 //! The launcher as a machine that reads lines: a header opens the table of jobs, and each later line is an event.
 ghost use Rattle.std.specs.Prelude.{IfOk};
 ghost use Rattle.replay.specs.Answers.{IsReplied, WillWrite};
-ghost use Rattle.table_opening.specs.Events.{event_of, event_in};
+ghost use Rattle.table_opening.specs.Events.{machine_event, event_in};
 ghost use Rattle.table_opening.specs.Output.{IsOutput};
 
 use crate::events::happened;
 use crate::loads::LoadWords;
 use crate::{loads, opening, whole};
 use ctl_protocol::{LineReader, ReadFault};
-use history_model::{Answer, Ask, Event};
-use job_table::{JobEvent, JobTable};
+use history_model::Event;
+use job_table::JobTable;
 use replay_loop::LineMachine;
 use std::alloc::{AllocError, Global};
 
@@ -20,9 +20,9 @@ pub(crate) struct JournalMachine {
     reader: LineReader,
 }
 
-/// Events that a control client asks for, and the clock.
+/// The line that answers an event.
 fn answer_to(alloc: Global, table: &mut JobTable, event: Event) -> Result<Vec<u8>, AllocError>
-    ensures { IfOk result (λ line. IsReplied (event_of event) table.old table.new line.items) }
+    ensures { IfOk result (λ line. IsReplied (machine_event event) table.old table.new line.items) }
 {
     match event {
         Event::Load {
@@ -47,71 +47,17 @@ fn answer_to(alloc: Global, table: &mut JobTable, event: Event) -> Result<Vec<u8
             writes_setting,
             store,
         } => loads::unload(alloc, table, job.as_str(), writes_setting, store),
-        Event::Start { job } => happened(alloc, table, job.as_str(), JobEvent::Asked(Ask::Start)),
-        Event::Stop { job } => happened(alloc, table, job.as_str(), JobEvent::Asked(Ask::Stop)),
-        Event::Kickstart { job, kills_first } => happened(
-            alloc,
-            table,
-            job.as_str(),
-            JobEvent::Asked(Ask::Kickstart(kills_first)),
-        ),
-        Event::Enable { job, store } => loads::set_disabled(
-            alloc,
-            table,
-            job.as_str(),
-            false,
+        Event::Set {
+            job,
+            disabled,
             store,
-        ),
-        Event::Disable { job, store } => loads::set_disabled(
-            alloc,
-            table,
-            job.as_str(),
-            true,
-            store,
-        ),
+        } => loads::set_disabled(alloc, table, job.as_str(), disabled, store),
         Event::List => whole::list(alloc, table),
         Event::Print { job } => whole::print(alloc, table, job.as_str()),
         Event::Shutdown => whole::shutdown(alloc, table),
         Event::Clock(at) => whole::clock(alloc, table, at),
         Event::Saw { path, obs } => whole::saw(alloc, table, path.as_str(), obs),
-        Event::Came { job, conn } => happened(alloc, table, job.as_str(), JobEvent::Came(conn)),
-        Event::Left { job, conn } => happened(alloc, table, job.as_str(), JobEvent::Left(conn)),
-        Event::Spawned { job, run, pid } => happened(
-            alloc,
-            table,
-            job.as_str(),
-            JobEvent::Answered(Answer::Spawned { run, pid }),
-        ),
-        Event::SpawnRefused { job, run } => happened(
-            alloc,
-            table,
-            job.as_str(),
-            JobEvent::Answered(Answer::SpawnRefused { run }),
-        ),
-        Event::Termed { job, run, ok } => happened(
-            alloc,
-            table,
-            job.as_str(),
-            JobEvent::Answered(Answer::Termed { run, ok }),
-        ),
-        Event::Killed { job, run, ok } => happened(
-            alloc,
-            table,
-            job.as_str(),
-            JobEvent::Answered(Answer::Killed { run, ok }),
-        ),
-        Event::Ended { job, run, how } => happened(
-            alloc,
-            table,
-            job.as_str(),
-            JobEvent::Ended(run, how),
-        ),
-        Event::WaitRefused { job, run } => happened(
-            alloc,
-            table,
-            job.as_str(),
-            JobEvent::WaitRefused { run },
-        ),
+        Event::OfJob { job, item } => happened(alloc, table, job.as_str(), item),
     }
 }
 

@@ -4,7 +4,7 @@
 use crate::sink::Sink;
 use ctl_protocol::{Header, Settings, ZoneText};
 use event_journal::Journal;
-use history_model::{Event, Reading, Text};
+use history_model::{Answer, Event, JobItem, Reading, Text};
 use std::alloc::{AllocError, Global};
 use std::test::Fail;
 
@@ -86,10 +86,9 @@ fn header(alloc: Global) -> Result<Header, AllocError> {
 fn turned(alloc: Global, journal: Journal<&mut Sink>) -> Result<Told, AllocError> {
     let mut journal = journal;
     let job = Text::copy_of(alloc, "a")?;
-    let event = Event::Spawned {
+    let event = Event::OfJob {
         job,
-        run: 1,
-        pid: 812,
+        item: JobItem::Answered(Answer::Spawned { run: 1, pid: 812 }),
     };
     journal.note(alloc, &Event::List);
     journal.note(alloc, &event);

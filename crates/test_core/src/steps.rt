@@ -94,6 +94,15 @@ pub fn paths_follow(alloc: Global) -> Result<bool, Refusal> {
     )
 }
 
+/// Says whether a table shuts down once that is asked, and not before.
+pub fn is_shut_down(alloc: Global) -> Result<bool, Refusal> {
+    let mut table = empty_table(alloc)?;
+    load(alloc, &mut table, IDLE)?;
+    let before = table.is_shutting_down();
+    table.shutdown()?;
+    Ok(!before && table.is_shutting_down())
+}
+
 /// Says whether an override of an empty label is refused.
 pub fn is_refused(alloc: Global) -> bool {
     let Ok(zone) = Zone::fixed(0) else {

@@ -21,3 +21,8 @@ fn children_and_paths_come_in_order(rt: HostRuntime) {
 fn an_override_of_no_label_opens_no_table(rt: HostRuntime) {
     assert!(rt; is_refused(rt.alloc()));
 }
+
+#[test]
+fn a_shutdown_is_told(rt: HostRuntime) {
+    assert!(rt; is_shut_down(rt.alloc()) == Ok(true));
+}

@@ -5,7 +5,7 @@
 
 use crate::steps::{at, empty_table, load};
 use crate::visits::Event::*;
-use history_model::{Ended, Obs, Refusal};
+use history_model::{Ask, Ended, JobItem, Obs, Refusal};
 use job_table::{JobTable, Step};
 use std::alloc::{AllocError, Global};
 
@@ -19,7 +19,14 @@ enum Event {
     Spawned(&'static str, u64),
     Refused(&'static str, u64),
     Stop(&'static str),
+    Kickstart(&'static str, bool),
+    Came(&'static str, u64),
+    Left(&'static str, u64),
+    Termed(&'static str, u64, bool),
+    Killed(&'static str, u64, bool),
     Ended0(&'static str, u64),
+    Lost(&'static str, u64),
+    Asked(&'static str, Ask),
     Unload(&'static str),
     Disable(&'static str),
     Remove(&'static str),
@@ -161,6 +168,41 @@ static HOUR: &[Row] = &[
     (Clock(3_600_000), Some((3, 3))),
 ];
 
+const LISTENING: &str =
+    r#"{"Label":"s","Program":"/bin/x","Sockets":{"l":{"SockPathName":"/s"}},"inetdCompatibility":{"Wait":false}}"#;
+
+/// Each call for one event of one job. An unload and a shutdown are no events of one job. A spawn comes 10 seconds after the last one,
+/// a signal that was refused a second later.
+static OF_ONE_JOB: &[Row] = &[
+    (Load(LISTENING), Some((1, 0))),
+    (Came("s", 1), Some((1, 1))),
+    (Came("s", 2), Some((1, 0))),
+    (Came("s", 2), None),
+    (Left("s", 2), Some((1, 0))),
+    (Left("s", 2), None),
+    (Spawned("s", 1), Some((1, 0))),
+    (Asked("s", Ask::Unload), None),
+    (Asked("s", Ask::Shutdown), None),
+    (Asked("s", Ask::Start), Some((1, 0))),
+    (Kickstart("s", false), Some((1, 0))),
+    (Killed("s", 1, true), None),
+    (Kickstart("s", true), Some((1, 1))),
+    (Killed("s", 1, false), Some((1, 0))),
+    (Clock(999), Some((0, 0))),
+    (Clock(1_000), Some((1, 1))),
+    (Killed("s", 1, true), Some((1, 0))),
+    (Lost("s", 1), Some((1, 0))),
+    (Ended0("s", 1), Some((1, 0))),
+    (Lost("s", 1), None),
+    (Clock(10_000), Some((1, 1))),
+    (Spawned("s", 2), Some((1, 0))),
+    (Termed("s", 2, true), None),
+    (Stop("s"), Some((1, 1))),
+    (Termed("s", 2, true), Some((1, 0))),
+    (Ended0("s", 2), Some((1, 0))),
+    (Stop("s"), None),
+];
+
 const SLOW: &str = r#"{"Label":"a","Program":"/bin/x","StartInterval":30}"#;
 
 const FAST: &str = r#"{"Label":"b","Program":"/bin/x","StartInterval":20}"#;
@@ -224,7 +266,14 @@ fn happens(alloc: Global, table: &mut JobTable, event: Event) -> Option<(u32, us
         Spawned(label, run) => told(table.spawned(label, run, 812)),
         Refused(label, run) => told(table.spawn_refused(label, run)),
         Stop(label) => told(table.stop(label)),
+        Kickstart(label, kills_first) => told(table.kickstart(label, kills_first)),
+        Came(label, conn) => told(table.came(label, conn)),
+        Left(label, conn) => told(table.left(label, conn)),
+        Termed(label, run, ok) => told(table.term_answered(label, run, ok)),
+        Killed(label, run, ok) => told(table.kill_answered(label, run, ok)),
         Ended0(label, run) => told(table.ended(label, run, Ended::Code(0))),
+        Lost(label, run) => told(table.wait_refused(label, run)),
+        Asked(label, ask) => told(table.hear(label, JobItem::Asked(ask))),
         Unload(label) => told(table.unload(label)),
         Disable(label) => set(alloc, table, label, false),
         Remove(label) => set(alloc, table, label, true),
@@ -297,7 +346,7 @@ fn the_jobs_that_are_touched_are_asked(rt: HostRuntime) {
     for rows in [MANY, ALL, WATCHED] {
         assert_eq!(rt; fault_from_new(rt.alloc(), true, rows), None);
     }
-    for rows in [FEW, SETTINGS, MINUTES, HOUR] {
+    for rows in [FEW, SETTINGS, MINUTES, HOUR, OF_ONE_JOB] {
         assert_eq!(rt; fault_from_new(rt.alloc(), false, rows), None);
     }
 }

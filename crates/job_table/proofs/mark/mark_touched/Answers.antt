@@ -7,9 +7,9 @@ use Rattle.history_model.specs.Step.{lists}
 use Rattle.job_defs.specs.Described.{Described}
 use Rattle.job_defs.specs.Definitions.{definition}
 use Rattle.job_table.specs.Marking.{stands_at}
-use Rattle.job_table.specs.News.{heard_at, is_touched}
-use Rattle.job_table.specs.declared.entry.News.{News}
-use Rattle.job_table.specs.declared.entry.News.TheVariants.{Shutdown, Reading}
+use Rattle.job_table.specs.Touch.{heard_at, is_touched}
+use Rattle.job_table.specs.declared.entry.Touch.{Touch}
+use Rattle.job_table.specs.declared.entry.Touch.TheVariants.{Shutdown, Reading}
 use Rattle.job_table.proofs.MinutesLemmas.{exact-marks, new-mark, have-marks, stands, stood, listed-path}
 use Rattle.job_table.proofs.mark.mark_touched.Goals as goal
 use Rattle.history_model.proofs.BooleanLemmas.{or-false-right}
@@ -44,7 +44,7 @@ returns-in-Sight-clause-marks c = λ place moment at.
     let found = stood c.args.places.now c.args.entries.now c.requires.placed c.args.listed.now c.requires.listed (1 ∷ path) place new.1 in
     (new.0, slice_get_within c.args.entries.now place found.0 found.1)
 
-all-heard : (n : News) (place : ℕ) (d : Described) → (n ≡ Shutdown) ⊎ ((at : Moment) × (minutes : Bor (List CivilMinute)) × (n ≡ Reading at minutes)) → false ≡ not (is_touched n place d)
+all-heard : (n : Touch) (place : ℕ) (d : Described) → (n ≡ Shutdown) ⊎ ((at : Moment) × (minutes : Bor (List CivilMinute)) × (n ≡ Reading at minutes)) → false ≡ not (is_touched n place d)
 all-heard n place d (inl is) = ap (λ m. not (is_touched m place d)) (sym is)
 all-heard n place d (inr read) = ap (λ m. not (is_touched m place d)) (sym read.2)
 
@@ -53,4 +53,4 @@ returns-in-Shutdown-clause-touched c = λ place entry at.
     let inside = slice_get_within c.args.entries.now place entry at in
     let low : nat_lt place (length c.args.entries.now) ≡ true = grind (arith, inside) in
     exact-marks c.args.ready.now c.mark_each.new.ready (λ p. nat_lt p (length c.args.entries.now)) c.mark_each.ensures c.requires.empty place
-    ∙ ap not low ∙ all-heard c.args.news place entry.def c.in-Shutdown.is
+    ∙ ap not low ∙ all-heard c.args.touch place entry.def c.in-Shutdown.is

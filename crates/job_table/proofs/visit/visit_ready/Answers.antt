@@ -117,9 +117,9 @@ loop-number-preserved c =
     let between : (k : ℕ) → front ≤ k → k < front + (number - front) → is_spared ready0 k ≡ true =
     λ k low high. spared-is (moment_in ready0 k) (sym (inv.behind k low)
     ∙ first-mark ready number popped.0 k popped.2 popped.1 (λ place m there. c.requires.marks place m (marks place m there).1) (omega (arith, high, after))) in
-    let passed : IsWalked c.args.before c.args.now c.args.news ready0 es0 c.args.orders.now.items es number c.loop-number.orders.items c.loop-number.visited =
-    subst (λ k. IsWalked c.args.before c.args.now c.args.news ready0 es0 c.args.orders.now.items es k c.loop-number.orders.items c.loop-number.visited) (omega (arith, after))
-    (skip-to c.args.before c.args.now c.args.news ready0 c.requires.now es0 c.args.orders.now.items es (number - front) front c.loop-number.orders.items c.loop-number.visited
+    let passed : IsWalked c.args.before c.args.now c.args.touch ready0 es0 c.args.orders.now.items es number c.loop-number.orders.items c.loop-number.visited =
+    subst (λ k. IsWalked c.args.before c.args.now c.args.touch ready0 es0 c.args.orders.now.items es k c.loop-number.orders.items c.loop-number.visited) (omega (arith, after))
+    (skip-to c.args.before c.args.now c.args.touch ready0 c.requires.now es0 c.args.orders.now.items es (number - front) front c.loop-number.orders.items c.loop-number.visited
     c.requires.stay (omega (arith, within, after)) between inv.walked) in
     let none_before : (k : ℕ) → k < number → moment_in ready k ≡ None =
     λ k before. first-mark ready number popped.0 k popped.2 popped.1 (λ place m there. c.requires.marks place m (marks place m there).1) before in
@@ -148,8 +148,8 @@ loop-number-preserved c =
         | then-not-entry w ↦ λ all. stay-set es number new (inv.stays (sym w.all_stay-is ∙ all)) w.if-not-entry.true
         | else-not-entry w ↦ λ all. (let clash : true ≡ false = sym all ∙ w.all_stay-is in absurd (cc clash))
       ];
-      walked = subst (λ k. IsWalked c.args.before c.args.now c.args.news ready0 es0 c.args.orders.now.items (slice_set es number new) k c.visit.new.orders.items c.if-not-entry.visited) (sym (add-one number))
-          (visit-one c.args.before c.args.now c.args.news ready0 c.requires.now es0 c.args.orders.now.items es number e new c.loop-number.orders.items c.visit.new.orders.items c.loop-number.visited c.if-not-entry.visited
+      walked = subst (λ k. IsWalked c.args.before c.args.now c.args.touch ready0 es0 c.args.orders.now.items (slice_set es number new) k c.visit.new.orders.items c.if-not-entry.visited) (sym (add-one number))
+          (visit-one c.args.before c.args.now c.args.touch ready0 c.requires.now es0 c.args.orders.now.items es number e new c.loop-number.orders.items c.visit.new.orders.items c.loop-number.visited c.if-not-entry.visited
           c.requires.stay within inside is (marked-is (moment_in ready0 number) popped.0 here.1) c.visit.ensures.visit c.visit.ensures.decided counts passed);
     }
 
@@ -162,25 +162,25 @@ none-marked now first front behind late marks k after =
 pub returns-clause-kept : goal.returns-clause-kept
 returns-clause-kept c =
     let inv = c.loop-number.invariant in
-    (walk-over c.args.before c.args.now c.args.news c.args.ready.now c.requires.now c.args.entries.now c.args.orders.now.items c.loop-number.entries c.loop-number.front c.loop-number.orders.items c.loop-number.visited
+    (walk-over c.args.before c.args.now c.args.touch c.args.ready.now c.requires.now c.args.entries.now c.args.orders.now.items c.loop-number.entries c.loop-number.front c.loop-number.orders.items c.loop-number.visited
     c.requires.stay (omega arith) inv.front (none-marked c.loop-number.ready c.args.ready.now c.loop-number.front inv.behind c.in_default.ensures.popped.1 c.requires.marks) inv.walked).kept
 
 pub returns-clause-orders : goal.returns-clause-orders
 returns-clause-orders c =
     let inv = c.loop-number.invariant in
-    (walk-over c.args.before c.args.now c.args.news c.args.ready.now c.requires.now c.args.entries.now c.args.orders.now.items c.loop-number.entries c.loop-number.front c.loop-number.orders.items c.loop-number.visited
+    (walk-over c.args.before c.args.now c.args.touch c.args.ready.now c.requires.now c.args.entries.now c.args.orders.now.items c.loop-number.entries c.loop-number.front c.loop-number.orders.items c.loop-number.visited
     c.requires.stay (omega arith) inv.front (none-marked c.loop-number.ready c.args.ready.now c.loop-number.front inv.behind c.in_default.ensures.popped.1 c.requires.marks) inv.walked).orders
 
 pub returns-clause-visited : goal.returns-clause-visited
 returns-clause-visited c =
     let inv = c.loop-number.invariant in
-    (walk-over c.args.before c.args.now c.args.news c.args.ready.now c.requires.now c.args.entries.now c.args.orders.now.items c.loop-number.entries c.loop-number.front c.loop-number.orders.items c.loop-number.visited
+    (walk-over c.args.before c.args.now c.args.touch c.args.ready.now c.requires.now c.args.entries.now c.args.orders.now.items c.loop-number.entries c.loop-number.front c.loop-number.orders.items c.loop-number.visited
     c.requires.stay (omega arith) inv.front (none-marked c.loop-number.ready c.args.ready.now c.loop-number.front inv.behind c.in_default.ensures.popped.1 c.requires.marks) inv.walked).counted
 
 pub returns-clause-visits : goal.returns-clause-visits
 returns-clause-visits c =
     let inv = c.loop-number.invariant in
-    (walk-over c.args.before c.args.now c.args.news c.args.ready.now c.requires.now c.args.entries.now c.args.orders.now.items c.loop-number.entries c.loop-number.front c.loop-number.orders.items c.loop-number.visited
+    (walk-over c.args.before c.args.now c.args.touch c.args.ready.now c.requires.now c.args.entries.now c.args.orders.now.items c.loop-number.entries c.loop-number.front c.loop-number.orders.items c.loop-number.visited
     c.requires.stay (omega arith) inv.front (none-marked c.loop-number.ready c.args.ready.now c.loop-number.front inv.behind c.in_default.ensures.popped.1 c.requires.marks) inv.walked).visits
 
 pub returns-clause-timed : goal.returns-clause-timed

@@ -27,7 +27,7 @@ invariant-loop-number l = record {
   marks : room l.ready ≡ room l.fn.ready;
   space : room l.timers ≡ room l.fn.timers;
   stays : l.all_stay ≡ true → AllStay l.entries;
-  walked : IsWalked l.before l.now l.news l.fn.ready l.fn.entries l.fn.orders.items l.entries l.front l.orders.items l.visited;
+  walked : IsWalked l.before l.now l.touch l.fn.ready l.fn.entries l.fn.orders.items l.entries l.front l.orders.items l.visited;
 }
 
 abbrev pub decreases-loop-number : goal.decreases-loop-number

@@ -1,5 +1,6 @@
 -- The table hears what happens, and its answer is handed on.
-use Rattle.std.proofs.Common.{false, sym, ap, ◌∙◌}
+use Rattle.std.proofs.Common.{false, sym, ap}
+use Rattle.history_model.specs.JobItems.{item_of}
 use Rattle.history_model.specs.Machine.{OfJob, UnloadJob, ShutDown, Tick, Sight}
 use Rattle.std.specs.Prelude.{true}
 use Rattle.launcher.specs.Events.{event_of_ref, is_clock}
@@ -21,9 +22,8 @@ returns-in-Saw-clause-happens g c =
 pub returns-in-ToJob-clause-happens : goal.returns-in-ToJob-clause-happens
 returns-in-ToJob-clause-happens g c =
     let ends = c.hear.follows.holds-at-none in
-    handed-on _ (event_of_ref c.args.what) c.args.table.now c.hear.follows.lender-at-none c.hear.result c.carry_step-in-ToJob.result _ _ _ _
-    (ap (OfJob c.in-ToJob.label.now) c.job_event.ensures.item ∙ ap event_of_ref (sym c.in-ToJob.is))
-    c.carry_step-in-ToJob.ensures.answer c.hear.ensures.answer c.hear.ensures.known (ends.0, ends.1, ends.2) c.carry_step-in-ToJob.ensures.carried
+    handed-on (OfJob c.in-ToJob.label.now (item_of c.in-ToJob.item)) (event_of_ref c.args.what) c.args.table.now c.hear.follows.lender-at-none c.hear.result c.carry_step-in-ToJob.result _ _ _ _
+    (ap event_of_ref (sym c.in-ToJob.is)) c.carry_step-in-ToJob.ensures.answer c.hear.ensures.answer c.hear.ensures.known (ends.0, ends.1, ends.2) c.carry_step-in-ToJob.ensures.carried
 
 pub returns-in-Unload-clause-happens : goal.returns-in-Unload-clause-happens
 returns-in-Unload-clause-happens g c =

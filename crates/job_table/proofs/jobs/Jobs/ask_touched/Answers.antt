@@ -1,4 +1,4 @@
--- The jobs at the marked places are those that the news touch.
+-- The jobs at the marked places are those that the touch reaches.
 use Rattle.std.proofs.Common.{◌≡◌, ◌<◌, ◌++◌, true, false, not, map, drop, length, ap, sym, subst, ◌∙◌, arith}
 use Rattle.std.specs.Prelude.{slice_get}
 use Rattle.std.specs.List.{list_all, filter_map}
@@ -11,7 +11,7 @@ use Rattle.job_table.specs.Triggers.{AreListed}
 use Rattle.job_table.specs.Index.{ArePlaced, IsIndexOf, AreTimed, AreAlone, HaveRoom, place_in}
 use Rattle.job_table.specs.Entries.{name, rows, AllStay, is_named}
 use Rattle.job_table.specs.Minutes.{some_calendar}
-use Rattle.job_table.specs.News.{is_touched}
+use Rattle.job_table.specs.Touch.{is_touched}
 use Rattle.job_table.specs.Sound.{AreFree}
 use Rattle.job_table.specs.Hearing.{AreFor}
 use Rattle.job_table.specs.Touched.{RestBut}
@@ -41,15 +41,15 @@ pub visit_ready-visited-requires-clause-spared : goal.visit_ready-visited-requir
 visit_ready-visited-requires-clause-spared c =
     let old = c.args.self.now in
     let ready = c.mark_touched.new.ready in
-    subst (AreSpared ready old.reading c.args.news 0) (sym c.deref_mut.ensures.value)
-    (spared-all c.args.news ready old.reading 0 old.entries.items (marked-at c.args.news ready c.deref.result.now old.entries.items c.deref.ensures.value c.mark_touched.ensures.touched))
+    subst (AreSpared ready old.reading c.args.touch 0) (sym c.deref_mut.ensures.value)
+    (spared-all c.args.touch ready old.reading 0 old.entries.items (marked-at c.args.touch ready c.deref.result.now old.entries.items c.deref.ensures.value c.mark_touched.ensures.touched))
 
 pub visit_ready-visited-requires-clause-timed : goal.visit_ready-visited-requires-clause-timed
 visit_ready-visited-requires-clause-timed c = λ place entry there none.
     let ready = c.mark_touched.new.ready in
     let at = ap (λ xs. slice_get xs place) (sym c.deref_mut.ensures.value) ∙ there in
     c.requires.timed place entry at
-    (not-true (is_spared ready place) (is_touched c.args.news place entry.def) (c.mark_touched.ensures.touched place entry (ap (λ xs. slice_get xs place) c.deref.ensures.value ∙ at)) none)
+    (not-true (is_spared ready place) (is_touched c.args.touch place entry.def) (c.mark_touched.ensures.touched place entry (ap (λ xs. slice_get xs place) c.deref.ensures.value ∙ at)) none)
 
 pub returns-clause-kept : goal.returns-clause-kept
 returns-clause-kept c = λ jobs item for fine rests keeps.
@@ -60,10 +60,10 @@ returns-clause-kept c = λ jobs item for fine rests keeps.
     let whole = lent-back after (drop (length after) es) old.entries.len (omega arith) in
     let lent = c.deref_mut.ensures.value in
     let all = rows-all es c.requires.stay in
-    let idle = rest-all c.args.news ready old.reading item 0 es jobs (marked-at c.args.news ready c.deref.result.now es c.deref.ensures.value c.mark_touched.ensures.touched)
-    (subst (λ rs. AreFor c.args.news item rs jobs) all for) (subst (λ rs. KeepsJobs old.reading rs jobs) all keeps) (subst (λ rs. RestBut c.args.news 0 rs jobs) all rests) in
+    let idle = rest-all c.args.touch ready old.reading item 0 es jobs (marked-at c.args.touch ready c.deref.result.now es c.deref.ensures.value c.mark_touched.ensures.touched)
+    (subst (λ rs. AreFor c.args.touch item rs jobs) all for) (subst (λ rs. KeepsJobs old.reading rs jobs) all keeps) (subst (λ rs. RestBut c.args.touch 0 rs jobs) all rests) in
     subst (λ xs. KeepsJobs old.reading (rows xs) (filter_map stays (heard item jobs))) (sym whole)
-    (c.visit_ready-visited.ensures.kept jobs item (subst (λ xs. AreFor c.args.news item (rows xs) jobs) (sym lent) for) fine idle (subst (λ xs. KeepsJobs old.reading (rows xs) jobs) (sym lent) keeps))
+    (c.visit_ready-visited.ensures.kept jobs item (subst (λ xs. AreFor c.args.touch item (rows xs) jobs) (sym lent) for) fine idle (subst (λ xs. KeepsJobs old.reading (rows xs) jobs) (sym lent) keeps))
 
 pub returns-clause-orders : goal.returns-clause-orders
 returns-clause-orders c = λ jobs item for fine rests keeps.
@@ -75,10 +75,10 @@ returns-clause-orders c = λ jobs item for fine rests keeps.
     let lent = c.deref_mut.ensures.value in
     let names = ap (map name) whole ∙ c.visit_ready-visited.ensures.names ∙ ap (map name) lent in
     let all = rows-all es c.requires.stay in
-    let idle = rest-all c.args.news ready old.reading item 0 es jobs (marked-at c.args.news ready c.deref.result.now es c.deref.ensures.value c.mark_touched.ensures.touched)
-    (subst (λ rs. AreFor c.args.news item rs jobs) all for) (subst (λ rs. KeepsJobs old.reading rs jobs) all keeps) (subst (λ rs. RestBut c.args.news 0 rs jobs) all rests) in
+    let idle = rest-all c.args.touch ready old.reading item 0 es jobs (marked-at c.args.touch ready c.deref.result.now es c.deref.ensures.value c.mark_touched.ensures.touched)
+    (subst (λ rs. AreFor c.args.touch item rs jobs) all for) (subst (λ rs. KeepsJobs old.reading rs jobs) all keeps) (subst (λ rs. RestBut c.args.touch 0 rs jobs) all rests) in
     heard-labelled old.reading item _ es c.visit_ready-visited.new.orders.items jobs names c.requires.stay c.requires.sound.once keeps
-    (c.visit_ready-visited.ensures.orders jobs item (subst (λ xs. AreFor c.args.news item (rows xs) jobs) (sym lent) for) fine idle (subst (λ xs. KeepsJobs old.reading (rows xs) jobs) (sym lent) keeps)
+    (c.visit_ready-visited.ensures.orders jobs item (subst (λ xs. AreFor c.args.touch item (rows xs) jobs) (sym lent) for) fine idle (subst (λ xs. KeepsJobs old.reading (rows xs) jobs) (sym lent) keeps)
     ∙ (λ i. c.requires.empty i ++ numbered_all (rows (lent i)) (heard item jobs)))
 
 pub returns-clause-counted : goal.returns-clause-counted
@@ -96,10 +96,10 @@ returns-clause-spared c = λ label others.
     let ready = c.mark_touched.new.ready in
     let after = c.visit_ready-visited.new.entries in
     let whole = lent-back after (drop (length after) es) c.args.self.now.entries.len (omega arith) in
-    let marked = marked-at c.args.news ready c.deref.result.now es c.deref.ensures.value c.mark_touched.ensures.touched in
+    let marked = marked-at c.args.touch ready c.deref.result.now es c.deref.ensures.value c.mark_touched.ensures.touched in
     ap (λ xs. count_in (counts (rows xs)) label) whole
     ∙ spared-count ready 0 es after label c.requires.stay (subst (λ all. AreVisitedOnce ready 0 all after) c.deref_mut.ensures.value c.visit_ready-visited.ensures.visits)
-    (λ k e there has. marked k e there ∙ ap not (subst (λ p. is_touched c.args.news p e.def ≡ false) (omega arith) (others k e there has)))
+    (λ k e there has. marked k e there ∙ ap not (subst (λ p. is_touched c.args.touch p e.def ≡ false) (omega arith) (others k e there has)))
     ∙ ap (λ rs. count_in (counts rs) label) (sym (rows-all es c.requires.stay))
 
 pub returns-clause-whole : goal.returns-clause-whole

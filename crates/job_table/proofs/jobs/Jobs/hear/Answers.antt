@@ -6,7 +6,7 @@ use Rattle.history_model.specs.Machine.{State, OfJob}
 use Rattle.history_model.specs.Labels.{is_label}
 use Rattle.history_model.specs.Acceptance.{refusal_in, is_heard}
 use Rattle.history_model.specs.Step.{taken, refused}
-use Rattle.job_core.specs.Events.{item_of}
+use Rattle.history_model.specs.JobItems.{item_of}
 use Rattle.job_table.specs.StandsFor.{KeepsState}
 use Rattle.job_table.specs.Outcomes.{plain_outcome}
 use Rattle.job_table.specs.Counts.{counts, count_in}
@@ -19,10 +19,10 @@ use Rattle.job_table.proofs.TouchedLemmas.{handed-on, placed-names, timed-but, o
 use Rattle.job_table.proofs.jobs.Jobs.hear.Goals as goal
 
 done : (c : goal.After-ask_touched) (s : State) → KeepsState (seen c.args.self.now) s →
-    IsDone s (OfJob c.args.label.now (item_of c.args.event)) (seen c.ask_touched.new.self) (plain_outcome (Ok tt) (seen c.ask_touched.new.self))
+    IsDone s (OfJob c.args.label.now (item_of c.args.item)) (seen c.ask_touched.new.self) (plain_outcome (Ok tt) (seen c.ask_touched.new.self))
 done c s keeps =
     let label = c.args.label.now in
-    let item = item_of c.args.event in
+    let item = item_of c.args.item in
     let begun = c.begin.new.self in
     let heard = c.hand.new.self in
     let start = own-jobs begun s (alike-state c.args.self.now begun s c.begin.ensures.alike keeps c.begin.ensures.rows) in
@@ -57,10 +57,10 @@ pub returns-clause-kept : goal.returns-clause-kept
 returns-clause-kept c = λ s keeps. (done c s keeps).kept
 
 refusing : (c : goal.After-from_residual) (s : State) → KeepsState (seen c.args.self.now) s →
-    IsDone s (OfJob c.args.label.now (item_of c.args.event)) (seen c.hand.new.self) (refused c.in_err-place.field-0.0)
+    IsDone s (OfJob c.args.label.now (item_of c.args.item)) (seen c.hand.new.self) (refused c.in_err-place.field-0.0)
 refusing c s keeps =
     let label = c.args.label.now in
-    let item = item_of c.args.event in
+    let item = item_of c.args.item in
     let begun = c.begin.new.self in
     let start = own-jobs begun s (alike-state c.args.self.now begun s c.begin.ensures.alike keeps c.begin.ensures.rows) in
     let refusal = sym (c.in_err-place.ensures.answer s.jobs start) in

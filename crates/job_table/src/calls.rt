@@ -1,0 +1,142 @@
+//! The calls of the table for one event of one job each: [`JobTable::hear`] with the event's item.
+
+ghost use Rattle.std.specs.Prelude.{IfOk};
+ghost use Rattle.std.specs.Borrow.{sem};
+ghost use Rattle.history_model.specs.declared.Answer.TheVariants as answers;
+ghost use Rattle.history_model.specs.Items.{Asked, Answered, Came, Left, RunEnded, WaitRefused};
+ghost use Rattle.history_model.specs.Machine.{OfJob};
+
+use crate::{JobTable, Step};
+use history_model::{Answer, Ask, Ended, JobItem, Refusal};
+
+impl JobTable {
+    ghost use Rattle.job_table.specs.Ends.{IsAnswer, GoesOn, AreKnown};
+    ghost use Rattle.job_core.specs.Memory.{NeedsNoMemory};
+
+    /// Starts the job, as `start` of launchctl(1): a demand that is pending until a later spawn went well. A job whose child
+    /// runs and is not being stopped is left as it is. Refusals: BadRequest (no label), NoSuchJob, Removing.
+    pub fn start(&mut self, label: &str) -> Result<Step<'_>, Refusal>
+        ensures answer { IsAnswer (OfJob label.now (Asked Ask.Start)) self.old result }
+        ensures memory { NeedsNoMemory result }
+        ensures known { IfOk result AreKnown }
+        ensures* kept { sem 𝓛 (GoesOn self.entry result (OfJob label.now (Asked Ask.Start))) }
+    {
+        self.hear(label, JobItem::Asked(Ask::Start))
+    }
+
+    /// Stops the job's child, as `stop` of launchctl(1): by TERM, and by KILL once the definition's `ExitTimeOut` is over.
+    /// Refusals: BadRequest (no label), NoSuchJob, Removing, NotRunning.
+    pub fn stop(&mut self, label: &str) -> Result<Step<'_>, Refusal>
+        ensures answer { IsAnswer (OfJob label.now (Asked Ask.Stop)) self.old result }
+        ensures memory { NeedsNoMemory result }
+        ensures known { IfOk result AreKnown }
+        ensures* kept { sem 𝓛 (GoesOn self.entry result (OfJob label.now (Asked Ask.Stop))) }
+    {
+        self.hear(label, JobItem::Asked(Ask::Stop))
+    }
+
+    /// Starts the job; with `kills_first` its child is first ended by KILL, as `kickstart -k` of launchctl(1). Refusals:
+    /// BadRequest (no label), NoSuchJob, Removing.
+    pub fn kickstart(&mut self, label: &str, kills_first: bool) -> Result<Step<'_>, Refusal>
+        ensures answer { IsAnswer (OfJob label.now (Asked (Ask.Kickstart kills_first)))
+            self.old result }
+        ensures memory { NeedsNoMemory result }
+        ensures known { IfOk result AreKnown }
+        ensures* kept { sem 𝓛
+            (GoesOn self.entry result (OfJob label.now (Asked (Ask.Kickstart kills_first)))) }
+    {
+        self.hear(label, JobItem::Asked(Ask::Kickstart(kills_first)))
+    }
+
+    /// A connection came to one of the job's sockets; its number is above every earlier one of this load. Refusals: BadRequest
+    /// (no label), NoSuchJob, Removing, Stale (no sockets, or a number that is not new), TooManyConnections (`MAX_CONNECTIONS` wait).
+    pub fn came(&mut self, label: &str, conn: u64) -> Result<Step<'_>, Refusal>
+        ensures answer { IsAnswer (OfJob label.now (Came conn)) self.old result }
+        ensures memory { NeedsNoMemory result }
+        ensures known { IfOk result AreKnown }
+        ensures* kept { sem 𝓛 (GoesOn self.entry result (OfJob label.now (Came conn))) }
+    {
+        self.hear(label, JobItem::Came(conn))
+    }
+
+    /// A waiting connection was given up by its client. Refusals: BadRequest (no label), NoSuchJob, Stale (it does not wait).
+    pub fn left(&mut self, label: &str, conn: u64) -> Result<Step<'_>, Refusal>
+        ensures answer { IsAnswer (OfJob label.now (Left conn)) self.old result }
+        ensures memory { NeedsNoMemory result }
+        ensures known { IfOk result AreKnown }
+        ensures* kept { sem 𝓛 (GoesOn self.entry result (OfJob label.now (Left conn))) }
+    {
+        self.hear(label, JobItem::Left(conn))
+    }
+
+    /// The spawn of a run went well, under this process id. Refusals: BadRequest (no label, or an id of 0), NoSuchJob, Stale
+    /// (this answer is not awaited).
+    pub fn spawned(&mut self, label: &str, run: u64, pid: u32) -> Result<Step<'_>, Refusal>
+        ensures answer { IsAnswer (OfJob label.now (Answered (answers.Spawned run pid)))
+            self.old result }
+        ensures memory { NeedsNoMemory result }
+        ensures known { IfOk result AreKnown }
+        ensures* kept { sem 𝓛
+            (GoesOn self.entry result (OfJob label.now (Answered (answers.Spawned run pid)))) }
+    {
+        self.hear(label, JobItem::Answered(Answer::Spawned { run, pid }))
+    }
+
+    /// The spawn of a run was refused. Its demand stays, and the next spawn waits at least a second. Refusals: BadRequest (no
+    /// label), NoSuchJob, Stale (this answer is not awaited).
+    pub fn spawn_refused(&mut self, label: &str, run: u64) -> Result<Step<'_>, Refusal>
+        ensures answer { IsAnswer (OfJob label.now (Answered (answers.SpawnRefused run)))
+            self.old result }
+        ensures memory { NeedsNoMemory result }
+        ensures known { IfOk result AreKnown }
+        ensures* kept { sem 𝓛
+            (GoesOn self.entry result (OfJob label.now (Answered (answers.SpawnRefused run)))) }
+    {
+        self.hear(label, JobItem::Answered(Answer::SpawnRefused { run }))
+    }
+
+    /// TERM was given to a run, or refused. Refusals: BadRequest (no label), NoSuchJob, Stale (this answer is not awaited).
+    pub fn term_answered(&mut self, label: &str, run: u64, ok: bool) -> Result<Step<'_>, Refusal>
+        ensures answer { IsAnswer (OfJob label.now (Answered (answers.Termed run ok)))
+            self.old result }
+        ensures memory { NeedsNoMemory result }
+        ensures known { IfOk result AreKnown }
+        ensures* kept { sem 𝓛
+            (GoesOn self.entry result (OfJob label.now (Answered (answers.Termed run ok)))) }
+    {
+        self.hear(label, JobItem::Answered(Answer::Termed { run, ok }))
+    }
+
+    /// KILL was given to a run, or refused. Refusals: BadRequest (no label), NoSuchJob, Stale (this answer is not awaited).
+    pub fn kill_answered(&mut self, label: &str, run: u64, ok: bool) -> Result<Step<'_>, Refusal>
+        ensures answer { IsAnswer (OfJob label.now (Answered (answers.Killed run ok)))
+            self.old result }
+        ensures memory { NeedsNoMemory result }
+        ensures known { IfOk result AreKnown }
+        ensures* kept { sem 𝓛
+            (GoesOn self.entry result (OfJob label.now (Answered (answers.Killed run ok)))) }
+    {
+        self.hear(label, JobItem::Answered(Answer::Killed { run, ok }))
+    }
+
+    /// A run ended. Refusals: BadRequest (no label), NoSuchJob, Stale (it is not the present child's run).
+    pub fn ended(&mut self, label: &str, run: u64, how: Ended) -> Result<Step<'_>, Refusal>
+        ensures answer { IsAnswer (OfJob label.now (RunEnded run how)) self.old result }
+        ensures memory { NeedsNoMemory result }
+        ensures known { IfOk result AreKnown }
+        ensures* kept { sem 𝓛 (GoesOn self.entry result (OfJob label.now (RunEnded run how))) }
+    {
+        self.hear(label, JobItem::Ended { run, how })
+    }
+
+    /// The wait for a run was refused: nothing is known of its end. Refusals: BadRequest (no label), NoSuchJob, Stale (it is
+    /// not the present child's run).
+    pub fn wait_refused(&mut self, label: &str, run: u64) -> Result<Step<'_>, Refusal>
+        ensures answer { IsAnswer (OfJob label.now (WaitRefused run)) self.old result }
+        ensures memory { NeedsNoMemory result }
+        ensures known { IfOk result AreKnown }
+        ensures* kept { sem 𝓛 (GoesOn self.entry result (OfJob label.now (WaitRefused run))) }
+    {
+        self.hear(label, JobItem::WaitRefused { run })
+    }
+}
