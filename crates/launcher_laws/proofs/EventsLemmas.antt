@@ -9,6 +9,9 @@ use Rattle.serde_json.specs.Written.{compact_text}
 use Rattle.history_model.specs.declared.Ended.TheVariants.{Code, Signal}
 use Rattle.history_model.specs.declared.event.Event.{Event}
 use Rattle.history_model.specs.declared.event.Event.TheVariants as events
+use Rattle.history_model.specs.declared.event.JobItem.TheVariants as happens
+use Rattle.history_model.specs.declared.Ask.TheVariants as asks
+use Rattle.history_model.specs.declared.Answer.TheVariants as answers
 use Rattle.event_reader.specs.declared.members.Form.TheVariants as forms
 use Rattle.event_reader.specs.Members.{tag_of}
 use Rattle.event_reader.specs.EventLines.{event_at}
@@ -43,93 +46,87 @@ plain_keys (m ∷ more) h = let p = and_parts (are_ascii m.0) (are_plain more) h
 plain_name : (e : Event) → are_ascii (name_of e) ≡ true
 plain_name (events.Load def writes_setting force bind store) = refl
 plain_name (events.Unload job writes_setting store) = refl
-plain_name (events.Start job) = refl
-plain_name (events.Stop job) = refl
-plain_name (events.Kickstart job kills_first) = refl
-plain_name (events.Enable job store) = refl
-plain_name (events.Disable job store) = refl
+plain_name (events.Set job true store) = refl
+plain_name (events.Set job false store) = refl
 plain_name events.List = refl
 plain_name (events.Print job) = refl
 plain_name events.Shutdown = refl
 plain_name (events.Clock at) = refl
 plain_name (events.Saw path obs) = refl
-plain_name (events.Came job conn) = refl
-plain_name (events.Left job conn) = refl
-plain_name (events.Spawned job run pid) = refl
-plain_name (events.SpawnRefused job run) = refl
-plain_name (events.Termed job run ok) = refl
-plain_name (events.Killed job run ok) = refl
-plain_name (events.Ended job run how) = refl
-plain_name (events.WaitRefused job run) = refl
+plain_name (events.OfJob job (happens.Asked asks.Start)) = refl
+plain_name (events.OfJob job (happens.Asked asks.Stop)) = refl
+plain_name (events.OfJob job (happens.Asked (asks.Kickstart kills_first))) = refl
+plain_name (events.OfJob job (happens.Asked asks.Unload)) = refl
+plain_name (events.OfJob job (happens.Asked asks.Shutdown)) = refl
+plain_name (events.OfJob job (happens.Came conn)) = refl
+plain_name (events.OfJob job (happens.Left conn)) = refl
+plain_name (events.OfJob job (happens.Answered (answers.Spawned run pid))) = refl
+plain_name (events.OfJob job (happens.Answered (answers.SpawnRefused run))) = refl
+plain_name (events.OfJob job (happens.Answered (answers.Termed run ok))) = refl
+plain_name (events.OfJob job (happens.Answered (answers.Killed run ok))) = refl
+plain_name (events.OfJob job (happens.Ended run how)) = refl
+plain_name (events.OfJob job (happens.WaitRefused run)) = refl
 
 plain_lines : (e : Event) → (are_plain (line_members e) ≡ true) × (are_plain (answer_members e) ≡ true)
 plain_lines (events.Load def writes_setting force bind store) = (refl, refl)
 plain_lines (events.Unload job writes_setting store) = (refl, refl)
-plain_lines (events.Start job) = (refl, refl)
-plain_lines (events.Stop job) = (refl, refl)
-plain_lines (events.Kickstart job kills_first) = (refl, refl)
-plain_lines (events.Enable job store) = (refl, refl)
-plain_lines (events.Disable job store) = (refl, refl)
+plain_lines (events.Set job disabled store) = (refl, refl)
 plain_lines events.List = (refl, refl)
 plain_lines (events.Print job) = (refl, refl)
 plain_lines events.Shutdown = (refl, refl)
 plain_lines (events.Clock at) = (refl, refl)
 plain_lines (events.Saw path obs) = (refl, refl)
-plain_lines (events.Came job conn) = (refl, refl)
-plain_lines (events.Left job conn) = (refl, refl)
-plain_lines (events.Spawned job run pid) = (refl, refl)
-plain_lines (events.SpawnRefused job run) = (refl, refl)
-plain_lines (events.Termed job run ok) = (refl, refl)
-plain_lines (events.Killed job run ok) = (refl, refl)
-plain_lines (events.Ended job run (Code n)) = (refl, refl)
-plain_lines (events.Ended job run (Signal n)) = (refl, refl)
-plain_lines (events.WaitRefused job run) = (refl, refl)
+plain_lines (events.OfJob job (happens.Asked asks.Start)) = (refl, refl)
+plain_lines (events.OfJob job (happens.Asked asks.Stop)) = (refl, refl)
+plain_lines (events.OfJob job (happens.Asked (asks.Kickstart kills_first))) = (refl, refl)
+plain_lines (events.OfJob job (happens.Asked asks.Unload)) = (refl, refl)
+plain_lines (events.OfJob job (happens.Asked asks.Shutdown)) = (refl, refl)
+plain_lines (events.OfJob job (happens.Came conn)) = (refl, refl)
+plain_lines (events.OfJob job (happens.Left conn)) = (refl, refl)
+plain_lines (events.OfJob job (happens.Answered (answers.Spawned run pid))) = (refl, refl)
+plain_lines (events.OfJob job (happens.Answered (answers.SpawnRefused run))) = (refl, refl)
+plain_lines (events.OfJob job (happens.Answered (answers.Termed run ok))) = (refl, refl)
+plain_lines (events.OfJob job (happens.Answered (answers.Killed run ok))) = (refl, refl)
+plain_lines (events.OfJob job (happens.Ended run (Code n))) = (refl, refl)
+plain_lines (events.OfJob job (happens.Ended run (Signal n))) = (refl, refl)
+plain_lines (events.OfJob job (happens.WaitRefused run)) = (refl, refl)
 
 answers_fit : (e : Event) → AllByRecursion (λ m. IsFit m.1) (answer_members e)
 answers_fit (events.Load def writes_setting force bind store) = (tt, (tt, tt))
 answers_fit (events.Unload job writes_setting store) = (tt, tt)
-answers_fit (events.Start job) = tt
-answers_fit (events.Stop job) = tt
-answers_fit (events.Kickstart job kills_first) = tt
-answers_fit (events.Enable job store) = (tt, tt)
-answers_fit (events.Disable job store) = (tt, tt)
+answers_fit (events.Set job disabled store) = (tt, tt)
 answers_fit events.List = tt
 answers_fit (events.Print job) = tt
 answers_fit events.Shutdown = tt
 answers_fit (events.Clock at) = tt
 answers_fit (events.Saw path obs) = tt
-answers_fit (events.Came job conn) = tt
-answers_fit (events.Left job conn) = tt
-answers_fit (events.Spawned job run pid) = tt
-answers_fit (events.SpawnRefused job run) = tt
-answers_fit (events.Termed job run ok) = tt
-answers_fit (events.Killed job run ok) = tt
-answers_fit (events.Ended job run how) = tt
-answers_fit (events.WaitRefused job run) = tt
+answers_fit (events.OfJob job item) = tt
 
 -- the keys of a line are written in order
 in_order : (e : Event) → again (event_object forms.Event e) ≡ event_object forms.Event e
 in_order (events.Load def writes_setting force bind store) = refl
 in_order (events.Unload job writes_setting store) = refl
-in_order (events.Start job) = refl
-in_order (events.Stop job) = refl
-in_order (events.Kickstart job kills_first) = refl
-in_order (events.Enable job store) = refl
-in_order (events.Disable job store) = refl
+in_order (events.Set job true store) = refl
+in_order (events.Set job false store) = refl
 in_order events.List = refl
 in_order (events.Print job) = refl
 in_order events.Shutdown = refl
 in_order (events.Clock at) = refl
 in_order (events.Saw path obs) = refl
-in_order (events.Came job conn) = refl
-in_order (events.Left job conn) = refl
-in_order (events.Spawned job run pid) = refl
-in_order (events.SpawnRefused job run) = refl
-in_order (events.Termed job run ok) = refl
-in_order (events.Killed job run ok) = refl
-in_order (events.Ended job run (Code n)) = refl
-in_order (events.Ended job run (Signal n)) = refl
-in_order (events.WaitRefused job run) = refl
+in_order (events.OfJob job (happens.Asked asks.Start)) = refl
+in_order (events.OfJob job (happens.Asked asks.Stop)) = refl
+in_order (events.OfJob job (happens.Asked (asks.Kickstart kills_first))) = refl
+in_order (events.OfJob job (happens.Asked asks.Unload)) = refl
+in_order (events.OfJob job (happens.Asked asks.Shutdown)) = refl
+in_order (events.OfJob job (happens.Came conn)) = refl
+in_order (events.OfJob job (happens.Left conn)) = refl
+in_order (events.OfJob job (happens.Answered (answers.Spawned run pid))) = refl
+in_order (events.OfJob job (happens.Answered (answers.SpawnRefused run))) = refl
+in_order (events.OfJob job (happens.Answered (answers.Termed run ok))) = refl
+in_order (events.OfJob job (happens.Answered (answers.Killed run ok))) = refl
+in_order (events.OfJob job (happens.Ended run (Code n))) = refl
+in_order (events.OfJob job (happens.Ended run (Signal n))) = refl
+in_order (events.OfJob job (happens.WaitRefused run)) = refl
 
 event_fit : (e : Event) → AllByRecursion (λ m. IsFit m.1) (line_members e) → IsFitData (event_object forms.Event e)
 event_fit e fit =

@@ -8,10 +8,10 @@ use Rattle.launcher.specs.Hosts.{IsNew}
 use Rattle.launcher_laws.specs.Runs.{Snapshot, Turn, AreTurns}
 use Rattle.launcher_laws.specs.Lasting.{Lasts}
 use Rattle.launcher_laws.proofs.RunsLemmas.{went}
-use Rattle.child_edge.specs.Calls.{Entry}
+use Rattle.child_edge.specs.Calls.{ToldCall}
 
 module _ {T : Type 0} (holds : T → List Setting → Type 0) where
-  pub lasted : (header : Header) (calls : Option (List Entry)) (stores : Option (List StoreCall)) (journal : JournalState) (store : T) (first last : Snapshot T) (turns : List (Turn T)) →
+  pub lasted : (header : Header) (calls : Option (List ToldCall)) (stores : Option (List StoreCall)) (journal : JournalState) (store : T) (first last : Snapshot T) (turns : List (Turn T)) →
       (new : IsNew header calls stores journal first.stands (holds store) (holds first.store)) → AreTurns holds first turns last → (list : List Setting) → holds store list → Lasts holds new.machine turns last
   lasted header calls stores journal store first last turns new heard list held =
       let w = went holds new.machine first turns last new.led new.kept heard in

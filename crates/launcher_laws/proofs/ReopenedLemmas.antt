@@ -13,10 +13,10 @@ use Rattle.launcher.specs.Hosts.{IsNew}
 use Rattle.launcher_laws.specs.Runs.{Snapshot, Turn, AreTurns}
 use Rattle.launcher_laws.specs.Lasting.{Lasts, settings_of}
 use Rattle.launcher_laws.proofs.LastingLemmas.{lasted}
-use Rattle.child_edge.specs.Calls.{Entry}
+use Rattle.child_edge.specs.Calls.{ToldCall}
 
 module _ {T : Type 0} (state_of : T → State) where
-  pub reopened : (header : Header) (calls : Option (List Entry)) (stores : Option (List StoreCall)) (journal : JournalState) (store : T) (first last : Snapshot T) (turns : List (Turn T)) (again : State) →
+  pub reopened : (header : Header) (calls : Option (List ToldCall)) (stores : Option (List StoreCall)) (journal : JournalState) (store : T) (first last : Snapshot T) (turns : List (Turn T)) (again : State) →
       (new : IsNew header calls stores journal first.stands (HoldsSettings (state_of store)) (HoldsSettings (state_of first.store))) → AreTurns (λ t. HoldsSettings (state_of t)) first turns last →
       (list : List Setting) → HoldsSettings (state_of store) list → IsOpenedOn (state_of last.store) again → HasCleanDisk again → (listed : List Setting) → HoldsEach (rows_in again.now.trees) (reverse listed) →
       (lasts : Lasts (λ t. HoldsSettings (state_of t)) new.machine turns last) × ((label : List ℕ) → setting_in (reverse listed) label ≡ setting_in (settings_of lasts) label)

@@ -16,7 +16,7 @@ use Rattle.replay.proofs.OneOutputLemmas.{one_output}
 use Rattle.outside.specs.Stores.{StoreCall}
 use Rattle.event_journal.specs.declared.journal.Phase.TheVariants.{Open}
 use Rattle.event_journal.specs.Journals.{fresh}
-use Rattle.table_opening.specs.Events.{event_of, read_as, event_in}
+use Rattle.table_opening.specs.Events.{machine_event, read_as, event_in}
 use Rattle.table_opening.specs.Openings.{OpensBy}
 use Rattle.table_opening.specs.Output.{IsOutput}
 use Rattle.launcher.specs.Hosts.{IsNew, with_settings}
@@ -28,18 +28,18 @@ use Rattle.launcher_laws.proofs.HeadersLemmas.{header_read}
 use Rattle.launcher_laws.proofs.LinesLemmas.{event_object_text, header_object_text, journal_lines}
 use Rattle.launcher_laws.proofs.RunsLemmas.{grown, went}
 use Rattle.launcher_laws.proofs.WritableLemmas.{parts_writable}
-use Rattle.child_edge.specs.Calls.{Entry}
+use Rattle.child_edge.specs.Calls.{ToldCall}
 
-read_lines : (events : List journal.Event) → AllByRecursion IsWritable events → map event_in (map event_object_text events) ≡ map event_of events
+read_lines : (events : List journal.Event) → AllByRecursion IsWritable events → map event_in (map event_object_text events) ≡ map machine_event events
 read_lines [] told = refl
 read_lines (e ∷ events) told = λ i. read_as (event_read e told.0 i) ∷ read_lines events told.1 i
 
 -- the output of the journal's lines
 its_output : (h : Header) (s : State) (events : List journal.Event) (bytes : List ℕ) → OpensBy h s → IsWritableHeader h → AllByRecursion IsWritable events →
-    bytes ≡ header_line h ++ flat_map event_line events → IsOutput (input_lines bytes) (Some (flat_map outcome_line (outcomes (map event_of events) s)))
+    bytes ≡ header_line h ++ flat_map event_line events → IsOutput (input_lines bytes) (Some (flat_map outcome_line (outcomes (map machine_event events) s)))
 its_output h s events bytes opens header told is =
     let lines : input_lines bytes ≡ header_object_text h ∷ map event_object_text events = ap input_lines is ∙ journal_lines h events in
-    subst (λ l. IsOutput l (Some (flat_map outcome_line (outcomes (map event_of events) s)))) (sym lines) (
+    subst (λ l. IsOutput l (Some (flat_map outcome_line (outcomes (map machine_event events) s)))) (sym lines) (
       s,
       record { header = h; read = header_read h header; ahead = opens.ahead; describes = opens.describes; state = opens.state },
       ap (λ es. flat_map outcome_line (outcomes es s)) (sym (read_lines events told)),
@@ -56,7 +56,7 @@ its_bytes old mid new bytes first more begins ends one two =
     subst (λ o. Appends (Some []) o (first ++ more)) ends (subst (λ o. Appends o new (first ++ more)) begins (Appends-trans old mid new first more one two))
 
 module _ {T : Type 0} (holds : T → List Setting → Type 0) where
-  pub replayed : (header : Header) (calls : Option (List Entry)) (stores : Option (List StoreCall)) (store : T) (first last : Snapshot T) (turns : List (Turn T)) (bytes : List ℕ) →
+  pub replayed : (header : Header) (calls : Option (List ToldCall)) (stores : Option (List StoreCall)) (store : T) (first last : Snapshot T) (turns : List (Turn T)) (bytes : List ℕ) →
       (new : IsNew header calls stores (fresh (Some []) true) first.stands (holds store) (holds first.store)) → AreTurns holds first turns last →
       last.stands.journal.phase ≡ Open → last.stands.journal.bytes ≡ Some bytes →
       IsReplayed (with_settings header new.settings) turns bytes
@@ -67,7 +67,7 @@ module _ {T : Type 0} (holds : T → List Setting → Type 0) where
       let begun = grown (fresh (Some []) true) first.stands.journal (header_line h) new.noted later.was in
       let is : bytes ≡ header_line h ++ flat_map event_line (parts_events w.parts) =
       its_bytes (Some []) first.stands.journal.bytes last.stands.journal.bytes bytes (header_line h) (flat_map event_line (parts_events w.parts)) refl ends begun.grew later.grew in
-      let same : flat_map outcome_line (outcomes (map event_of (parts_events w.parts)) new.machine) ≡ outcome_texts w.parts = ap (flat_map outcome_line) (sym w.all) in
+      let same : flat_map outcome_line (outcomes (map machine_event (parts_events w.parts)) new.machine) ≡ outcome_texts w.parts = ap (flat_map outcome_line) (sym w.all) in
       let out : IsOutput (input_lines bytes) (Some (outcome_texts w.parts)) =
       subst (λ t. IsOutput (input_lines bytes) (Some t)) same (its_output h new.machine (parts_events w.parts) bytes new.opens new.writable (parts_writable turns w.parts w.are_parts) is) in
       record {

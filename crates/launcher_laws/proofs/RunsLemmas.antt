@@ -6,7 +6,6 @@ use Rattle.std.proofs.KnownBytes.{Appends-nil, Appends-trans}
 use Rattle.std.proofs.lemmas.Grind.{flat_map-append}
 use Rattle.std.proofs.lemmas.List.{map-append}
 use Rattle.history_model.specs.declared.Answer.{Answer}
-use Rattle.history_model.specs.declared.Answer.TheVariants as answers
 use Rattle.history_model.specs.declared.event.Event as journal
 use Rattle.history_model.specs.declared.event.Setting.{Setting}
 use Rattle.history_model.specs.Items.{Answered}
@@ -26,7 +25,7 @@ use Rattle.launcher.specs.Lines.{journaled_answer, answer_texts}
 use Rattle.launcher.specs.Turns.{IsLed, event_in, events_in}
 use Rattle.launcher.proofs.StoredSettingsLemmas.{turn_settings}
 use Rattle.launcher.specs.LoadTurns.{is_memory}
-use Rattle.table_opening.specs.Events.{event_of}
+use Rattle.table_opening.specs.Events.{machine_event}
 use Rattle.launcher.specs.Inputs.{answered}
 use Rattle.launcher.specs.Hosts.{HostTurnOf, IsSpared, HearsBy}
 use Rattle.launcher.specs.Writable.{IsWritable, IsWritableIf}
@@ -44,13 +43,10 @@ outcomes_append (x ∷ xs) ys s = ap (λ l. outcome s x ∷ l) (outcomes_append 
 
 -- ---- the events of a turn, as the journal has them
 
-answer_is : (job : Label) (answer : Answer) → event_of (journaled_answer job answer) ≡ OfJob job (Answered answer)
-answer_is job (answers.Spawned run pid) = refl
-answer_is job (answers.SpawnRefused run) = refl
-answer_is job (answers.Termed run ok) = refl
-answer_is job (answers.Killed run ok) = refl
+answer_is : (job : Label) (answer : Answer) → machine_event (journaled_answer job answer) ≡ OfJob job (Answered answer)
+answer_is job answer = refl
 
-answers_are : (names : List Name) (ps : List Unheard) → map event_of (map (answer_told names) ps) ≡ map (event_in names) ps
+answers_are : (names : List Name) (ps : List Unheard) → map machine_event (map (answer_told names) ps) ≡ map (event_in names) ps
 answers_are names [] = refl
 answers_are names (p ∷ ps) = λ i. answer_is (label_of names p.job) p.answer i ∷ answers_are names ps i
 
@@ -65,10 +61,10 @@ pub record Was {T : Type 0} (holds : T → List Setting → Type 0) (s : State) 
   pub events : List journal.Event
   pub outs : List Outcome
   pub is_part : IsPartOf turn (events, outs)
-  pub all : outs ≡ outcomes (map event_of events) s
-  pub led : IsLed (run (map event_of events) s)
-  pub kept : KeepsState turn.after.stands.table (run (map event_of events) s)
-  pub held : holds turn.before.store s.settings → holds turn.after.store (run (map event_of events) s).settings
+  pub all : outs ≡ outcomes (map machine_event events) s
+  pub led : IsLed (run (map machine_event events) s)
+  pub kept : KeepsState turn.after.stands.table (run (map machine_event events) s)
+  pub held : holds turn.before.store s.settings → holds turn.after.store (run (map machine_event events) s).settings
   pub noted : Grows turn.before.stands.journal turn.after.stands.journal (flat_map event_line events)
 
 module _ {T : Type 0} (holds : T → List Setting → Type 0) (s : State) (turn : Turn T) where
@@ -87,10 +83,10 @@ module _ {T : Type 0} (holds : T → List Setting → Type 0) (s : State) (turn 
   turned_was : (event : journal.Event) → turn.event ≡ Some event → IsWritable event → HostTurnOf s event turn.refusal turn.words turn.before.stands turn.after.stands (holds turn.before.store) (holds turn.after.store) → Was holds s turn
   turned_was event came writable t =
       let first = answered t.outside event in
-      let input = event_of first in
+      let input = machine_event first in
       let names = t.turn.names in
       let ps = answers_in t.turn.entries in
-      let same : input ∷ events_in names t.turn.entries ≡ map event_of (first ∷ map (answer_told names) ps) = ap (λ l. input ∷ l) (sym (answers_are names ps)) in
+      let same : input ∷ events_in names t.turn.entries ≡ map machine_event (first ∷ map (answer_told names) ps) = ap (λ l. input ∷ l) (sym (answers_are names ps)) in
       record {
         events = first ∷ map (answer_told names) ps;
         outs = outcomes (input ∷ events_in names t.turn.entries) s;
@@ -176,10 +172,10 @@ between old new left still = elim left.journal [
 pub record Went {T : Type 0} (holds : T → List Setting → Type 0) (s : State) (first : Snapshot T) (turns : List (Turn T)) (last : Snapshot T) : Type 0 where
   pub parts : List Part
   pub are_parts : AreParts turns parts
-  pub all : outcomes_in parts ≡ outcomes (map event_of (parts_events parts)) s
-  pub led : IsLed (run (map event_of (parts_events parts)) s)
-  pub kept : KeepsState last.stands.table (run (map event_of (parts_events parts)) s)
-  pub held : holds first.store s.settings → holds last.store (run (map event_of (parts_events parts)) s).settings
+  pub all : outcomes_in parts ≡ outcomes (map machine_event (parts_events parts)) s
+  pub led : IsLed (run (map machine_event (parts_events parts)) s)
+  pub kept : KeepsState last.stands.table (run (map machine_event (parts_events parts)) s)
+  pub held : holds first.store s.settings → holds last.store (run (map machine_event (parts_events parts)) s).settings
   pub noted : last.stands.journal.phase ≡ Open → IsOpenBy first.stands.journal last.stands.journal (flat_map event_line (parts_events parts))
 
 module _ {T : Type 0} (holds : T → List Setting → Type 0) where
@@ -195,15 +191,15 @@ module _ {T : Type 0} (holds : T → List Setting → Type 0) where
   }
 
   one_went : (s : State) (first : Snapshot T) (turn : Turn T) (turns : List (Turn T)) (last : Snapshot T) → IsBetween first turn.before → (w : Was holds s turn) →
-      Went holds (run (map event_of w.events) s) turn.after turns last → Went holds s first (turn ∷ turns) last
+      Went holds (run (map machine_event w.events) s) turn.after turns last → Went holds s first (turn ∷ turns) last
   one_went s first turn turns last left w more =
-      let same : map event_of (w.events ++ parts_events more.parts) ≡ map event_of w.events ++ map event_of (parts_events more.parts) = map-append event_of w.events (parts_events more.parts) in
-      let ended : run (map event_of (parts_events more.parts)) (run (map event_of w.events) s) ≡ run (map event_of (w.events ++ parts_events more.parts)) s =
-      sym (run_append (map event_of w.events) (map event_of (parts_events more.parts)) s) ∙ ap (λ es. run es s) (sym same) in
+      let same : map machine_event (w.events ++ parts_events more.parts) ≡ map machine_event w.events ++ map machine_event (parts_events more.parts) = map-append machine_event w.events (parts_events more.parts) in
+      let ended : run (map machine_event (parts_events more.parts)) (run (map machine_event w.events) s) ≡ run (map machine_event (w.events ++ parts_events more.parts)) s =
+      sym (run_append (map machine_event w.events) (map machine_event (parts_events more.parts)) s) ∙ ap (λ es. run es s) (sym same) in
       record {
         parts = (w.events, w.outs) ∷ more.parts;
         are_parts = (w.is_part, more.are_parts);
-        all = (λ i. w.all i ++ more.all i) ∙ sym (outcomes_append (map event_of w.events) (map event_of (parts_events more.parts)) s) ∙ ap (λ es. outcomes es s) (sym same);
+        all = (λ i. w.all i ++ more.all i) ∙ sym (outcomes_append (map machine_event w.events) (map machine_event (parts_events more.parts)) s) ∙ ap (λ es. outcomes es s) (sym same);
         led = subst IsLed ended more.led;
         kept = subst (KeepsState last.stands.table) ended more.kept;
         held = λ held. subst (λ (t : State). holds last.store t.settings) ended (more.held (w.held (subst (λ (store : T). holds store s.settings) (sym left.store) held)));
@@ -223,4 +219,4 @@ module _ {T : Type 0} (holds : T → List Setting → Type 0) where
   went s first [] last led keeps left = none_went s first last led keeps left
   went s first (turn ∷ turns) last led keeps heard =
       let w = was holds s turn led (subst (λ (t : Table). KeepsState t s) (sym heard.0.table) keeps) heard.1 in
-      one_went s first turn turns last heard.0 w (went (run (map event_of w.events) s) turn.after turns last w.led w.kept heard.2)
+      one_went s first turn turns last heard.0 w (went (run (map machine_event w.events) s) turn.after turns last w.led w.kept heard.2)

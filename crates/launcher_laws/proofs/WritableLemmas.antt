@@ -1,5 +1,5 @@
 -- Each event of the turns can be written.
-use Rattle.std.proofs.Common.{◌≡◌, inl, inr, ℕ, ◌<◌, ◌^◌, ◌&&◌, true, List, [], ◌∷◌, ◌++◌, map, nat_lt, sym, subst, arith}
+use Rattle.std.proofs.Common.{◌≡◌, inl, inr, ℕ, ◌<◌, ◌^◌, ◌&&◌, true, List, [], ◌∷◌, ◌++◌, map, nat_lt, refl, sym, subst, arith}
 use Rattle.std.specs.List.{AllByRecursion}
 use Rattle.std.proofs.lemmas.Bool.{and_from}
 use Rattle.std.proofs.lemmas.Bool.Decides.{nat_tests}
@@ -28,9 +28,9 @@ answer_writable : (job : Label) (answer : Answer) → IsTellable answer → IsTe
 answer_writable job (Spawned run pid) is named =
     let short : pid < 2 ^ 64 = omega (arith, is.2) in
     record { writable = and_from (is_label job) (nat_lt 0 pid && nat_lt pid (2 ^ 32)) named.0 (numbered run pid is); fit = (named.1, (short, (is.0, tt))) }
-answer_writable job (SpawnRefused run) is named = record { writable = named.0; fit = (named.1, (is, tt)) }
-answer_writable job (Termed run ok) is named = record { writable = named.0; fit = (named.1, (tt, (is, tt))) }
-answer_writable job (Killed run ok) is named = record { writable = named.0; fit = (named.1, (tt, (is, tt))) }
+answer_writable job (SpawnRefused run) is named = record { writable = and_from (is_label job) true named.0 refl; fit = (named.1, (is, tt)) }
+answer_writable job (Termed run ok) is named = record { writable = and_from (is_label job) true named.0 refl; fit = (named.1, (tt, (is, tt))) }
+answer_writable job (Killed run ok) is named = record { writable = and_from (is_label job) true named.0 refl; fit = (named.1, (tt, (is, tt))) }
 
 answers_writable : (names : List Name) (ps : List Unheard) → AllByRecursion IsTellablePending ps → AllByRecursion (IsNamedIn names) ps → AllByRecursion IsWritable (map (answer_told names) ps)
 answers_writable names [] tellable named = tt
@@ -40,24 +40,13 @@ answers_writable names (p ∷ ps) tellable named = (answer_writable (label_of na
 answered_writable : (outside : Outside) (e : journal.Event) → IsWritable e → IsWritable (answered outside e)
 answered_writable outside (events.Load def writes_setting force bind store) is = record { writable = is.writable; fit = is.fit }
 answered_writable outside (events.Unload job writes_setting store) is = record { writable = is.writable; fit = is.fit }
-answered_writable outside (events.Start job) is = record { writable = is.writable; fit = is.fit }
-answered_writable outside (events.Stop job) is = record { writable = is.writable; fit = is.fit }
-answered_writable outside (events.Kickstart job kills_first) is = record { writable = is.writable; fit = is.fit }
-answered_writable outside (events.Enable job store) is = record { writable = is.writable; fit = is.fit }
-answered_writable outside (events.Disable job store) is = record { writable = is.writable; fit = is.fit }
+answered_writable outside (events.Set job disabled store) is = record { writable = is.writable; fit = is.fit }
 answered_writable outside events.List is = record { writable = is.writable; fit = is.fit }
 answered_writable outside (events.Print job) is = record { writable = is.writable; fit = is.fit }
 answered_writable outside events.Shutdown is = record { writable = is.writable; fit = is.fit }
 answered_writable outside (events.Clock at) is = record { writable = is.writable; fit = is.fit }
 answered_writable outside (events.Saw path obs) is = record { writable = is.writable; fit = is.fit }
-answered_writable outside (events.Came job conn) is = record { writable = is.writable; fit = is.fit }
-answered_writable outside (events.Left job conn) is = record { writable = is.writable; fit = is.fit }
-answered_writable outside (events.Spawned job run pid) is = record { writable = is.writable; fit = is.fit }
-answered_writable outside (events.SpawnRefused job run) is = record { writable = is.writable; fit = is.fit }
-answered_writable outside (events.Termed job run ok) is = record { writable = is.writable; fit = is.fit }
-answered_writable outside (events.Killed job run ok) is = record { writable = is.writable; fit = is.fit }
-answered_writable outside (events.Ended job run how) is = record { writable = is.writable; fit = is.fit }
-answered_writable outside (events.WaitRefused job run) is = record { writable = is.writable; fit = is.fit }
+answered_writable outside (events.OfJob job item) is = record { writable = is.writable; fit = is.fit }
 
 part_writable : {T : Type 0} (turn : Turn T) (part : Part) → IsPartOf turn part → AllByRecursion IsWritable part.0
 part_writable turn part (inl none) = subst (AllByRecursion IsWritable) (sym none.1) tt

@@ -4,7 +4,7 @@ use Rattle.history_model.specs.declared.event.Setting.{Setting}
 use Rattle.history_model.specs.Machine.{State}
 use Rattle.history_model.specs.Step.{run, outcomes}
 use Rattle.job_table.specs.StandsFor.{KeepsState}
-use Rattle.table_opening.specs.Events.{event_of}
+use Rattle.table_opening.specs.Events.{machine_event}
 use Rattle.launcher_laws.specs.Runs.{Snapshot, Turn, Part, AreParts, events_in, outcomes_in}
 
 -- From the machine s the turns led to the last moment, by the events of their parts. The replies
@@ -14,12 +14,12 @@ pub record Lasts {T : Type 0} (holds : T → List Setting → Type 0) (s : State
     (turns : List (Turn T)) (last : Snapshot T) : Type 0 where
   pub parts : List Part
   pub are_parts : AreParts turns parts
-  pub all : outcomes_in parts ≡ outcomes (map event_of (events_in parts)) s
-  pub kept : KeepsState last.stands.table (run (map event_of (events_in parts)) s)
-  pub held : holds last.store (run (map event_of (events_in parts)) s).settings
+  pub all : outcomes_in parts ≡ outcomes (map machine_event (events_in parts)) s
+  pub kept : KeepsState last.stands.table (run (map machine_event (events_in parts)) s)
+  pub held : holds last.store (run (map machine_event (events_in parts)) s).settings
 
 -- the settings of that machine
 abbrev pub settings_of :
     {T : Type 0} {holds : T → List Setting → Type 0} {s : State} {turns : List (Turn T)}
     {last : Snapshot T} → Lasts holds s turns last → List Setting
-settings_of {s = s} lasts = (run (map event_of (events_in lasts.parts)) s).settings
+settings_of {s = s} lasts = (run (map machine_event (events_in lasts.parts)) s).settings

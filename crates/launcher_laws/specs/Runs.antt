@@ -9,7 +9,7 @@ use Rattle.history_model.specs.declared.event.Setting.{Setting}
 use Rattle.history_model.specs.Step.{Outcome}
 use Rattle.job_table.specs.Tables.{Name, label_of}
 use Rattle.job_table.specs.StandsFor.{labelled}
-use Rattle.child_edge.specs.Calls.{Tells, Entry}
+use Rattle.child_edge.specs.Calls.{Tells, ToldCall}
 use Rattle.outside.specs.declared.unheard.Unheard.{Unheard}
 use Rattle.outside.specs.Orders.{call_of, calls_in, answers_in, IsTellablePending}
 use Rattle.event_journal.specs.Journals.{reported}
@@ -90,8 +90,8 @@ pub record AreOutcomesOf {T : Type 0} (turn : Turn T) (events : List journal.Eve
   pub names : List Name
   pub orders : List Order
   pub by_label : labelled names orders ≡ flat_map (λ (out : Outcome). out.orders) outs
-  pub mid : Option (List Entry)
-  pub entries : List Entry
+  pub mid : Option (List ToldCall)
+  pub entries : List ToldCall
   pub tells : Tells mid entries turn.after.stands.calls
   pub calls : calls_in entries ≡ map call_of orders
   pub told : answers ≡ map (answer_told names) (answers_in entries)

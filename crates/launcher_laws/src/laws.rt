@@ -17,7 +17,7 @@ ghost use Rattle.launcher.specs.Hosts.{IsNew, with_settings};
 ghost use Rattle.launcher_laws.specs.Runs.{Snapshot, Turn, AreTurns};
 ghost use Rattle.launcher_laws.specs.Lasting.{Lasts, settings_of};
 ghost use Rattle.launcher_laws.specs.Replays.{IsReplayed};
-ghost use Rattle.child_edge.specs.Calls.{Entry};
+ghost use Rattle.child_edge.specs.Calls.{ToldCall};
 
 use outside::SettingStore;
 use override_store::OverrideStore;
@@ -27,7 +27,7 @@ use stored_settings::StoredSettings;
 /// After any turns the table stands for the machine that the turns' events lead to, and the store holds that machine's settings. The
 /// replies and the calls were the machine's.
 pub fn the_store_holds_what_the_machine_sets<T: SettingStore>(store: &T)
-    ensures { (header : Header) (calls : Option (List Entry)) (stores : Option (List StoreCall))
+    ensures { (header : Header) (calls : Option (List ToldCall)) (stores : Option (List StoreCall))
         (journal : JournalState) (first last : Snapshot T) (turns : List (Turn T)) →
         (new : IsNew header calls stores journal first.stands
         (T.holds store.now) (T.holds first.store)) →
@@ -43,7 +43,7 @@ pub fn a_store_opened_again_has_the_last_settings<S: Alter, R: Alter>(
     store: &StoredSettings<S>,
     again: &OverrideStore<R>,
 )
-    ensures { (header : Header) (calls : Option (List Entry)) (stores : Option (List StoreCall))
+    ensures { (header : Header) (calls : Option (List ToldCall)) (stores : Option (List StoreCall))
         (journal : JournalState) (first last : Snapshot (Stored S)) (turns : List (Turn (Stored S))) →
         (new : IsNew header calls stores journal first.stands
         (HoldsSettings (state S.Store store.now.store))
@@ -64,7 +64,7 @@ pub fn a_store_opened_again_has_the_last_settings<S: Alter, R: Alter>(
 
 /// A replay of the journal writes the replies and the orders of all turns, if no write of the journal was refused. It began empty.
 pub fn a_replay_writes_what_was_replied<T: SettingStore>(store: &T)
-    ensures { (header : Header) (calls : Option (List Entry)) (stores : Option (List StoreCall))
+    ensures { (header : Header) (calls : Option (List ToldCall)) (stores : Option (List StoreCall))
         (first last : Snapshot T) (turns : List (Turn T)) (bytes : List ℕ) →
         (new : IsNew header calls stores (fresh (Some []) true) first.stands
         (T.holds store.now) (T.holds first.store)) →

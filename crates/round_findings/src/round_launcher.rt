@@ -4,7 +4,7 @@ use crate::quiet::is_news;
 use child_edge::{ChildEdge, ClockEdge, SocketEdge};
 use control_socket::Answers;
 use history_model::{Reading, Reply};
-use launcher::{Accepted, Host, Input};
+use launcher::{Host, Input};
 use outside::SettingStore;
 use std::alloc::Global;
 use std::io::Write;
@@ -21,8 +21,6 @@ pub struct RoundLauncher<T: SettingStore, E: ChildEdge + SocketEdge, W: Write> {
     is_active: bool,
     // A load was accepted since the paths were looked at.
     has_loaded: bool,
-    // A shutdown was accepted.
-    is_ending: bool,
 }
 
 impl<T: SettingStore, E: ChildEdge + SocketEdge, W: Write> RoundLauncher<T, E, W> {
@@ -35,7 +33,6 @@ impl<T: SettingStore, E: ChildEdge + SocketEdge, W: Write> RoundLauncher<T, E, W
             is_refused: false,
             is_active: false,
             has_loaded: false,
-            is_ending: false,
         }
     }
 
@@ -67,7 +64,8 @@ impl<T: SettingStore, E: ChildEdge + SocketEdge, W: Write> RoundLauncher<T, E, W
 
     /// Whether a shutdown was accepted, and no job is left.
     pub fn has_ended(&self) -> bool {
-        self.is_ending && self.host.table().is_empty()
+        let table = self.host.table();
+        table.is_shutting_down() && table.is_empty()
     }
 
     /// Whether a load was accepted since this was asked last.
@@ -129,10 +127,8 @@ impl<T: SettingStore, E: ChildEdge + SocketEdge, W: Write> RoundLauncher<T, E, W
 impl<T: SettingStore, E: ChildEdge + SocketEdge, W: Write> Answers for RoundLauncher<T, E, W> {
     fn answer(&mut self, alloc: Global, line: &[u8]) -> Reply {
         let reply = self.give(alloc, Input::Line(line));
-        match self.host.accepted() {
-            Accepted::Load => self.has_loaded = true,
-            Accepted::Shutdown => self.is_ending = true,
-            Accepted::Other => {}
+        if self.host.has_loaded() {
+            self.has_loaded = true;
         }
         reply
     }
