@@ -20,8 +20,10 @@ struct Read {
     throttle_interval: u32,
     exit_time_out: u32,
     environment: &'static [(&'static str, &'static str)],
-    /// The folder, then the paths of the input, the output and the errors.
-    places: [Option<&'static str>; 4],
+    working_directory: Option<&'static str>,
+    standard_in_path: Option<&'static str>,
+    standard_out_path: Option<&'static str>,
+    standard_error_path: Option<&'static str>,
     sockets: &'static [Place],
 }
 
@@ -47,7 +49,10 @@ const ABSENT: Read = Read {
     throttle_interval: 10,
     exit_time_out: 20,
     environment: &[],
-    places: [None, None, None, None],
+    working_directory: None,
+    standard_in_path: None,
+    standard_out_path: None,
+    standard_error_path: None,
     sockets: &[],
 };
 
@@ -73,12 +78,10 @@ const KEPT_ALIVE_READ: Read = Read {
     throttle_interval: 5,
     exit_time_out: 30,
     environment: &[("LANG", "C.UTF-8"), ("PATH", "/usr/bin:/bin")],
-    places: [
-        Some("/srv/web"),
-        None,
-        Some("/var/log/web.log"),
-        Some("/var/log/web.err"),
-    ],
+    working_directory: Some("/srv/web"),
+    standard_in_path: None,
+    standard_out_path: Some("/var/log/web.log"),
+    standard_error_path: Some("/var/log/web.err"),
     ..ABSENT
 };
 
@@ -234,7 +237,6 @@ fn has_lists(def: &Def, read: &Read) -> bool {
 
 /// Whether this is read from the definition.
 fn is_read(def: &Def, read: &Read) -> bool {
-    let [folder, input, output, errors] = read.places;
     let facts = [
         def.label() == read.label,
         def.program() == read.program,
@@ -251,10 +253,10 @@ fn is_read(def: &Def, read: &Read) -> bool {
         def.calendar() == read.calendar,
         def.throttle_interval() == read.throttle_interval,
         def.exit_time_out() == read.exit_time_out,
-        def.working_directory() == folder,
-        def.standard_in_path() == input,
-        def.standard_out_path() == output,
-        def.standard_error_path() == errors,
+        def.working_directory() == read.working_directory,
+        def.standard_in_path() == read.standard_in_path,
+        def.standard_out_path() == read.standard_out_path,
+        def.standard_error_path() == read.standard_error_path,
         def.has_sockets() != read.sockets.is_empty(),
         has_lists(def, read),
     ];
