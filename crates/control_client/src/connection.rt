@@ -17,6 +17,8 @@ pub(crate) struct Connection {
     reader: BufReader<UnixStream>,
     // The longest wait for a part of an answer, in seconds; 0 for ever.
     patience: u32,
+    // Why requests were not sent.
+    refusal: Option<io::Error>,
 }
 
 impl Connection {
@@ -29,22 +31,36 @@ impl Connection {
         patience: u32,
     ) -> Result<Connection, Fault> {
         match connect(rt, alloc, socket, patience) {
-            Ok(reader) => Ok(Connection { reader, patience }),
+            Ok(reader) => Ok(Connection {
+                reader,
+                patience,
+                refusal: None,
+            }),
             Err(error) => Err(Fault::of_connection(error)),
         }
     }
 
-    /// Sends a request's line, and waits for its reply. A launcher that has no room for a client says so and ends the
-    /// connection, so what it said is heard also if the request can't be sent.
-    pub(crate) fn ask(&mut self, alloc: Global, request: &[u8]) -> Result<Replied, Fault> {
-        let sent = self.reader.get_mut().write_all(request);
-        match sent {
-            Ok(()) => self.hear_in_time(alloc),
-            Err(error) if error.kind() == ErrorKind::WouldBlock => {
+    /// Sends the lines of requests. Why that fails is told in place of a reply that does not come.
+    pub(crate) fn send(&mut self, requests: &[u8]) {
+        let sent = self.reader.get_mut().write_all(requests);
+        if let Err(error) = sent {
+            self.refusal = Some(error);
+        }
+    }
+
+    /// Waits for the next reply. A launcher that has no room for a client says so and ends the connection, so what it said is
+    /// heard also if the requests can't be sent.
+    pub(crate) fn reply(&mut self, alloc: Global) -> Result<Replied, Fault> {
+        match self.refusal.take() {
+            None => self.hear_in_time(alloc),
+            Some(error) if error.kind() == ErrorKind::WouldBlock => {
                 Err(Fault::Silent(self.patience))
             }
-            Err(error) => match hear(alloc, &mut self.reader) {
-                Ok(reply) => Ok(reply),
+            Some(error) => match hear(alloc, &mut self.reader) {
+                Ok(reply) => {
+                    self.refusal = Some(error);
+                    Ok(reply)
+                }
                 Err(_) => Err(Fault::of_connection(error)),
             },
         }

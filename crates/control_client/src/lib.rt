@@ -2,6 +2,7 @@
 //! control socket, and replies become texts and an exit status.
 #![tactic(auto)]
 
+mod ahead;
 mod connection;
 mod fault;
 mod program;

@@ -1,7 +1,8 @@
 //! One run of the control program.
 
+use crate::ahead::Ahead;
 use crate::fault::Fault;
-use crate::request::{load_event, unload_event};
+use crate::request::{load_event, request_of, unload_event};
 use crate::session::Session;
 use crate::settings::{SettingFault, Settings, settings_of};
 use exit_status::{NO_MEMORY, USAGE};
@@ -73,7 +74,8 @@ fn task_of(command: Command) -> Task {
 /// Does what the words ask, the program's own name being the first, and answers the exit status: the first that is not 0 of
 /// the replies' codes and the faults', else 0. Of a fault: 64 the words, 65 a file, 69 the launcher can't be reached or sends
 /// no reply of at most [`crate::REPLY`] bytes, 74 the standard output, 1 want of memory. One request is made for each file,
-/// in their order, and a file's fault leaves out that file alone.
+/// in their order, and a file's fault leaves out that file alone. Up to 16 requests of together 32,768 bytes go out ahead of
+/// their replies; after a fault with status 1 or 69 no further file is tried, and each file whose reply was not read is named.
 ///
 /// A reply's text goes to the standard output at code 0, else to the standard error, behind a line that names its file if
 /// there are several. A fault is one line on the standard error that names what it is about, and the reason. If the standard
@@ -162,42 +164,80 @@ fn hand_in<R: Net + Files + Print + Eprint + AllocGlobal + Clone + Drop>(
         session.note(want_memory(rt));
         return;
     };
-    let is_named = files.len() > 1;
+    let mut ahead = Ahead::new(alloc, files.len() > 1);
     for file in files.iter() {
-        match hand_in_one(rt, alloc, session, deed, file, is_named) {
-            Ok(()) => {}
-            Err(fault) => {
-                session.fail(rt, file.path.as_str(), &fault);
-                if fault.is_last() {
-                    return;
+        let goes_on = match request_for(rt, alloc, deed, file) {
+            Ok(Some(line)) => hand_in_one(rt, alloc, session, &mut ahead, file, line.as_slice()),
+            Ok(None) => {
+                let goes_on = ahead.exchange(rt, alloc, session);
+                if goes_on {
+                    tell_empty(rt, file.path.as_str());
                 }
+                goes_on
             }
+            Err(fault) => leave_out(rt, alloc, session, &mut ahead, file, fault),
+        };
+        if !goes_on {
+            return;
         }
     }
+    let _goes_on = ahead.exchange(rt, alloc, session);
 }
 
-fn hand_in_one<R: Net + Files + Print + Eprint>(
+// Has the request go out with those before it, or behind their replies if they are enough. Whether further files may be tried.
+fn hand_in_one<'f, R: Net + Print + Eprint>(
     rt: &R,
     alloc: Global,
     session: &mut Session,
+    ahead: &mut Ahead<'f>,
+    file: &'f Found,
+    line: &[u8],
+) -> bool {
+    if !ahead.has_room(line.len()) && !ahead.exchange(rt, alloc, session) {
+        return false;
+    }
+    match ahead.add(file.path.as_str(), line) {
+        Ok(()) => true,
+        Err(fault) => leave_out(rt, alloc, session, ahead, file, fault),
+    }
+}
+
+// Tells the file's fault, behind the replies for the files before it. Whether further files may be tried.
+fn leave_out<R: Net + Print + Eprint>(
+    rt: &R,
+    alloc: Global,
+    session: &mut Session,
+    ahead: &mut Ahead<'_>,
+    file: &Found,
+    fault: Fault,
+) -> bool {
+    if !ahead.exchange(rt, alloc, session) {
+        return false;
+    }
+    session.fail(rt, file.path.as_str(), &fault);
+    !fault.is_last()
+}
+
+fn tell_empty<R: Eprint>(rt: &R, path: &str) {
+    let _written = eprintln!(rt; "jobctl: {path}: no definition in this folder (*.plist, *.json)");
+}
+
+// The line of the file's request. None: a folder without definitions.
+fn request_for<R: Files>(
+    rt: &R,
+    alloc: Global,
     deed: Deed,
     file: &Found,
-    is_named: bool,
-) -> Result<(), Fault> {
-    let path = file.path.as_str();
+) -> Result<Option<Vec<u8>>, Fault> {
     match file.kind {
-        Kind::Unlisted(kind) => return Err(Fault::File(io::Error::from(kind))),
-        Kind::Empty => {
-            let _written = eprintln!(rt;
-                "jobctl: {path}: no definition in this folder (*.plist, *.json)"
-            );
-            return Ok(());
+        Kind::Unlisted(kind) => Err(Fault::File(io::Error::from(kind))),
+        Kind::Empty => Ok(None),
+        Kind::File => {
+            let event = event_for(rt, alloc, deed, file.path.as_str())?;
+            let line = request_of(alloc, &event)?;
+            Ok(Some(line))
         }
-        Kind::File => {}
     }
-    let event = event_for(rt, alloc, deed, path)?;
-    let name = if is_named { Some(path) } else { None };
-    session.ask(rt, alloc, &event, name)
 }
 
 fn event_for<R: Files>(rt: &R, alloc: Global, deed: Deed, path: &str) -> Result<Event, Fault> {

@@ -42,20 +42,6 @@ impl Session {
         }
     }
 
-    /// Asks for the event and prints the reply's text, behind the name if there are both.
-    pub(crate) fn ask<R: Net + Print + Eprint>(
-        &mut self,
-        rt: &R,
-        alloc: Global,
-        event: &Event,
-        name: Option<&str>,
-    ) -> Result<(), Fault> {
-        let line = request_of(alloc, event)?;
-        let reply = self.exchange(rt, alloc, line.as_slice())?;
-        self.note(reply.code);
-        print(rt, &reply, name)
-    }
-
     /// Asks for the event, prints the reply's text, and tells what kept the request from its reply.
     pub(crate) fn ask_once<R: Net + Print + Eprint>(
         &mut self,
@@ -63,21 +49,96 @@ impl Session {
         alloc: Global,
         event: &Event,
     ) {
-        match self.ask(rt, alloc, event, None) {
+        match self.ask(rt, alloc, event) {
             Ok(()) => {}
             Err(fault) => self.fail(rt, "request", &fault),
         }
     }
 
-    fn exchange<R: Net>(&mut self, rt: &R, alloc: Global, line: &[u8]) -> Result<Replied, Fault> {
+    fn ask<R: Net + Print + Eprint>(
+        &mut self,
+        rt: &R,
+        alloc: Global,
+        event: &Event,
+    ) -> Result<(), Fault> {
+        let line = request_of(alloc, event)?;
+        self.send(rt, alloc, line.as_slice())?;
+        self.take_reply(rt, alloc, None)
+    }
+
+    /// Sends the requests for the files, takes their replies in order, and prints each reply's text, behind the file's name if
+    /// `is_named`. Tells each fault; after one that is the last, each file whose reply was not read. Whether further files may
+    /// be tried.
+    pub(crate) fn exchange<R: Net + Print + Eprint>(
+        &mut self,
+        rt: &R,
+        alloc: Global,
+        requests: &[u8],
+        files: &[&str],
+        is_named: bool,
+    ) -> bool {
+        let Some(first) = files.first() else {
+            return true;
+        };
+        if let Err(fault) = self.send(rt, alloc, requests) {
+            self.fail(rt, *first, &fault);
+            return false;
+        }
+        let mut goes_on = true;
+        for file in files {
+            if goes_on {
+                goes_on = self.answer(rt, alloc, *file, is_named);
+            } else {
+                tell_unanswered(rt, *file);
+            }
+        }
+        goes_on
+    }
+
+    // The reply to the file's request. Whether the next may be waited for.
+    fn answer<R: Net + Print + Eprint>(
+        &mut self,
+        rt: &R,
+        alloc: Global,
+        file: &str,
+        is_named: bool,
+    ) -> bool {
+        let name = if is_named { Some(file) } else { None };
+        match self.take_reply(rt, alloc, name) {
+            Ok(()) => true,
+            Err(fault) => {
+                self.fail(rt, file, &fault);
+                if is_named && fault.status() == 69 {
+                    tell_unanswered(rt, file);
+                }
+                !fault.is_last()
+            }
+        }
+    }
+
+    fn send<R: Net>(&mut self, rt: &R, alloc: Global, requests: &[u8]) -> Result<(), Fault> {
         if self.connection.is_none() {
             let connection = Connection::open(rt, alloc, self.socket.as_str(), self.patience)?;
             self.connection = Some(connection);
         }
-        match &mut self.connection {
-            Some(connection) => connection.ask(alloc, line),
-            None => Err(Fault::NoReply),
+        if let Some(connection) = &mut self.connection {
+            connection.send(requests);
         }
+        Ok(())
+    }
+
+    fn take_reply<R: Print + Eprint>(
+        &mut self,
+        rt: &R,
+        alloc: Global,
+        name: Option<&str>,
+    ) -> Result<(), Fault> {
+        let reply = match &mut self.connection {
+            Some(connection) => connection.reply(alloc)?,
+            None => return Err(Fault::NoReply),
+        };
+        self.note(reply.code);
+        print(rt, &reply, name)
     }
 
     /// Tells what kept the request for the file from its reply. That the output's reader has gone is not told.
@@ -97,6 +158,13 @@ impl Session {
         }
         self.note(fault.status());
     }
+}
+
+// The launcher may have done what was asked, though its reply was not read.
+fn tell_unanswered<R: Eprint>(rt: &R, file: &str) {
+    let _written = eprintln!(rt;
+        "jobctl: {file}: no reply was read, so it may have been done or not"
+    );
 }
 
 fn print<R: Print + Eprint>(rt: &R, reply: &Replied, name: Option<&str>) -> Result<(), Fault> {

@@ -2,15 +2,18 @@
 
 `edge_scenes.py` plays them beside its own, and has what they share.
 """
+import fcntl
 import json
 import os
 import select
 import signal
 import socket
+import struct
 import subprocess
+import termios
 import time
 
-from edge_scenes import BOUND, Fault, bytes_at, check, make, text_at
+from edge_scenes import BOUND, Fault, bytes_at, check, comes, make, text_at
 
 # The files of a scene, each with what it holds.
 FILES = {
@@ -27,6 +30,8 @@ FILES = {
     "jobs/plist": "p",
     "jobs/c.json.bak": "c",
     "jobs/folder.json/d.json": "d",
+    "half.json": "n" * 16_340,
+    "more.json": "n" * 16_341,
     "fits.json": "n" * 262_075,
     "record.json": "n" * 262_101,
     "long.json": "n" * 262_144,
@@ -34,17 +39,27 @@ FILES = {
 }
 
 # How the launcher at the socket behaves: it says its replies, whatever it is asked, and then ends the connection; it does so before it
-# takes anything of what is asked; it says its replies and goes on; nobody listens at the socket's file; there is no such file.
-ANSWERS, HAS_NO_ROOM, IS_SILENT, IS_REFUSED, IS_MISSING = range(5)
+# takes anything of what is asked; it says its replies and goes on; nobody listens at the socket's file; there is no such file; it says its
+# replies seven bytes at a time, the next when those before them were taken, and then ends the connection.
+ANSWERS, HAS_NO_ROOM, IS_SILENT, IS_REFUSED, IS_MISSING, IN_PIECES = range(6)
 
 LISTED = '{"req":"list"}\n'
 DONE = '{"code":0,"text":""}\n'
+
+
+# What is told of a file whose request went out and whose reply was not read.
+UNREAD = "no reply was read, so it may have been done or not"
 
 
 def load(definition):
     """The request that loads this text."""
     escaped = definition.replace('"', '\\"')
     return f'{{"F":false,"def":"{escaped}","req":"load","w":false}}\n'
+
+
+def unload(*labels):
+    """The requests that unload these jobs."""
+    return "".join(f'{{"job":"{label}","req":"unload","w":false}}\n' for label in labels)
 
 
 def make_files(stage):
@@ -68,10 +83,19 @@ class Seen:
         self.status, self.asked, self.printed, self.told = status, asked, printed, told
 
 
+def is_taken(client):
+    """Whether the other end has taken all that was said to it."""
+    return struct.unpack("i", fcntl.ioctl(client, termios.TIOCOUTQ, b"\0" * 4))[0] == 0
+
+
 def serve(client, behaves, replies):
+    size = 7 if behaves == IN_PIECES else max(len(replies), 1)
     try:
-        client.sendall(replies)
-        if behaves == ANSWERS:
+        for start in range(0, len(replies), size):
+            client.sendall(replies[start:start + size])
+            if behaves == IN_PIECES:
+                comes(lambda: is_taken(client))
+        if behaves in (ANSWERS, IN_PIECES):
             client.shutdown(socket.SHUT_WR)
         elif behaves == HAS_NO_ROOM:
             client.shutdown(socket.SHUT_RDWR)
@@ -235,8 +259,64 @@ def a_reply_may_not_come(stage):
     expect(stage, ["list"], status=69, asked=LISTED, told=["jobctl: jobd.sock: "])
     expect(stage, ["--socket", "s", "list"], replies='{"code":0,"text":"a"}', status=69, asked=LISTED, told=["jobctl: s: "], name="s")
     words = ["unload", "@/one.json", "@/two.plist", "@/one.json"]
-    asked = '{"job":"one","req":"unload","w":false}\n{"job":"two","req":"unload","w":false}\n'
-    expect(stage, words, replies=DONE, status=69, asked=asked, told=["jobctl: jobd.sock: "])
+    told = ["jobctl: jobd.sock: no reply came", f"jobctl: @/two.plist: {UNREAD}", f"jobctl: @/one.json: {UNREAD}"]
+    expect(stage, words, replies=DONE, status=69, asked=unload("one", "two", "one"), told=told)
+
+
+def the_replies_may_end_between(stage):
+    """The connection ends after three of five replies, the second of which refuses: those are told as ever, and the other two are named."""
+    make_files(stage)
+    replies = DONE + '{"code":4,"text":"already loaded\\n"}\n' + '{"code":0,"text":"not acted on: X\\n"}\n'
+    asked = "".join(load(text) for text in ("B", "a", "ab", "b", "z"))
+    expect(stage, ["load", "@/jobs"], replies=replies, status=4, asked=asked, printed="jobctl: @/jobs/ab.json:\nnot acted on: X\n", told=[
+        "jobctl: @/jobs/a.json:",
+        "already loaded",
+        "jobctl: jobd.sock: no reply came",
+        f"jobctl: @/jobs/b.plist: {UNREAD}",
+        f"jobctl: @/jobs/z.plist: {UNREAD}",
+    ])
+
+
+def a_fault_has_its_place(stage):
+    """A file's fault, and that a folder is empty, stand behind the replies for the files before them. If those do not come, no further file
+    is tried."""
+    make_files(stage)
+    replies = '{"code":3,"text":"no such job\\n"}\n'
+    words = ["unload", "@/one.json", "@/missing", "@/two.plist"]
+    told = ["jobctl: @/one.json:", "no such job", "jobctl: @/missing: "]
+    expect(stage, words, replies=replies + DONE, status=3, asked=unload("one", "two"), told=told)
+    lost = ["jobctl: jobd.sock: no reply came", f"jobctl: @/one.json: {UNREAD}"]
+    expect(stage, words, status=69, asked=unload("one"), told=lost)
+    words[2], told[2] = "@/empty", "jobctl: @/empty: no definition in this folder (*.plist, *.json)"
+    expect(stage, words, replies=replies + DONE, status=3, asked=unload("one", "two"), told=told)
+    expect(stage, words, status=69, asked=unload("one"), told=lost)
+
+
+def sixteen_requests_or_32768_bytes_go_out_ahead(stage):
+    """So many go out before a reply comes, and no more; a longer one goes out alone. Each of them is named if no reply comes. The others go
+    out behind the replies."""
+    make_files(stage)
+    for names, count in [
+        (["none"] * 15, 15), (["none"] * 16, 16), (["none"] * 17, 16), (["half"] * 3, 2), (["half", "more"], 1),
+        (["none", "fits"], 1), (["fits", "none"], 1),
+    ]:
+        files = [f"@/{name}.json" for name in names]
+        ahead = "".join(load(FILES[f"{name}.json"]) for name in names[:count])
+        told = ["jobctl: jobd.sock: no reply came", *(f"jobctl: {file}: {UNREAD}" for file in files[:count])]
+        expect(stage, ["load", *files], status=69, asked=ahead, told=told)
+        asked = "".join(load(FILES[f"{name}.json"]) for name in names)
+        expect(stage, ["load", *files], replies=DONE * len(names), asked=asked)
+    check(len(load(FILES["half.json"])) * 2 == 32_768, "two requests have another length")
+
+
+def a_reply_comes_in_pieces(stage):
+    """Where the pieces of replies begin does not matter."""
+    make_files(stage)
+    replies = '{"code":3,"text":"a\\n"}\n{"code":255,"text":"b\\n"}\n{"code":'
+    told = ["jobctl: @/one.json:", "a", "jobctl: @/two.plist:", "b", "jobctl: jobd.sock: no reply came", f"jobctl: @/one.json: {UNREAD}"]
+    words = ["unload", "@/one.json", "@/two.plist", "@/one.json"]
+    expect(stage, words, IN_PIECES, replies, 3, unload("one", "two", "one"), told=told)
+    expect(stage, ["list"], IN_PIECES, '{"code":0,"text":"PID\\tStatus\\n"}\n', 0, LISTED, "PID\tStatus\n")
 
 
 def what_comes_may_be_no_reply(stage):
@@ -383,9 +463,9 @@ def replies_are_heard_one_by_one(stage):
     """Two replies of one piece are those of two requests, and no third one comes. The greatest code is a status."""
     make_files(stage)
     replies = '{"code":3,"text":"a\\n"}\n{"code":255,"text":"b\\n"}\n'
-    asked = "".join(f'{{"job":"{label}","req":"unload","w":false}}\n' for label in ("one", "two", "one"))
-    told = ["jobctl: @/one.json:", "a", "jobctl: @/two.plist:", "b", "jobctl: jobd.sock: "]
-    expect(stage, ["unload", "@/one.json", "@/two.plist", "@/one.json"], replies=replies, status=3, asked=asked, told=told)
+    told = ["jobctl: @/one.json:", "a", "jobctl: @/two.plist:", "b", "jobctl: jobd.sock: ", f"jobctl: @/one.json: {UNREAD}"]
+    words = ["unload", "@/one.json", "@/two.plist", "@/one.json"]
+    expect(stage, words, replies=replies, status=3, asked=unload("one", "two", "one"), told=told)
     expect(stage, ["list"], replies='{"code":255,"text":"b\\n"}\n', status=255, asked=LISTED, told=["b"])
 
 
@@ -394,5 +474,6 @@ SCENES = [
     what_comes_may_be_no_reply, nobody_may_listen, words_may_be_no_command, the_output_may_be_refused, the_outputs_reader_may_have_gone,
     no_answer_may_come, the_launcher_may_have_no_room, the_environment_is_read, a_word_that_is_none_is_named,
     a_request_and_its_record_have_at_most_262144_bytes, the_longest_record_fits_a_line, a_reply_has_at_most_1048576_bytes,
-    replies_are_heard_one_by_one,
+    replies_are_heard_one_by_one, the_replies_may_end_between, a_fault_has_its_place, sixteen_requests_or_32768_bytes_go_out_ahead,
+    a_reply_comes_in_pieces,
 ]
