@@ -1,11 +1,13 @@
 //! What each of the five fields may hold.
 
-/// What a field may hold: numbers from `low` to `high`, the names of its first values, and how a fault tells them.
+/// What a field may hold: numbers from `low` to `high`, of which `count` differ in what they mean, the names of its first values, and how a
+/// fault tells them.
 #[derive(Clone, Copy)]
 pub(crate) struct Kind {
     pub(crate) name: &'static str,
     pub(crate) low: u8,
     pub(crate) high: u8,
+    pub(crate) count: u8,
     pub(crate) names: &'static [&'static str],
     pub(crate) wanted: &'static str,
 }
@@ -20,6 +22,7 @@ pub(crate) const MINUTE: Kind = Kind {
     name: "minute",
     low: 0,
     high: 59,
+    count: 60,
     names: &[],
     wanted: "0 to 59",
 };
@@ -28,6 +31,7 @@ pub(crate) const HOUR: Kind = Kind {
     name: "hour",
     low: 0,
     high: 23,
+    count: 24,
     names: &[],
     wanted: "0 to 23",
 };
@@ -36,6 +40,7 @@ pub(crate) const DAY: Kind = Kind {
     name: "day",
     low: 1,
     high: 31,
+    count: 31,
     names: &[],
     wanted: "1 to 31",
 };
@@ -44,6 +49,7 @@ pub(crate) const MONTH: Kind = Kind {
     name: "month",
     low: 1,
     high: 12,
+    count: 12,
     names: MONTHS,
     wanted: "1 to 12 or jan to dec",
 };
@@ -53,6 +59,7 @@ pub(crate) const WEEKDAY: Kind = Kind {
     name: "weekday",
     low: 0,
     high: 7,
+    count: 7,
     names: WEEKDAYS,
     wanted: "0 to 7 or sun to sat",
 };

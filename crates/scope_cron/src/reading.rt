@@ -42,18 +42,23 @@ fn field_of(
     may_be_every: bool,
 ) -> Result<Field, LineFault> {
     let items = items_of(alloc, kind, text)?;
-    let values = values_of(alloc, items.as_slice(), kind.low, kind.high)?;
-    let count = kind.high.saturating_sub(kind.low).saturating_add(1);
-    let is_every = may_be_every && values.len() == usize::from(count);
+    let values = values_of(alloc, kind, items.as_slice())?;
+    let is_every = may_be_every && values.len() == usize::from(kind.count);
     Ok(Field { is_every, values })
 }
 
-fn values_of(alloc: Global, items: &[Item], low: u8, high: u8) -> Result<Vec<u8>, AllocError> {
+// The values that an item has. A value that means the same as the least one, as the weekday 7, is left out behind that.
+fn values_of(alloc: Global, kind: &Kind, items: &[Item]) -> Result<Vec<u8>, AllocError> {
     let mut values = Vec::new(alloc);
-    for value in low..=high {
-        if items.iter().any(|item| item.has(value)) {
+    for value in kind.low..=kind.high {
+        if !is_again(kind, values.as_slice(), value) && items.iter().any(|item| item.has(value)) {
             values.push(value)?;
         }
     }
     Ok(values)
+}
+
+// Whether the value means the same as the least one, and that is among the values.
+fn is_again(kind: &Kind, values: &[u8], value: u8) -> bool {
+    value.saturating_sub(kind.low) >= kind.count && values.first() == Some(&kind.low)
 }
