@@ -8,7 +8,8 @@ times and their ends are reckoned here, line by line, and compared with the char
 
     SVG       it is XML; each run that began is in a bar of its job's row, which begins and ends at the places of its seconds
     the page  it is HTML whose elements close, it has no script, and its table has the lines of `jobscope runs`
-    blocks    on a terminal of 60 columns no line is longer, and each job has a line
+    blocks    on a terminal of 60 columns, and of 32, no line is longer, and each job has a line
+    refusals  those of jobs that were not loaded before are counted, as they were counted here by hand
 
 One line a journal, and a count. The status is 1 if a picture is at fault.
 """
@@ -17,6 +18,7 @@ import html.parser
 import json
 import os
 import pty
+import re
 import subprocess
 import sys
 import unicodedata
@@ -26,6 +28,9 @@ TOP = os.path.join(os.path.dirname(os.path.abspath(__file__)), "..")
 SVG = "{http://www.w3.org/2000/svg}"
 PLACES, LEFT = 980, 10
 VOID = {"meta", "link", "br", "img", "hr", "rect", "path"}
+# Refusals of jobs that were not loaded before: the loads of "off" (disabled) and "bad" (it runs nothing), a start of "nobody", and a
+# setting of "gui/501/on".
+ROWLESS = {"declined.jsonl": 4}
 
 
 def events_of(path):
@@ -137,10 +142,10 @@ def width_of(line):
     return sum(2 if unicodedata.east_asian_width(c) in "WF" else 0 if unicodedata.combining(c) else 1 for c in line)
 
 
-def on_terminal(program, path):
-    """What the program writes to a terminal of 60 columns."""
+def on_terminal(program, path, columns):
+    """What the program writes to a terminal of so many columns."""
     held, given = pty.openpty()
-    environment = dict(os.environ, COLUMNS="60")
+    environment = dict(os.environ, COLUMNS=str(columns))
     running = subprocess.Popen([program, "picture", "--journal", path], stdout=given, stderr=subprocess.DEVNULL, env=environment)
     os.close(given)
     text = b""
@@ -157,10 +162,17 @@ def on_terminal(program, path):
     return text.decode().replace("\r\n", "\n")
 
 
-def faults_of_blocks(text, labels):
+def faults_of_blocks(text, labels, columns):
     lines = text.splitlines()
-    yield from (f"a line is {width_of(line)} columns wide: {line}" for line in lines if width_of(line) > 60)
-    yield from (f"{label} has no line" for label in labels if not any(line.startswith(label[:19]) for line in lines))
+    yield from (f"a line is {width_of(line)} columns wide: {line}" for line in lines if width_of(line) > columns)
+    shown = columns // 3 - 1
+    yield from (f"{label} has no line" for label in labels if not any(line.startswith(label[:shown]) for line in lines))
+
+
+def faults_of_refusals(text, name):
+    found = re.search(r"not loaded before: refusals (\d+)\.", text)
+    if name in ROWLESS and (not found or int(found[1]) != ROWLESS[name]):
+        yield f"{ROWLESS[name]} refusals of jobs that were not loaded are wanted, and told: {found and found[1]}"
 
 
 def faults_of(program, path):
@@ -175,7 +187,9 @@ def faults_of(program, path):
     table = subprocess.run([program, "runs", "--journal", path], capture_output=True, text=True).stdout
     yield from faults_of_page(page, table)
     labels = [line.split("\t")[0] for line in table.splitlines()[1:]]
-    yield from faults_of_blocks(on_terminal(program, path), labels)
+    for columns in (60, 32):
+        yield from faults_of_blocks(on_terminal(program, path, columns), labels, columns)
+    yield from faults_of_refusals(said.stdout, os.path.basename(path))
 
 
 def main():

@@ -1,9 +1,10 @@
 //! What a chart shows of a journal: the runs that its reader keeps, and the marks that are kept while it is read.
 
-ghost use Rattle.std.specs.Prelude.{◌≡◌, IfSome};
+ghost use Rattle.std.specs.Prelude.{◌≡◌, IfSome, option_map};
+ghost use Rattle.scope.specs.Bars.{bar_end};
 
 use history_model::Text;
-use journal_reading::{Asked, Journal, Run, RunEnd, Wait, What};
+use journal_reading::{Asked, Journal, News, Run, RunEnd, Wait, What};
 use scope_picture::{Axis, Bar, Chart, End, MarkKind, PLACES, Row};
 use std::alloc::{AllocError, Global};
 use std::collections::VecDeque;
@@ -19,11 +20,14 @@ struct Kept {
     at: u64,
 }
 
-/// What is kept of the lines that were read.
+/// What is kept of the lines that were read, of all jobs or of those that are named.
 #[derive(Drop)]
-pub(crate) struct Heard {
+pub(crate) struct Heard<'a> {
+    labels: &'a [Text],
     marks: VecDeque<Kept>,
     dropped: u64,
+    /// How many refusals were of jobs that were not loaded before.
+    rowless: u64,
     /// How many runs that had begun are over.
     ended: u64,
     /// The least and the greatest second that the clock showed.
@@ -31,11 +35,14 @@ pub(crate) struct Heard {
     until: u64,
 }
 
-impl Heard {
-    pub(crate) fn new(alloc: Global) -> Heard {
+impl<'a> Heard<'a> {
+    /// Nothing is heard yet of the jobs of these labels, or of all if there is none.
+    pub(crate) fn new(alloc: Global, labels: &'a [Text]) -> Heard<'a> {
         Heard {
+            labels,
             marks: VecDeque::new(alloc),
             dropped: 0,
+            rowless: 0,
             ended: 0,
             from: u64::MAX,
             until: 0,
@@ -48,18 +55,30 @@ impl Heard {
         self.from = self.from.min(at);
         self.until = self.until.max(at);
         for news in &journal.news {
-            if let What::Ended { .. } = news.what {
-                self.ended = self.ended.saturating_add(1);
-            }
-            if let (Some(kind), Some(job)) = (
-                mark_of(&news.what),
-                journal.past.job(news.label.as_str()),
-            ) {
-                let job = job.serial;
-                self.keep(Kept { job, kind, at })?;
+            if is_named(self.labels, news.label.as_str()) {
+                self.hear_news(journal, news, at)?;
             }
         }
         Ok(())
+    }
+
+    fn hear_news(&mut self, journal: &Journal, news: &News, at: u64) -> Result<(), AllocError> {
+        if let What::Ended { .. } = news.what {
+            self.ended = self.ended.saturating_add(1);
+        }
+        let Some(kind) = mark_of(&news.what) else {
+            return Ok(());
+        };
+        match journal.past.job(news.label.as_str()) {
+            Some(job) => {
+                let job = job.serial;
+                self.keep(Kept { job, kind, at })
+            }
+            None => {
+                self.rowless = self.rowless.saturating_add(1);
+                Ok(())
+            }
+        }
     }
 
     fn keep(&mut self, mark: Kept) -> Result<(), AllocError> {
@@ -69,6 +88,11 @@ impl Heard {
         }
         Ok(self.marks.push_back(mark)?)
     }
+}
+
+// Whether the label is among those; each is if there is none.
+fn is_named(labels: &[Text], label: &str) -> bool {
+    labels.is_empty() || labels.iter().any(|named| named.as_str() == label)
 }
 
 // The mark that an event of a journal makes, if it makes one.
@@ -89,33 +113,30 @@ fn is_throttled(wait: &Wait) -> bool {
     wait.is_wanted && wait.throttled_until.is_some()
 }
 
-/// The bar of a run, as of the second `now`. None for one that did not begin: its order is not answered, or was refused.
-pub(crate) fn bar_of(run: &Run, now: u64) -> Option<Bar>
-    ensures { IfSome result (λ bar. (bar.from ≡ run.now.begun.wall) × (bar.run ≡ run.now.run) × (bar.runs ≡ 1)) }
+/// The bar of a run: from its begin to its end, or to the end of the axis if it lives. None for one that did not begin: its order is
+/// not answered, or was refused.
+pub(crate) fn bar_of(axis: &Axis, run: &Run) -> Option<Bar>
+    ensures begin { IfSome result (λ bar. bar.from ≡ run.now.begun.wall) }
+    ensures end { option_map (λ bar. bar.until) result ≡ bar_end run.now.end axis.now.until run.now.ended.wall }
+    ensures one { IfSome result (λ bar. (bar.run ≡ run.now.run) × (bar.runs ≡ 1)) }
 {
-    let (until, end) = match run.end {
+    let end = match run.end {
         RunEnd::Awaited | RunEnd::Refused => return None,
-        RunEnd::Lives => (now, End::Lives),
-        RunEnd::Signal(signal) if run.is_crash => (run.ended.wall, End::Crash(signal)),
-        _ if run.is_ordered_to_end => (run.ended.wall, End::Stopped),
-        RunEnd::Signal(signal) => (run.ended.wall, End::Signal(signal)),
-        RunEnd::Code(code) => (run.ended.wall, End::Code(code)),
+        RunEnd::Lives => End::Lives,
+        RunEnd::Signal(signal) if run.is_crash => End::Crash(signal),
+        _ if run.is_ordered_to_end => End::Stopped,
+        RunEnd::Signal(signal) => End::Signal(signal),
+        RunEnd::Code(code) => End::Code(code),
     };
-    Some(Bar {
-        from: run.begun.wall,
-        until,
-        end,
-        run: run.run,
-        runs: 1,
-    })
+    let begun = run.begun.wall;
+    Some(Bar::of_run(axis, run.run, end, begun, run.ended.wall))
 }
 
 /// The chart of the journal's jobs, or of those named that it has.
 pub(crate) fn chart_of(
     alloc: Global,
     journal: &Journal,
-    heard: &Heard,
-    labels: &[Text],
+    heard: &Heard<'_>,
 ) -> Result<Chart, AllocError> {
     let mut rows = Rows {
         chart: Chart {
@@ -123,11 +144,11 @@ pub(crate) fn chart_of(
             rows: Vec::new(alloc),
             missing_runs: 0,
             missing_marks: heard.dropped,
+            rowless_refusals: heard.rowless,
         },
         places: Vec::new(alloc),
-        now: journal.reading().wall,
     };
-    rows.add_jobs(alloc, journal, labels)?;
+    rows.add_jobs(alloc, journal, heard.labels)?;
     rows.places.sort_unstable();
     rows.add_runs(journal, heard)?;
     for mark in &heard.marks {
@@ -142,7 +163,6 @@ pub(crate) fn chart_of(
 struct Rows {
     chart: Chart,
     places: Vec<(u64, usize)>,
-    now: u64,
 }
 
 impl Rows {
@@ -152,13 +172,8 @@ impl Rows {
         journal: &Journal,
         labels: &[Text],
     ) -> Result<(), AllocError> {
-        if labels.is_empty() {
-            for (label, job) in &journal.past.jobs {
-                self.add_job(alloc, label.as_str(), job.serial)?;
-            }
-        }
-        for label in labels {
-            if let Some(job) = journal.past.job(label.as_str()) {
+        for (label, job) in &journal.past.jobs {
+            if is_named(labels, label.as_str()) {
                 self.add_job(alloc, label.as_str(), job.serial)?;
             }
         }
@@ -188,37 +203,42 @@ impl Rows {
     }
 
     // The runs that are over and kept, and those that live.
-    fn add_runs(&mut self, journal: &Journal, heard: &Heard) -> Result<(), AllocError> {
-        let mut kept: u64 = 0;
+    fn add_runs(&mut self, journal: &Journal, heard: &Heard<'_>) -> Result<(), AllocError> {
+        let mut drawn: u64 = 0;
         for run in &journal.past.runs {
-            if run.end != RunEnd::Refused {
-                kept = kept.saturating_add(1);
+            if self.add_run(run)? {
+                drawn = drawn.saturating_add(1);
             }
-            self.add_run(run)?;
         }
-        self.chart.missing_runs = heard.ended.saturating_sub(kept);
+        self.chart.missing_runs = heard.ended.saturating_sub(drawn);
         for (_, job) in &journal.past.jobs {
             if let Some(run) = &job.current {
-                self.add_run(run)?;
+                let _is_drawn = self.add_run(run)?;
             }
         }
         Ok(())
     }
 
-    fn add_run(&mut self, run: &Run) -> Result<(), AllocError> {
+    // Whether the run began and has a row.
+    fn add_run(&mut self, run: &Run) -> Result<bool, AllocError> {
         let axis = self.chart.axis;
-        let (Some(place), Some(bar)) = (self.place_of(run.job), bar_of(run, self.now)) else {
-            return Ok(());
+        let (Some(place), Some(bar)) = (self.place_of(run.job), bar_of(&axis, run)) else {
+            return Ok(false);
         };
         match self.chart.rows.get_mut(place) {
-            Some(row) => row.add(&axis, bar),
-            None => Ok(()),
+            Some(row) => {
+                row.add(&axis, bar)?;
+                Ok(true)
+            }
+            None => Ok(false),
         }
     }
 
+    // The mark of a job that was forgotten meanwhile counts among those that are missing.
     fn add_mark(&mut self, mark: &Kept) -> Result<(), AllocError> {
         let axis = self.chart.axis;
         let Some(place) = self.place_of(mark.job) else {
+            self.chart.missing_marks = self.chart.missing_marks.saturating_add(1);
             return Ok(());
         };
         match self.chart.rows.get_mut(place) {

@@ -5,13 +5,13 @@ use crate::coming::calendar_after;
 use crate::journal::{
     Feed, Source, journal_path, name_of, source_of, take_piece, tell_bad, tell_fault,
 };
-use crate::telling::BAD_FILE;
+use crate::telling::{BAD_FILE, tell_of};
 use calendar_due::Zone;
 use history_model::{MAX_WALL, Text};
 use job_defs::Def;
 use journal_reading::{Job, Journal, JournalFault, JournalReader};
 use journal_texts::{runs_table, why_text};
-use scope_picture::{Chart, Coming, Page, blocks_text, page_text, svg_text};
+use scope_picture::{Chart, Coming, Page, blocks_text, page_piece, svg_piece};
 use scope_times::utc;
 use scope_words::JournalWords;
 use std::alloc::{AllocError, Global};
@@ -33,7 +33,7 @@ pub(crate) fn picture(
     of: &JournalWords,
 ) -> io::Result<u8> {
     let mut feed = Feed::new(alloc);
-    let mut heard = Heard::new(alloc);
+    let mut heard = Heard::new(alloc, of.labels.as_slice());
     let path = journal_path(host, of)?;
     let name = name_of(&path);
     if let Err(fault) = hear_journal(host, alloc, &path, &mut feed, &mut heard) {
@@ -44,9 +44,19 @@ pub(crate) fn picture(
         return Ok(BAD_FILE);
     };
     let status = tell_bad(host, name, &feed.reader);
-    let text = painted(host, alloc, is_page, journal, &heard, of)?;
-    print!(host; "{text}")?;
+    tell_absent(host, journal, of.labels.as_slice());
+    paint(host, alloc, is_page, journal, &heard, of)?;
     Ok(status)
+}
+
+// Tells each named label that the journal has no load of. This is no fault.
+fn tell_absent(host: &HostRuntime, journal: &Journal, labels: &[Text]) {
+    for label in labels {
+        let label = label.as_str();
+        if journal.past.job(label).is_none() {
+            tell_of(host, label, &"the journal has no load of it");
+        }
+    }
 }
 
 // Reads the journal to its end.
@@ -55,7 +65,7 @@ fn hear_journal(
     alloc: Global,
     path: &Option<String>,
     feed: &mut Feed,
-    heard: &mut Heard,
+    heard: &mut Heard<'_>,
 ) -> Result<(), JournalFault> {
     match source_of(host, path) {
         Ok(mut source) => hear_source(host, alloc, &mut source, feed, heard)?,
@@ -73,7 +83,7 @@ fn hear_source(
     alloc: Global,
     source: &mut Source,
     feed: &mut Feed,
-    heard: &mut Heard,
+    heard: &mut Heard<'_>,
 ) -> Result<(), JournalFault> {
     let is_seen = host.stderr().is_terminal();
     let mut is_told = false;
@@ -98,7 +108,7 @@ fn hear_source(
 fn hear_lines(
     alloc: Global,
     reader: &mut JournalReader,
-    heard: &mut Heard,
+    heard: &mut Heard<'_>,
 ) -> Result<(), JournalFault> {
     for _ in 0..u64::MAX {
         if !reader.next(alloc)? {
@@ -116,26 +126,34 @@ fn zone_shown<'a>(journal: &'a Journal, utc: &'a Zone, is_utc: bool) -> &'a Zone
     if is_utc { utc } else { &journal.zone }
 }
 
-fn painted(
+// A picture is written piece by piece, so that its whole text is never held.
+fn paint(
     host: &HostRuntime,
     alloc: Global,
     is_page: bool,
     journal: &Journal,
-    heard: &Heard,
+    heard: &Heard<'_>,
     of: &JournalWords,
-) -> io::Result<String> {
+) -> io::Result<()> {
     let utc = utc();
     let zone = zone_shown(journal, &utc, of.is_utc);
     let labels = of.labels.as_slice();
-    let chart = chart_of(alloc, journal, heard, labels)?;
+    let chart = chart_of(alloc, journal, heard)?;
     if is_page {
-        return Ok(page_of(alloc, journal, zone, &chart, labels)?);
+        return paint_page(host, alloc, journal, zone, &chart, labels);
     }
     if host.stdout().is_terminal() {
         let width = columns(host);
-        return Ok(blocks_text(alloc, zone, &chart, width)?);
+        let text = blocks_text(alloc, zone, &chart, width)?;
+        return print!(host; "{text}");
     }
-    Ok(svg_text(alloc, zone, &chart)?)
+    for index in 0..usize::MAX {
+        let Some(piece) = svg_piece(alloc, zone, &chart, index)? else {
+            break;
+        };
+        print!(host; "{piece}")?;
+    }
+    Ok(())
 }
 
 fn columns(host: &HostRuntime) -> u16 {
@@ -145,13 +163,14 @@ fn columns(host: &HostRuntime) -> u16 {
     }
 }
 
-fn page_of(
+fn paint_page(
+    host: &HostRuntime,
     alloc: Global,
     journal: &Journal,
     zone: &Zone,
     chart: &Chart,
     labels: &[Text],
-) -> Result<String, AllocError> {
+) -> io::Result<()> {
     let table = runs_table(alloc, journal, labels)?;
     let why = why_text(alloc, journal, zone, labels)?;
     let coming = coming_of(alloc, journal, chart)?;
@@ -160,7 +179,13 @@ fn page_of(
         why: why.as_str(),
         coming: coming.as_slice(),
     };
-    page_text(alloc, zone, chart, &beside)
+    for index in 0..usize::MAX {
+        let Some(piece) = page_piece(alloc, zone, chart, &beside, index)? else {
+            break;
+        };
+        print!(host; "{piece}")?;
+    }
+    Ok(())
 }
 
 // The next start by the calendar and the next by the interval of each job of the chart that is loaded, in the order of time.

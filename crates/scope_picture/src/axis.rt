@@ -53,4 +53,16 @@ impl Axis {
     {
         (self.place(from), self.place(until.max(from)))
     }
+
+    /// Which places a span fills: from the first up to, and without, the second. It is one at least, and none is outside.
+    pub fn filled(&self, from: u64, until: u64) -> (u16, u16)
+        ensures begin { result.0 ≡ min (place_of self.now.from self.now.until self.now.places from) (self.now.places - 1) }
+        ensures end { result.1 ≡ max (place_of self.now.from self.now.until self.now.places (max from until)) (result.0 + 1) }
+        ensures some { result.0 < result.1 }
+        ensures within { result.1 ≤ max self.now.places 1 }
+    {
+        let (begin, end) = self.edges(from, until);
+        let first = begin.min(self.places.saturating_sub(1));
+        (first, end.max(first + 1))
+    }
 }

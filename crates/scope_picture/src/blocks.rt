@@ -4,15 +4,17 @@ use crate::axis::Axis;
 use crate::chart::{Chart, Mark, Row, gravity};
 use crate::escape::is_unwritable;
 use crate::ticks::{Tick, ticks};
-use crate::words::missing_words;
+use crate::words::{columns_of, cut_text, missing_words};
 use calendar_due::Zone;
 use history_model::MAX_WALL;
 use scope_times::time_text;
 use std::alloc::{AllocError, Global};
-use unicode_width::{UnicodeWidthChar, UnicodeWidthStr};
 
 /// The block of a bar by how grave its end is.
 const BLOCKS: [char; 6] = ['▀', '█', '▄', '▓', '▒', '▚'];
+
+/// So many columns a line may have at least: a moment has room in them.
+const NARROWEST: u16 = 32;
 
 /// How many columns an axis has at least.
 const LEAST: usize = 8;
@@ -41,14 +43,14 @@ struct Screen<'a> {
     axis: Axis,
 }
 
-/// The chart in lines of at most `width` columns, or of 20 if those are more. Moments are shown in the zone.
+/// The chart in lines of at most `width` columns, or of `NARROWEST` if those are more. Moments are shown in the zone.
 pub fn blocks_text(
     alloc: Global,
     zone: &Zone,
     chart: &Chart,
     width: u16,
 ) -> Result<String, AllocError> {
-    let width = usize::from(width.max(20));
+    let width = usize::from(width.max(NARROWEST));
     let column = longest_label(chart).min(width / 3);
     let room = width.saturating_sub(column).saturating_sub(1).max(LEAST);
     let mut screen = Screen {
@@ -64,9 +66,9 @@ pub fn blocks_text(
     }
     screen.add_axis()?;
     screen.add_pieces(&LEGEND, width)?;
-    if let Some(missing) = missing_words(alloc, chart)? {
-        screen.text.push_str(missing.as_str())?;
-        screen.text.push_str("\n")?;
+    let missing = missing_words(alloc, chart)?;
+    for sentence in &missing {
+        screen.add_sentence(sentence.as_str(), width)?;
     }
     let Screen { text, .. } = screen;
     Ok(text)
@@ -75,7 +77,7 @@ pub fn blocks_text(
 fn longest_label(chart: &Chart) -> usize {
     let mut longest = 0;
     for row in &chart.rows {
-        longest = row.label.as_str().width().max(longest);
+        longest = columns_of(row.label.as_str()).max(longest);
     }
     longest
 }
@@ -106,22 +108,11 @@ impl Screen<'_> {
     // The label in its column, cut if it is longer, and a space.
     fn label_cells(&self, label: &str) -> Result<Vec<char>, AllocError> {
         let mut cells = Vec::new(self.alloc);
-        let is_cut = label.width() > self.column;
-        let room = self.column.saturating_sub(usize::from(is_cut));
-        let mut used: usize = 0;
-        for c in label.chars() {
-            let c = shown(c);
-            let wide = UnicodeWidthChar::width(c).unwrap_or(0);
-            if used.saturating_add(wide) > room {
-                break;
-            }
-            used = used.saturating_add(wide);
-            cells.push(c)?;
+        let cut = cut_text(self.alloc, label, self.column)?;
+        for c in cut.as_str().chars() {
+            cells.push(shown(c))?;
         }
-        if is_cut {
-            cells.push('…')?;
-            used = used.saturating_add(1);
-        }
+        let used = columns_of(cut.as_str());
         for _ in used..self.column.saturating_add(1) {
             cells.push(' ')?;
         }
@@ -135,9 +126,7 @@ impl Screen<'_> {
             graves.push(0u8)?;
         }
         for bar in &row.bars {
-            let (begin, end) = self.axis.edges(bar.from, bar.until);
-            let first = begin.min(self.axis.places.saturating_sub(1));
-            let past = end.max(first.saturating_add(1));
+            let (first, past) = self.axis.filled(bar.from, bar.until);
             let grave = gravity(bar.end).saturating_add(1);
             for place in first..past {
                 raise(&mut graves, usize::from(place), grave);
@@ -185,7 +174,7 @@ impl Screen<'_> {
 
     // The ticks: a line with their texts, and one with what stands below them.
     fn add_axis(&mut self) -> Result<(), AllocError> {
-        let most = u64::from(self.axis.places / 12).max(1);
+        let most = u64::from(self.axis.places / 11).max(1);
         let ticks = ticks(self.alloc, self.zone, &self.axis, most)?;
         self.add_tick_line(ticks.as_slice(), false)?;
         self.add_tick_line(ticks.as_slice(), true)
@@ -221,19 +210,40 @@ impl Screen<'_> {
     fn add_pieces(&mut self, pieces: &[&str], width: usize) -> Result<(), AllocError> {
         let mut used: usize = 0;
         for piece in pieces {
-            let wide = piece.width();
-            if used > 0 && used.saturating_add(wide).saturating_add(2) > width {
-                self.text.push('\n')?;
-                used = 0;
-            }
-            if used > 0 {
-                self.text.push_str("  ")?;
-                used = used.saturating_add(2);
-            }
-            self.text.push_str(piece)?;
-            used = used.saturating_add(wide);
+            used = self.add_piece(piece, "  ", used, width)?;
         }
         self.text.push('\n')
+    }
+
+    // The sentence in lines of the width, broken between its words.
+    fn add_sentence(&mut self, sentence: &str, width: usize) -> Result<(), AllocError> {
+        let mut used: usize = 0;
+        for word in sentence.split(' ') {
+            used = self.add_piece(word, " ", used, width)?;
+        }
+        self.text.push('\n')
+    }
+
+    // The piece behind the gap, or in a new line if so many columns are used that it has no room. It gives how many are used then.
+    fn add_piece(
+        &mut self,
+        piece: &str,
+        gap: &str,
+        used: usize,
+        width: usize,
+    ) -> Result<usize, AllocError> {
+        let wide = columns_of(piece);
+        let behind = used.saturating_add(gap.len());
+        if used > 0 && behind.saturating_add(wide) <= width {
+            self.text.push_str(gap)?;
+            self.text.push_str(piece)?;
+            return Ok(behind.saturating_add(wide));
+        }
+        if used > 0 {
+            self.text.push('\n')?;
+        }
+        self.text.push_str(piece)?;
+        Ok(wide)
     }
 }
 

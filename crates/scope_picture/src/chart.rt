@@ -1,7 +1,7 @@
 //! What a chart shows: a row for each job, with its runs as bars, and with the demands, throttles and refusals as marks.
 
 ghost use Rattle.std.specs.Prelude.{◌≡◌, ◌+◌, OnOk, IfSome};
-ghost use Rattle.scope_picture.specs.Bars.{runs_in};
+ghost use Rattle.scope_picture.specs.Bars.{runs_in, bar_end};
 
 use crate::axis::Axis;
 use std::alloc::AllocError;
@@ -64,9 +64,33 @@ pub struct Row {
 pub struct Chart {
     pub axis: Axis,
     pub rows: Vec<Row>,
-    /// How many runs, and how many marks, are not in it.
+    /// How many runs, and how many marks, are older than what is kept.
     pub missing_runs: u64,
     pub missing_marks: u64,
+    /// How many refusals were of jobs that were not loaded before, so that they had no row.
+    pub rowless_refusals: u64,
+}
+
+impl Bar {
+    /// The bar of one run: from its begin to its end, or to the end of the axis if the run lives.
+    pub fn of_run(axis: &Axis, run: u64, end: End, begun: u64, ended: u64) -> Bar
+        ensures begin { result.from ≡ begun }
+        ensures end { result.until ≡ bar_end end axis.now.until ended }
+        ensures kind { result.end ≡ end }
+        ensures one { (result.run ≡ run) × (result.runs ≡ 1) }
+    {
+        let until = match end {
+            End::Lives => axis.until,
+            _ => ended,
+        };
+        Bar {
+            from: begun,
+            until,
+            end,
+            run,
+            runs: 1,
+        }
+    }
 }
 
 /// How grave an end is: 0 for one that lives, 5 for a crash.

@@ -2,7 +2,7 @@
 
 use crate::chart::Chart;
 use crate::escape::escaped;
-use crate::svg::figure;
+use crate::svg::figure_piece;
 use calendar_due::Zone;
 use history_model::MAX_WALL;
 use scope_times::time_text;
@@ -43,11 +43,14 @@ body { margin: 0; background: var(--page); color: var(--text); font: 16px/1.45 s
 main { max-width: 75rem; margin: 0 auto; padding: 1rem; }
 h1 { font-size: 1.5rem; margin: 0 0 0.75rem; }
 h2 { font-size: 1.15rem; margin: 1.75rem 0 0.5rem; }
+p { margin: 0 0 0.5rem; }
 figure, .wide { margin: 0; overflow-x: auto; border: 1px solid var(--rule); border-radius: 6px; }
-figure svg { display: block; width: 100%; min-width: 46rem; height: auto; }
+figure svg { display: block; width: 100%; min-width: 60rem; height: auto; }
 table { border-collapse: collapse; width: 100%; font-variant-numeric: tabular-nums; }
 th, td { padding: 0.3rem 0.7rem; text-align: right; white-space: nowrap; border-bottom: 1px solid var(--rule); }
 th:first-child, td:first-child, .left td, .left th { text-align: left; }
+td:first-child, .left td:nth-child(2) { white-space: normal; overflow-wrap: anywhere; min-width: 12rem; }
+.left td:first-child { white-space: nowrap; }
 tr:last-child td { border-bottom: 0; }
 th { background: var(--soft); font-weight: 600; }
 pre { margin: 0; padding: 0.75rem; background: var(--soft); border-radius: 6px; white-space: pre-wrap; overflow-wrap: anywhere; font: 0.85rem/1.45 ui-monospace, 'DejaVu Sans Mono', Menlo, Consolas, monospace; }
@@ -59,27 +62,48 @@ pre { margin: 0; padding: 0.75rem; background: var(--soft); border-radius: 6px; 
 <figure>
 ";
 
-/// The page as HTML. Moments are shown in the zone.
-pub fn page_text(
+/// A piece of the page as HTML, from 0: its head, one for each row of the chart, and the rest. None behind these. Moments are shown in the
+/// zone.
+pub fn page_piece(
     alloc: Global,
     zone: &Zone,
     chart: &Chart,
     page: &Page<'_>,
-) -> Result<String, AllocError> {
-    let mut text = String::from_str(alloc, HEAD)?;
-    let figure = figure(alloc, zone, chart)?;
-    text.push_str(figure.as_str())?;
-    text.push_str("</figure>\n<h2>What the runs came to</h2>\n<div class=\"wide\"><table>\n")?;
-    add_table(alloc, &mut text, page.table)?;
+    index: usize,
+) -> Result<Option<String>, AllocError> {
+    let Some(piece) = figure_piece(alloc, zone, chart, index)? else {
+        return Ok(None);
+    };
+    let mut text = String::new(alloc);
+    if index == 0 {
+        text.push_str(HEAD)?;
+    }
+    text.push_str(piece.as_str())?;
+    if index > chart.rows.len() {
+        add_rest(alloc, &mut text, zone, page)?;
+    }
+    Ok(Some(text))
+}
+
+// What stands below the chart.
+fn add_rest(
+    alloc: Global,
+    text: &mut String,
+    zone: &Zone,
+    page: &Page<'_>,
+) -> Result<(), AllocError> {
+    text.push_str(
+        "</figure>\n<h2>What the runs came to</h2>\n<p>Times are in seconds.</p>\n<div class=\"wide\"><table>\n",
+    )?;
+    add_table(alloc, text, page.table)?;
     text.push_str("</table></div>\n<h2>Coming starts by the clock</h2>\n")?;
-    add_coming(alloc, &mut text, zone, page.coming)?;
+    add_coming(alloc, text, zone, page.coming)?;
     let why = escaped_lines(alloc, page.why)?;
     let why = why.as_str();
     write!(
         text,
         "<h2>Why each job stands as it does</h2>\n<pre>{why}</pre>\n</main>\n</body>\n</html>\n"
-    )?;
-    Ok(text)
+    )
 }
 
 // The text escaped line by line, so that its newlines stay.

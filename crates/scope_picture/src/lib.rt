@@ -15,5 +15,5 @@ pub use axis::Axis;
 pub use blocks::blocks_text;
 pub use chart::{Bar, Chart, End, Mark, MarkKind, Row};
 pub use escape::escaped;
-pub use html::{Coming, Page, page_text};
-pub use svg::{PLACES, svg_text};
+pub use html::{Coming, Page, page_piece};
+pub use svg::{PLACES, svg_piece};

@@ -4,7 +4,7 @@ use crate::axis::Axis;
 use crate::chart::{Bar, Chart, End, Mark, Row};
 use crate::escape::escaped;
 use crate::ticks::ticks;
-use crate::words::{bar_words, end_class, missing_words};
+use crate::words::{bar_words, cut_text, end_class, missing_words};
 use calendar_due::Zone;
 use history_model::MAX_WALL;
 use scope_times::time_text;
@@ -24,6 +24,12 @@ const ROW: u64 = 50;
 
 const FOOT: u64 = 62;
 
+/// The height of a line of text.
+const LINE: u64 = 16;
+
+/// So many columns of a label are shown: they fill the width.
+const LABEL: usize = 130;
+
 /// So many ticks are written at most.
 const MOST_TICKS: u64 = 9;
 
@@ -41,7 +47,8 @@ const STYLE: &str = "<style>
 .runs .crash { fill: var(--crash); stroke: var(--crash); }
 .runs .stopped { fill: var(--ground); stroke: var(--stopped); stroke-width: 1.5; }
 .runs .lives { fill: var(--lives); stroke: var(--lives); }
-.runs .open { fill: none; stroke-width: 2; }
+.runs .end { stroke: var(--ink); stroke-width: 1; }
+.runs .open { fill: none; stroke: var(--ink); stroke-width: 2; }
 .runs .demand { fill: var(--lives); }
 .runs .throttle { fill: var(--ground); stroke: var(--code); stroke-width: 1.5; }
 .runs .refusal { fill: none; stroke: var(--crash); stroke-width: 2; }
@@ -57,39 +64,74 @@ struct Paper<'a> {
     axis: Axis,
 }
 
-/// The chart as an SVG document. Moments are shown in the zone.
-pub fn svg_text(alloc: Global, zone: &Zone, chart: &Chart) -> Result<String, AllocError> {
+/// A piece of the chart as an SVG document, from 0: its head, one for each row, its foot. None behind these. Moments are shown in the zone.
+/// So no more than a row's text is held at once.
+pub fn svg_piece(
+    alloc: Global,
+    zone: &Zone,
+    chart: &Chart,
+    index: usize,
+) -> Result<Option<String>, AllocError> {
+    let Some(piece) = figure_piece(alloc, zone, chart, index)? else {
+        return Ok(None);
+    };
+    if index > 0 {
+        return Ok(Some(piece));
+    }
     let mut text = String::from_str(alloc, "<?xml version=\"1.0\" encoding=\"UTF-8\"?>\n")?;
-    let figure = figure(alloc, zone, chart)?;
-    text.push_str(figure.as_str())?;
-    Ok(text)
+    text.push_str(piece.as_str())?;
+    Ok(Some(text))
 }
 
-/// The chart as an element `svg`, within a document. Moments are shown in the zone.
-pub(crate) fn figure(alloc: Global, zone: &Zone, chart: &Chart) -> Result<String, AllocError> {
+/// A piece of the chart as an element `svg` within a document, counted as by `svg_piece`.
+pub(crate) fn figure_piece(
+    alloc: Global,
+    zone: &Zone,
+    chart: &Chart,
+    index: usize,
+) -> Result<Option<String>, AllocError> {
     let mut paper = Paper {
         text: String::new(alloc),
         alloc,
         zone,
         axis: chart.axis,
     };
-    let rows = (chart.rows.len() as u64).saturating_mul(ROW);
-    let bottom = rows.saturating_add(HEAD);
-    paper.begin(bottom.saturating_add(FOOT))?;
-    paper.add_ticks(bottom)?;
-    let mut top = HEAD;
-    for row in &chart.rows {
-        paper.add_row(row, top)?;
-        top = top.saturating_add(ROW);
+    let above = index.saturating_sub(1);
+    if index == 0 {
+        paper.add_head(chart)?;
+    } else if let Some(row) = chart.rows.get(above) {
+        paper.add_row(row, below_rows(above))?;
+    } else if above == chart.rows.len() {
+        paper.add_foot(chart)?;
+    } else {
+        return Ok(None);
     }
-    paper.add_legend(bottom)?;
-    paper.add_missing(chart, bottom)?;
-    paper.text.push_str("</svg>\n")?;
     let Paper { text, .. } = paper;
-    Ok(text)
+    Ok(Some(text))
+}
+
+// Where so many rows end.
+fn below_rows(rows: usize) -> u64 {
+    (rows as u64).saturating_mul(ROW).saturating_add(HEAD)
 }
 
 impl Paper<'_> {
+    fn add_head(&mut self, chart: &Chart) -> Result<(), AllocError> {
+        let bottom = below_rows(chart.rows.len());
+        let missing = missing_words(self.alloc, chart)?;
+        let lines = (missing.len() as u64).saturating_mul(LINE);
+        self.begin(bottom.saturating_add(FOOT).saturating_add(lines))?;
+        self.add_ticks(bottom)
+    }
+
+    fn add_foot(&mut self, chart: &Chart) -> Result<(), AllocError> {
+        let bottom = below_rows(chart.rows.len());
+        let missing = missing_words(self.alloc, chart)?;
+        self.add_legend(bottom)?;
+        self.add_missing(missing.as_slice(), bottom)?;
+        self.text.push_str("</svg>\n")
+    }
+
     fn moment(&self, at: u64) -> Result<String, AllocError> {
         time_text(self.alloc, self.zone, at.min(MAX_WALL))
     }
@@ -132,16 +174,23 @@ impl Paper<'_> {
     }
 
     fn add_row(&mut self, row: &Row, top: u64) -> Result<(), AllocError> {
-        let label = escaped(self.alloc, row.label.as_str())?;
-        let label = label.as_str();
+        let whole = escaped(self.alloc, row.label.as_str())?;
+        let whole = whole.as_str();
+        let shown = cut_text(self.alloc, row.label.as_str(), LABEL)?;
+        let shown = escaped(self.alloc, shown.as_str())?;
+        let shown = shown.as_str();
         let written = top.saturating_add(14);
         let base = top.saturating_add(47);
         write!(
             self.text,
-            "<g><text class=\"label\" x=\"10\" y=\"{written}\">{label}</text><path class=\"base\" d=\"M10 {base}h980\"/>\n"
+            "<g><text class=\"label\" x=\"10\" y=\"{written}\">{shown}<title>{whole}</title></text><path class=\"base\" d=\"M10 {base}h980\"/>\n"
         )?;
         for bar in &row.bars {
             self.add_bar(bar, top.saturating_add(31))?;
+        }
+        for bar in &row.bars {
+            let (_, end) = self.axis.edges(bar.from, bar.until);
+            self.add_end(bar.end, LEFT + u64::from(end), top.saturating_add(31))?;
         }
         let lane = top.saturating_add(18);
         self.add_marks("demand", "a demand", row.demands.as_slice(), lane)?;
@@ -150,7 +199,7 @@ impl Paper<'_> {
         self.text.push_str("</g>\n")
     }
 
-    // A bar whose upper edge is there, with its end's shape.
+    // A bar whose upper edge is there.
     fn add_bar(&mut self, bar: &Bar, top: u64) -> Result<(), AllocError> {
         let (begin, end) = self.axis.edges(bar.from, bar.until);
         let from = self.moment(bar.from)?;
@@ -162,25 +211,24 @@ impl Paper<'_> {
         let runs = bar.runs;
         write!(
             self.text,
-            "<g class=\"{class}\" data-runs=\"{runs}\"><title>{told}: {from} to {until}</title><rect x=\"{x}\" y=\"{top}\" width=\"{width}\" height=\"12\"/>"
-        )?;
-        self.add_end(bar.end, LEFT + u64::from(end), top)?;
-        self.text.push_str("</g>\n")
+            "<g class=\"{class}\" data-runs=\"{runs}\"><title>{told}: {from} to {until}</title><rect x=\"{x}\" y=\"{top}\" width=\"{width}\" height=\"12\"/></g>\n"
+        )
     }
 
-    // The shape of an end.
+    // The shape of an end. It stands over the bars, so that one which follows at once does not hide it.
     fn add_end(&mut self, end: End, x: u64, top: u64) -> Result<(), AllocError> {
-        let shape = match end {
-            End::Code(0) | End::Stopped => "",
-            End::Code(_) => "m-2 -3h4v18h-4z\"",
-            End::Signal(_) => "m-2 -3l8 9l-8 9z\"",
-            End::Crash(_) => "m-6 -1l12 14m0 -14l-12 14\" class=\"open\"",
-            End::Lives => "m0 -1l7 7l-7 7\" class=\"open\"",
+        let (form, shape) = match end {
+            End::Code(0) | End::Stopped => return Ok(()),
+            End::Code(_) => ("end", "m-2 -3h4v18h-4z"),
+            End::Signal(_) => ("end", "m-2 -3l8 9l-8 9z"),
+            End::Crash(_) => ("open", "m-4 1l9 10m0 -10l-9 10"),
+            End::Lives => ("open", "m0 -1l7 7l-7 7"),
         };
-        if shape.is_empty() {
-            return Ok(());
-        }
-        write!(self.text, "<path d=\"M{x} {top}{shape}/>")
+        let class = end_class(end);
+        write!(
+            self.text,
+            "<path class=\"{class} {form}\" d=\"M{x} {top}{shape}\"/>\n"
+        )
     }
 
     fn add_marks(
@@ -226,13 +274,13 @@ impl Paper<'_> {
             let class = end_class(end);
             write!(
                 self.text,
-                "<g class=\"{class}\"><rect x=\"{x}\" y=\"{top}\" width=\"22\" height=\"12\"/>"
+                "<rect class=\"{class}\" x=\"{x}\" y=\"{top}\" width=\"22\" height=\"12\"/>"
             )?;
             self.add_end(end, x.saturating_add(22), top)?;
             let beside = x.saturating_add(34);
             write!(
                 self.text,
-                "</g><text class=\"faint\" x=\"{beside}\" y=\"{line}\">{name}</text>\n"
+                "<text class=\"faint\" x=\"{beside}\" y=\"{line}\">{name}</text>\n"
             )?;
             x = x.saturating_add(150);
         }
@@ -260,16 +308,17 @@ impl Paper<'_> {
         Ok(())
     }
 
-    fn add_missing(&mut self, chart: &Chart, bottom: u64) -> Result<(), AllocError> {
-        let Some(missing) = missing_words(self.alloc, chart)? else {
-            return Ok(());
-        };
-        let missing = missing.as_str();
-        let line = bottom.saturating_add(57);
-        write!(
-            self.text,
-            "<text class=\"faint\" x=\"10\" y=\"{line}\">{missing}</text>\n"
-        )
+    fn add_missing(&mut self, sentences: &[String], bottom: u64) -> Result<(), AllocError> {
+        let mut line = bottom.saturating_add(64);
+        for sentence in sentences {
+            let sentence = sentence.as_str();
+            write!(
+                self.text,
+                "<text class=\"faint\" x=\"10\" y=\"{line}\">{sentence}</text>\n"
+            )?;
+            line = line.saturating_add(LINE);
+        }
+        Ok(())
     }
 }
 

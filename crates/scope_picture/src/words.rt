@@ -1,7 +1,40 @@
-//! What is told of bars and of what is left out, in words.
+//! What is told of bars and of what is left out, in words, and how wide a text is.
 
 use crate::chart::{Bar, Chart, End};
 use std::alloc::{AllocError, Global};
+use unicode_width::UnicodeWidthChar;
+
+/// How many columns the character takes; one that can't be shown takes one.
+fn columns_of_char(c: char) -> usize {
+    UnicodeWidthChar::width(c).unwrap_or(1)
+}
+
+/// How many columns the text takes.
+pub(crate) fn columns_of(text: &str) -> usize {
+    let mut columns: usize = 0;
+    for c in text.chars() {
+        columns = columns.saturating_add(columns_of_char(c));
+    }
+    columns
+}
+
+/// The text in at most so many columns: if it is wider, as much of its beginning as has room, and `…`.
+pub(crate) fn cut_text(alloc: Global, text: &str, columns: usize) -> Result<String, AllocError> {
+    if columns_of(text) <= columns {
+        return String::from_str(alloc, text);
+    }
+    let mut cut = String::new(alloc);
+    let mut used: usize = 1;
+    for c in text.chars() {
+        used = used.saturating_add(columns_of_char(c));
+        if used > columns {
+            break;
+        }
+        cut.push(c)?;
+    }
+    cut.push('…')?;
+    Ok(cut)
+}
 
 /// The name of an end's kind, for a picture's style.
 pub(crate) fn end_class(end: End) -> &'static str {
@@ -35,15 +68,21 @@ fn end_words(alloc: Global, end: End) -> Result<String, AllocError> {
     }
 }
 
-/// What is not in the chart, if there is something.
-pub(crate) fn missing_words(alloc: Global, chart: &Chart) -> Result<Option<String>, AllocError> {
+/// What is not in the chart, a sentence for each kind of it.
+pub(crate) fn missing_words(alloc: Global, chart: &Chart) -> Result<Vec<String>, AllocError> {
     let runs = chart.missing_runs;
     let marks = chart.missing_marks;
-    if runs == 0 && marks == 0 {
-        return Ok(None);
+    let refusals = chart.rowless_refusals;
+    let mut sentences = Vec::new(alloc);
+    if runs > 0 || marks > 0 {
+        sentences.push(format!(in alloc;
+            "Not drawn, being older than what is kept: runs {runs}, marks {marks}."
+        )?)?;
     }
-    let text = format!(in alloc;
-        "Not drawn, being older than what is kept: {runs} runs, {marks} marks."
-    )?;
-    Ok(Some(text))
+    if refusals > 0 {
+        sentences.push(format!(in alloc;
+            "Not drawn, being of jobs that were not loaded before: refusals {refusals}."
+        )?)?;
+    }
+    Ok(sentences)
 }
