@@ -1,14 +1,16 @@
 -- A reading so many seconds later makes the spawn due by the clock alone, or by a calendar entry; and the least such number.
-use Rattle.std.proofs.Common.{◌≡◌, ℕ, ◌+◌, ◌*◌, ◌<◌, ◌≤◌, Bool, true, false, not, ◌&&◌, ◌||◌, cond, Option, Some, None, unwrap_or, refl, sym, ◌∙◌, nat_lt, nat_le, arith}
+use Rattle.std.proofs.Common.{◌≡◌, ℕ, ◌+◌, ◌*◌, ◌<◌, ◌≤◌, Bool, true, false, not, ◌&&◌, ◌||◌, cond, List, [], ◌∷◌, length, ◌==◌, ap, Option, Some, None, unwrap_or, refl, sym, ◌∙◌, nat_lt, nat_le, arith}
 use Rattle.std.specs.Prelude.{IfSome}
+use Rattle.std.specs.List.{list_any}
 use Rattle.std.proofs.lemmas.Bool.Decides.{nat_tests}
+use Rattle.history_model.specs.declared.Entry.{Entry}
 use Rattle.history_model.specs.declared.Reading.{Reading}
 use Rattle.history_model.specs.declared.TheConstants.{SECOND}
 use Rattle.history_model.specs.Items.{History}
 use Rattle.history_model.specs.Clock.{now, definition_of}
 use Rattle.history_model.specs.Demands.{interval_fires}
 use Rattle.history_model.specs.Due.{is_wanted, is_throttled}
-use Rattle.history_model.specs.Calendar.{Zone, calendar_fires}
+use Rattle.history_model.specs.Calendar.{Zone, crossed, matches, calendar_fires}
 use Rattle.history_model.specs.Moments.{HasPeriod}
 use Rattle.history_model.specs.NextMomentByFacts.{has_come}
 use Rattle.history_model.specs.Reasons.{reasons_of, needs_event, free_from, throttled_until, spawns_from}
@@ -36,6 +38,19 @@ free-told t up rising = go (is_throttled t) (free-at (now t).up t) where
   go : (b : Bool) → nat_lt (now t).up (free_from t) ≡ b → nat_le (free_from t) up ≡ nat_le (unwrap_or (cond b (Some (free_from t)) None) 0) up
   go true e = refl
   go false e = grind (arith, nat_tests, e, rising)
+
+-- no minute is matched by no entry
+none_fires : (zone : Zone) (entries : List Entry) (previous wall : ℕ) → (length entries == 0) ≡ true → calendar_fires zone entries previous wall ≡ false
+none_fires zone [] previous wall none = none-of (crossed previous wall) where
+  none-of : (minutes : List ℕ) → list_any (λ m. list_any (λ entry. matches entry (zone m)) []) minutes ≡ false
+  none-of [] = refl
+  none-of (m ∷ minutes) = none-of minutes
+none_fires zone (entry ∷ entries) previous wall none = cc
+
+pub none_starts : (zone : Zone) (entries : List Entry) (previous wall : ℕ) (needs free : Bool) → (length entries == 0) ≡ true
+    → false ≡ (not needs && calendar_fires zone entries previous wall && free)
+none_starts zone entries previous wall true free none = refl
+none_starts zone entries previous wall false free none = ap (λ fires. not false && fires && free) (sym (none_fires zone entries previous wall none))
 
 pub spawns-after : (zone : Zone) (t : History) → HasPeriod t → (d : ℕ) → spawns_after zone t d
     ≡ (has_come (spawns_from t) ((now t).up + SECOND * d)

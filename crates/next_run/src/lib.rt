@@ -114,7 +114,9 @@ fn seconds_until(moment: u64, up: u64) -> u64
     }
 }
 
-/// The least number of seconds after which a calendar entry has fired, the throttle is over, and no event is needed.
+/// The least number of seconds after which a calendar entry has fired, the throttle is over, and no event is needed. Without entries no
+/// minute is looked at.
+#[tactic(auto, using(crate::proofs::NextRunLemmas::none_starts))]
 fn by_calendar(
     reasons: &Reasons,
     entries: &[Entry],
@@ -130,6 +132,9 @@ fn by_calendar(
         && calendar_fires (minute_at zone.now) entries.now now.wall (now.wall + d)
         && nat_le (unwrap_or reasons.now.throttled_until 0) (now.up + SECOND * d)) }
 {
+    if entries.is_empty() {
+        return None;
+    }
     if needs_event(reasons) {
         return None;
     }
