@@ -74,16 +74,6 @@ impl JournalReader {
         Ok(true)
     }
 
-    /// Reads each whole line that was taken.
-    pub fn read_on(&mut self, alloc: Global) -> Result<(), JournalFault> {
-        for _ in 0..u64::MAX {
-            if !self.next(alloc)? {
-                break;
-            }
-        }
-        Ok(())
-    }
-
     /// The journal, if its header was read.
     pub fn journal(&self) -> Option<&Journal> {
         self.journal.as_ref()

@@ -92,7 +92,12 @@ impl<'a> Heard<'a> {
 
 // Whether the label is among those; each is if there is none.
 fn is_named(labels: &[Text], label: &str) -> bool {
-    labels.is_empty() || labels.iter().any(|named| named.as_str() == label)
+    for named in labels {
+        if named.as_str() == label {
+            return true;
+        }
+    }
+    labels.is_empty()
 }
 
 // The mark that an event of a journal makes, if it makes one.

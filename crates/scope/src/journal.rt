@@ -1,9 +1,10 @@
-//! A journal that words name: where it is, and its reading to the end of what is there.
+//! A journal that words name: where it is, and its reading.
 
+use crate::listener::Listener;
 use crate::telling::{BAD_FILE, tell_of};
 use journal_reading::{JournalFault, JournalReader};
 use scope_words::JournalWords;
-use std::alloc::Global;
+use std::alloc::{AllocError, Global};
 use std::env::VarError;
 use std::fs::File;
 use std::io::{ErrorKind, IsTerminal, Read};
@@ -81,15 +82,33 @@ pub(crate) fn take_piece(
     }
 }
 
+/// Reads each whole line that was taken.
+pub(crate) fn read_lines(
+    alloc: Global,
+    reader: &mut JournalReader,
+    listener: &mut Listener<'_>,
+) -> Result<(), JournalFault> {
+    for _ in 0..u64::MAX {
+        if !reader.next(alloc)? {
+            break;
+        }
+        listener.hear(alloc, reader)?;
+    }
+    Ok(())
+}
+
 /// The journal's path: that of the words, else that of `JOBD_JOURNAL`. None: it comes on standard input.
-pub(crate) fn journal_path(host: &HostRuntime, of: &JournalWords) -> io::Result<Option<String>> {
+pub(crate) fn journal_path(
+    host: &HostRuntime,
+    of: &JournalWords,
+) -> Result<Option<String>, AllocError> {
     if let Some(path) = &of.journal {
         return Ok(Some(String::from_str(host.alloc(), path.as_str())?));
     }
     match env::var(host, "JOBD_JOURNAL") {
         Ok(path) if path.is_empty() => Ok(None),
         Ok(path) => Ok(Some(path)),
-        Err(VarError::OutOfMemory) => Err(io::Error::from(ErrorKind::OutOfMemory)),
+        Err(VarError::OutOfMemory) => Err(AllocError),
         Err(_) => Ok(None),
     }
 }
@@ -103,12 +122,18 @@ pub(crate) fn open_journal(host: &HostRuntime, path: &str) -> io::Result<File> {
 }
 
 /// Tells what keeps the journal from being read. An error for want of memory.
-pub(crate) fn tell_fault(host: &HostRuntime, name: &str, fault: &JournalFault) -> io::Result<()> {
-    if let JournalFault::NoMemory = fault {
-        return Err(io::Error::from(ErrorKind::OutOfMemory));
+pub(crate) fn tell_fault(
+    host: &HostRuntime,
+    name: &str,
+    fault: &JournalFault,
+) -> Result<(), AllocError> {
+    match fault {
+        JournalFault::NoMemory => Err(AllocError),
+        fault => {
+            tell_of(host, name, fault);
+            Ok(())
+        }
     }
-    tell_of(host, name, fault);
-    Ok(())
 }
 
 /// Tells the lines that are no event, if there are some, and answers the exit status.
@@ -134,6 +159,7 @@ fn read_source(
     alloc: Global,
     source: &mut Source,
     feed: &mut Feed,
+    listener: &mut Listener<'_>,
 ) -> Result<(), JournalFault> {
     let is_seen = host.stderr().is_terminal();
     let mut is_told = false;
@@ -141,7 +167,7 @@ fn read_source(
         if !take_piece(host, source, feed)? {
             break;
         }
-        feed.reader.read_on(alloc)?;
+        read_lines(alloc, &mut feed.reader, listener)?;
         if is_seen && count % STRIDE == 0 {
             let lines = feed.reader.lines;
             let _written = eprint!(host; "\r{lines} lines");
@@ -164,11 +190,12 @@ pub(crate) fn read_journal(
     alloc: Global,
     of: &JournalWords,
     feed: &mut Feed,
-) -> io::Result<Option<u8>> {
+    listener: &mut Listener<'_>,
+) -> Result<Option<u8>, AllocError> {
     let path = journal_path(host, of)?;
     let name = name_of(&path);
     let read = match source_of(host, &path) {
-        Ok(mut source) => read_source(host, alloc, &mut source, feed),
+        Ok(mut source) => read_source(host, alloc, &mut source, feed, listener),
         Err(error) => Err(JournalFault::Read(error)),
     };
     match read {
