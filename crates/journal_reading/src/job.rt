@@ -5,7 +5,7 @@ use history_model::{DemandKind, Ended, Reading};
 use job_defs::Def;
 
 /// What was asked of a job, by a control client.
-#[derive(Clone, Copy, PartialEq, Eq)]
+#[derive(Clone, Copy)]
 pub enum Asked {
     Start,
     Stop,
@@ -226,7 +226,7 @@ impl Job {
             totals.loaded = totals.loaded.saturating_add(loaded);
         }
         match &self.current {
-            Some(run) if run.end == RunEnd::Lives => {
+            Some(run) if run.is_alive() => {
                 totals.lived = totals.lived.saturating_add(run.lived(at));
             }
             _ if self.def.is_some() => {

@@ -155,7 +155,7 @@ impl Journal {
     // What keeps from a start, or asks for an end, is kept until the next order.
     fn note_asked(&mut self, label: &str, asked: Asked) {
         let at = self.reading();
-        if asked == Asked::Shutdown {
+        if let Asked::Shutdown = asked {
             for (_, job) in self.past.jobs.iter_mut() {
                 job.asked = Some((asked, at));
             }

@@ -5,7 +5,7 @@ ghost use Rattle.history_model.specs.Levels.{is_crash_end};
 use history_model::{DemandKind, Ended, Reading};
 
 /// How a run stands, or how it ended.
-#[derive(Clone, Copy, PartialEq, Eq)]
+#[derive(Clone, Copy)]
 pub enum RunEnd {
     /// The answer to its order is awaited.
     Awaited,
@@ -65,6 +65,22 @@ impl Run {
             end: RunEnd::Awaited,
             is_ordered_to_end: false,
             is_crash: false,
+        }
+    }
+
+    /// Whether its child lives.
+    pub fn is_alive(&self) -> bool {
+        match self.end {
+            RunEnd::Lives => true,
+            _ => false,
+        }
+    }
+
+    /// Whether its order was refused.
+    pub fn is_refused(&self) -> bool {
+        match self.end {
+            RunEnd::Refused => true,
+            _ => false,
         }
     }
 

@@ -1,7 +1,7 @@
 //! What the runs of each job came to, in columns with a tab between them.
 
 use history_model::Text;
-use journal_reading::{Job, Journal, RunEnd};
+use journal_reading::{Job, Journal};
 use std::alloc::{AllocError, Global};
 use std::fmt::Write;
 
@@ -34,7 +34,7 @@ fn lengths(alloc: Global, journal: &Journal) -> Result<Vec<(u64, u64)>, AllocErr
     let now = journal.reading();
     let mut lengths = Vec::new(alloc);
     for run in &journal.past.runs {
-        if run.end != RunEnd::Refused {
+        if !run.is_refused() {
             lengths.push((run.job, run.lived(now)))?;
         }
     }
