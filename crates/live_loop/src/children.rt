@@ -1,5 +1,6 @@
 //! The children, each asked about once a round, as long as there is time.
 
+use crate::round_launcher::RoundLauncher;
 use crate::round_time::RoundTime;
 use crate::system::System;
 use child_edge::{ChildEdge, OsEdge};
@@ -7,7 +8,6 @@ use control_socket::Limit;
 use history_model::{JobNo, MAX_JOBS};
 use launcher::{Input, LabelRoom};
 use outside::SettingStore;
-use round_findings::RoundLauncher;
 use std::alloc::Global;
 use std::io::Write;
 

@@ -3,6 +3,7 @@
 use crate::caller::{Caller, Gathered, Origin};
 use crate::callers::{CALLERS, Callers};
 use crate::losses::{Loss, Losses};
+use crate::round_launcher::RoundLauncher;
 use crate::round_time::RoundTime;
 use crate::silence::Place;
 use crate::system::System;
@@ -12,7 +13,6 @@ use history_model::{JobNo, MAX_JOBS, Refusal, Text};
 use launcher::{Input, LabelRoom};
 use mio::{Registry, Token};
 use outside::SettingStore;
-use round_findings::RoundLauncher;
 use std::alloc::{AllocError, Global};
 use std::io::Write;
 

@@ -4,6 +4,8 @@ ghost use Rattle.std.specs.Prelude.{◌≡◌};
 
 use crate::fault::ServeFault;
 use crate::job_sockets::JobSockets;
+use crate::paths::Sights;
+use crate::round_launcher::RoundLauncher;
 use crate::system::System;
 use crate::voice::Voice;
 use crate::waiting::SHORTEST;
@@ -13,7 +15,6 @@ use history_model::JobNo;
 use launcher::{Host, LabelRoom};
 use mio::{Events, Poll, Token};
 use outside::SettingStore;
-use round_findings::{RoundLauncher, Sights};
 use std::alloc::{AllocError, Global};
 use std::io::Write;
 use std::net::Net;

@@ -1,8 +1,8 @@
--- The answers to the goals of `quiet::is_reached`.
+-- The answers to the goals of `news::is_reached`.
 use Rattle.std.proofs.Common.{sym, ap, ◌∙◌}
-use Rattle.round_findings.specs.Quiet.{is_reached as has_reached}
-use Rattle.round_findings.proofs.QuietLemmas.{reached}
-use Rattle.round_findings.proofs.quiet.is_reached.Goals as goal
+use Rattle.live_loop.specs.News.{is_reached as has_reached}
+use Rattle.live_loop.proofs.NewsLemmas.{reached}
+use Rattle.live_loop.proofs.news.is_reached.Goals as goal
 
 pub returns-in-None : goal.returns-in-None
 returns-in-None c = λ jobs next. sym (ap (has_reached c.args.up) c.in-None.is) ∙ reached c.args.up c.args.moment jobs next

@@ -1,6 +1,6 @@
 //! What a round of the live loop finds, handed to the launcher one by one.
 
-use crate::quiet::is_news;
+use crate::news::is_news;
 use child_edge::{ChildEdge, ClockEdge, SocketEdge};
 use control_socket::Answers;
 use history_model::{Reading, Reply};

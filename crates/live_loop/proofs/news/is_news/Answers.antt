@@ -1,10 +1,10 @@
--- The answers to the goals of `quiet::is_news`.
+-- The answers to the goals of `news::is_news`.
 use Rattle.std.proofs.Common.{◌≡◌}
 use Rattle.std.specs.List.{list_any}
 use Rattle.history_model.specs.Moments.{next_moment}
 use Rattle.job_table.specs.Moments.{have_calendars}
-use Rattle.round_findings.specs.Quiet.{is_reached as has_come}
-use Rattle.round_findings.proofs.quiet.is_news.Goals as goal
+use Rattle.live_loop.specs.News.{is_reached as has_come}
+use Rattle.live_loop.proofs.news.is_news.Goals as goal
 
 pub returns : goal.returns
 returns c = λ s keeps.
