@@ -17,6 +17,7 @@ use launchctl_words::ZoneWords;
 use launcher::{Host, HostFault};
 use live_loop::{Live, ServeFault, System, serve};
 use outside::SettingStore;
+use override_store::StoredSettings;
 use own_files::LockFile;
 use own_process::{Standing, open_null_streams};
 use sqlite::{Alter, Connection, FileStore};
@@ -24,7 +25,6 @@ use std::alloc::Global;
 use std::fs::File;
 use std::io::BufWriter;
 use std::sync::Wait;
-use stored_settings::StoredSettings;
 
 /// The store in its file.
 type Stored = StoredSettings<FileStore<sqlite::File>>;

@@ -4,13 +4,12 @@ use crate::looking::{Found, LookFault, look};
 use crate::reporting::{Level, refuse, report};
 use exit_status::{NO_MEMORY, STORE};
 use history_model::Setting;
-use override_store::StoreFault;
+use override_store::{StoreFault, StoredSettings, opened};
 use own_files::make_private;
 use sqlite::{Alter, Connection, Error, ErrorCode, File, FileStore, Options, Unknown};
 use sqlite_std_file::OpenError;
 use std::alloc::Global;
 use std::hash::{BuildHasher, RandomState};
-use stored_settings::{StoredSettings, opened};
 
 /// As many pages of the store are kept in memory.
 const CACHE_PAGES: usize = 64;

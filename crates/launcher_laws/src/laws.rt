@@ -10,7 +10,7 @@ ghost use Rattle.ctl_protocol.specs.declared.header.Header.{Header};
 ghost use Rattle.override_store.specs.OverrideStores.{HoldsSettings, IsOpenedOn, rows_in};
 ghost use Rattle.override_store.specs.Settings.{HoldsEach, ListAlike};
 ghost use Rattle.outside.specs.Stores.{StoreCall};
-ghost use Rattle.stored_settings.specs.declared.StoredSettings.{StoredSettings as Stored};
+ghost use Rattle.override_store.specs.declared.stored_settings.StoredSettings.{StoredSettings as Stored};
 ghost use Rattle.event_journal.specs.declared.journal.Phase.TheVariants.{Open};
 ghost use Rattle.event_journal.specs.Journals.{JournalState, fresh};
 ghost use Rattle.launcher.specs.Hosts.{IsNew, with_settings};
@@ -20,9 +20,8 @@ ghost use Rattle.launcher_laws.specs.Replays.{IsReplayed};
 ghost use Rattle.child_edge.specs.Calls.{ToldCall};
 
 use outside::SettingStore;
-use override_store::OverrideStore;
+use override_store::{OverrideStore, StoredSettings};
 use sqlite::Alter;
-use stored_settings::StoredSettings;
 
 /// After any turns the table stands for the machine that the turns' events lead to, and the store holds that machine's settings. The
 /// replies and the calls were the machine's.

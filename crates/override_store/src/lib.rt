@@ -20,12 +20,14 @@ pub mod laws;
 mod lists;
 mod open;
 mod statements;
+mod stored_settings;
 
 use history_model::Setting;
 use sqlite::{Alter, Connection, Error, ErrorCode};
 use sqlite_trees::store::Store;
 use std::alloc::Global;
 use std::marker::Model;
+pub use stored_settings::{StoredSettings, opened, opened_again};
 
 /// Why a store refuses.
 #[derive(Clone, Copy, PartialEq, Eq)]

@@ -10,11 +10,11 @@ use history_model::Setting;
 use launcher::{Host, Input};
 use memory_stage::{Sink, edge, header};
 use outside::SettingStore;
+use override_store::opened;
 use sqlite::{Alter, Connection, Files};
 use sqlite_disk::{Disk, Memory};
 use std::alloc::Global;
 use std::io::Write;
-use stored_settings::opened;
 
 const DISABLE: &[u8] = b"{\"req\":\"disable\",\"job\":\"a\"}";
 

@@ -1,6 +1,6 @@
 -- The answers to the goals of `laws::a_store_opened_again_has_the_last_settings`.
 use Rattle.sqlite.specs.Held.{state}
-use Rattle.stored_settings.specs.declared.StoredSettings.{StoredSettings}
+use Rattle.override_store.specs.declared.stored_settings.StoredSettings.{StoredSettings}
 use Rattle.launcher_laws.proofs.ReopenedLemmas.{reopened}
 use Rattle.launcher_laws.proofs.laws.a_store_opened_again_has_the_last_settings.Goals as goal
 

@@ -1,5 +1,5 @@
--- The answers to the goals of `StoredSettingsSettingStore::set`.
-use Rattle.stored_settings.proofs.StoredSettingsSettingStore.set.Goals as goal
+-- The answers to the goals of `stored_settings::StoredSettingsSettingStore::set`.
+use Rattle.override_store.proofs.stored_settings.StoredSettingsSettingStore.set.Goals as goal
 
 pub returns-in-Ok : goal.returns-in-Ok
 returns-in-Ok g c = record {

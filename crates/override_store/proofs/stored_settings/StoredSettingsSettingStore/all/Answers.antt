@@ -1,6 +1,6 @@
--- The answers to the goals of `StoredSettingsSettingStore::all`.
+-- The answers to the goals of `stored_settings::StoredSettingsSettingStore::all`.
 use Rattle.std.proofs.Common.{reverse}
-use Rattle.stored_settings.proofs.StoredSettingsSettingStore.all.Goals as goal
+use Rattle.override_store.proofs.stored_settings.StoredSettingsSettingStore.all.Goals as goal
 
 pub returns-in-Ok : goal.returns-in-Ok
 returns-in-Ok g c = record {

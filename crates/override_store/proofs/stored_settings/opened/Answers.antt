@@ -1,6 +1,6 @@
--- The answers to the goals of `opened`.
+-- The answers to the goals of `stored_settings::opened`.
 use Rattle.std.proofs.Common.{[], reverse}
-use Rattle.stored_settings.proofs.opened.Goals as goal
+use Rattle.override_store.proofs.stored_settings.opened.Goals as goal
 
 pub returns-in-Ok-all-clause-holds : goal.returns-in-Ok-all-clause-holds
 returns-in-Ok-all-clause-holds g c fit clean up =

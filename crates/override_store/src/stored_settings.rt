@@ -1,6 +1,5 @@
 //! The store of overrides as the place where a launcher's settings last: it holds each setting that was made, and so does the
 //! store that is opened again.
-#![tactic(auto)]
 
 ghost use Rattle.std.specs.Prelude.{◌≡◌, ◌⊎◌, ◌↔◌, IfErr, IfOk, None, [], reverse};
 ghost use Rattle.sqlite.specs.Held.{state};
@@ -9,10 +8,10 @@ ghost use Rattle.outside.specs.declared.store.StoreFault.TheVariants as given;
 ghost use Rattle.sqlite.specs.Tree.{Trees};
 ghost use Rattle.sqlite.specs.View.{IsClean};
 
+use crate::again::on_connection;
+use crate::{OverrideStore, StoreFault};
 use history_model::Setting;
 use outside::{self, SettingStore};
-use override_store::again::on_connection;
-use override_store::{OverrideStore, StoreFault};
 use sqlite::{Alter, Connection};
 use std::alloc::Global;
 
@@ -84,7 +83,7 @@ pub fn opened<S: Alter + Drop>(
 
 /// The store closed and opened again on its connection: it holds the settings that it held. Refused as
 /// `OverrideStore::open_on`; the store is then dropped.
-pub fn again<S: Alter + Drop>(
+pub fn opened_again<S: Alter + Drop>(
     alloc: Global,
     settings: StoredSettings<S>,
 ) -> Result<StoredSettings<S>, StoreFault>
