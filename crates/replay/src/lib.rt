@@ -9,8 +9,10 @@ mod loads;
 mod opening;
 mod replaying;
 mod status;
+mod streams;
 mod whole;
 
 pub use replay_loop::{LINE_LIMIT, ReplayFault};
 pub use replaying::{replay, replay_within};
 pub use status::status_of;
+pub use streams::replay_input;

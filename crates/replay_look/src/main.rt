@@ -2,7 +2,7 @@
 //! `make run` builds it in a fraction of the time that the whole of `jobd` takes.
 #![tactic(auto)]
 
-use replay_streams::replay_input;
+use replay::replay_input;
 use std::process::ExitCode;
 
 fn main(rt: HostRuntime) -> ExitCode {

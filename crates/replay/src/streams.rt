@@ -1,9 +1,10 @@
 //! The replay of a journal over the program's own streams: standard input is the journal, and standard output gets one outcome
 //! line for each event.
-#![tactic(auto)]
 
+use crate::replaying::replay;
+use crate::status::status_of;
 use exit_status::NO_MEMORY;
-use replay::{ReplayFault, replay, status_of};
+use replay_loop::ReplayFault;
 use std::io;
 use std::io::{BufWriter, Write};
 
