@@ -131,9 +131,9 @@ SOURCE = {
     "calendars": read(DEFS + "calendars.rt"),
     "conditions": read(DEFS + "conditions.rt"),
     "surroundings": read(DEFS + "surroundings.rt"),
-    "socket": read("crates/socket_defs/src/socket.rt"),
-    "host": read("crates/socket_defs/src/host.rt"),
-    "sockets": read("crates/socket_defs/src/sockets.rt"),
+    "socket": read(DEFS + "socket.rt"),
+    "host": read(DEFS + "host.rt"),
+    "sockets": read(DEFS + "sockets.rt"),
     "keys": read("crates/json_kinds/src/keys.rt"),
     "label": read("crates/history_model/specs/Labels.antt"),
 }

@@ -11,7 +11,7 @@ use Rattle.job_defs.specs.Described.{Described}
 use Rattle.json_kinds.specs.Faults.{bad, or_fault, ◌>>=◌}
 use Rattle.json_kinds.specs.Kinds.{bool_key, optional_text, required, text_at}
 use Rattle.job_defs.specs.Commands.{command_key, label_key}
-use Rattle.socket_defs.specs.Sockets.{sockets_and_inetd}
+use Rattle.job_defs.specs.Sockets.{sockets_and_inetd}
 use Rattle.job_defs.specs.Keys.{json_at, Launch, launch_at, demand_at, pace_at, surroundings_at, refusals_at, def_at, def_of}
 
 -- what a step goes on with

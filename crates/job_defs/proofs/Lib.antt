@@ -1,2 +1,3 @@
+pub mod HostLemmas
 pub mod IgnoredLemmas
 pub mod LabelLemmas

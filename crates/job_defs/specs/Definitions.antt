@@ -3,7 +3,7 @@ use Rattle.std.specs.Prelude.{ℕ, Bool, List, map}
 use Rattle.history_model.specs.Items.{Definition}
 use Rattle.history_model.specs.Machine.{Given}
 use Rattle.job_defs.specs.Described.{Described}
-use Rattle.socket_defs.specs.Sockets.{has_some}
+use Rattle.job_defs.specs.Sockets.{has_some}
 use Rattle.job_defs.specs.declared.parts.PathState.{PathState}
 
 -- a path, and whether something is to be there

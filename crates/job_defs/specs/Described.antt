@@ -4,7 +4,7 @@ use Rattle.std.specs.Prelude.{ℕ, Bool, List, Option}
 use Rattle.history_model.specs.declared.Entry.{Entry}
 use Rattle.job_defs.specs.declared.parts.PathState.{PathState}
 use Rattle.job_defs.specs.declared.parts.Variable.{Variable}
-use Rattle.socket_defs.specs.declared.parts.Socket.{Socket}
+use Rattle.job_defs.specs.declared.parts.Socket.{Socket}
 
 -- the definition as its getters give it
 pub record Described : Type 0 where

@@ -8,7 +8,7 @@ use Rattle.history_model.specs.declared.Reason.TheVariants.{NotJson, NotObject}
 use Rattle.history_model.specs.declared.KeyName.TheVariants.{NoKey, Program, RunAtLoad, LaunchOnlyOnce, DisabledKey, OnDemand, WatchPaths, QueueDirectories, StartInterval, ThrottleInterval, ExitTimeOut, WorkingDirectory, StandardInPath, StandardOutPath, StandardErrorPath, UserName, GroupName, RootDirectory}
 use Rattle.history_model.specs.Machine.{Fault}
 use Rattle.job_defs.specs.declared.parts.Variable.{Variable}
-use Rattle.socket_defs.specs.declared.parts.Socket.{Socket}
+use Rattle.job_defs.specs.declared.parts.Socket.{Socket}
 use Rattle.job_defs.specs.Described.{Described}
 use Rattle.json_kinds.specs.Faults.{bad, or_fault, ◌>>=◌}
 use Rattle.json_kinds.specs.Json.{json_in}
@@ -19,7 +19,7 @@ use Rattle.job_defs.specs.Conditions.{Keep, keep_key}
 use Rattle.job_defs.specs.Paths.{paths_key}
 use Rattle.job_defs.specs.Calendars.{calendar_key}
 use Rattle.job_defs.specs.Variables.{environment_key}
-use Rattle.socket_defs.specs.Sockets.{has_some, sockets_and_inetd}
+use Rattle.job_defs.specs.Sockets.{has_some, sockets_and_inetd}
 use Rattle.job_defs.specs.Ignored.{not_acted_on}
 
 -- ---- what is run

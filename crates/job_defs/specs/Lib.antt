@@ -6,5 +6,6 @@ pub mod Paths
 pub mod Calendars
 pub mod Variables
 pub mod Ignored
+pub mod Sockets
 pub mod Keys
 pub mod Parts

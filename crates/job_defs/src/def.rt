@@ -3,9 +3,8 @@
 ghost use Rattle.std.specs.Prelude.{◌≡◌, ◌≤◌, IfSome, option_map};
 ghost use Rattle.job_defs.specs.Definitions.{has_sockets};
 
-use crate::parts::{Demand, Launch, Pace, PathState, Surroundings, Variable};
+use crate::parts::{Demand, Launch, Pace, PathState, Socket, Surroundings, Variable};
 use history_model::{Entry, Text};
-use socket_defs::Socket;
 use std::marker::Model;
 
 /// A job's definition, read from JSON by [`read_def`](crate::read_def). The keys and their meaning are those of

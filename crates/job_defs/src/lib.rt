@@ -1,19 +1,23 @@
-//! Reads the definitions of jobs, a profile of launchd.plist(5) in JSON.
+//! Reads the definitions of jobs, a profile of launchd.plist(5) in JSON, and tells which of their keys nothing acts on.
 #![tactic(auto)]
 
 mod calendars;
 mod conditions;
 mod def;
 mod demand;
+mod host;
 mod ignored;
 mod launch;
 pub mod laws;
+mod load_text;
 mod parts;
 mod read;
+mod socket;
+mod sockets;
 mod surroundings;
 
 pub use def::Def;
 pub use json_kinds::{DefFault, is_label, json_value, key_name, reason_name};
-pub use parts::{PathState, Variable};
+pub use load_text::loaded;
+pub use parts::{Address, PathState, Socket, Variable};
 pub use read::read_def;
-pub use socket_defs::{Address, Socket};

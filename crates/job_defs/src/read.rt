@@ -9,12 +9,12 @@ use crate::def::Def;
 use crate::demand::{demand_keys, pace_keys};
 use crate::ignored::not_acted_on_of;
 use crate::launch::launch_keys;
+use crate::sockets::sockets_and_inetd_of;
 use crate::surroundings::surroundings_keys;
 use history_model::{KeyName, Reason};
 use json_kinds::keys::refused_key_of;
 use json_kinds::{DefFault, json_value};
 use serde_json::Value;
-use socket_defs::sockets_and_inetd_of;
 use std::alloc::Global;
 
 /// Reads the bytes of a job's definition: a JSON object (RFC 8259) with the keys of launchd.plist(5).

@@ -7,9 +7,8 @@ ghost use Rattle.replay.specs.Answers.{IsReplied};
 
 use crate::lines::{accepted_line, answer_line, refused_line};
 use history_model::{Refusal, Text};
-use job_defs::Def;
+use job_defs::{Def, loaded};
 use job_table::JobTable;
-use job_texts::loaded;
 use std::alloc::{AllocError, Global};
 
 /// What the outside refuses of a load: the sockets of a job that has any, then the store, if a setting is written.

@@ -2,8 +2,8 @@
 
 ghost use Rattle.std.specs.Prelude.{◌≡◌, ◌≤◌, [], ◌∷◌, MatchOption};
 ghost use Rattle.std.specs.List.{slice_split};
-ghost use Rattle.socket_defs.specs.Sockets as sockets;
-ghost use Rattle.socket_defs.specs.Sockets.{four_octets};
+ghost use Rattle.job_defs.specs.Sockets as sockets;
+ghost use Rattle.job_defs.specs.Sockets.{four_octets};
 
 use json_kinds::all_digits;
 

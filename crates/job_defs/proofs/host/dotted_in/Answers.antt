@@ -1,8 +1,8 @@
 -- What the check of `host::dotted_in` does not find by itself.
 use Rattle.std.proofs.Common.{◌∷◌, sym, ap, ◌∙◌}
-use Rattle.socket_defs.specs.Sockets.{dotted_in, octets_in}
-use Rattle.socket_defs.proofs.HostLemmas.{five_parts}
-use Rattle.socket_defs.proofs.host.dotted_in.Goals as goal
+use Rattle.job_defs.specs.Sockets.{dotted_in, octets_in}
+use Rattle.job_defs.proofs.HostLemmas.{five_parts}
+use Rattle.job_defs.proofs.host.dotted_in.Goals as goal
 
 pub returns-in-Some : goal.returns-in-Some
 unfolding dotted_in

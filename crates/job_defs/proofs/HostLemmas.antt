@@ -8,7 +8,7 @@ use Rattle.std.proofs.lemmas.Str.Pattern.{IsSplitOnceResult, split_once_first}
 use Rattle.std.proofs.lemmas.Str.Parse.{IsNumeralModel, numerals_by_value, parse_gives, digits_value_short}
 use Rattle.std.proofs.lemmas.Bool.Decides.{nat_tests}
 use Rattle.json_kinds.specs.Digits.{is_digit}
-use Rattle.socket_defs.specs.Sockets.{is_dot, number_in, octets_in}
+use Rattle.job_defs.specs.Sockets.{is_dot, number_in, octets_in}
 
 -- ---- dots
 

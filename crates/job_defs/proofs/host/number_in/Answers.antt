@@ -1,7 +1,7 @@
 -- What the check of `host::number_in` does not find by itself.
 use Rattle.std.proofs.Common.{◌∙◌, ◌<◌, ◌≤◌, length, rules}
-use Rattle.socket_defs.proofs.HostLemmas.{number_is}
-use Rattle.socket_defs.proofs.host.number_in.Goals as goal
+use Rattle.job_defs.proofs.HostLemmas.{number_is}
+use Rattle.job_defs.proofs.host.number_in.Goals as goal
 
 pub returns : goal.returns
 returns c =

@@ -2,9 +2,9 @@
 use Rattle.std.proofs.Common.{◌≡◌, drop}
 use Rattle.serde_json.specs.View.{items_view}
 use Rattle.json_kinds.specs.Kinds.{each_item}
-use Rattle.socket_defs.specs.Sockets.{socket_at}
+use Rattle.job_defs.specs.Sockets.{socket_at}
 use Rattle.json_kinds.proofs.KindsLemmas.{with_front}
-use Rattle.socket_defs.proofs.sockets.each_socket.Given as goal
+use Rattle.job_defs.proofs.sockets.each_socket.Given as goal
 
 abbrev pub invariant-loop-item : goal.invariant-loop-item
 invariant-loop-item l = with_front l.sockets.items (each_item socket_at (items_view (drop l.item-index l.items))) ≡ each_item socket_at (items_view l.items)

@@ -12,9 +12,9 @@ use Rattle.history_model.specs.declared.Reason.TheVariants.{Missing, OutOfRange,
 use Rattle.history_model.specs.declared.KeyName.TheVariants as keys
 use Rattle.history_model.specs.Machine.{Fault}
 use Rattle.history_model.specs.RefusalTexts.{key_text}
-use Rattle.socket_defs.specs.declared.parts.Socket.{Socket}
-use Rattle.socket_defs.specs.declared.parts.Address.{Address}
-use Rattle.socket_defs.specs.declared.parts.Address.TheVariants.{Unix, Inet}
+use Rattle.job_defs.specs.declared.parts.Socket.{Socket}
+use Rattle.job_defs.specs.declared.parts.Address.{Address}
+use Rattle.job_defs.specs.declared.parts.Address.TheVariants.{Unix, Inet}
 use Rattle.json_kinds.specs.Digits.{is_digit}
 use Rattle.json_kinds.specs.Faults.{bad, or_fault, ◌>>=◌}
 use Rattle.json_kinds.specs.Names.{Key, secure_key, socket_type, passive, family, protocol, path_name, node_name, service_name, wait}

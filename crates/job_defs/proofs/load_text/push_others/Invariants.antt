@@ -1,7 +1,7 @@
--- What stays true in the loop of `push_others`.
+-- What stays true in the loop of `load_text::push_others`.
 use Rattle.std.proofs.Common.{◌≡◌, ◌++◌, codes, drop, string_bytes}
 use Rattle.std.specs.List.{flat_map}
-use Rattle.job_texts.proofs.push_others.Given as goal
+use Rattle.job_defs.proofs.load_text.push_others.Given as goal
 
 abbrev pub invariant-loop-name : goal.invariant-loop-name
 invariant-loop-name l =

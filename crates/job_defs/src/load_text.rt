@@ -1,6 +1,5 @@
 //! The text that answers a load: the keys of its definition that are not acted on (launchctl(1), load; the layout is this
 //! project's own). What `list` and `print` show is the table's.
-#![tactic(auto)]
 
 ghost use Rattle.std.specs.Prelude.{◌≡◌, ◌∷◌, ◌++◌, IfOk, OnOk, codes};
 ghost use Rattle.std.specs.List.{flat_map};
