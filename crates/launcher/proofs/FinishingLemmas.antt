@@ -8,7 +8,7 @@ use Rattle.job_table.specs.Ends.{AreKnown, acts_of, names_in}
 use Rattle.job_table.specs.Numbers.{IsNumbered}
 use Rattle.job_table.specs.declared.Step.{Step}
 use Rattle.outside.specs.declared.unheard.Unheard.{Unheard}
-use Rattle.event_journal.specs.Journals.{JournalState, Grows}
+use Rattle.launcher.specs.Journals.{JournalState, Grows}
 use Rattle.launcher.specs.Turns.{Begins, Carried, IsLed, NamesLabel, trace}
 use Rattle.launcher.proofs.TurnsLemmas.{Settles, turned-at}
 use Rattle.launcher.specs.LoadTurns.{Finishes, HasTaken}

@@ -15,8 +15,8 @@ use Rattle.outside.specs.declared.asking.Outside.{Outside}
 use Rattle.outside.specs.Stores.{StoreCall}
 use Rattle.outside.proofs.AskLemmas.{told_nothing}
 use Rattle.outside.specs.Asking.{told_of}
-use Rattle.event_journal.specs.Journals.{JournalState, Grows}
-use Rattle.event_journal.proofs.JournalsLemmas.{grows_nothing}
+use Rattle.launcher.specs.Journals.{JournalState, Grows}
+use Rattle.launcher.proofs.JournalsLemmas.{grows_nothing}
 use Rattle.ctl_protocol.specs.EventWriter.{event_line}
 use Rattle.launcher.specs.declared.event_ref.EventRef.{EventRef}
 use Rattle.launcher.specs.declared.event_ref.EventRef.TheVariants as happenings

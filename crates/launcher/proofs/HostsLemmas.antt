@@ -18,8 +18,8 @@ use Rattle.outside.specs.Orders.{answers_in}
 use Rattle.outside.specs.Stores.{StoreCall}
 use Rattle.outside.proofs.AskLemmas.{told_nothing}
 use Rattle.ctl_protocol.specs.EventWriter.{event_line}
-use Rattle.event_journal.specs.Journals.{JournalState, Grows}
-use Rattle.event_journal.proofs.JournalsLemmas.{grows_append, grows_nothing}
+use Rattle.launcher.specs.Journals.{JournalState, Grows}
+use Rattle.launcher.proofs.JournalsLemmas.{grows_append, grows_nothing}
 use Rattle.launcher.specs.Turns.{IsLed}
 use Rattle.job_table.specs.Loads.{refused_with}
 use Rattle.launcher.specs.Lines.{answer_texts}

@@ -5,6 +5,7 @@ pub mod FinishingLemmas
 pub mod HeaderLemmas
 pub mod HearingLemmas
 pub mod HostsLemmas
+pub mod JournalsLemmas
 pub mod LoadTurnsLemmas
 pub mod MakingLemmas
 pub mod NotingLemmas

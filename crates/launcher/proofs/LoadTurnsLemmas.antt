@@ -24,7 +24,7 @@ use Rattle.outside.specs.declared.asking.Outside.{Outside}
 use Rattle.outside.specs.Asking.{Asks, told_of}
 use Rattle.outside.specs.Stores.{Stamp, StoreCall, stamp_if}
 use Rattle.outside.proofs.AskLemmas.{told_nothing}
-use Rattle.event_journal.specs.Journals.{JournalState, Grows}
+use Rattle.launcher.specs.Journals.{JournalState, Grows}
 use Rattle.launcher.specs.Turns.{AreNumbered, IsLed, TurnsOf, trace}
 use Rattle.launcher.proofs.NumbersLemmas.{AreNamed, rows-named, keeps-numbers, same-numbers}
 use Rattle.job_table.specs.Numbers.{names_of}

@@ -19,7 +19,7 @@ use Rattle.job_table.specs.Tables.{Table}
 use Rattle.outside.specs.declared.store.StoreFault.{StoreFault}
 use Rattle.outside.specs.declared.store.StoreFault.TheVariants as answers
 use Rattle.outside.specs.Stores.{StoreCall, AreTold}
-use Rattle.event_journal.specs.Journals.{JournalState, Grows}
+use Rattle.launcher.specs.Journals.{JournalState, Grows}
 use Rattle.launcher.specs.Turns.{IsLed}
 use Rattle.table_opening.specs.Openings.{OpensBy, StandsOpened}
 use Rattle.launcher.specs.declared.host.HostFault.{HostFault}

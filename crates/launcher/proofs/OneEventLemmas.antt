@@ -29,7 +29,7 @@ use Rattle.launcher.specs.Turns.{AreNumbered, Carried, orders_lent, IsUncalled, 
 use Rattle.job_table.specs.Loads.{refused_with}
 use Rattle.job_core.specs.Memory.{NeedsNoMemory}
 use Rattle.ctl_protocol.specs.EventWriter.{event_line}
-use Rattle.event_journal.specs.Journals.{JournalState, Grows}
+use Rattle.launcher.specs.Journals.{JournalState, Grows}
 use Rattle.launcher.specs.Lines.{journaled_answer}
 use Rattle.launcher.proofs.CarryLemmas.{none-called}
 use Rattle.launcher.proofs.NumbersLemmas.{AreNamed, label-short, rows-named, label-is, named-next, orders-known, once-number, loaded, keeps-numbers, same-numbers, theirs-append, made-theirs}

@@ -13,7 +13,7 @@ use Rattle.job_table.specs.Tables.{Table}
 use Rattle.job_table.specs.StandsFor.{KeepsState}
 use Rattle.outside.specs.Stores.{StoreCall, AreTold, set_call}
 use Rattle.outside.proofs.AskLemmas.{told_nothing}
-use Rattle.event_journal.specs.Journals.{JournalState, Grows}
+use Rattle.launcher.specs.Journals.{JournalState, Grows}
 use Rattle.launcher.specs.Turns.{IsLed, NamesLabel}
 use Rattle.launcher.proofs.NumbersLemmas.{same-numbers}
 use Rattle.launcher.specs.Lines.{set_line}

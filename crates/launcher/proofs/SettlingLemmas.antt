@@ -18,8 +18,8 @@ use Rattle.history_model.specs.AwaitedOrders.{weigh_orders}
 use Rattle.history_model.proofs.TurnsLemmas.{weigh-append}
 use Rattle.history_model.proofs.TurnBoundLemmas.{length-heavy}
 use Rattle.launcher.specs.Turns.{IsNamedIn, event_in, AreTheirs, IsWaiting, Handled, Settled, trace}
-use Rattle.event_journal.specs.Journals.{JournalState, Grows}
-use Rattle.event_journal.proofs.JournalsLemmas.{grows_nothing, grows_append}
+use Rattle.launcher.specs.Journals.{JournalState, Grows}
+use Rattle.launcher.proofs.JournalsLemmas.{grows_nothing, grows_append}
 use Rattle.launcher.specs.Lines.{answer_text, answer_texts}
 use Rattle.history_model.specs.declared.TheConstants.{MAX_JOBS}
 

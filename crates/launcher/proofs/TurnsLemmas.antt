@@ -30,8 +30,8 @@ use Rattle.launcher.specs.Turns.{event_in, events_in, AreTheirs, IsWaiting, Begi
 use Rattle.job_table.specs.Loads.{refused_with}
 use Rattle.launcher.specs.Events.{event_of_ref}
 use Rattle.ctl_protocol.specs.EventWriter.{event_line}
-use Rattle.event_journal.specs.Journals.{JournalState, Grows}
-use Rattle.event_journal.proofs.JournalsLemmas.{grows_append}
+use Rattle.launcher.specs.Journals.{JournalState, Grows}
+use Rattle.launcher.proofs.JournalsLemmas.{grows_append}
 use Rattle.launcher.specs.Lines.{journaled_by, answer_texts}
 use Rattle.launcher.specs.declared.event_ref.EventRef.{EventRef}
 use Rattle.launcher.specs.declared.event_ref.EventRef.TheVariants as happenings

@@ -3,6 +3,7 @@ pub mod Events
 pub mod Faults
 pub mod Hosts
 pub mod Inputs
+pub mod Journals
 pub mod Lends
 pub mod Lines
 pub mod LoadTurns

@@ -20,7 +20,7 @@ use Rattle.child_edge.specs.Calls.{Tells, ToldCall}
 use Rattle.outside.specs.declared.asking.Outside.{Outside}
 use Rattle.outside.specs.Asking.{Asks, Told, told_of}
 use Rattle.outside.specs.Stores.{Stamp, StoreCall, AreTold, set_call}
-use Rattle.event_journal.specs.Journals.{JournalState, Grows}
+use Rattle.launcher.specs.Journals.{JournalState, Grows}
 use Rattle.launcher.specs.Turns.{AreNumbered, IsLed, KeepsNumbers, TurnsOf, Trace, trace}
 use Rattle.launcher.specs.Lines.{load_line, set_line}
 

@@ -5,16 +5,16 @@ ghost use Rattle.std.specs.Borrow.{sem};
 ghost use Rattle.history_model.specs.declared.event.Setting.{Setting};
 ghost use Rattle.outside.specs.declared.store.StoreFault.{StoreFault};
 ghost use Rattle.outside.specs.Stores.{HoldsAfter};
-ghost use Rattle.event_journal.specs.Journals.{fresh, held, reported, is_writing};
+ghost use Rattle.launcher.specs.Journals.{fresh, held, reported, is_writing};
 ghost use Rattle.launcher.specs.Hosts.{IsNewWith, stands};
 ghost use Rattle.launcher.specs.Faults.{ComesOf, FaultOf};
 ghost use Rattle.launcher.specs.Lends.{lends_edge};
 
+use crate::journal::{Journal, Phase};
 use crate::making::{Inside, make_inside, store_fault, with_settings};
 use crate::room::Room;
 use child_edge::{ChildEdge, SocketEdge};
 use ctl_protocol::{Header, LineReader};
-use event_journal::{Journal, Phase};
 use job_table::JobTable;
 use outside::SettingStore;
 use std::alloc::Global;

@@ -10,6 +10,8 @@ mod fitting;
 mod hearing;
 mod host;
 mod input;
+mod journal;
+mod journal_writer;
 pub mod laws;
 mod lines;
 mod loading;
@@ -25,4 +27,6 @@ mod turns;
 
 pub use host::{Host, HostFault};
 pub use input::Input;
+pub use journal::{Journal, Phase};
+pub use journal_writer::Cause;
 pub use room::LabelRoom;

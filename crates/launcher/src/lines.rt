@@ -2,11 +2,11 @@
 
 ghost use Rattle.std.specs.Prelude.{◌≡◌, IfOk};
 ghost use Rattle.ctl_protocol.specs.EventWriter.{event_line};
-ghost use Rattle.event_journal.specs.Journals.{Grows};
+ghost use Rattle.launcher.specs.Journals.{Grows};
 ghost use Rattle.launcher.specs.Lines.{journaled_by};
 
 use crate::event_ref::EventRef;
-use event_journal::Journal;
+use crate::journal::Journal;
 use history_model::{Event, Text};
 use std::alloc::{AllocError, Global};
 use std::io::Write;

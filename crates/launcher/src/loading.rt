@@ -9,7 +9,7 @@ ghost use Rattle.history_model.specs.Machine.{State};
 ghost use Rattle.history_model.specs.Step.{outcome, set_if};
 ghost use Rattle.job_table.specs.StandsFor.{KeepsState};
 ghost use Rattle.job_table.specs.Loads.{refusal_outside, IsReady, described_in, refused_with};
-ghost use Rattle.event_journal.specs.Journals.{JournalState, Grows};
+ghost use Rattle.launcher.specs.Journals.{JournalState, Grows};
 ghost use Rattle.outside.specs.Asking.{told_of};
 ghost use Rattle.outside.specs.Stores.{HoldsAfter, stamp_if};
 ghost use Rattle.launcher.specs.Hosts.{stands};

@@ -2,7 +2,7 @@
 
 ghost use Rattle.std.specs.Prelude.{◌≡◌, IfErr, IfOk, is_some};
 ghost use Rattle.ctl_protocol.specs.HeaderLines.{header_line};
-ghost use Rattle.event_journal.specs.Journals.{Grows, fresh, held};
+ghost use Rattle.launcher.specs.Journals.{Grows, fresh, held};
 ghost use Rattle.table_opening.specs.Openings.{StandsOpened};
 ghost use Rattle.launcher.specs.Hosts.{with_settings as with_overrides};
 ghost use Rattle.launcher.specs.Faults.{FaultOf, IsFaultWith, fault_of_store};
@@ -10,10 +10,10 @@ ghost use Rattle.launcher.specs.Writable.{IsWritableHeader};
 
 use crate::fitting::lend_zone;
 use crate::host::HostFault;
+use crate::journal::Journal;
 use crate::room::Room;
 use crate::settings::are_in_order;
 use ctl_protocol::{Header, LineReader, Settings};
-use event_journal::Journal;
 use history_model::Setting;
 use job_table::JobTable;
 use outside::StoreFault;

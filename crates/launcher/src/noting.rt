@@ -3,11 +3,11 @@
 ghost use Rattle.std.specs.Prelude.{◌≡◌, IfOk, Some, true, false};
 ghost use Rattle.history_model.specs.declared.event.Event.TheVariants as journaled;
 ghost use Rattle.ctl_protocol.specs.EventWriter.{event_line};
-ghost use Rattle.event_journal.specs.Journals.{Grows};
+ghost use Rattle.launcher.specs.Journals.{Grows};
 ghost use Rattle.launcher.specs.Lines.{journaled_load, journaled_set, load_line, set_line};
 ghost use Rattle.launcher.specs.LoadTurns.{is_memory};
 
-use event_journal::Journal;
+use crate::journal::Journal;
 use history_model::{Event, Refusal, Text};
 use outside::Outside;
 use std::alloc::{AllocError, Global};

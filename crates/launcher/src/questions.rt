@@ -9,7 +9,7 @@ ghost use Rattle.history_model.specs.Machine.{State, ListJobs, PrintJob};
 ghost use Rattle.ctl_protocol.specs.EventWriter.{event_line};
 ghost use Rattle.job_table.specs.StandsFor.{KeepsState};
 ghost use Rattle.job_table.specs.Outcomes.{UnlessMemory, IsReplyText, Means};
-ghost use Rattle.event_journal.specs.Journals.{Grows};
+ghost use Rattle.launcher.specs.Journals.{Grows};
 
 use crate::host::Host;
 use crate::noting::note_print;

@@ -6,7 +6,7 @@ ghost use Rattle.history_model.specs.Acceptance.{refusal_in};
 ghost use Rattle.history_model.specs.Machine.{State};
 ghost use Rattle.job_table.specs.Changes.{set_of, IsReadySet};
 ghost use Rattle.job_table.specs.StandsFor.{KeepsState};
-ghost use Rattle.event_journal.specs.Journals.{JournalState, Grows};
+ghost use Rattle.launcher.specs.Journals.{JournalState, Grows};
 ghost use Rattle.outside.specs.Asking.{told_of};
 ghost use Rattle.outside.specs.Stores.{HoldsAfter};
 ghost use Rattle.launcher.specs.Hosts.{stands};

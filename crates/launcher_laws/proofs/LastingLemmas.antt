@@ -3,7 +3,7 @@ use Rattle.std.proofs.Common.{List, Option}
 use Rattle.history_model.specs.declared.event.Setting.{Setting}
 use Rattle.ctl_protocol.specs.declared.header.Header.{Header}
 use Rattle.outside.specs.Stores.{StoreCall}
-use Rattle.event_journal.specs.Journals.{JournalState}
+use Rattle.launcher.specs.Journals.{JournalState}
 use Rattle.launcher.specs.Hosts.{IsNew}
 use Rattle.launcher_laws.specs.Runs.{Snapshot, Turn, AreTurns}
 use Rattle.launcher_laws.specs.Lasting.{Lasts}

@@ -8,7 +8,7 @@ use Rattle.override_store.specs.OverrideStores.{HoldsSettings, IsOpenedOn, rows_
 use Rattle.override_store.specs.Settings.{HoldsEach, setting_in}
 use Rattle.override_store.proofs.AgainLemmas.{held_on, same_settings}
 use Rattle.outside.specs.Stores.{StoreCall}
-use Rattle.event_journal.specs.Journals.{JournalState}
+use Rattle.launcher.specs.Journals.{JournalState}
 use Rattle.launcher.specs.Hosts.{IsNew}
 use Rattle.launcher_laws.specs.Runs.{Snapshot, Turn, AreTurns}
 use Rattle.launcher_laws.specs.Lasting.{Lasts, settings_of}

@@ -14,8 +14,8 @@ use Rattle.ctl_protocol.specs.Outcomes.{outcome_line}
 use Rattle.replay_loop.specs.Outcomes.{input_lines}
 use Rattle.replay.proofs.OneOutputLemmas.{one_output}
 use Rattle.outside.specs.Stores.{StoreCall}
-use Rattle.event_journal.specs.declared.journal.Phase.TheVariants.{Open}
-use Rattle.event_journal.specs.Journals.{fresh}
+use Rattle.launcher.specs.declared.journal.Phase.TheVariants.{Open}
+use Rattle.launcher.specs.Journals.{fresh}
 use Rattle.table_opening.specs.Events.{machine_event, read_as, event_in}
 use Rattle.table_opening.specs.Openings.{OpensBy}
 use Rattle.table_opening.specs.Output.{IsOutput}

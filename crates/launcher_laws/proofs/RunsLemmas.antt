@@ -17,10 +17,10 @@ use Rattle.job_table.specs.StandsFor.{KeepsState}
 use Rattle.outside.specs.declared.unheard.Unheard.{Unheard}
 use Rattle.outside.specs.Orders.{answers_in}
 use Rattle.ctl_protocol.specs.EventWriter.{event_line}
-use Rattle.event_journal.specs.declared.journal.Phase.{Phase}
-use Rattle.event_journal.specs.declared.writer.Cause.{Cause}
-use Rattle.event_journal.specs.declared.journal.Phase.TheVariants.{Open, Closed, Reported}
-use Rattle.event_journal.specs.Journals.{JournalState, Grows, GrowsIn, reported}
+use Rattle.launcher.specs.declared.journal.Phase.{Phase}
+use Rattle.launcher.specs.declared.journal_writer.Cause.{Cause}
+use Rattle.launcher.specs.declared.journal.Phase.TheVariants.{Open, Closed, Reported}
+use Rattle.launcher.specs.Journals.{JournalState, Grows, GrowsIn, reported}
 use Rattle.launcher.specs.Lines.{journaled_answer, answer_texts}
 use Rattle.launcher.specs.Turns.{IsLed, event_in, events_in}
 use Rattle.launcher.proofs.StoredSettingsLemmas.{turn_settings}

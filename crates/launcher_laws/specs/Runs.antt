@@ -12,7 +12,7 @@ use Rattle.job_table.specs.StandsFor.{labelled}
 use Rattle.child_edge.specs.Calls.{Tells, ToldCall}
 use Rattle.outside.specs.declared.unheard.Unheard.{Unheard}
 use Rattle.outside.specs.Orders.{call_of, calls_in, answers_in, IsTellablePending}
-use Rattle.event_journal.specs.Journals.{reported}
+use Rattle.launcher.specs.Journals.{reported}
 use Rattle.launcher.specs.Lines.{journaled_answer}
 use Rattle.launcher.specs.Turns.{IsNamedIn}
 use Rattle.outside.specs.declared.asking.Outside.{Outside}

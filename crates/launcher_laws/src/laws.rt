@@ -11,8 +11,8 @@ ghost use Rattle.override_store.specs.OverrideStores.{HoldsSettings, IsOpenedOn,
 ghost use Rattle.override_store.specs.Settings.{HoldsEach, ListAlike};
 ghost use Rattle.outside.specs.Stores.{StoreCall};
 ghost use Rattle.override_store.specs.declared.stored_settings.StoredSettings.{StoredSettings as Stored};
-ghost use Rattle.event_journal.specs.declared.journal.Phase.TheVariants.{Open};
-ghost use Rattle.event_journal.specs.Journals.{JournalState, fresh};
+ghost use Rattle.launcher.specs.declared.journal.Phase.TheVariants.{Open};
+ghost use Rattle.launcher.specs.Journals.{JournalState, fresh};
 ghost use Rattle.launcher.specs.Hosts.{IsNew, with_settings};
 ghost use Rattle.launcher_laws.specs.Runs.{Snapshot, Turn, AreTurns};
 ghost use Rattle.launcher_laws.specs.Lasting.{Lasts, settings_of};

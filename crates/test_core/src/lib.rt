@@ -15,10 +15,6 @@ mod heap;
 #[cfg(test)]
 mod lines;
 #[cfg(test)]
-mod pages;
-#[cfg(test)]
-mod sink;
-#[cfg(test)]
 mod steps;
 #[cfg(test)]
 mod table;

@@ -1,9 +1,13 @@
-//! A launcher over an edge, a store and a journal that answer by a script: its turns by their inputs. Nothing but tests
-//! is here, in one crate, so that the libraries are read once.
+//! A launcher over an edge, a store and a journal that answer by a script: its turns by their inputs; and its journal over writers
+//! that refuse. Nothing but tests is here, in one crate, so that the libraries are read once.
 #![tactic(auto)]
 
 #[cfg(test)]
+mod failing_writer;
+#[cfg(test)]
 mod host;
+#[cfg(test)]
+mod journal;
 #[cfg(test)]
 mod loads;
 #[cfg(test)]

@@ -3,7 +3,7 @@ use Rattle.std.proofs.Common.{subst, sym, ap}
 use Rattle.std.specs.Prelude.{is_some, Ok, Err}
 use Rattle.ctl_protocol.specs.declared.header.Header.{Header}
 use Rattle.ctl_protocol.specs.HeaderLines.{header_line}
-use Rattle.event_journal.specs.Journals.{Grows, fresh, held}
+use Rattle.launcher.specs.Journals.{Grows, fresh, held}
 use Rattle.table_opening.specs.Openings.{StandsOpened}
 use Rattle.launcher.specs.Faults.{IsFaultOf, IsFaultWith, IsBadHeader}
 use Rattle.launcher.specs.Writable.{IsWritableHeader}

@@ -2,9 +2,9 @@
 use Rattle.std.specs.Prelude.{◌≡◌, ℕ, Bool, true, false, List, Option, Some, None, is_some}
 use Rattle.std.specs.Io.KnownBytes.{Appends}
 use Rattle.replay_loop.specs.Writing.{AppendsFront}
-use Rattle.event_journal.specs.declared.journal.Phase.{Phase}
-use Rattle.event_journal.specs.declared.journal.Phase.TheVariants.{Open, Closed, Reported}
-use Rattle.event_journal.specs.declared.writer.Cause.{Cause}
+use Rattle.launcher.specs.declared.journal.Phase.{Phase}
+use Rattle.launcher.specs.declared.journal.Phase.TheVariants.{Open, Closed, Reported}
+use Rattle.launcher.specs.declared.journal_writer.Cause.{Cause}
 
 -- what contracts see of a journal's writer: the bytes that it holds if they are known, and what was
 -- refused to the journal, if anything was

@@ -1,6 +1,6 @@
 -- What the check of `journal::Journal::note` does not find by itself.
 use Rattle.ctl_protocol.specs.EventWriter.{event_line}
-use Rattle.event_journal.proofs.journal.Journal.note.Goals as goal
+use Rattle.launcher.proofs.journal.Journal.note.Goals as goal
 
 -- no memory for the line
 pub returns-in-Err : goal.returns-in-Err

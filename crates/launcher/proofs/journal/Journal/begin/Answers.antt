@@ -1,9 +1,9 @@
 -- What the check of `journal::Journal::begin` does not find by itself.
 use Rattle.std.proofs.Common.{true, subst}
 use Rattle.ctl_protocol.specs.HeaderLines.{header_line}
-use Rattle.event_journal.specs.Journals.{Grows, Poured}
-use Rattle.event_journal.specs.declared.journal.Phase.TheVariants.{Open}
-use Rattle.event_journal.proofs.journal.Journal.begin.Goals as goal
+use Rattle.launcher.specs.Journals.{Grows, Poured}
+use Rattle.launcher.specs.declared.journal.Phase.TheVariants.{Open}
+use Rattle.launcher.proofs.journal.Journal.begin.Goals as goal
 
 -- no memory for the line
 pub returns-in-Err : goal.returns-in-Err

@@ -3,9 +3,9 @@
 ghost use Rattle.std.specs.Prelude.{◌≡◌, ◌↔◌, IfOk, IsTrue, List, OnErr, ℕ, None, true, false, [], is_some};
 ghost use Rattle.ctl_protocol.specs.EventWriter as events;
 ghost use Rattle.ctl_protocol.specs.HeaderLines as headers;
-ghost use Rattle.event_journal.specs.Journals.{Grows, fresh, reported, held, is_writing};
+ghost use Rattle.launcher.specs.Journals.{Grows, fresh, reported, held, is_writing};
 
-use crate::writer::{Cause, JournalWriter};
+use crate::journal_writer::{Cause, JournalWriter};
 use ctl_protocol::{Header, event_line, header_line};
 use history_model::Event;
 use std::alloc::{AllocError, Global};
@@ -32,7 +32,7 @@ pub struct Journal<W: Write> {
 }
 
 impl<W: Write> Model for Journal<W> {
-    ghost use Rattle.event_journal.specs.Journals.{JournalState, IsSound, poured_bytes, poured_cause};
+    ghost use Rattle.launcher.specs.Journals.{JournalState, IsSound, poured_bytes, poured_cause};
     ghost use Rattle.std.specs.Prelude.{is_some};
 
     ghost Value = { JournalState };

@@ -4,9 +4,9 @@ use Rattle.std.specs.Io.KnownBytes.{Appends}
 use Rattle.std.specs.Prelude.{is_some}
 use Rattle.std.proofs.KnownBytes.{Appends-nil, Appends-trans}
 use Rattle.replay_loop.specs.Writing.{AppendsFront}
-use Rattle.event_journal.specs.declared.journal.Phase.{Phase}
-use Rattle.event_journal.specs.declared.journal.Phase.TheVariants.{Open, Closed, Reported}
-use Rattle.event_journal.specs.Journals.{JournalState, Grows, GrowsIn, CausedIn, Poured, poured_bytes, poured_cause, is_writing}
+use Rattle.launcher.specs.declared.journal.Phase.{Phase}
+use Rattle.launcher.specs.declared.journal.Phase.TheVariants.{Open, Closed, Reported}
+use Rattle.launcher.specs.Journals.{JournalState, Grows, GrowsIn, CausedIn, Poured, poured_bytes, poured_cause, is_writing}
 
 unchanged_in : (phase : Phase) (kept : JournalState) → GrowsIn phase phase kept kept []
 unchanged_in Open kept = Appends-nil kept.bytes

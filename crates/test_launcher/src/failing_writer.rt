@@ -4,7 +4,7 @@ use std::io;
 use std::io::{ErrorKind, Write};
 
 #[derive(Drop)]
-pub struct Sink {
+pub struct FailingWriter {
     /// What was written.
     pub taken: Vec<u8>,
     /// The most bytes that one write takes.
@@ -19,7 +19,7 @@ pub struct Sink {
     pub refuses_flush: bool,
 }
 
-impl Write for Sink {
+impl Write for FailingWriter {
     fn write(&mut self, buf: &[u8]) -> io::Result<usize> {
         if self.writes == 0 {
             if self.is_full {

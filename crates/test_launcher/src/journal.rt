@@ -1,10 +1,10 @@
 //! A journal over writers that take few bytes or refuse: what it then holds, and how often its closing is told. The expected
 //! lines are those of the line protocol, and off no run of this code.
 
-use crate::sink::Sink;
+use crate::failing_writer::FailingWriter;
 use ctl_protocol::{Header, Settings, ZoneText};
-use event_journal::Journal;
 use history_model::{Answer, Event, JobItem, Reading, Text};
+use launcher::Journal;
 use std::alloc::{AllocError, Global};
 use std::test::Fail;
 
@@ -83,7 +83,7 @@ fn header(alloc: Global) -> Result<Header, AllocError> {
 }
 
 /// Notes the two events and ends the turn, and tells what is told of the journal.
-fn turned(alloc: Global, journal: Journal<&mut Sink>) -> Result<Told, AllocError> {
+fn turned(alloc: Global, journal: Journal<&mut FailingWriter>) -> Result<Told, AllocError> {
     let mut journal = journal;
     let job = Text::copy_of(alloc, "a")?;
     let event = Event::OfJob {
@@ -106,7 +106,7 @@ fn turned(alloc: Global, journal: Journal<&mut Sink>) -> Result<Told, AllocError
 /// Says whether the journal over the writer becomes what the row says. Its closing is told once, and a writer that fails at no write
 /// is flushed once.
 fn is_so(alloc: Global, row: Row) -> Result<bool, AllocError> {
-    let mut writer = Sink {
+    let mut writer = FailingWriter {
         taken: Vec::new(alloc),
         piece: row.piece,
         writes: row.writes,

@@ -3,7 +3,7 @@
 ghost use Rattle.std.specs.Prelude.{◌≡◌, Some};
 ghost use Rattle.std.specs.Io.KnownBytes.{Keeps};
 ghost use Rattle.replay_loop.specs.Writing.{Takes};
-ghost use Rattle.event_journal.specs.Journals.{Poured, cause_after};
+ghost use Rattle.launcher.specs.Journals.{Poured, cause_after};
 
 use replay_loop::write_text;
 use std::alloc::AllocError;
@@ -28,7 +28,7 @@ pub(crate) struct JournalWriter<W: Write> {
 }
 
 impl<W: Write> Model for JournalWriter<W> {
-    ghost use Rattle.event_journal.specs.Journals.{Poured};
+    ghost use Rattle.launcher.specs.Journals.{Poured};
 
     ghost Value = { Poured };
 
