@@ -1,8 +1,7 @@
 //! The children, each asked about once a round, as long as there is time.
 
 use crate::round_time::RoundTime;
-use crate::system::System;
-use child_edge::{ChildEdge, OsEdge};
+use child_edge::{ChildEdge, OsEdge, System};
 use control_socket::Limit;
 use history_model::{JobNo, MAX_JOBS};
 use launcher::{Input, LabelRoom};

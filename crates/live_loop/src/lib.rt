@@ -13,14 +13,13 @@ mod losses;
 mod round_time;
 mod rounds;
 mod silence;
-mod system;
 mod telling;
 mod voice;
 mod waiting;
 
+pub use child_edge::System;
 pub use fault::ServeFault;
 pub use live::Live;
 pub use rounds::{round, serve};
 pub use silence::{CallerRoom, Heard, Place, place_for};
-pub use system::System;
 pub use waiting::{next_pause, quick_rounds, round_wait};

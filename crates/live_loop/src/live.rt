@@ -4,10 +4,9 @@ ghost use Rattle.std.specs.Prelude.{◌≡◌};
 
 use crate::fault::ServeFault;
 use crate::job_sockets::JobSockets;
-use crate::system::System;
 use crate::voice::Voice;
 use crate::waiting::SHORTEST;
-use child_edge::{Notice, OsEdge};
+use child_edge::{Notice, OsEdge, System};
 use control_socket::ControlSocket;
 use history_model::JobNo;
 use launcher::{Host, LabelRoom};
