@@ -22,6 +22,7 @@ mod shell;
 mod sockets;
 mod spool;
 mod streams;
+mod system;
 mod words;
 
 pub use clearing::clear_spool;
@@ -31,3 +32,4 @@ pub use memory::MemoryEdge;
 pub use notices::{Notice, NoticeKind};
 pub use os::OsEdge;
 pub use plain::{EdgeCall, EdgeFault, Scripted};
+pub use system::System;

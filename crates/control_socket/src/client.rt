@@ -79,12 +79,12 @@ impl Client {
         room: &mut [u8],
         turn: &mut Turn<'_, A, L>,
     ) -> io::Result<Progress> {
-        self.looked = turn.number();
+        self.looked = turn.number;
         if !self.has_unsent() {
-            self.taken = turn.up();
+            self.taken = turn.up;
         }
         let is_more = self.converse(alloc, room, turn)?;
-        self.send(turn.up())?;
+        self.send(turn.up)?;
         if !self.dialogue.is_silent() {
             self.heard = self.looked;
         }
@@ -108,9 +108,9 @@ impl Client {
         room: &mut [u8],
         turn: &mut Turn<'_, A, L>,
     ) -> io::Result<bool> {
-        turn.begin();
+        turn.left = turn.lines;
         self.dialogue.answer(alloc, turn)?;
-        for _ in 0..turn.pieces() {
+        for _ in 0..turn.pieces {
             if !self.dialogue.wants_more() || !self.read(room)? {
                 return Ok(false);
             }

@@ -121,14 +121,14 @@ impl ControlSocket {
     ) -> bool {
         self.rounds = self.rounds.saturating_add(1);
         let mut turn = Turn::new(self.rounds, answers, limit);
-        self.up = turn.up();
-        turn.allow(1, 1);
+        self.up = turn.up;
         let is_busy = self.pass(alloc, &mut turn);
         self.is_whole = is_busy.is_some();
         match is_busy {
             Some(false) => false,
             Some(true) => {
-                turn.allow(PIECES - 1, LINES - 1);
+                turn.pieces = PIECES - 1;
+                turn.lines = LINES - 1;
                 self.pass(alloc, &mut turn).unwrap_or(true)
             }
             None => true,
@@ -145,7 +145,7 @@ impl ControlSocket {
         let mut is_busy = false;
         for step in 0..CLIENTS {
             let key = first.wrapping_add(step) % CLIENTS;
-            if !turn.has_time() {
+            if !turn.has_time {
                 self.first = key;
                 return None;
             }

@@ -30,18 +30,21 @@ pub const LINES: u32 = 16;
 pub(crate) struct Turn<'a, A, L> {
     answers: &'a mut A,
     limit: &'a mut L,
-    number: u64,
-    up: u64,
-    // As many pieces of each client are read in this pass, and as many lines of it answered.
-    pieces: u32,
-    lines: u32,
-    // So many further lines of the client whose turn it is.
-    left: u32,
-    has_time: bool,
+    /// The rounds are counted from 1.
+    pub(crate) number: u64,
+    /// The milliseconds of the round's beginning.
+    pub(crate) up: u64,
+    /// As many pieces of each client are read in this pass, and as many lines of it answered.
+    pub(crate) pieces: u32,
+    pub(crate) lines: u32,
+    /// So many further lines of the client whose turn it is.
+    pub(crate) left: u32,
+    /// Whether there is time for a further line, and for a further client.
+    pub(crate) has_time: bool,
 }
 
 impl<'a, A: Answers, L: Limit> Turn<'a, A, L> {
-    /// The round of this number.
+    /// The first pass of the round of this number: a piece and a line of each client.
     pub(crate) fn new(number: u64, answers: &'a mut A, limit: &'a mut L) -> Turn<'a, A, L> {
         let up = limit.up();
         Turn {
@@ -49,42 +52,11 @@ impl<'a, A: Answers, L: Limit> Turn<'a, A, L> {
             limit,
             number,
             up,
-            pieces: 0,
-            lines: 0,
+            pieces: 1,
+            lines: 1,
             left: 0,
             has_time: true,
         }
-    }
-
-    /// From now on so many pieces of each client are read, and so many lines of it answered.
-    pub(crate) fn allow(&mut self, pieces: u32, lines: u32) {
-        self.pieces = pieces;
-        self.lines = lines;
-    }
-
-    /// As many pieces of the client are read.
-    pub(crate) fn pieces(&self) -> u32 {
-        self.pieces
-    }
-
-    /// The rounds are counted from 1.
-    pub(crate) fn number(&self) -> u64 {
-        self.number
-    }
-
-    /// The milliseconds of the round's beginning.
-    pub(crate) fn up(&self) -> u64 {
-        self.up
-    }
-
-    /// Whether there is time for a further client.
-    pub(crate) fn has_time(&self) -> bool {
-        self.has_time
-    }
-
-    /// It is the next client's turn.
-    pub(crate) fn begin(&mut self) {
-        self.left = self.lines;
     }
 
     /// Whether a further line of the client is answered in this round.

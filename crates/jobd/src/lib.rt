@@ -2,20 +2,9 @@
 //! made of is had from here too: the host of its turns, its inputs, the loop of its rounds, and the replay.
 #![tactic(auto)]
 
-mod journal;
-mod looking;
-mod overrides;
-mod places;
-mod plan;
-mod reporting;
 mod serving;
-mod spool;
-mod standing;
-mod store;
 mod words;
-mod zone;
 
-use crate::plan::Places;
 use exit_status::NO_MEMORY;
 use launchctl_words::{DaemonCommand, WordFault, read_daemon_words};
 pub use launcher::{Host, HostFault, Input};
@@ -24,6 +13,7 @@ pub use live_loop::{Live, ServeFault, round, serve};
 use own_process::own_words;
 use replay::replay_input;
 pub use replay::{ReplayFault, replay};
+use startup::{Places, list_store};
 use std::alloc::Global;
 use std::io;
 use std::sync::Wait;
@@ -39,9 +29,7 @@ use std::sync::Wait;
 pub fn jobd<R: System + Wait>(host: &HostRuntime, rt: &R, alloc: Global, words: &[String]) -> u8 {
     match read_daemon_words(alloc, words) {
         Ok(DaemonCommand::Replay) => replay_input(host),
-        Ok(DaemonCommand::Overrides { store }) => {
-            overrides::list_store(host, alloc, store.as_str())
-        }
+        Ok(DaemonCommand::Overrides { store }) => { list_store(host, alloc, store.as_str()) }
         Ok(
             DaemonCommand::Serve {
                 socket,

@@ -1,13 +1,5 @@
 //! `jobd serve`: what the launcher stands on is opened step by step, and then it serves.
 
-use crate::journal::{begun, journal_at, tell_long_header};
-use crate::places::{bound, no_clock, system_of};
-use crate::plan::{Places, Plan, read_wishes};
-use crate::reporting::{refuse, report};
-use crate::spool::hold_spool;
-use crate::standing::{room_of, tell_standing};
-use crate::store::{open_store, settle, stored};
-use crate::zone::zone_of;
 use child_edge::OsEdge;
 use control_socket::ControlSocket;
 use ctl_protocol::{Header, Settings};
@@ -21,6 +13,10 @@ use override_store::StoredSettings;
 use own_files::LockFile;
 use own_process::{Standing, open_null_streams};
 use sqlite::{Alter, Connection, FileStore};
+use startup::{
+    Places, Plan, begun, bound, hold_spool, journal_at, no_clock, open_store, read_wishes, refuse,
+    report, room_of, settle, stored, system_of, tell_long_header, tell_standing, zone_of,
+};
 use std::alloc::Global;
 use std::fs::File;
 use std::io::BufWriter;

@@ -2,8 +2,7 @@
 
 use crate::round_launcher::RoundLauncher;
 use crate::round_time::RoundTime;
-use crate::system::System;
-use child_edge::{ChildEdge, OsEdge};
+use child_edge::{ChildEdge, OsEdge, System};
 use control_socket::Limit;
 use history_model::{JobNo, MAX_JOBS};
 use launcher::{Input, LabelRoom};

@@ -16,11 +16,11 @@ mod round_launcher;
 mod round_time;
 mod rounds;
 mod silence;
-mod system;
 mod telling;
 mod voice;
 mod waiting;
 
+pub use child_edge::System;
 pub use fault::ServeFault;
 pub use live::Live;
 pub use news::is_news;
@@ -28,5 +28,4 @@ pub use paths::Sights;
 pub use round_launcher::RoundLauncher;
 pub use rounds::{round, serve};
 pub use silence::{CallerRoom, Heard, Place, place_for};
-pub use system::System;
 pub use waiting::{next_pause, quick_rounds, round_wait};

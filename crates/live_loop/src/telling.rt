@@ -2,8 +2,7 @@
 //! sockets, and what became of runs.
 
 use crate::live::Live;
-use crate::system::System;
-use child_edge::{Notice, NoticeKind};
+use child_edge::{Notice, NoticeKind, System};
 use history_model::Text;
 use outside::SettingStore;
 use std::alloc::Global;

@@ -15,7 +15,7 @@ use std::io::Read;
 const MOST_BYTES: u64 = 65_536;
 
 /// The zone of calendar entries. Status 7 for a rule or a file that tells no zone, and for a file that can't be read.
-pub(crate) fn zone_of<R: Files<File = File> + Eprint>(
+pub fn zone_of<R: Files<File = File> + Eprint>(
     rt: &R,
     alloc: Global,
     level: Level,

@@ -16,7 +16,7 @@ const CACHE_PAGES: usize = 8;
 
 /// What a file is that may be a store.
 #[derive(Clone, Copy)]
-pub(crate) enum Found {
+pub enum Found {
     /// It is empty, or a database without a table.
     Empty,
     /// A database with tables of a store, and no others, whose settings can be read.
@@ -27,7 +27,7 @@ pub(crate) enum Found {
 
 /// Why that is not known.
 #[derive(Drop)]
-pub(crate) enum LookFault {
+pub enum LookFault {
     System(io::Error),
     /// As `System`, of the log beside it.
     Log(io::Error),
@@ -48,7 +48,7 @@ impl From<StoreFault> for LookFault {
 }
 
 /// Looks at the plain file at the path, with the log beside it. Neither is written to.
-pub(crate) fn look(rt: &HostRuntime, alloc: Global, path: &str) -> Result<Found, LookFault> {
+pub fn look(rt: &HostRuntime, alloc: Global, path: &str) -> Result<Found, LookFault> {
     let real = fs::canonicalize(rt, path)?;
     let file = bytes_at(rt, alloc, real.as_str())?;
     let log = match log_beside(rt, alloc, real.as_str()) {

@@ -31,12 +31,7 @@ impl From<OpenError> for OpenFault {
 }
 
 /// What the file at the path is. Status 5 if it is no store, or can't be read; it is not written to.
-pub(crate) fn found(
-    rt: &HostRuntime,
-    alloc: Global,
-    level: Level,
-    path: &str,
-) -> Result<Found, u8> {
+pub fn found(rt: &HostRuntime, alloc: Global, level: Level, path: &str) -> Result<Found, u8> {
     match look(rt, alloc, path) {
         Ok(Found::Foreign) => {
             report(
@@ -65,7 +60,7 @@ pub(crate) fn found(
 
 /// A connection to the database at the path, which is made, for this user alone, if it is not there. Status 5 if it is no store
 /// or can't be opened, as while another launcher has it open.
-pub(crate) fn open_store(
+pub fn open_store(
     rt: &HostRuntime,
     alloc: Global,
     level: Level,
@@ -79,7 +74,7 @@ pub(crate) fn open_store(
 }
 
 /// A connection to the database at the path. Status 5 if it can't be opened.
-pub(crate) fn connect(
+pub fn connect(
     rt: &HostRuntime,
     level: Level,
     path: &str,
@@ -129,7 +124,7 @@ fn report_error(rt: &impl Eprint, level: Level, path: &str, error: &Error) -> u8
 }
 
 /// The status of a store's fault, which is told unless memory was wanting.
-pub(crate) fn report_fault(rt: &impl Eprint, level: Level, path: &str, fault: StoreFault) -> u8 {
+pub fn report_fault(rt: &impl Eprint, level: Level, path: &str, fault: StoreFault) -> u8 {
     match fault {
         StoreFault::NoMemory => return NO_MEMORY,
         StoreFault::Refused => report(rt, level, "store", path, &"the database refused"),
@@ -139,7 +134,7 @@ pub(crate) fn report_fault(rt: &impl Eprint, level: Level, path: &str, fault: St
 }
 
 /// The store on the connection, and its settings. Status 5 if its tables or its settings are refused.
-pub(crate) fn stored<S: Alter + Drop>(
+pub fn stored<S: Alter + Drop>(
     rt: &impl Eprint,
     alloc: Global,
     level: Level,
@@ -154,7 +149,7 @@ pub(crate) fn stored<S: Alter + Drop>(
 
 /// Moves what the log beside the store holds into the store's file, once the launcher has let go of both. A refusal is told,
 /// unless another launcher has the store by then; the log then keeps what it holds.
-pub(crate) fn settle(rt: &HostRuntime, level: Level, path: &str) {
+pub fn settle(rt: &HostRuntime, level: Level, path: &str) {
     let answer = match open_files(rt, path) {
         Ok(conn) => conn.close().map_err(OpenFault::Database),
         Err(fault) => Err(fault),

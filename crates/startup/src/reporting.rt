@@ -6,39 +6,33 @@ use std::io;
 
 /// Whether each line begins with its level, as systemd's journal reads it (sd-daemon(3)).
 #[derive(Clone, Copy)]
-pub(crate) struct Level {
-    pub(crate) is_told: bool,
+pub struct Level {
+    pub is_told: bool,
 }
 
 impl Level {
     /// No level is told.
-    pub(crate) const NONE: Level = Level { is_told: false };
+    pub const NONE: Level = Level { is_told: false };
 
-    pub(crate) fn warning(self) -> &'static str {
+    pub fn warning(self) -> &'static str {
         if self.is_told { "<4>" } else { "" }
     }
 }
 
 /// Tells what is at fault, and why.
-pub(crate) fn tell(rt: &impl Eprint, level: Level, part: &str, reason: &str) {
+pub fn tell(rt: &impl Eprint, level: Level, part: &str, reason: &str) {
     let front = level.warning();
     let _written = eprintln!(rt; "{front}jobd: {part}: {reason}");
 }
 
 /// Tells what of the program failed, at which path, and why.
-pub(crate) fn report(
-    rt: &impl Eprint,
-    level: Level,
-    part: &str,
-    path: &str,
-    reason: &impl Display,
-) {
+pub fn report(rt: &impl Eprint, level: Level, part: &str, path: &str, reason: &impl Display) {
     let front = level.warning();
     let _written = eprintln!(rt; "{front}jobd: {part} {path}: {reason}");
 }
 
 /// The status for an error of the system, which is told unless memory was wanting.
-pub(crate) fn refuse(
+pub fn refuse(
     rt: &impl Eprint,
     level: Level,
     status: u8,

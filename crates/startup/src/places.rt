@@ -3,11 +3,10 @@
 use crate::plan::Plan;
 use crate::reporting::{Level, refuse, tell};
 use crate::standing::{check_standing, room_of};
-use child_edge::{ClockEdge, OsEdge};
+use child_edge::{ClockEdge, OsEdge, System};
 use control_socket::ControlSocket;
 use exit_status::{CLOCK_OR_WAITING, CONTROL_SOCKET, NO_MEMORY};
 use history_model::Reading;
-use live_loop::System;
 use std::alloc::{AllocError, Global};
 
 fn spool_and_runtime<R: System>(
@@ -22,7 +21,7 @@ fn spool_and_runtime<R: System>(
 
 /// The edge of the system, and its first reading. Status 9 if this process can't serve as it was started, or if the clock
 /// can't be read.
-pub(crate) fn system_of<R: System>(
+pub fn system_of<R: System>(
     rt: &R,
     alloc: Global,
     plan: &Plan,
@@ -56,13 +55,13 @@ fn first_reading<R: System>(
 }
 
 /// Tells that the first reading is refused.
-pub(crate) fn no_clock(rt: &impl Eprint, level: Level) -> u8 {
+pub fn no_clock(rt: &impl Eprint, level: Level) -> u8 {
     tell(rt, level, "clock", "it can't be read, or is past its limit");
     CLOCK_OR_WAITING
 }
 
 /// The control socket at its path. Status 6 if somebody listens there, another file is there, or the system refuses.
-pub(crate) fn bound<R: System>(rt: &R, alloc: Global, plan: &Plan) -> Result<ControlSocket, u8> {
+pub fn bound<R: System>(rt: &R, alloc: Global, plan: &Plan) -> Result<ControlSocket, u8> {
     let path = plan.places.socket.as_str();
     match ControlSocket::open(rt, alloc, path) {
         Ok(control) => Ok(control),

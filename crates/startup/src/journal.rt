@@ -13,10 +13,7 @@ use std::io::BufWriter;
 
 /// The journal's file, made or as it is, and held by this launcher, if one is named. Status 8 if it can't be opened, is no plain
 /// file, or is held by another launcher.
-pub(crate) fn journal_at<R: Files<File = File> + Eprint>(
-    rt: &R,
-    plan: &Plan,
-) -> Result<Option<File>, u8> {
+pub fn journal_at<R: Files<File = File> + Eprint>(rt: &R, plan: &Plan) -> Result<Option<File>, u8> {
     match &plan.places.journal {
         None => Ok(None),
         Some(path) => match open_appended(rt, path.as_str()) {
@@ -38,7 +35,7 @@ fn refuse_journal(rt: &impl Eprint, plan: &Plan, path: &Text, error: &io::Error)
 }
 
 /// Empties the journal, whose first line comes next. Status 8 if that is refused.
-pub(crate) fn begun(
+pub fn begun(
     rt: &impl Eprint,
     alloc: Global,
     plan: &Plan,
@@ -59,7 +56,7 @@ fn emptied(alloc: Global, file: File) -> io::Result<BufWriter<File>> {
 }
 
 /// Tells that `jobd replay` can't read the journal, if its first line is too long for that: it holds all settings.
-pub(crate) fn tell_long_header(
+pub fn tell_long_header(
     rt: &impl Eprint,
     alloc: Global,
     plan: &Plan,

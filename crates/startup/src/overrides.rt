@@ -12,7 +12,7 @@ use std::io;
 
 /// Prints `LABEL`, `enabled` or `disabled`, and the second of Unix time in which that was set, with a tab between them.
 /// A store that is not there is not made: status 5, as for one that can't be read. A file that is no store is not written to.
-pub(crate) fn list_store(rt: &HostRuntime, alloc: Global, path: &str) -> u8 {
+pub fn list_store(rt: &HostRuntime, alloc: Global, path: &str) -> u8 {
     let listed = match found(rt, alloc, Level::NONE, path) {
         Ok(Found::Store) => connect(rt, Level::NONE, path),
         Ok(_) => return 0,

@@ -11,30 +11,30 @@ use std::rt::Env;
 
 /// The paths that the words name.
 #[derive(Drop)]
-pub(crate) struct Places {
-    pub(crate) socket: Text,
-    pub(crate) store: Text,
-    pub(crate) spool: Text,
-    pub(crate) journal: Option<Text>,
+pub struct Places {
+    pub socket: Text,
+    pub store: Text,
+    pub spool: Text,
+    pub journal: Option<Text>,
 }
 
 /// What the environment asks for.
 #[derive(Clone, Copy)]
-pub(crate) struct Wishes {
+pub struct Wishes {
     /// `JOBD_LOG=runs`: starts, ends, TERM and KILL are told too.
-    pub(crate) logs_runs: bool,
-    pub(crate) level: Level,
+    pub logs_runs: bool,
+    pub level: Level,
 }
 
 #[derive(Drop)]
-pub(crate) struct Plan {
-    pub(crate) places: Places,
-    pub(crate) wishes: Wishes,
-    pub(crate) standing: Standing,
+pub struct Plan {
+    pub places: Places,
+    pub wishes: Wishes,
+    pub standing: Standing,
 }
 
 /// What stands in `JOBD_LOG` and `JOURNAL_STREAM`. Another word than `runs` is told, and asks for nothing.
-pub(crate) fn read_wishes<R: AllocGlobal + Env + Eprint>(rt: &R) -> Result<Wishes, AllocError> {
+pub fn read_wishes<R: AllocGlobal + Env + Eprint>(rt: &R) -> Result<Wishes, AllocError> {
     let level = match env::var(rt, "JOURNAL_STREAM") {
         Err(VarError::OutOfMemory) => return Err(AllocError),
         Err(VarError::NotPresent) => Level::NONE,

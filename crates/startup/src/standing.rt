@@ -2,8 +2,8 @@
 
 use crate::plan::Plan;
 use crate::reporting::{Level, report, tell};
+use child_edge::System;
 use exit_status::{CLOCK_OR_WAITING, NO_MEMORY};
-use live_loop::System;
 use own_process::{Signal, Standing, sees_children};
 use std::alloc::Global;
 use std::io;
@@ -16,14 +16,14 @@ const MOST: u64 = 256;
 
 /// As many connections of jobs' sockets are held, each with two descriptors, and as many of their clients are heard at a time:
 /// connections take half of the descriptors that are left, and those clients a quarter. None, if the limit is not known.
-pub(crate) fn room_of(standing: &Standing) -> Option<usize> {
+pub fn room_of(standing: &Standing) -> Option<usize> {
     let left = standing.descriptors?.saturating_sub(FEWEST);
     let room = (left / 4 + 1).min(MOST);
     Some(room as usize)
 }
 
 /// Status 9 if too few descriptors are allowed, or the ends of children can't be seen. A shell that can't be started is told.
-pub(crate) fn check_standing<R: System>(rt: &R, alloc: Global, plan: &Plan) -> Result<(), u8> {
+pub fn check_standing<R: System>(rt: &R, alloc: Global, plan: &Plan) -> Result<(), u8> {
     let level = plan.wishes.level;
     if plan.standing.descriptors.is_some_and(|most| most < FEWEST) {
         return Err(refuse_serving(
@@ -55,7 +55,7 @@ fn refuse_serving(rt: &impl Eprint, level: Level, part: &str, why: &str) -> u8 {
 }
 
 /// Tells the limit on the size of files, if the system ends who goes past it, and the signals that each job will ignore.
-pub(crate) fn tell_standing(rt: &impl Eprint, plan: &Plan) {
+pub fn tell_standing(rt: &impl Eprint, plan: &Plan) {
     let (standing, level) = (&plan.standing, plan.wishes.level);
     if standing.file_size.is_some() && !standing.ignores(Signal::Xfsz) {
         let why = "SIGXFSZ ends the launcher at a file that would grow past it (ulimit -f)";

@@ -1,4 +1,4 @@
-//! What the live loop asks of its runtime.
+//! What a launcher asks of its runtime.
 
 use std::fs::{File, Files};
 use std::net::{Net, TcpListener, TcpStream};

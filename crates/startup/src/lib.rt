@@ -1,0 +1,25 @@
+//! What `jobd serve` stands on, looked at and opened step by step before it serves: the process itself, the zone, the system with its
+//! clock, the control socket, the journal, the store and the spool. Each fault is told in one line on standard error, and its
+//! exit status is given. The list of the stored settings is here too, since it opens the same store.
+#![tactic(auto)]
+
+mod journal;
+mod looking;
+mod overrides;
+mod places;
+mod plan;
+mod reporting;
+mod spool;
+mod standing;
+mod store;
+mod zone;
+
+pub use journal::{begun, journal_at, tell_long_header};
+pub use overrides::list_store;
+pub use places::{bound, no_clock, system_of};
+pub use plan::{Places, Plan, Wishes, read_wishes};
+pub use reporting::{Level, refuse, report};
+pub use spool::hold_spool;
+pub use standing::{room_of, tell_standing};
+pub use store::{open_store, settle, stored};
+pub use zone::zone_of;
