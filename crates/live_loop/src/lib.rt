@@ -3,19 +3,15 @@
 //! one, each after the reading of its round; readings of the clocks and sights of paths only if they may change something.
 #![tactic(auto)]
 
-mod caller;
-mod callers;
 mod children;
 mod fault;
 mod job_sockets;
 mod live;
-mod losses;
 mod news;
 mod paths;
 mod round_launcher;
 mod round_time;
 mod rounds;
-mod silence;
 mod telling;
 mod voice;
 mod waiting;
@@ -27,5 +23,4 @@ pub use news::is_news;
 pub use paths::Sights;
 pub use round_launcher::RoundLauncher;
 pub use rounds::{round, serve};
-pub use silence::{CallerRoom, Heard, Place, place_for};
 pub use waiting::{next_pause, quick_rounds, round_wait};

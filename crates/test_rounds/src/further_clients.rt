@@ -1,6 +1,6 @@
 //! Further clients of jobs' sockets, and which one goes for them.
 
-use live_loop::{CallerRoom, Heard, Place, place_for};
+use job_clients::{CallerRoom, Heard, Place, place_for};
 
 /// A client that comes by this bind, at this `up`, to these others; and its place.
 struct Further {

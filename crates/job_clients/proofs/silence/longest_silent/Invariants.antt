@@ -1,9 +1,9 @@
 -- What the loop of `silence::longest_silent` keeps: the longest of those that it went over.
 use Rattle.std.proofs.Common.{◌≡◌, ◌≤◌, ◌<◌, ℕ, Bool, true, false, List, length, get_or}
 use Rattle.std.specs.Prelude.{Option, Some, None}
-use Rattle.live_loop.specs.declared.silence.Heard.{Heard}
-use Rattle.live_loop.specs.Silence.{is_rival}
-use Rattle.live_loop.proofs.silence.longest_silent.Given as goal
+use Rattle.job_clients.specs.declared.silence.Heard.{Heard}
+use Rattle.job_clients.specs.Silence.{is_rival}
+use Rattle.job_clients.proofs.silence.longest_silent.Given as goal
 
 -- of the first so many callers, if one of them is a rival
 abbrev pub IsLongest : (Heard → Bool) → List Heard → ℕ → Option Heard → Type 0

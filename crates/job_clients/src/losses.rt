@@ -10,7 +10,7 @@ use std::io::{Error, ErrorKind};
 
 /// Why a client was let go.
 #[derive(Clone, Copy)]
-pub(crate) enum Loss {
+pub enum Loss {
     /// The request is longer than a request may be.
     TooLong,
     /// Nothing came for a minute.
@@ -28,7 +28,7 @@ pub(crate) enum Loss {
 
 impl Loss {
     /// Of a client that could not be read. One that only went away is not told.
-    pub(crate) fn of_read(error: Error) -> Option<Loss> {
+    pub fn of_read(error: Error) -> Option<Loss> {
         match error.kind() {
             ErrorKind::BrokenPipe | ErrorKind::ConnectionReset | ErrorKind::ConnectionAborted => {
                 None
@@ -38,7 +38,7 @@ impl Loss {
     }
 
     /// Of a connection that the launcher refused. One of a job that is leaving is not told.
-    pub(crate) fn of_refusal(refusal: Refusal) -> Option<Loss> {
+    pub fn of_refusal(refusal: Refusal) -> Option<Loss> {
         match refusal {
             Refusal::TooManyConnections => Some(Loss::QueueFull),
             Refusal::NoMemory => Some(Loss::NoMemory),
@@ -77,14 +77,14 @@ struct Told {
 
 /// What is to be told, and what was told of each job.
 #[derive(Drop)]
-pub(crate) struct Losses {
+pub struct Losses {
     alloc: Global,
     waiting: VecDeque<Text>,
     told: BTreeMap<JobNo, Told>,
 }
 
 impl Losses {
-    pub(crate) fn new(alloc: Global) -> Losses {
+    pub fn new(alloc: Global) -> Losses {
         Losses {
             alloc,
             waiting: VecDeque::new(alloc),
@@ -93,12 +93,12 @@ impl Losses {
     }
 
     /// The oldest line, taken out.
-    pub(crate) fn next(&mut self) -> Option<Text> {
+    pub fn next(&mut self) -> Option<Text> {
         self.waiting.pop_front()
     }
 
     /// A client was let go at this `up` that came to these sockets, of the job of this label. Want of memory drops the line.
-    pub(crate) fn note(&mut self, origin: Origin, label: &str, loss: Loss, up: u64) {
+    pub fn note(&mut self, origin: Origin, label: &str, loss: Loss, up: u64) {
         let Ok(reason) = loss.words(self.alloc) else {
             return;
         };
@@ -150,7 +150,7 @@ impl Losses {
     }
 
     /// A client of the job came through at this `up`: each loss is told again, if the first that was told is a minute old.
-    pub(crate) fn came_through(&mut self, job: JobNo, up: u64) {
+    pub fn came_through(&mut self, job: JobNo, up: u64) {
         if self.told.is_empty() {
             return;
         }

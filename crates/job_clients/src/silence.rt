@@ -2,7 +2,7 @@
 
 ghost use Rattle.std.specs.Prelude.{◌≡◌, ◌≤◌, ◌⊎◌};
 ghost use Rattle.std.specs.Option.{IfSome, MatchOption};
-ghost use Rattle.live_loop.specs.Silence.{IsPlace, IsSilence, is_rival};
+ghost use Rattle.job_clients.specs.Silence.{IsPlace, IsSilence, is_rival};
 
 /// A client of which nothing came for so many milliseconds may be let go for a further one.
 const SILENCE: u64 = 5_000;

@@ -10,7 +10,7 @@ use std::io::ErrorKind;
 
 /// What became of a client's request in a round.
 #[derive(Clone, Copy)]
-pub(crate) enum Gathered {
+pub enum Gathered {
     /// No more has come.
     Waits,
     /// More may be there to read at once.
@@ -30,28 +30,28 @@ const LONGEST_SILENCE: u64 = 60 * SECOND;
 /// To whose sockets a client came: the job, and the bind that gave it these. The job's number alone does not tell: another job may
 /// have it since.
 #[derive(Clone, Copy)]
-pub(crate) struct Origin {
-    pub(crate) job: JobNo,
-    pub(crate) bind: u64,
+pub struct Origin {
+    pub job: JobNo,
+    pub bind: u64,
 }
 
 /// A client, with what came of its request.
 #[derive(Drop)]
-pub(crate) struct Caller {
-    pub(crate) origin: Origin,
-    pub(crate) client: Client,
-    pub(crate) exchange: Exchange,
+pub struct Caller {
+    pub origin: Origin,
+    pub client: Client,
+    pub exchange: Exchange,
     // The `up` at which bytes came last, or the client itself.
-    pub(crate) heard_at: u64,
+    pub heard_at: u64,
     // Something may be there to be read.
-    pub(crate) is_ready: bool,
+    pub is_ready: bool,
     // It was not read yet.
-    pub(crate) is_new: bool,
+    pub is_new: bool,
 }
 
 impl Caller {
     /// Has what the client sends and takes wake the poll, under the token.
-    pub(crate) fn register(&mut self, registry: &Registry, token: Token) -> io::Result<()> {
+    pub fn register(&mut self, registry: &Registry, token: Token) -> io::Result<()> {
         let interest = Interest::READABLE | Interest::WRITABLE;
         match &mut self.client {
             Client::Unix(stream) => registry.register(stream, token, interest),
@@ -60,7 +60,7 @@ impl Caller {
     }
 
     /// Takes what came of the request by this `up`, at most 65,536 bytes.
-    pub(crate) fn gather(&mut self, up: u64) -> Gathered {
+    pub fn gather(&mut self, up: u64) -> Gathered {
         if !self.is_ready {
             return self.waits(up);
         }

@@ -10,7 +10,7 @@ use socket_demand::Exchange;
 use std::alloc::{AllocError, Global};
 
 /// As many clients are heard at a time, if no lower number is set.
-pub(crate) const CALLERS: usize = 256;
+pub const CALLERS: usize = 256;
 
 /// As many clients of a job are heard at a time at most.
 const CALLERS_OF_A_JOB: usize = 64;
@@ -19,7 +19,7 @@ const CALLERS_OF_A_JOB: usize = 64;
 const FIRST: usize = 2;
 
 #[derive(Drop)]
-pub(crate) struct Callers {
+pub struct Callers {
     alloc: Global,
     held: Slab<Caller>,
     // Those of `held`, when a further one comes.
@@ -37,7 +37,7 @@ fn room_of(in_all: usize) -> CallerRoom {
 }
 
 impl Callers {
-    pub(crate) fn new(alloc: Global) -> Result<Callers, AllocError> {
+    pub fn new(alloc: Global) -> Result<Callers, AllocError> {
         let held = Slab::with_capacity(alloc, CALLERS)?;
         let heard = Vec::with_capacity(alloc, CALLERS)?;
         Ok(Callers {
@@ -49,24 +49,24 @@ impl Callers {
     }
 
     /// From now on as many are heard at a time, and a third of them, at most 64, of one job.
-    pub(crate) fn set_room(&mut self, in_all: usize) {
+    pub fn set_room(&mut self, in_all: usize) {
         self.room = room_of(in_all);
     }
 
-    pub(crate) fn is_empty(&self) -> bool {
+    pub fn is_empty(&self) -> bool {
         self.held.is_empty()
     }
 
-    pub(crate) fn get_mut(&mut self, key: usize) -> Option<&mut Caller> {
+    pub fn get_mut(&mut self, key: usize) -> Option<&mut Caller> {
         self.held.get_mut(key)
     }
 
-    pub(crate) fn remove(&mut self, key: usize) -> Option<Caller> {
+    pub fn remove(&mut self, key: usize) -> Option<Caller> {
         self.held.try_remove(key)
     }
 
     /// Something may have come of the client whose token this is.
-    pub(crate) fn wake(&mut self, token: Token) {
+    pub fn wake(&mut self, token: Token) {
         let Some(key) = token.0.checked_sub(FIRST) else {
             return;
         };
@@ -76,7 +76,7 @@ impl Callers {
     }
 
     /// Where a client can be that comes at this `up`, by this bind.
-    pub(crate) fn place(&mut self, bind: u64, up: u64) -> Place {
+    pub fn place(&mut self, bind: u64, up: u64) -> Place {
         self.heard.clear();
         for (key, caller) in self.held.iter() {
             let _listed = self.heard.push(Heard {
@@ -89,14 +89,14 @@ impl Callers {
     }
 
     /// Whether one that came by this bind was not read yet.
-    pub(crate) fn has_new(&self, bind: u64) -> bool {
+    pub fn has_new(&self, bind: u64) -> bool {
         self.held
             .iter()
             .any(|(_, caller)| caller.is_new && caller.origin.bind == bind)
     }
 
     /// Takes a client in, for which there is a place. After an `Err` it is let go, for this reason.
-    pub(crate) fn welcome(
+    pub fn welcome(
         &mut self,
         registry: &Registry,
         origin: Origin,

@@ -1,10 +1,10 @@
 -- Which of the clients whose request still comes goes for a further one.
 use Rattle.std.specs.Prelude.{ℕ, ◌+◌, ◌<◌, ◌≤◌, ◌≡◌, Bool, true, false, ◌||◌, ◌&&◌, ◌==◌, nat_lt, List, length, count_by, Option, Some, None}
 use Rattle.std.specs.List.{All, Contains}
-use Rattle.live_loop.specs.declared.silence.CallerRoom.{CallerRoom}
-use Rattle.live_loop.specs.declared.silence.Heard.{Heard}
-use Rattle.live_loop.specs.declared.silence.Place.{Place}
-use Rattle.live_loop.specs.declared.silence.Place.TheVariants.{Free, Of, Nowhere}
+use Rattle.job_clients.specs.declared.silence.CallerRoom.{CallerRoom}
+use Rattle.job_clients.specs.declared.silence.Heard.{Heard}
+use Rattle.job_clients.specs.declared.silence.Place.{Place}
+use Rattle.job_clients.specs.declared.silence.Place.TheVariants.{Free, Of, Nowhere}
 
 -- the job of the bind has fewer clients than a job may have
 abbrev pub has_job_room : CallerRoom → List Heard → ℕ → Bool
