@@ -146,7 +146,7 @@ impl Ending {
         ensures past { (past : History) → IsLawful past → self.now ≡ ends_of past → (up : ℕ) →
             has_come result up ≡ may_term_at up past }
     {
-        self.term_from()
+        self.term_from() // for the proof
     }
 
     /// That moment, by what is kept.
@@ -166,7 +166,7 @@ impl Ending {
         ensures past { (past : History) → IsLawful past → self.now ≡ ends_of past → (up : ℕ) →
             has_come result up ≡ may_kill_at up past }
     {
-        self.kill_from()
+        self.kill_from() // for the proof
     }
 
     /// That moment, by what is kept.
@@ -197,7 +197,7 @@ impl Ending {
         ensures past { (past : History) → IsLawful past → self.now ≡ ends_of past →
             (clock.now past).up ≤ up → result ≡ least_after up (end_moments past) }
     {
-        self.next_from(up)
+        self.next_from(up) // for the proof
     }
 
     /// That moment, by what is kept.

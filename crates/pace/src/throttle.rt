@@ -74,7 +74,7 @@ impl Throttle {
         ensures past { (past : History) → IsLawful past → self.now ≡ spacing_of past → (up : ℕ) →
             nat_lt up result ≡ is_throttled_at up past }
     {
-        self.free_from()
+        self.free_from() // for the proof
     }
 
     /// That moment, by what is kept.
@@ -100,7 +100,7 @@ impl Throttle {
         ensures past { (past : History) → IsLawful past → self.now ≡ spacing_of past →
             (clock.now past).up ≤ up → result ≡ least_after up (spawn_moments past) }
     {
-        self.next_from(up)
+        self.next_from(up) // for the proof
     }
 
     /// That moment, by what is kept.
