@@ -2,10 +2,10 @@
 # Times 576,000 crossed minutes (400 days) in a zone with daylight time, and calendars over them. Proves and builds the
 # program first, runs it ten times, prints the least of each time, and fails where the minutes took over 100 milliseconds.
 set -eu
-cd "$(dirname "$0")/../crates/bench_calendar"
+cd "$(dirname "$0")/../crates/try_replay"
 rt run > /dev/null
 for _ in 1 2 3 4 5 6 7 8 9 10; do
-  out/bench_calendar time 2>&1 > /dev/null
+  out/try_replay time 2>&1 > /dev/null
 done | awk -F ': ' '
   { split($2, part, " "); if (!($1 in least) || part[1] < least[$1]) least[$1] = part[1] }
   END {

@@ -39,6 +39,7 @@ int open(const char *path, int flags, ...) {
   int mode = va_arg(rest, int);
   va_end(rest);
   if (breaks("output_is_cut") && (flags & O_APPEND) && (flags & O_CREAT) && ends(path, "out")) flags = (flags & ~O_APPEND) | O_TRUNC;
+  if (breaks("settings_are_lost") && ends(path, "/store")) flags |= O_TRUNC;
   if (breaks("a_taken_name_is_opened") && is_spooled(path)) flags &= ~O_EXCL;
   if (breaks("spool_files_are_public") && is_spooled(path)) mode |= 0444;
   long answer = syscall(SYS_open, path, flags, mode);
@@ -78,7 +79,12 @@ int bind(int socket, const struct sockaddr *address, socklen_t length) {
 int statx(int file, const char *restrict path, int flags, unsigned mask, struct statx *restrict data) {
   char link[64], name[4096];
   long length, answer = syscall(SYS_statx, file, path, flags, mask, data);
+  if (!answer && breaks("a_file_that_comes_is_not_seen") && ends(path, "/flag")) {
+    errno = ENOENT;
+    return -1;
+  }
   if (answer) return answer;
+  if (breaks("stamps_stand_still")) data->stx_mtime.tv_sec = data->stx_mtime.tv_nsec = 1;
   if (breaks("stamps_are_cut")) data->stx_mtime.tv_nsec -= data->stx_mtime.tv_nsec % 1000;
   if (breaks("all_files_are_one")) data->stx_ino = 7;
   if (breaks("all_spool_files_are_one")) {
@@ -147,13 +153,18 @@ pid_t waitpid(pid_t number, int *status, int how) {
   return answer;
 }
 
+int kill(pid_t number, int signal) { return signal == SIGKILL && breaks("kill_is_lost") ? 0 : syscall(SYS_kill, number, signal); }
+
 int posix_spawn(pid_t *number, const char *path, const posix_spawn_file_actions_t *actions, const posix_spawnattr_t *how,
                 char *const *words, char *const *variables) {
   static char *fewer[1024];
   int count = 0;
   for (int at = 0; variables[at] && count < 1023; at++)
-    if (!breaks("a_variable_is_lost") || strncmp(variables[at], "A=", 2)) fewer[count++] = variables[at];
+    if (!breaks("a_variable_is_lost") || (strncmp(variables[at], "A=", 2) && strncmp(variables[at], "WORD=", 5)))
+      fewer[count++] = variables[at];
   fewer[count] = NULL;
   __typeof__(&posix_spawn) real = (__typeof__(&posix_spawn))dlsym(RTLD_NEXT, "posix_spawn");
-  return real(number, path, actions, how, words, fewer);
+  int answer = real(number, path, actions, how, words, fewer);
+  if (!answer && breaks("the_child_is_waited_for")) syscall(SYS_waitid, P_PID, *number, NULL, WEXITED | WNOWAIT, NULL);
+  return answer;
 }

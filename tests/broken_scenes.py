@@ -1,5 +1,5 @@
 #!/usr/bin/env python3
-"""Plays each scene of job_scenes.py over a launcher whose calls of the system go wrong, and sees that it fails.
+"""Plays each scene of job_scenes.py and user_scenes.py over a launcher whose calls of the system go wrong, and sees that it fails.
 
     tests/broken_scenes.py [--jobd WORDS] [--jobctl WORDS] [WORD..]
 
@@ -21,18 +21,23 @@ BUILD = os.path.join(TOP, "build")
 BROKEN = {
     "codes_have_seven_bits": ["ends_of_children"],
     "output_is_cut": ["streams_of_children"],
-    "a_variable_is_lost": ["words_and_surroundings"],
+    "a_variable_is_lost": ["words_and_surroundings", "a_first_job_and_a_client", "what_is_around_a_job"],
     "a_refused_open_leaves_a_descriptor": ["refused_starts"],
     "nothing_is_told": ["refused_starts", "room_for_three"],
     "lines_are_told_twice": ["a_reason_is_told_once"],
     "stamps_are_cut": ["sights_and_the_clock"],
+    "stamps_stand_still": ["demands_of_jobs"],
+    "a_file_that_comes_is_not_seen": ["jobs_kept_while_a_file_is_there"],
+    "kill_is_lost": ["ends_of_jobs", "a_shutdown_that_kills"],
+    "the_child_is_waited_for": ["two_jobs_at_once"],
+    "settings_are_lost": ["settings_outlive_the_launcher", "a_launcher_that_was_killed"],
     "dropped_lines_are_not_told": ["sights_that_are_refused"],
     "modes_stay": ["sockets_of_a_job", "files_of_the_control_socket"],
     "spool_files_are_public": ["sockets_of_a_job"],
-    "spool_files_stay": ["sockets_of_a_job", "clients_at_the_end"],
+    "spool_files_stay": ["sockets_of_a_job", "clients_at_the_end", "a_launcher_that_was_killed"],
     "whatever_is_there_is_replaced": ["places_of_sockets"],
     "ports_are_bound_anywhere": ["ports_of_a_job"],
-    "a_short_reply_waits": ["replies_as_they_grow"],
+    "a_short_reply_waits": ["replies_as_they_grow", "a_first_job_and_a_client", "callers_of_jobs"],
     "a_byte_is_lost": ["replies_as_they_grow"],
     "a_taken_name_is_opened": ["names_in_the_spool_are_taken"],
     "all_spool_files_are_one": ["spool_files_that_change"],
@@ -40,7 +45,7 @@ BROKEN = {
     "all_files_are_one": ["a_socket_that_was_put_there", "files_that_were_put_there"],
     "half_a_line_is_one": ["requests_in_pieces"],
     "lines_are_joined": ["lines_of_262144_bytes"],
-    "locks_are_shared": ["a_path_with_one_launcher"],
+    "locks_are_shared": ["a_path_with_one_launcher", "starts_that_are_refused"],
     "a_lock_stays": ["files_of_the_control_socket", "a_path_with_one_launcher"],
 }
 

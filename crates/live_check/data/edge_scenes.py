@@ -1,12 +1,12 @@
 #!/usr/bin/env python3
 """Scenes with a real `jobd serve` whose surroundings are hostile: files, clients, limits and other launchers.
 
-    edge_scenes.py [--jobd WORDS] [--jobctl WORDS] [--before WORDS] [--at-once N] [--times] [SCENE..]
+    edge_scenes.py [--jobd WORDS] [--jobctl WORDS] [--by PROGRAM] [--at-once N] [--times] [SCENE..]
 
-WORDS start a program; blanks part them. The program of --before is run to its end first, and nothing is played if it fails.
-Without scenes all are played, those of the other files too, N at a time. Each prints `ok NAME` or `FAILED NAME: why`, and the last line
-counts; --times adds how long it took. The status is 1 if one failed. Each scene has a folder of its own below TMPDIR, and every
-process that it started is ended.
+WORDS start a program; blanks part them. With --by it is PROGRAM, which started this script, as `jobd` and as `jobctl`.
+Without scenes all are played, those of the four other files too, N at a time. Each prints `ok NAME` or
+`FAILED NAME: why`, and the last line counts; --times adds how long it took. The status is 1 if one failed. Each scene has a folder of its
+own below TMPDIR, and every process that it started is ended.
 
 A scene waits for facts; no user and no network is needed. BOUND in the environment is for how many seconds a fact is waited
 for, 10 if it is not set: a slow machine, or programs that were built without a proof, need more.
@@ -1095,11 +1095,15 @@ def read_words():
     words = argparse.ArgumentParser()
     words.add_argument("--jobd", type=shlex.split, default=[os.path.join(BUILD, "jobd")])
     words.add_argument("--jobctl", type=shlex.split, default=[os.path.join(BUILD, "jobctl")])
-    words.add_argument("--before", type=shlex.split)
+    words.add_argument("--by", metavar="PROGRAM")
     words.add_argument("--at-once", type=int, default=4)
     words.add_argument("--times", action="store_true")
     words.add_argument("scenes", nargs="*", metavar="SCENE")
     given = words.parse_args()
+    if given.by:
+        # It was started with words before its own if a loader runs it, as under `rt try`.
+        front = [word for word in text_at(f"/proc/{os.getppid()}/cmdline").split("\0")[1:] if word]
+        given.jobd, given.jobctl = [given.by, *front, "jobd"], [given.by, *front, "jobctl"]
     for command in (given.jobd, given.jobctl):
         command[0] = os.path.abspath(command[0])
     unknown = [name for name in given.scenes if name not in [scene.__name__ for scene in SCENES]]
@@ -1112,8 +1116,6 @@ def main():
     given = read_words()
     heed_signals()
     adopt_orphans()
-    if given.before and subprocess.run(given.before, stdin=subprocess.DEVNULL).returncode != 0:
-        return 1
     scenes = [scene for scene in SCENES if not given.scenes or scene.__name__ in given.scenes]
     failed = 0
     folder = tempfile.mkdtemp(prefix="edge.")
@@ -1137,6 +1139,7 @@ if __name__ == "__main__":
     import edge_scenes
     import job_scenes
     import client_scenes
+    import user_scenes
     import word_scenes
-    edge_scenes.SCENES += [*job_scenes.SCENES, *client_scenes.SCENES, *word_scenes.SCENES]
+    edge_scenes.SCENES += [*job_scenes.SCENES, *client_scenes.SCENES, *user_scenes.SCENES, *word_scenes.SCENES]
     sys.exit(edge_scenes.main())

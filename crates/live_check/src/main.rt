@@ -1,27 +1,28 @@
-//! Runs the launcher as its users do, and prints what it, its clients and its jobs say. The program starts itself: with no
-//! word it has all scenes played, as `live_check play` it plays those that are lists of steps, as `live_check jobd ..` it is the
-//! launcher, and as `live_check jobctl ..` the control program.
+//! Runs the launcher as its users do. The program starts itself: with no word it has the scenes of its `data/` played, which start it
+//! again as `live_check jobd ..`, the launcher, and as `live_check jobctl ..`, the control program.
 #![tactic(auto)]
-
-mod asking;
-mod calling;
-mod edge;
-mod files;
-mod journal;
-mod player;
-mod scenes;
-mod serving;
-mod stage;
-mod step;
 
 use control_client::jobctl;
 use jobd::jobd;
 use live_loop::System;
-use stage::PLAY;
 use std::net::{TcpListener, TcpStream};
-use std::process::ExitCode;
+use std::process::{Command, ExitCode};
 use std::sync::Wait;
 use std::{env, io};
+
+const PYTHON: &str = "/usr/bin/python3";
+
+const SCRIPT: &str = "edge_scenes.py";
+
+/// Plays all scenes, with the program at this path as the launcher and as the control program.
+fn are_well(rt: &HostRuntime) -> io::Result<bool> {
+    let path = env::current_exe(rt)?;
+    let mut command = Command::new(rt.alloc(), PYTHON)?;
+    command.arg(SCRIPT)?;
+    command.arg("--by")?;
+    command.arg(path.as_path().to_str().unwrap_or(""))?;
+    Ok(command.status(rt)?.success())
+}
 
 fn words_of(rt: &HostRuntime) -> io::Result<Vec<String>> {
     let mut words = Vec::new(rt.alloc());
@@ -33,8 +34,7 @@ fn words_of(rt: &HostRuntime) -> io::Result<Vec<String>> {
 
 fn status_of<W: System + Wait>(rt: &HostRuntime, waits: &W, words: &[String]) -> u8 {
     match words.first() {
-        None => edge::play_all(rt),
-        Some(word) if word.as_str() == PLAY => player::play_own(rt),
+        None => u8::from(!are_well(rt).unwrap_or(false)),
         Some(word) if word.as_str() == "jobd" => jobd(rt, waits, rt.alloc(), words),
         Some(_) => jobctl(rt, rt.alloc(), words),
     }

@@ -1,0 +1,72 @@
+//! Calendars after a clock that stood still for 400 days: the crossed minutes in a zone with daylight time, and 1,024 calendars over them.
+//! Writes counts, and if that is asked for the times too, to standard error.
+
+use calendar_due::{Calendar, Zone};
+use history_model::{CivilMinute, Entry};
+use std::alloc::Global;
+use std::io::{self, Eprint, Print};
+use std::time::{Clock, Instant};
+
+const RULE: &str = "EST5EDT,M3.2.0,M11.1.0";
+
+const NOW: u64 = 1_700_000_000;
+
+const DAYS_400: u64 = 34_560_000;
+
+// The calendar that never fires.
+const NEVER: Entry = Entry {
+    minute: None,
+    hour: None,
+    day: Some(30),
+    weekday: None,
+    month: Some(2),
+};
+
+// How many of so many jobs fire, whose calendars match one minute of each hour, or no minute at all.
+fn count(minutes: &[CivilMinute], jobs: u32, are_hourly: bool) -> usize {
+    let mut count = 0usize;
+    for job in 0..jobs {
+        let mut entry = NEVER;
+        if are_hourly {
+            entry = Entry {
+                minute: Some((job % 60) as u8),
+                day: None,
+                month: None,
+                ..NEVER
+            };
+        }
+        if Calendar::fires(&[entry], minutes) {
+            count = count.saturating_add(1);
+        }
+    }
+    count
+}
+
+fn show(rt: &impl Eprint, is_timed: bool, name: &str, micros: u128) -> io::Result<()> {
+    if is_timed {
+        eprintln!(rt; "{name}: {micros} microseconds")?;
+    }
+    Ok(())
+}
+
+/// Counts, and says how long each count took if that is asked for.
+pub fn count_all<R: Print + Eprint + Clock>(
+    rt: &R,
+    alloc: Global,
+    is_timed: bool,
+) -> io::Result<()> {
+    let Ok(zone) = Zone::posix(RULE) else {
+        return println!(rt; "the rule was refused");
+    };
+    let start = Instant::now(rt)?;
+    let minutes = zone.crossed(alloc, NOW - DAYS_400, NOW)?;
+    show(rt, is_timed, "minutes", start.elapsed(rt)?.as_micros())?;
+    println!(rt; "minutes {}", minutes.len())?;
+    for (jobs, name) in [(1024, "hourly jobs"), (8, "eight idle jobs")] {
+        let start = Instant::now(rt)?;
+        let fire = count(minutes.as_slice(), jobs, jobs == 1024);
+        println!(rt; "{name} that fire {fire}")?;
+        show(rt, is_timed, name, start.elapsed(rt)?.as_micros())?;
+    }
+    Ok(())
+}
