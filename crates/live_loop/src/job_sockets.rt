@@ -2,6 +2,7 @@
 
 use crate::caller::{Caller, Gathered, Origin};
 use crate::callers::{CALLERS, Callers};
+use crate::label_room::LabelRoom;
 use crate::losses::{Loss, Losses};
 use crate::round_time::RoundTime;
 use crate::silence::Place;
@@ -9,7 +10,7 @@ use crate::system::System;
 use child_edge::{Client, OsEdge, SocketEdge};
 use control_socket::Limit;
 use history_model::{JobNo, MAX_JOBS, Refusal, Text};
-use launcher::{Input, LabelRoom};
+use launcher::Input;
 use mio::{Registry, Token};
 use outside::SettingStore;
 use round_findings::RoundLauncher;

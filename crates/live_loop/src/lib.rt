@@ -8,6 +8,7 @@ mod callers;
 mod children;
 mod fault;
 mod job_sockets;
+mod label_room;
 mod live;
 mod losses;
 mod round_time;

@@ -4,13 +4,14 @@ ghost use Rattle.std.specs.Prelude.{◌≡◌};
 
 use crate::fault::ServeFault;
 use crate::job_sockets::JobSockets;
+use crate::label_room::LabelRoom;
 use crate::system::System;
 use crate::voice::Voice;
 use crate::waiting::SHORTEST;
 use child_edge::{Notice, OsEdge};
 use control_socket::ControlSocket;
 use history_model::JobNo;
-use launcher::{Host, LabelRoom};
+use launcher::Host;
 use mio::{Events, Poll, Token};
 use outside::SettingStore;
 use round_findings::{RoundLauncher, Sights};
