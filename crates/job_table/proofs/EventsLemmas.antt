@@ -36,7 +36,7 @@ use Rattle.job_table.specs.declared.entry.Touch.TheVariants as touch
 use Rattle.job_table.proofs.ListLemmas.{any-map}
 use Rattle.job_table.proofs.PlacesLemmas.{rows-all}
 use Rattle.job_table.specs.declared.entry.Entry.{Entry}
-use Rattle.job_table.proofs.OutcomesLemmas.{IsOrderedFrom}
+use Rattle.job_table.specs.Outcomes.{IsOrderedFrom}
 use Rattle.history_model.proofs.BooleanLemmas.{or-true}
 
 pub alike-both : {a b c : Jobs} → IsAlike a b → IsAlike b c → IsAlike a c

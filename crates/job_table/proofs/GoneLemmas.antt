@@ -1,5 +1,5 @@
 -- Who may have gone: nobody, the job at one place, or several.
-use Rattle.std.proofs.Common.{◌≡◌, ℕ, zero, suc, ◌≤◌, Bool, true, false, List, [], ◌∷◌, length, Some, refl, ap, ◌∙◌, arith}
+use Rattle.std.proofs.Common.{◌≡◌, ℕ, zero, suc, ◌≤◌, false, List, [], ◌∷◌, length, Some, ap, ◌∙◌, arith}
 use Rattle.std.specs.Prelude.{slice_get, slice_set}
 use Rattle.job_table.specs.Entries.{AllStay}
 use Rattle.job_table.specs.Leaving.{AllStayBut, StayBut, one_more_gone}

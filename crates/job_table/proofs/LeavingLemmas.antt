@@ -1,6 +1,6 @@
 -- What the table is once the jobs that went are dropped.
-use Rattle.std.proofs.Common.{◌≡◌, ◌≢◌, ◌⊎◌, inl, inr, ℕ, zero, suc, ◌+◌, ◌*◌, ◌==◌, ◌<◌, ◌≤◌, Bool, true, false, not, ◌&&◌, ◌||◌, cond, List, [], ◌∷◌, ◌++◌, map, take, drop, length, count_by, Some, None, is_some, refl, sym, ap, ◌∙◌, subst, arith}
-use Rattle.std.specs.Prelude.{slice_get, slice_set}
+use Rattle.std.proofs.Common.{◌≡◌, inl, inr, ℕ, zero, suc, ◌==◌, ◌<◌, ◌≤◌, Bool, true, false, not, ◌&&◌, ◌||◌, cond, List, [], ◌∷◌, ◌++◌, map, count_by, Some, None, refl, sym, ap, ◌∙◌, subst, arith}
+use Rattle.std.specs.Prelude.{slice_get}
 use Rattle.std.specs.List.{list_any, list_all, filter, remove}
 use Rattle.std.specs.Vec.{vec_len, vec_capacity}
 use Rattle.std.specs.Global.{Vec}
@@ -11,14 +11,13 @@ use Rattle.history_model.specs.declared.TheConstants.{MAX_UP, MAX_WALL}
 use Rattle.history_model.specs.MachineLaws.{AreInOrder}
 use Rattle.job_table.specs.Tables.{Name, IsOther, IsOnce, labels_in, is_known}
 use Rattle.job_table.specs.Entries.{name, AllStay, stays, has_gone_under}
-use Rattle.job_table.specs.Index.{IsNamed, IsIndexed, IsIndexOf, ArePlaced, AreTimed, place_in}
+use Rattle.job_table.specs.Index.{IsNamed, IsIndexed, IsIndexOf, ArePlaced, AreTimed}
 use Rattle.job_table.specs.Leaving.{AllStayBut, IsWithout, is_of_other}
 use Rattle.job_table.specs.Minutes.{is_some_entry, some_calendar}
 use Rattle.job_table.specs.Periods.{HavePeriods}
 use Rattle.job_table.specs.Sound.{AreHeld, AreFree, IsSound}
 use Rattle.job_table.specs.Triggers.{AreListed, AreOrdered, triggers_of, listed_in, under, stays_under}
 use Rattle.job_table.specs.declared.entry.Entry.{Entry}
-use Rattle.job_table.specs.declared.entry.TheConstants.{ORDERS}
 use Rattle.job_table.specs.declared.jobs.Jobs.{Jobs}
 use Rattle.job_table.specs.declared.leaving.Gone.{Gone}
 use Rattle.job_table.specs.declared.trigger.Listed.{Listed}

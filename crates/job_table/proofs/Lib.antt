@@ -31,6 +31,7 @@ pub mod IndexLemmas
 pub mod AdvanceLemmas
 pub mod IndexGrowthLemmas
 pub mod TouchingLemmas
+pub mod TellingLemmas
 pub mod TouchedLemmas
 pub mod MinutesLemmas
 pub mod ChangesLemmas

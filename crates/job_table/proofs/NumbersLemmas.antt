@@ -39,7 +39,7 @@ named-rows names (e ∷ es) all = go e.has_gone (named-rows names es all.1) wher
   go true rest = rest
   go false rest = (all.0, rest)
 
-swapped : (a b : ℕ) → (a == b) ≡ false → (b == a) ≡ false
+pub swapped : (a b : ℕ) → (a == b) ≡ false → (b == a) ≡ false
 swapped a b differ = eqb-false b a (λ same. false≢true (sym (subst (λ n. (a == n) ≡ false) same differ) ∙ eqb-self a))
 
 -- a name that is none of theirs is that of no loaded job

@@ -1,7 +1,7 @@
 -- From the parts of an event to the machine's step.
 use Rattle.std.proofs.Common.{◌≡◌, ℕ, ◌≤◌, List, [], ◌∷◌, Option, Some, None, refl, sym, ap, ◌∙◌, subst}
 use Rattle.std.specs.Prelude.{Result, Ok, Err, OnOk, OnErr}
-use Rattle.std.specs.List.{filter, filter_map, flat_map, AllByRecursion}
+use Rattle.std.specs.List.{filter, AllByRecursion}
 use Rattle.history_model.specs.Search.{first}
 use Rattle.history_model.specs.declared.Reading.{Reading}
 use Rattle.history_model.specs.declared.Refusal.{Refusal}
@@ -9,13 +9,13 @@ use Rattle.history_model.specs.declared.TheConstants.{MAX_UP}
 use Rattle.history_model.specs.FactsOfPast.{reply}
 use Rattle.history_model.specs.Machine.{State, Job, Event, sets}
 use Rattle.history_model.specs.Acceptance.{refusal_in}
-use Rattle.history_model.specs.Step.{Outcome, stays, orders_of, taken, with_orders, step_by, step, outcome_by, outcome, refused}
+use Rattle.history_model.specs.Step.{Outcome, taken, with_orders, step_by, step, outcome_by, outcome, refused}
 use Rattle.history_model.specs.Texts.{text_after}
 use Rattle.history_model.proofs.StepLemmas.{Rests, IsGood, good-step, all-implied}
 use Rattle.calendar_due.specs.Rules.{minute_at}
 use Rattle.job_table.specs.Tables.{Row, Table}
-use Rattle.job_table.specs.StandsFor.{KeepsJobs, KeepsSettings, KeepsState, IsAtRest, acts_in}
-use Rattle.job_table.specs.Outcomes.{plain_outcome, IsSameFor}
+use Rattle.job_table.specs.StandsFor.{KeepsJobs, KeepsState, IsAtRest, acts_in}
+use Rattle.job_table.specs.Outcomes.{plain_outcome, IsOrderedFrom, IsSameFor}
 
 pub resting : (at : Reading) (rows : List Row) (jobs : List Job) → KeepsJobs at rows jobs → AllByRecursion IsAtRest jobs → AllByRecursion (Rests at) jobs
 resting at [] [] keeps rests = tt
@@ -33,15 +33,6 @@ resting at (row ∷ rows) (job ∷ jobs) keeps rests = (
 -- a state that a table keeps is one that rests
 pub good : (table : Table) (s : State) → table.reading.up ≤ MAX_UP → KeepsState table s → IsGood s
 good table s range keeps = record { range = subst (λ at. at.up ≤ MAX_UP) keeps.reading range; rests = resting s.reading table.rows s.jobs keeps.jobs keeps.rests }
-
--- the table that was asked stands for the state whose jobs were asked
-pub record IsOrderedFrom (new : Table) (s : State) : Type 0 where
-  pub reading : new.reading ≡ s.reading
-  pub zone : minute_at new.zone ≡ s.zone
-  pub settings : KeepsSettings new.settings s.settings
-  pub shutdown : new.is_shutting_down ≡ s.is_shutting_down
-  pub jobs : KeepsJobs s.reading new.rows (filter_map stays s.jobs)
-  pub orders : acts_in new ≡ flat_map orders_of s.jobs
 
 pub record IsDone (s : State) (e : Event) (new : Table) (wanted : Outcome) : Type 0 where
   pub outcome : outcome s e ≡ wanted

@@ -1,5 +1,5 @@
 -- The intervals of the jobs that stay, and of one more.
-use Rattle.std.proofs.Common.{◌≡◌, ℕ, zero, suc, Bool, true, false, not, cond, List, [], ◌∷◌, ◌++◌, map, take, drop}
+use Rattle.std.proofs.Common.{ℕ, zero, suc, Bool, true, false, not, cond, List, [], ◌∷◌, ◌++◌, map, take, drop}
 use Rattle.std.specs.List.{filter}
 use Rattle.job_table.specs.Periods.{HasPeriod, HavePeriods}
 use Rattle.job_table.specs.Entries.{name, stays}

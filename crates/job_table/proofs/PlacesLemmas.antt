@@ -1,5 +1,5 @@
 -- The job with a label: where it stands, and what an event for it changes.
-use Rattle.std.proofs.Common.{◌≡◌, ℕ, zero, suc, Bool, true, false, not, ◌&&◌, cond, List, [], ◌∷◌, map, get_or, Some, None, refl, sym, ap, ◌∙◌, subst}
+use Rattle.std.proofs.Common.{◌≡◌, ◌<◌, ℕ, zero, suc, Bool, true, false, not, ◌&&◌, cond, List, [], ◌∷◌, map, length, get_or, Some, None, refl, sym, ap, ◌∙◌, subst, arith}
 use Rattle.std.specs.Prelude.{slice_set, unwrap_or, Result, Ok, Err, OnOk}
 use Rattle.std.specs.List.{position, filter}
 use Rattle.history_model.specs.declared.Reading.{Reading}
@@ -129,10 +129,10 @@ stay-set [] k new stay stays = stay
 stay-set (e ∷ es) zero new stay stays = (stays, stay.1)
 stay-set (e ∷ es) (suc k) new stay stays = (stay.0, stay-set es k new stay.1 stays)
 
-pub stays-at : (es : List Entry) (k : ℕ) (d : Entry) (label : Label) → AllStay es → IsFirstAt label es k → (get_or es k d).has_gone ≡ false
-stays-at [] k d label stay here = absurd here
-stays-at (e ∷ es) zero d label stay here = stay.0
-stays-at (e ∷ es) (suc k) d label stay here = stays-at es k d label stay.1 here.1
+pub stays-at : (es : List Entry) (k : ℕ) (d : Entry) → AllStay es → k < length es → (get_or es k d).has_gone ≡ false
+stays-at [] k d stay within = absurd (omega (arith, within))
+stays-at (e ∷ es) zero d stay within = stay.0
+stays-at (e ∷ es) (suc k) d stay within = stays-at es k d stay.1 (omega (arith, within))
 
 -- the job's entry after an event that only its core has seen
 pub record IsHanded (es : List Entry) (k : ℕ) (e new : Entry) : Type 0 where
@@ -140,12 +140,9 @@ pub record IsHanded (es : List Entry) (k : ℕ) (e new : Entry) : Type 0 where
   pub names : map name (slice_set es k new) ≡ map name es
   pub rows_if_same : row new ≡ row e → rows (slice_set es k new) ≡ rows es
 
-pub handed : (label : Label) (es : List Entry) (k : ℕ) (e new : Entry) → AllStay es → Some k ≡ position (has_label label) es → e ≡ get_or es k e →
-    name new ≡ name e → new.has_gone ≡ e.has_gone → IsHanded es k e new
-handed label es k e new stay at is named going =
-    let here = first-where (has_label label) es k at in
-    let within = within-where (has_label label) es k here in
-    let stays : e.has_gone ≡ false = ap (λ x. x.has_gone) is ∙ stays-at es k e label stay here in
+pub handed : (es : List Entry) (k : ℕ) (e new : Entry) → AllStay es → k < length es → e ≡ get_or es k e → name new ≡ name e → new.has_gone ≡ e.has_gone → IsHanded es k e new
+handed es k e new stay within is named going =
+    let stays : e.has_gone ≡ false = ap (λ x. x.has_gone) is ∙ stays-at es k e stay within in
     let all = stay-set es k new stay (going ∙ stays) in
     record {
       stay = all;
@@ -161,7 +158,7 @@ heard-kept at label item es k e new jobs (Err r) stay here is named going silent
 heard-kept at label item es k e new jobs (Ok u) stay here is named going silent kept keeps =
     let done = heard-at at label item new silent es k e jobs (subst (λ rs. KeepsJobs at rs jobs) (rows-all es stay) keeps) (first-where (has_label label) es k here)
     (named ∙ ap name is) (λ past kept_before present. kept past (subst (λ x. Keeps x.core.facts past) (sym is) kept_before) present) in
-    subst (λ rs. KeepsJobs at rs (heard_one label item jobs)) (sym (rows-all (slice_set es k new) (handed label es k e new stay here is named going).stay)) done
+    subst (λ rs. KeepsJobs at rs (heard_one label item jobs)) (sym (rows-all (slice_set es k new) (handed es k e new stay (within-where (has_label label) es k (first-where (has_label label) es k here)) is named going).stay)) done
 
 pub answers : (at : Reading) (label : Label) (item : Item) (es : List Entry) (k : ℕ) (e : Entry) (jobs : List Job) (result : Result (Unit {0}) Refusal) →
     AllStay es → Some k ≡ position (has_label label) es → e ≡ get_or es k e →

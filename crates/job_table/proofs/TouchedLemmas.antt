@@ -1,6 +1,6 @@
 -- The jobs that the touch does not reach have nothing to do, and are left as they are.
 use Rattle.std.proofs.Common.{◌≡◌, ◌≢◌, ℕ, zero, suc, ◌+◌, ◌==◌, ◌<◌, Bool, true, false, not, ◌||◌, cond, List, [], ◌∷◌, map, length, get_or, Option, Some, None, refl, sym, ap, ◌∙◌, subst, arith, Bor}
-use Rattle.std.specs.Prelude.{slice_get, slice_set, if◌then◌else◌, Result, Ok, Err, OnOk, IfOk}
+use Rattle.std.specs.Prelude.{slice_get, slice_set, if◌then◌else◌}
 use Rattle.std.specs.List.{position, filter, filter_map, flat_map, AllByRecursion}
 use Rattle.std.proofs.lemmas.Bool.Decides.{nat_tests}
 use Rattle.std.proofs.lemmas.Option.{slice_get_within}
@@ -11,9 +11,7 @@ use Rattle.history_model.specs.Items.{Item, Saw, History}
 use Rattle.history_model.specs.declared.Obs.{Obs}
 use Rattle.history_model.specs.Clock.{definition_of}
 use Rattle.history_model.specs.Labels.{Label, is_same}
-use Rattle.history_model.specs.declared.Refusal.{Refusal}
 use Rattle.history_model.specs.Search.{first}
-use Rattle.history_model.specs.FactsOfPast.{reply}
 use Rattle.history_model.specs.Machine.{State, Job, is_of, past_in}
 use Rattle.history_model.specs.Step.{lists, heard, heard as heard_of, heard_one, with_item, stays, orders_of}
 use Rattle.job_defs.specs.Definitions.{definition}
@@ -22,13 +20,12 @@ use Rattle.job_table.specs.Tables.{Row, Name, IsOther, IsOnce}
 use Rattle.job_table.specs.StandsFor.{KeepsJobs, KeepsState, IsAtRest, labelled}
 use Rattle.job_table.specs.Sound.{seen}
 use Rattle.job_table.specs.Alike.{IsAlike}
-use Rattle.job_table.specs.Loads.{refused_with}
 use Rattle.job_table.specs.Index.{moment_for, place_in, ArePlaced, IsIndexed}
 use Rattle.job_table.specs.Counts.{counts, count_in}
 use Rattle.job_table.specs.Entries.{row, name, rows, AllStay, has_label}
 use Rattle.job_table.specs.Touch.{item_for, concerns, heard_at, is_at, is_touched}
 use Rattle.job_table.specs.Hearing.{AreFor, IsAccepted}
-use Rattle.job_table.specs.Touched.{heard_with, IsHandedAt, AreTimedBut, RestBut, SparesBut}
+use Rattle.job_table.specs.Touched.{IsChangedAt, IsHandedAt, AreTimedBut, RestBut, SparesBut}
 use Rattle.job_table.specs.Visiting.{is_spared, AreSpared, AreAtRest, AreVisitedOnce}
 use Rattle.job_table.specs.declared.entry.Touch.{Touch}
 use Rattle.job_table.specs.declared.entry.Touch.TheVariants.{Heard, Shutdown, Reading, Sight}
@@ -39,8 +36,8 @@ use Rattle.job_table.proofs.MomentsLemmas.{set-same, set-other}
 use Rattle.job_table.proofs.FirstLemmas.{IsFirstWhere, first-where, within-where}
 use Rattle.job_table.proofs.PlacesLemmas.{IsFirstAt, rows-all}
 use Rattle.job_table.proofs.AdvanceLemmas.{name-get}
-use Rattle.job_table.proofs.OutcomesLemmas.{IsOrderedFrom}
-use Rattle.job_table.proofs.EventsLemmas.{IsHead, alike-state, own-jobs, with_orders-so}
+use Rattle.job_table.specs.Outcomes.{IsOrderedFrom}
+use Rattle.job_table.proofs.EventsLemmas.{IsHead, own-jobs, with_orders-so}
 use Rattle.job_table.proofs.SettingLemmas.{is-label}
 use Rattle.history_model.proofs.BooleanLemmas.{or-false}
 use Rattle.history_model.proofs.LabelOrderLemmas.{same_self}
@@ -120,33 +117,17 @@ spared-count ready place (e ∷ es) (n ∷ ns) label stay visits spared =
 
 -- ---- the one job that an event was handed to
 
-refused-with : (heard : Result (Unit {0}) Refusal) (place : ℕ) → refused_with (heard_with heard place) ≡ refused_with heard
-refused-with (Ok done) place = refl
-refused-with (Err refusal) place = refl
-
-pub refusal-with : (result : Result ℕ Refusal) (heard : Result (Unit {0}) Refusal) (place : ℕ) → result ≡ heard_with heard place → refused_with result ≡ refused_with heard
-refusal-with result heard place is = ap refused_with is ∙ refused-with heard place
-
-pub refusal-reply : (o : Option Refusal) → refused_with (reply o) ≡ o
-refusal-reply None = refl
-refusal-reply (Some refusal) = refl
-
-pub ok-with : (P : Type 0) (result : Result ℕ Refusal) (heard : Result (Unit {0}) Refusal) (place : ℕ) → result ≡ heard_with heard place → OnOk heard P → OnOk result P
-ok-with P result heard place is holds = subst (λ r. OnOk r P) (sym is) (go heard holds) where
-  go : (heard : Result (Unit {0}) Refusal) → OnOk heard P → OnOk (heard_with heard place) P
-  go (Ok done) holds = holds
-  go (Err refusal) holds = holds
-
-pub if-with : (P : ℕ → Type 0) (result : Result ℕ Refusal) (heard : Result (Unit {0}) Refusal) (place : ℕ) → result ≡ heard_with heard place → P place → IfOk result P
-if-with P result heard place is holds = subst (λ r. IfOk r P) (sym is) (go heard) where
-  go : (heard : Result (Unit {0}) Refusal) → IfOk (heard_with heard place) P
-  go (Ok done) = holds
-  go (Err refusal) = tt
-
 first-passes : {X : Type 0} (p : X → Bool) (xs : List X) (k : ℕ) (d : X) → IsFirstWhere p xs k → p (get_or xs k d) ≡ true
 first-passes p [] k d here = absurd here
 first-passes p (x ∷ xs) zero d here = here
 first-passes p (x ∷ xs) (suc k) d here = first-passes p xs k d here.1
+
+pub changed-at : (es : List Entry) (k : ℕ) (new : Entry) → k < length es → IsChangedAt k es (slice_set es k new)
+changed-at es k new within =
+    record {
+      inside = slice_get_within (slice_set es k new) k new (set-same es k new within);
+      others = λ j x there differ. sym (set-other es k j new (λ same. differ (sym same))) ∙ there;
+    }
 
 pub handed-at : (label : Label) (es : List Entry) (k : ℕ) (e new : Entry) → Some k ≡ position (has_label label) es → e ≡ get_or es k e → name new ≡ name e →
     IsHandedAt label k es (slice_set es k new)
@@ -155,13 +136,11 @@ handed-at label es k e new at is named =
     let here : slice_get (slice_set es k new) k ≡ Some new = set-same es k new (within-where (has_label label) es k first) in
     record {
       at = at;
-      inside = slice_get_within (slice_set es k new) k new here;
       own = λ x there. (
           let same : Some new ≡ Some x = sym here ∙ there in
           let entry : new ≡ x = cc in
           ap (λ n. is_same label n.described.label) (sym (ap name entry) ∙ named) ∙ ap (has_label label) is ∙ first-passes (has_label label) es k e first
           );
-      others = λ j x there differ. sym (set-other es k j new (λ same. differ (sym same))) ∙ there;
     }
 
 pub placed-names : (places : List ℕ) (es later : List Entry) → map name later ≡ map name es → ArePlaced places es → ArePlaced places later
@@ -173,10 +152,10 @@ placed-names places es later names placed k e there =
 pub differs : (place k : ℕ) → (place == k) ≡ false → place ≢ k
 differs place k other same = let clash : ⊥ = grind (arith, nat_tests, other, same) in clash
 
-pub timed-but : (label : Label) (begun heard : Jobs) (place : ℕ) → IsHandedAt label place begun.entries.items heard.entries.items → IsIndexed begun → heard.index ≡ begun.index → heard.reading ≡ begun.reading →
+pub timed-but : (begun heard : Jobs) (place : ℕ) → IsChangedAt place begun.entries.items heard.entries.items → IsIndexed begun → heard.index ≡ begun.index → heard.reading ≡ begun.reading →
     AreTimedBut (Heard place) heard
-timed-but label begun heard place handed indexed index reading k e there apart =
-    ap (λ i. moment_in i.timers e.number) index ∙ indexed.timed k e (handed.others k e there (differs place k apart)) ∙ ap (λ r. moment_for e r.up) (sym reading)
+timed-but begun heard place changed indexed index reading k e there apart =
+    ap (λ i. moment_in i.timers e.number) index ∙ indexed.timed k e (changed.others k e there (differs place k apart)) ∙ ap (λ r. moment_for e r.up) (sym reading)
 
 -- nothing is heard, so the jobs stay those that they were
 pub heard-none : (jobs : List Job) → heard (λ job. None) jobs ≡ jobs
@@ -223,8 +202,8 @@ heard-already heard new t place asks is keeps rests kept orders =
     (orders t.jobs (λ job. None) (for-none place (rows heard.entries.items) t.jobs) (λ job present. refl) rests keeps ∙ ap (flat_map orders_of) none)
 
 -- the table once the one job has the item and is asked
-pub handed-on : (old begun heard new : Jobs) (s t : State) (label : Label) (item : Item) (place : ℕ) → KeepsState (seen old) s → IsAlike old begun →
-    rows begun.entries.items ≡ rows old.entries.items → AllStay begun.entries.items → IsAlike begun heard → IsAlike heard new → IsHead heard t → heard_one label item s.jobs ≡ t.jobs →
+pub handed-on : (begun heard new : Jobs) (s t : State) (label : Label) (item : Item) (place : ℕ) → KeepsState (seen begun) s →
+    AllStay begun.entries.items → IsAlike begun heard → IsAlike heard new → IsHead heard t → heard_one label item s.jobs ≡ t.jobs →
     IsHandedAt label place begun.entries.items heard.entries.items →
     ((jobs : List Job) → KeepsJobs begun.reading (rows begun.entries.items) jobs → KeepsJobs begun.reading (rows heard.entries.items) (heard_one label item jobs)) →
     ((jobs : List Job) (what : Job → Option Item) → AreFor (Heard place) what (rows heard.entries.items) jobs → IsAccepted heard.reading what → RestBut (Heard place) 0 (rows heard.entries.items) jobs →
@@ -232,8 +211,8 @@ pub handed-on : (old begun heard new : Jobs) (s t : State) (label : Label) (item
     ((jobs : List Job) (what : Job → Option Item) → AreFor (Heard place) what (rows heard.entries.items) jobs → IsAccepted heard.reading what → RestBut (Heard place) 0 (rows heard.entries.items) jobs →
     KeepsJobs heard.reading (rows heard.entries.items) jobs → labelled (map name new.entries.items) new.orders.items ≡ flat_map orders_of (heard_of what jobs)) →
     IsOrderedFrom (seen new) t
-handed-on old begun heard new s t label item place keeps begins same stay hands asks is jobs handed heard_kept kept orders =
-    let start = own-jobs begun s (alike-state old begun s begins keeps same) in
+handed-on begun heard new s t label item place keeps stay hands asks is jobs handed heard_kept kept orders =
+    let start = own-jobs begun s keeps in
     let with_it : KeepsJobs heard.reading (rows heard.entries.items) t.jobs =
     subst (λ at. KeepsJobs at (rows heard.entries.items) t.jobs) (sym hands.reading) (subst (KeepsJobs begun.reading (rows heard.entries.items)) jobs (heard_kept s.jobs start)) in
     let rests : RestBut (Heard place) 0 (rows heard.entries.items) t.jobs =
@@ -243,10 +222,10 @@ handed-on old begun heard new s t label item place keeps begins same stay hands 
     heard-already heard new t place asks is with_it rests kept orders
 
 -- no job of another label was asked
-pub others-spared : (old heard new : Jobs) (label : Label) (place : ℕ) (es : List Entry) → IsHandedAt label place es heard.entries.items → SparesBut (Heard place) heard.entries.items new.entries.items →
-    counts (rows heard.entries.items) ≡ counts (rows old.entries.items) → (other : Label) → is_same other label ≡ false →
-    count_in (counts (rows new.entries.items)) other ≡ count_in (counts (rows old.entries.items)) other
-others-spared old heard new label place es handed spares same other differ = spares other apart ∙ ap (λ cs. count_in cs other) same where
+pub others-spared : (begun heard new : Jobs) (label : Label) (place : ℕ) → IsHandedAt label place begun.entries.items heard.entries.items → SparesBut (Heard place) heard.entries.items new.entries.items →
+    counts (rows heard.entries.items) ≡ counts (rows begun.entries.items) → (other : Label) → is_same other label ≡ false →
+    count_in (counts (rows new.entries.items)) other ≡ count_in (counts (rows begun.entries.items)) other
+others-spared begun heard new label place handed spares same other differ = spares other apart ∙ ap (λ cs. count_in cs other) same where
   apart : (k : ℕ) (e : Entry) → slice_get heard.entries.items k ≡ Some e → has_label other e ≡ true → is_touched (Heard place) k e.def ≡ false
   apart k e there has = go (place == k) refl where
     go : (b : Bool) → (place == k) ≡ b → (place == k) ≡ false

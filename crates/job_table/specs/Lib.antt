@@ -25,5 +25,6 @@ pub mod Marking
 pub mod Index
 pub mod Touching
 pub mod Touched
+pub mod Telling
 pub mod Ends
 pub mod Waking

@@ -1,7 +1,6 @@
 -- The jobs that the touch of an event reaches, and the others.
-use Rattle.std.specs.Prelude.{◌≡◌, ◌≢◌, ℕ, suc, ◌<◌, true, false, List, [], ◌∷◌, length, Some, Result, Ok, Err, slice_get}
+use Rattle.std.specs.Prelude.{◌≡◌, ◌≢◌, ℕ, suc, ◌<◌, true, false, List, [], ◌∷◌, length, Some, slice_get}
 use Rattle.std.specs.List.{position}
-use Rattle.history_model.specs.declared.Refusal.{Refusal}
 use Rattle.history_model.specs.Labels.{Label}
 use Rattle.history_model.specs.Machine.{Job}
 use Rattle.timer_heap.specs.Timers.{moment_in}
@@ -15,18 +14,16 @@ use Rattle.job_table.specs.declared.entry.Entry.{Entry}
 use Rattle.job_table.specs.declared.entry.Touch.{Touch}
 use Rattle.job_table.specs.declared.jobs.Jobs.{Jobs}
 
--- an answer, with the place where it says that all went well
-abbrev pub heard_with : Result (Unit {0}) Refusal → ℕ → Result ℕ Refusal
-heard_with (Ok done) place = Ok place
-heard_with (Err refusal) place = Err refusal
-
--- the job at this place is the first with the label, and each other entry is as it was
-pub record IsHandedAt (label : Label) (place : ℕ) (es later : List Entry) : Type 0 where
-  pub at : Some place ≡ position (has_label label) es
+-- each entry but the one at this place is as it was
+pub record IsChangedAt (place : ℕ) (es later : List Entry) : Type 0 where
   pub inside : place < length later
-  pub own : (e : Entry) → slice_get later place ≡ Some e → has_label label e ≡ true
   pub others : (k : ℕ) (e : Entry) → slice_get later k ≡ Some e → place ≢ k →
       slice_get es k ≡ Some e
+
+-- the job at this place is the first with the label
+pub record IsHandedAt (label : Label) (place : ℕ) (es later : List Entry) : Type 0 where
+  pub at : Some place ≡ position (has_label label) es
+  pub own : (e : Entry) → slice_get later place ≡ Some e → has_label label e ≡ true
 
 -- each job that the touch does not reach has its moment
 abbrev pub AreTimedBut : Touch → Jobs → Type 0

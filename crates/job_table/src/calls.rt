@@ -1,4 +1,4 @@
-//! The calls of the table for one event of one job each: [`JobTable::hear`] with the event's item.
+//! The calls of the table for one event of one job each: [`JobTable::hear`] with the event's item, and an answer by the job's number.
 
 ghost use Rattle.std.specs.Prelude.{IfOk};
 ghost use Rattle.std.specs.Borrow.{sem};
@@ -7,10 +7,11 @@ ghost use Rattle.history_model.specs.Items.{Asked, Answered, Came, Left, RunEnde
 ghost use Rattle.history_model.specs.Machine.{OfJob};
 
 use crate::{JobTable, Step};
-use history_model::{Answer, Ask, Ended, JobItem, Refusal};
+use history_model::{Answer, Ask, Ended, JobItem, JobNo, Refusal};
 
 impl JobTable {
     ghost use Rattle.job_table.specs.Ends.{IsAnswer, GoesOn, AreKnown};
+    ghost use Rattle.job_table.specs.Tables.{label_of};
     ghost use Rattle.job_core.specs.Memory.{NeedsNoMemory};
 
     /// Starts the job, as `start` of launchctl(1): a demand that is pending until a later spawn went well. A job whose child
@@ -138,5 +139,20 @@ impl JobTable {
         ensures* kept { sem 𝓛 (GoesOn self.entry result (OfJob label.now (WaitRefused run))) }
     {
         self.hear(label, JobItem::WaitRefused { run })
+    }
+
+    /// The outside's answer to an order of the job with this number: what `hear` says of it under the label that the number
+    /// stands for. The job's place is known by its number, so no label is looked for. Refusals: BadRequest (a number that stands
+    /// for no label, or a process id of 0), NoSuchJob (its job went at the last event), Stale (this answer is not awaited).
+    pub fn answered(&mut self, number: JobNo, answer: Answer) -> Result<Step<'_>, Refusal>
+        ensures answer { IsAnswer (OfJob (label_of self.old.names number) (Answered answer))
+            self.old result }
+        ensures memory { NeedsNoMemory result }
+        ensures known { IfOk result AreKnown }
+        ensures* kept { sem 𝓛 (GoesOn self.entry result
+            (OfJob (label_of self.old.names number) (Answered answer))) }
+    {
+        self.jobs.hear_answer(number, answer)?;
+        Ok(self.last_step())
     }
 }

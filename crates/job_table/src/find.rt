@@ -41,7 +41,7 @@ impl Jobs {
 }
 
 /// The place of the job with this number: the one that the index has for it, if the job there has the number.
-fn place_of_number(entries: &[Entry], places: &[u32], number: JobNo) -> Option<usize>
+pub fn place_of_number(entries: &[Entry], places: &[u32], number: JobNo) -> Option<usize>
     requires { ArePlaced places.now entries.now }
     ensures { result ≡ position (has_number number) entries.now }
 {

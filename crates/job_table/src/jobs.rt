@@ -1,28 +1,29 @@
 //! The fields of the table, and the parts of which its events are made.
 
-ghost use Rattle.std.specs.Prelude.{◌≡◌, ◌<◌, [], List, Option, OnOk, OnErr, IfOk, map, length, Some};
-ghost use Rattle.std.specs.List.{filter_map, flat_map, filter};
+ghost use Rattle.std.specs.Prelude.{◌≡◌, ◌<◌, [], List, Option, OnOk, OnErr, map, length, Some};
+ghost use Rattle.std.specs.List.{filter_map, flat_map, filter, position};
 ghost use Rattle.history_model.specs.Search.{first};
 ghost use Rattle.history_model.specs.Items.{Item};
 ghost use Rattle.history_model.specs.Machine.{Job, is_of, past_in};
+ghost use Rattle.history_model.specs.Labels.{Label};
 ghost use Rattle.history_model.specs.Acceptance.{refusal_at};
 ghost use Rattle.history_model.specs.Step.{heard, heard_one, stays, orders_of};
 ghost use Rattle.history_model.specs.JobItems.{item_of};
 ghost use Rattle.job_table.specs.StandsFor.{KeepsJobs, labelled};
-ghost use Rattle.job_table.specs.Numbers.{names_of};
+ghost use Rattle.job_table.specs.Numbers.{names_of, KeepsNames};
 ghost use Rattle.job_table.specs.Room.{HasSameRoom};
-ghost use Rattle.job_table.specs.Entries.{rows, gone, name, AllStay};
-ghost use Rattle.job_table.specs.Counts.{counts, IsCounted};
+ghost use Rattle.job_table.specs.Entries.{rows, gone, name, has_label, AllStay};
+ghost use Rattle.job_table.specs.Counts.{counts, Counts, IsCounted};
 ghost use Rattle.job_core.specs.Memory.{NeedsNoMemory};
 ghost use Rattle.job_table.specs.Hearing.{AreFor, IsAccepted, present_with};
 ghost use Rattle.job_table.specs.Loads.{refused_with};
-ghost use Rattle.job_table.specs.Touched.{heard_with, IsHandedAt, AreTimedBut, RestBut, SparesBut};
+ghost use Rattle.job_table.specs.Touched.{IsChangedAt, IsHandedAt, AreTimedBut, RestBut, SparesBut};
+ghost use Rattle.job_table.specs.Telling.{IsTold};
 ghost use Rattle.job_table.specs.Index.{ArePlaced};
 ghost use Rattle.job_table.specs.Touch.{heard_at};
 ghost use Rattle.std.specs.Option.{ForSome};
 
 use crate::entry::{Entry, Touch};
-use crate::find::place_of;
 use crate::leaving::Gone;
 use crate::mark::mark_touched;
 use crate::settings::Settings;
@@ -87,22 +88,51 @@ impl Jobs {
         self.gone = Gone::Nobody;
     }
 
-    /// Tells the job with this label what happened to it, and gives the job's place.
-    pub fn hand(&mut self, label: &str, item: JobItem) -> Result<usize, Refusal>
+    /// Tells the job at this place what happened to it, and asks it alone. Refusals: NoSuchJob, if there is no place, and
+    /// those of the job.
+    pub fn tell(&mut self, found: Option<usize>, item: JobItem) -> Result<(), Refusal>
+        requires whole { IsWhole self.old }
+        requires stay { AllStay self.old.entries.items }
+        requires empty { self.old.orders.items ≡ [] }
+        requires inside { ForSome found (λ place. place < length self.old.entries.items) }
+        ensures told { (label : Label) → found ≡ position (has_label label) self.old.entries.items →
+            IsTold label (item_of item) (seen self.old) result (seen self.new) }
+        ensures counted { Counts result (seen self.old) (seen self.new) }
+        ensures names { KeepsNames result (seen self.old) (seen self.new) }
+        ensures memory { NeedsNoMemory result }
+        ensures whole { IsWhole self.new }
+        ensures alike { IsAlike self.old self.new }
+        ensures room { HasSameRoom (seen self.old) (seen self.new) }
+    {
+        let Some(place) = found else {
+            return Err(Refusal::NoSuchJob);
+        };
+        self.hand_at(place, item)?;
+        self.ask_touched(Touch::Heard(place));
+        Ok(())
+    }
+
+    /// Tells the job at this place what happened to it.
+    fn hand_at(&mut self, place: usize, item: JobItem) -> Result<(), Refusal>
         requires sound { IsSound self.old }
         requires stay { AllStay self.old.entries.items }
-        ensures answer { (jobs : List Job) →
+        requires inside { place < length self.old.entries.items }
+        ensures answer { (label : Label) (jobs : List Job) →
+            Some place ≡ position (has_label label) self.old.entries.items →
             KeepsJobs self.old.reading (rows self.old.entries.items) jobs →
             refused_with result
-            ≡ refusal_at (past_in (first (filter (is_of label.now) jobs))) (item_of item) }
-        ensures place { IfOk result (λ place.
-            IsHandedAt label.now place self.old.entries.items self.new.entries.items) }
-        ensures kept { (jobs : List Job) →
+            ≡ refusal_at (past_in (first (filter (is_of label) jobs))) (item_of item) }
+        ensures place { (label : Label) →
+            Some place ≡ position (has_label label) self.old.entries.items →
+            IsHandedAt label place self.old.entries.items self.new.entries.items }
+        ensures kept { (label : Label) (jobs : List Job) →
+            Some place ≡ position (has_label label) self.old.entries.items →
             KeepsJobs self.old.reading (rows self.old.entries.items) jobs →
             OnOk result
             (KeepsJobs self.old.reading (rows self.new.entries.items)
-            (heard_one label.now (item_of item) jobs)) }
+            (heard_one label (item_of item) jobs)) }
         ensures rows { OnErr result (rows self.new.entries.items ≡ rows self.old.entries.items) }
+        ensures others { IsChangedAt place self.old.entries.items self.new.entries.items }
         ensures names { map name self.new.entries.items ≡ map name self.old.entries.items }
         ensures counts { counts (rows self.new.entries.items)
             ≡ counts (rows self.old.entries.items) }
@@ -114,12 +144,8 @@ impl Jobs {
         ensures alike { IsAlike self.old self.new }
         ensures room { HasSameRoom (seen self.old) (seen self.new) }
     {
-        let Some(place) = place_of(&self.entries, label) else {
-            return Err(Refusal::NoSuchJob);
-        };
         let entry = &mut self.entries[place];
-        let answer = entry.core.event(JobEvent::Item(item), self.reading);
-        heard_with(answer, place)
+        entry.core.event(JobEvent::Item(item), self.reading)
     }
 
     /// Tells the jobs that the touch reaches what it is for them, and asks them alone. The reading stays.
@@ -172,15 +198,5 @@ impl Jobs {
         );
         self.visited = visited;
         self.gone = gone;
-    }
-}
-
-/// The answer of the job at this place, with the place.
-fn heard_with(answer: Result<(), Refusal>, place: usize) -> Result<usize, Refusal>
-    ensures { result ≡ heard_with answer place }
-{
-    match answer {
-        Ok(()) => Ok(place),
-        Err(refusal) => Err(refusal),
     }
 }

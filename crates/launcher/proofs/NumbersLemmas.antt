@@ -114,14 +114,6 @@ once-number (name ∷ names) once a b d e known_a known_b same = go (name.number
   go false ia true ib rest ka kb = let is : name.described ≡ e = cc in absurd (clash d a ka (ap (λ (x : Described). x.label) is ∙ sym same))
   go false ia false ib rest ka kb = rest ka kb same
 
--- a label has at most 255 bytes
-pub label-short : (bytes : List ℕ) → is_label bytes ≡ true → length bytes ≤ 255
-label-short bytes e = go (nat_lt 0 (length bytes)) (nat_le (length bytes) 255) refl (list_any is_forbidden bytes) e where
-  go : (a b : Bool) → nat_le (length bytes) 255 ≡ b → (c : Bool) → (a && b && not c) ≡ true → length bytes ≤ 255
-  go true true is c e = grind (arith, nat_tests, is)
-  go true false is c e = cc
-  go false b is c e = cc
-
 -- ---- a label that is loaded
 
 -- its row, as two lists of names know it

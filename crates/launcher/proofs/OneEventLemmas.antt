@@ -1,20 +1,23 @@
 -- What one event of a launcher's turn leaves.
-use Rattle.std.proofs.Common.{◌≡◌, ◌≤◌, true, false, ◌&&◌, List, [], ◌∷◌, length, Option, Some, None, refl, sym, ap, subst, ◌∙◌}
-use Rattle.std.specs.Prelude.{Result, Ok, Err, IsOk, IfOk, IsUtf8}
+use Rattle.std.proofs.Common.{◌≡◌, ◌≤◌, true, false, ◌&&◌, List, [], ◌∷◌, Option, Some, None, refl, sym, ap, subst, ◌∙◌}
+use Rattle.std.specs.Prelude.{Result, Ok, Err, IsOk, IfOk, OnErr, IsUtf8}
 use Rattle.std.proofs.lemmas.Bool.{false≢true}
-use Rattle.std.specs.List.{list_all, AllByRecursion}
+use Rattle.std.specs.List.{filter, list_all, AllByRecursion}
 use Rattle.history_model.specs.declared.Refusal.{Refusal}
 use Rattle.history_model.specs.declared.TheConstants.{MAX_UP}
-use Rattle.history_model.specs.Items.{Item, Answered}
+use Rattle.history_model.specs.declared.Reading.{Reading}
+use Rattle.history_model.specs.Items.{Item, Answered, History}
+use Rattle.history_model.specs.Search.{first}
 use Rattle.history_model.specs.Runs.{is_answer_to}
 use Rattle.history_model.specs.Labels.{Label, is_same}
-use Rattle.history_model.specs.Machine.{State, Event, OfJob}
+use Rattle.history_model.specs.Machine.{State, Event, Job, OfJob, is_of, past_in}
 use Rattle.history_model.specs.Acceptance.{refusal_in}
 use Rattle.history_model.specs.Step.{outcome, step, step_by, heard_one}
 use Rattle.history_model.specs.MachineLaws.{labels_of}
 use Rattle.history_model.proofs.StepLemmas.{IsGood}
-use Rattle.job_table.specs.Tables.{Table, Name, IsOnce, is_known, label_of, definition_of_number}
-use Rattle.job_table.specs.StandsFor.{KeepsState, labelled}
+use Rattle.job_table.specs.Tables.{Table, Row, Name, IsOnce, is_known, label_of, definition_of_number}
+use Rattle.job_table.specs.StandsFor.{KeepsJobs, KeepsState, labelled}
+use Rattle.job_defs.specs.Described.{Described}
 use Rattle.job_table.specs.Outcomes.{IsNext, IsNextUnless, UnlessMemory}
 use Rattle.history_model.specs.declared.Refusal.TheVariants.{NoMemory}
 use Rattle.job_table.specs.Ends.{AreKnown, IsAnswer, Visits, Numbers, names_in}
@@ -32,7 +35,7 @@ use Rattle.ctl_protocol.specs.EventWriter.{event_line}
 use Rattle.launcher.specs.Journals.{JournalState, Grows}
 use Rattle.launcher.specs.Lines.{journaled_answer}
 use Rattle.launcher.proofs.CarryLemmas.{none-called}
-use Rattle.launcher.proofs.NumbersLemmas.{AreNamed, label-short, rows-named, label-is, named-next, orders-known, once-number, loaded, keeps-numbers, same-numbers, theirs-append, made-theirs}
+use Rattle.launcher.proofs.NumbersLemmas.{AreNamed, rows-named, label-is, named-next, orders-known, once-number, loaded, keeps-numbers, same-numbers, theirs-append, made-theirs}
 use Rattle.child_edge.specs.Calls.{ToldCall}
 use Rattle.job_table.proofs.OutcomesLemmas.{resting}
 
@@ -121,11 +124,17 @@ pub ok-needs-none : (lent : Result Step Refusal) → IsOk lent → NeedsNoMemory
 ok-needs-none (Ok lent) ok = tt
 ok-needs-none (Err refusal) ok = absurd (false≢true ok)
 
--- an answer to an order is taken in, or refused, and is no reading
-pub taken-in : {P Q : Type 0} (result : Result (Unit {0}) Refusal) → UnlessMemory result P → (result ≡ Err NoMemory → (false ≡ true) × Q) → P
-taken-in (Ok done) holds memory = holds
-taken-in (Err NoMemory) holds memory = absurd (false≢true (memory refl).0)
-taken-in (Err _) holds memory = holds
+-- what is handed on of an answer, which needs no memory
+pub answer-on : (e : Event) (old new : Table) (lent : Result Step Refusal) (result : Result (Unit {0}) Refusal) (before after : List Unheard) (told told' : Option (List ToldCall)) →
+    refused_with result ≡ refused_with lent → IsAnswer e old lent → IfOk lent AreKnown → IsNext e old new × Visits lent old new × Numbers lent old new →
+    Carried (orders_lent lent) before after told told' → Happens e (refused_with result) old new before after told told'
+answer-on e old new lent result before after told told' same answer known ends carried =
+    subst (λ r. Happens e r old new before after told told') (sym same) (happens e old new lent before after told told' answer known ends carried)
+
+pub refused-rows : (old new : Table) (lent : Result Step Refusal) (result : Result (Unit {0}) Refusal) → refused_with result ≡ refused_with lent → Visits lent old new → OnErr result (new.rows ≡ old.rows)
+refused-rows old new lent (Ok done) same visits = tt
+refused-rows old new (Ok lent) (Err refusal) same visits = cc
+refused-rows old new (Err refusal) (Err other) same visits = visits.0
 
 -- a reading that found no memory was not taken in
 pub not-read : (e : Event) (old new : Table) (lent : Result Step Refusal) (result : Result (Unit {0}) Refusal) (before after : List Unheard) (told told' : Option (List ToldCall)) →
@@ -159,22 +168,38 @@ orderly-next s label x is = record {
   labels (Some refusal) = is.labels
   labels None = all-stays IsLabel (heard_one label x s.jobs) (subst (AllByRecursion IsLabel) (sym (heard_one-labels label x s.jobs)) is.labels)
 
+-- the number of a job that a table holds stands for its label in names that know the jobs
+stands : (at : Reading) (names table : List Name) (pending : Unheard) (job_order : JobOrder) (t : History) (rows : List Row) (jobs : List Job) → KeepsJobs at rows jobs → IsOnce names → AreNamed names rows →
+    AreNamed table rows → AllByRecursion IsLabel (labels_of jobs) → past_in (first (filter (is_of job_order.0) jobs)) ≡ Some t →
+    ((d : Described) × (definition_of_number names pending.job ≡ Some d) × (d.label ≡ job_order.0)) → label_of table pending.job ≡ job_order.0
+stands at names table pending job_order t rows jobs keeps once here there short is own =
+    let (d, known, label) = own in
+    let job = loaded at names table job_order.0 t rows jobs keeps here there short is in
+    let number : pending.job ≡ job.row.number = once-number names once pending.job job.row.number d job.row.described known job.here (label ∙ sym job.named) in
+    label-is table pending.job job.row.described (ap (definition_of_number table) number ∙ job.there) ∙ job.named
+
+-- the jobs that were loaded before an event have the numbers under which the table knows them after it
+still-named : (result : Result (Unit {0}) Refusal) (old new : Table) → OnErr result (new.rows ≡ old.rows) → IsNumbered new → (refused_with result ≡ None → AreNumbered new.names old) → AreNamed new.names old.rows
+still-named (Ok done) old new same numbered loaded = (loaded refl).named
+still-named (Err refusal) old new same numbered loaded = subst (AreNamed new.names) same numbered.named
+
 -- the answer goes to its job, and then those that it ordered wait behind the others
-pub handled : (reply : Option Refusal) (old new : Table) (before after : List Unheard) (told told' : Option (List ToldCall)) (written written' : JournalState) (pending : Unheard) (found said : Label) →
-    found ≡ label_of old.names pending.job → IsNumbered old → (length found ≤ 255 → said ≡ found) → IsUtf8 said → Happens (OfJob said (Answered pending.answer)) reply old new before after told told' → Grows written written' (event_line (journaled_answer said pending.answer)) →
+pub handled : (result : Result (Unit {0}) Refusal) (old new : Table) (before after : List Unheard) (told told' : Option (List ToldCall)) (written written' : JournalState) (pending : Unheard) (said : Label) →
+    said ≡ label_of new.names pending.job → IsNumbered old → IsNumbered new → IsUtf8 said → Happens (event_in old.names pending) (refused_with result) old new before after told told' →
+    OnErr result (new.rows ≡ old.rows) → Grows written written' (event_line (journaled_answer said pending.answer)) →
     (s : State) (names : List Name) (job_order : JobOrder) (waits : List JobOrder) (rest : List Unheard) → IsWaiting old s names (job_order ∷ waits) (pending ∷ rest) →
     Handled s names job_order waits pending rest before after new (trace told written) (trace told' written')
-handled reply old new before after told told' written written' pending found said looked numbered copied text happened noted s names job_order waits rest is =
-    let (d, known, label) = is.theirs.0 in
-    let job = loaded s.reading names old.names job_order.0 _ old.rows s.jobs is.keeps.jobs is.numbers.named numbered.named is.orderly.labels is.fresh.0.1 in
-    let number : pending.job ≡ job.row.number = once-number names is.numbers.once pending.job job.row.number d job.row.described known job.here (label ∙ sym job.named) in
-    let at : label_of old.names pending.job ≡ job_order.0 = label-is old.names pending.job job.row.described (ap (definition_of_number old.names) number ∙ job.there) ∙ job.named in
-    let label_is : IsLabel found = subst IsLabel (sym (looked ∙ at)) job.short in
-    let short : length found ≤ 255 = label-short found label_is in
-    let own : label_of names pending.job ≡ job_order.0 = label-is names pending.job d known ∙ label in
-    let same : said ≡ label_of names pending.job = copied short ∙ looked ∙ at ∙ sym own in
+handled result old new before after told told' written written' pending said looked numbered known text happened same noted s names job_order waits rest is =
+    let own : label_of names pending.job ≡ job_order.0 = label-is names pending.job is.theirs.0.0 is.theirs.0.1 ∙ is.theirs.0.2 in
+    let named_by : (table : List Name) → AreNamed table old.rows → label_of table pending.job ≡ job_order.0 =
+    λ table there. stands s.reading names table pending job_order _ old.rows s.jobs is.keeps.jobs is.numbers.once is.numbers.named there is.orderly.labels is.fresh.0.1 is.theirs.0 in
+    let heard : label_of old.names pending.job ≡ label_of names pending.job = named_by old.names numbered.named ∙ sym own in
     let e : Event = event_in names pending in
-    let did : HappensTo s e reply old new before after told told' = subst (λ (l : Label). HappensTo s (OfJob l (Answered pending.answer)) reply old new before after told told') same (happened s is.keeps) in
+    let did : HappensTo s e (refused_with result) old new before after told told' =
+    subst (λ (l : Label). HappensTo s (OfJob l (Answered pending.answer)) (refused_with result) old new before after told told') heard (happened s is.keeps) in
+    let after_it : AreNamed new.names old.rows = still-named result old new same known did.loaded in
+    let told_as : said ≡ label_of names pending.job = looked ∙ named_by new.names after_it ∙ sym own in
+    let short : IsLabel job_order.0 = (loaded s.reading names old.names job_order.0 _ old.rows s.jobs is.keeps.jobs is.numbers.named numbered.named is.orderly.labels is.fresh.0.1).short in
     let ordered = did.by_label names is.numbers in
     let fits : is_answer job_order e ≡ true = ap (λ (l : Label). is_same job_order.0 l && is_answer_to pending.answer job_order.1) own ∙ (λ i. same_self job_order.0 i && is.theirs.1 i) in
     let next = turning-step s job_order waits e (turning old s names (job_order ∷ waits) (pending ∷ rest) is) fits in
@@ -191,7 +216,7 @@ handled reply old new before after told told' written written' pending found sai
         theirs = theirs-append names waits (wanting (outcome s e).orders) rest (answers_in made) is.theirs.2
             (subst (λ (os : List JobOrder). AreTheirs names (wanting os) (answers_in made)) ordered.1 (made-theirs names did.begins.orders made ordered.2 calls));
       };
-      noted = subst (λ (l : Label). Grows written written' (event_line (journaled_answer l pending.answer))) same noted;
+      noted = subst (λ (l : Label). Grows written written' (event_line (journaled_answer l pending.answer))) told_as noted;
       lighter = next.1;
-      named = (subst IsLabel (looked ∙ at ∙ sym own) label_is, subst IsUtf8 same text);
+      named = (subst IsLabel (sym own) short, subst IsUtf8 told_as text);
     }

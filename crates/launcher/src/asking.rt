@@ -23,7 +23,7 @@ use std::alloc::Global;
 use std::io::Write;
 
 /// The numbers of the table's jobs stand for their definitions. Nothing is done.
-fn lend_numbers(table: &JobTable)
+pub(crate) fn lend_numbers(table: &JobTable)
     ensures { IsNumbered table.now }
 {
     let _step = table.last_step();

@@ -5,7 +5,7 @@ ghost use Rattle.job_table.specs.Ends.{AreKnown};
 ghost use Rattle.launcher.specs.Turns.{Carried, orders_lent, AreKnownIn};
 ghost use Rattle.job_table.specs.Loads.{refused_with};
 
-use crate::room::AnswerQueue;
+use crate::answer_queue::AnswerQueue;
 use child_edge::{ChildEdge, SocketEdge};
 use history_model::Refusal;
 use job_table::Step;

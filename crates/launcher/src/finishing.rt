@@ -19,7 +19,7 @@ impl<T: SettingStore, E: ChildEdge + SocketEdge, W: Write> Host<T, E, W> {
     /// Carries out what the event that the table has just taken in ordered, and makes each answer the next event, until none is
     /// left. The journal, which has the line of the event, gets the line of each answer.
     pub(crate) fn finish(&mut self, alloc: Global)
-        requires { self.old.room.answers ≡ [] }
+        requires { self.old.answers ≡ [] }
         ensures finished { (before : Table) (s : State) (e : Event) (line : List ℕ)
             (written : JournalState) →
             Grows written self.old.journal line → NamesLabel e → IsLed s → KeepsState before s
@@ -29,11 +29,7 @@ impl<T: SettingStore, E: ChildEdge + SocketEdge, W: Write> Host<T, E, W> {
             (trace (E.told self.new.edge) self.new.journal) }
         ensures store { self.new.store ≡ self.old.store }
     {
-        carry_all(
-            &mut self.edge,
-            &self.table.last_step(),
-            &mut self.room.answers,
-        );
+        carry_all(&mut self.edge, &self.table.last_step(), &mut self.answers);
         self.settle(alloc);
     }
 }

@@ -10,9 +10,9 @@ ghost use Rattle.launcher.specs.Hosts.{IsNewWith, stands};
 ghost use Rattle.launcher.specs.Faults.{ComesOf, FaultOf};
 ghost use Rattle.launcher.specs.Lends.{lends_edge};
 
+use crate::answer_queue::AnswerQueue;
 use crate::journal::{Journal, Phase};
 use crate::making::{Inside, make_inside, store_fault, with_settings};
-use crate::room::Room;
 use child_edge::{ChildEdge, SocketEdge};
 use ctl_protocol::{Header, LineReader};
 use job_table::JobTable;
@@ -38,7 +38,7 @@ pub struct Host<T: SettingStore, E: ChildEdge + SocketEdge, W: Write> {
     pub(crate) store: T,
     pub(crate) edge: E,
     pub(crate) journal: Journal<W>,
-    pub(crate) room: Room,
+    pub(crate) answers: AnswerQueue,
     pub(crate) reader: LineReader,
     // The input of the last turn was a load that was accepted.
     pub(crate) has_loaded: bool,
@@ -76,7 +76,7 @@ impl<T: SettingStore + Drop, E: ChildEdge + SocketEdge + Drop, W: Write + Drop> 
                 Inside {
                     table,
                     journal,
-                    room,
+                    answers,
                     reader,
                 },
             ) => Ok(Host {
@@ -84,7 +84,7 @@ impl<T: SettingStore + Drop, E: ChildEdge + SocketEdge + Drop, W: Write + Drop> 
                 store,
                 edge,
                 journal,
-                room,
+                answers,
                 reader,
                 has_loaded: false,
             }),

@@ -2,6 +2,7 @@
 //! One input after another is made an event of the machine, and each answer of the outside too.
 #![tactic(auto)]
 
+mod answer_queue;
 mod asking;
 mod carrying;
 mod event_ref;
@@ -19,7 +20,6 @@ mod making;
 mod noting;
 mod questions;
 mod replies;
-mod room;
 mod setting;
 mod settings;
 mod settling;
@@ -29,4 +29,3 @@ pub use host::{Host, HostFault};
 pub use input::Input;
 pub use journal::{Journal, Phase};
 pub use journal_writer::Cause;
-pub use room::LabelRoom;

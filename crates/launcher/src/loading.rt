@@ -94,7 +94,7 @@ impl<T: SettingStore, E: ChildEdge + SocketEdge, W: Write> Host<T, E, W> {
     fn load_ready(&mut self, alloc: Global, ready: Ready)
         requires ready { IsReady self.old.table ready }
         requires label { is_label (described_in ready).label ≡ true }
-        requires empty { self.old.room.answers ≡ [] }
+        requires empty { self.old.answers ≡ [] }
         ensures made { (s : State) (force bind store : Bool) (line : List ℕ)
             (written : JournalState) →
             Grows written self.old.journal line → IsLed s → KeepsState self.old.table s
@@ -119,7 +119,7 @@ impl<T: SettingStore, E: ChildEdge + SocketEdge, W: Write> Host<T, E, W> {
     ) -> Answered
         requires ready { IsReady self.old.table ready }
         requires label { is_label (described_in ready).label ≡ true }
-        requires empty { self.old.room.answers ≡ [] }
+        requires empty { self.old.answers ≡ [] }
         ensures ends { EndsLoad ready writes_setting self.old.table.reading.wall result.outside
             result.refusal
             (load_line def.now writes_setting force result.outside)
@@ -197,7 +197,7 @@ impl<T: SettingStore, E: ChildEdge + SocketEdge, W: Write> Host<T, E, W> {
             (event_of_load (load_request def.now writes_setting force) result.outside)).text
             ≡ string_bytes text) }
     {
-        self.room.answers.clear();
+        self.answers.clear();
         match self
             .table
             .prepare_load(alloc, def.as_bytes(), writes_setting, force)

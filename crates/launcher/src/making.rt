@@ -8,10 +8,10 @@ ghost use Rattle.launcher.specs.Hosts.{with_settings as with_overrides};
 ghost use Rattle.launcher.specs.Faults.{FaultOf, IsFaultWith, fault_of_store};
 ghost use Rattle.launcher.specs.Writable.{IsWritableHeader};
 
+use crate::answer_queue::AnswerQueue;
 use crate::fitting::lend_zone;
 use crate::host::HostFault;
 use crate::journal::Journal;
-use crate::room::Room;
 use crate::settings::are_in_order;
 use ctl_protocol::{Header, LineReader, Settings};
 use history_model::Setting;
@@ -26,7 +26,7 @@ use table_opening::{OpeningFault, table_of};
 pub(crate) struct Inside<W: Write> {
     pub(crate) table: JobTable,
     pub(crate) journal: Journal<W>,
-    pub(crate) room: Room,
+    pub(crate) answers: AnswerQueue,
     pub(crate) reader: LineReader,
 }
 
@@ -63,11 +63,11 @@ fn begun<W: Write>(alloc: Global, journal: Option<W>, header: &Header) -> Journa
     }
 }
 
-/// The room of turns, and the reader of lines.
-fn reserved(alloc: Global) -> Result<(Room, LineReader), AllocError> {
-    let room = Room::new(alloc)?;
+/// The queue of answers with all its room, and the reader of lines.
+fn reserved(alloc: Global) -> Result<(AnswerQueue, LineReader), AllocError> {
+    let answers = AnswerQueue::new(alloc)?;
     let reader = LineReader::new(alloc)?;
-    Ok((room, reader))
+    Ok((answers, reader))
 }
 
 /// The launcher inside, as the header tells it. Its journal begins with the header's line. Refused as `HostFault` says.
@@ -88,7 +88,7 @@ pub(crate) fn make_inside<W: Write + Drop>(
         return Err(HostFault::Store);
     }
     lend_zone(&header.zone); // for the proof
-    let Ok((room, reader)) = reserved(alloc) else {
+    let Ok((answers, reader)) = reserved(alloc) else {
         return Err(HostFault::NoMemory);
     };
     let journal = begun(alloc, journal, &header);
@@ -96,7 +96,7 @@ pub(crate) fn make_inside<W: Write + Drop>(
         Ok(table) => Ok(Inside {
             table,
             journal,
-            room,
+            answers,
             reader,
         }),
         Err(OpeningFault::NoMemory) => Err(HostFault::NoMemory),

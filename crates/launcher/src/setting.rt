@@ -40,7 +40,7 @@ impl<T: SettingStore, E: ChildEdge + SocketEdge, W: Write> Host<T, E, W> {
     /// Makes the setting that was made ready, carries out what is ordered, and makes each answer the next event.
     fn set_ready(&mut self, alloc: Global, ready: NewSetting)
         requires ready { IsReadySet self.old.table ready }
-        requires empty { self.old.room.answers ≡ [] }
+        requires empty { self.old.answers ≡ [] }
         ensures made { (s : State) (store : Bool) (line : List ℕ) (written : JournalState) →
             Grows written self.old.journal line → IsLed s → KeepsState self.old.table s
             → refusal_in s (set_of ready.setting.label ready.setting.disabled ready.unload store)
@@ -96,7 +96,7 @@ impl<T: SettingStore, E: ChildEdge + SocketEdge, W: Write> Host<T, E, W> {
                 reply: Err(Refusal::BadRequest),
             };
         }
-        self.room.answers.clear();
+        self.answers.clear();
         let changed = self.table.reading().wall;
         match self.table.prepare_set(alloc, label, disabled, unload) {
             Ok(ready) => {

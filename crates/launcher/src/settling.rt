@@ -9,8 +9,10 @@ ghost use Rattle.job_table.specs.Tables.{Name};
 ghost use Rattle.outside.specs.declared.unheard.Unheard.{Unheard as Answered};
 ghost use Rattle.launcher.specs.Turns.{IsWaiting, Handled, Settled, trace};
 
+use crate::asking::lend_numbers;
 use crate::event_ref::EventRef;
-use crate::hearing::hear;
+use crate::fitting::lend_text;
+use crate::hearing::hear_answer;
 use crate::host::Host;
 use crate::lines::note;
 use child_edge::{ChildEdge, SocketEdge};
@@ -20,28 +22,22 @@ use std::alloc::Global;
 use std::io::Write;
 
 impl<T: SettingStore, E: ChildEdge + SocketEdge, W: Write> Host<T, E, W> {
-    /// Tells the table one answer, which takes no memory, carries out what it orders, and writes its line.
+    /// Tells the table one answer by its job's number, which takes no memory, carries out what it orders, and writes its line.
     fn handle(&mut self, alloc: Global, pending: Unheard)
         ensures handled { (s : State) (names : List Name) (job_order : JobOrder)
             (waits : List JobOrder) (rest : List Answered) →
             IsWaiting self.old.table s names (job_order ∷ waits) (pending ∷ rest)
             → Handled s names job_order waits pending rest
-            self.old.room.answers self.new.room.answers self.new.table
+            self.old.answers self.new.answers self.new.table
             (trace (E.told self.old.edge) self.old.journal)
             (trace (E.told self.new.edge) self.new.journal) }
         ensures store { self.new.store ≡ self.old.store }
     {
-        self.room
-            .label
-            .copy(self.table.last_step().label(pending.job));
-        let told = EventRef::ToJob(self.room.label.as_str(), JobItem::Answered(pending.answer));
-        let _accepted = hear(
-            &mut self.table,
-            &mut self.edge,
-            alloc,
-            told,
-            &mut self.room.answers,
-        );
+        lend_numbers(&self.table); // for the proof
+        let _accepted = hear_answer(&mut self.table, &mut self.edge, pending, &mut self.answers);
+        let label = self.table.last_step().label(pending.job);
+        lend_text(label); // for the proof
+        let told = EventRef::ToJob(label, JobItem::Answered(pending.answer));
         note(&mut self.journal, alloc, told);
     }
 
@@ -49,16 +45,16 @@ impl<T: SettingStore, E: ChildEdge + SocketEdge, W: Write> Host<T, E, W> {
     /// line of each, until none remains. Only the lines take memory; want of it closes the journal and changes nothing else.
     pub(crate) fn settle(&mut self, alloc: Global)
         ensures settled { (s : State) (names : List Name) (waits : List JobOrder) →
-            IsWaiting self.old.table s names waits self.old.room.answers
+            IsWaiting self.old.table s names waits self.old.answers
             → weigh_orders waits ≤ 3 * MAX_JOBS
-            → Settled s names self.old.room.answers self.new.room.answers self.new.table
+            → Settled s names self.old.answers self.new.answers self.new.table
             (trace (E.told self.old.edge) self.old.journal)
             (trace (E.told self.new.edge) self.new.journal) }
         ensures store { self.new.store ≡ self.old.store }
     {
         let mut next = 0;
-        while next < self.room.answers.len() {
-            let pending = self.room.answers.at(next);
+        while next < self.answers.len() {
+            let pending = self.answers.at(next);
             next += 1;
             self.handle(alloc, pending);
         }

@@ -136,13 +136,13 @@ impl<T: SettingStore, E: ChildEdge + SocketEdge, W: Write> Host<T, E, W> {
             × (self.new.journal ≡ self.old.journal) }
         ensures store { self.new.store ≡ self.old.store }
     {
-        self.room.answers.clear();
+        self.answers.clear();
         match hear(
             &mut self.table,
             &mut self.edge,
             alloc,
             what,
-            &mut self.room.answers,
+            &mut self.answers,
         ) {
             Ok(()) => {
                 note(&mut self.journal, alloc, what);

@@ -1,11 +1,12 @@
 //! The children, each asked about once a round, as long as there is time.
 
+use crate::label_room::LabelRoom;
 use crate::round_launcher::RoundLauncher;
 use crate::round_time::RoundTime;
 use child_edge::{ChildEdge, OsEdge, System};
 use control_socket::Limit;
 use history_model::{JobNo, MAX_JOBS};
-use launcher::{Input, LabelRoom};
+use launcher::Input;
 use outside::SettingStore;
 use std::alloc::Global;
 use std::io::Write;

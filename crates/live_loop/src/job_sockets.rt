@@ -1,12 +1,13 @@
 //! The clients of jobs' sockets, from their coming to the end of their request. Then the edge of the system has them.
 
+use crate::label_room::LabelRoom;
 use crate::round_launcher::RoundLauncher;
 use crate::round_time::RoundTime;
 use child_edge::{Client, OsEdge, SocketEdge, System};
 use control_socket::Limit;
 use history_model::{JobNo, MAX_JOBS, Refusal, Text};
 use job_clients::{CALLERS, Caller, Callers, Gathered, Loss, Losses, Origin, Place};
-use launcher::{Input, LabelRoom};
+use launcher::Input;
 use mio::{Registry, Token};
 use outside::SettingStore;
 use std::alloc::{AllocError, Global};

@@ -6,6 +6,7 @@
 mod children;
 mod fault;
 mod job_sockets;
+mod label_room;
 mod live;
 mod news;
 mod paths;

@@ -4,6 +4,7 @@ ghost use Rattle.std.specs.Prelude.{◌≡◌};
 
 use crate::fault::ServeFault;
 use crate::job_sockets::JobSockets;
+use crate::label_room::LabelRoom;
 use crate::paths::Sights;
 use crate::round_launcher::RoundLauncher;
 use crate::voice::Voice;
@@ -11,7 +12,7 @@ use crate::waiting::SHORTEST;
 use child_edge::{Notice, OsEdge, System};
 use control_socket::ControlSocket;
 use history_model::JobNo;
-use launcher::{Host, LabelRoom};
+use launcher::Host;
 use mio::{Events, Poll, Token};
 use outside::SettingStore;
 use std::alloc::{AllocError, Global};

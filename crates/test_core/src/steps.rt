@@ -1,7 +1,7 @@
 //! What the tests do with a table, and whether it answered as it should.
 
 use calendar_due::Zone;
-use history_model::{Act, JobNo, Reading, Refusal, Setting, Text};
+use history_model::{Act, Answer, JobNo, Reading, Refusal, Setting, Text};
 use job_table::JobTable;
 use std::alloc::Global;
 
@@ -80,6 +80,40 @@ pub fn children_follow(alloc: Global) -> Result<bool, Refusal> {
             && table.child_after("a") == Some(("b", second, 1))
             && table.child_after("b").is_none(),
     )
+}
+
+/// The refusal of an answer that is told by its job's number, if it is refused.
+fn refusal_of(table: &mut JobTable, number: JobNo, answer: Answer) -> Option<Refusal> {
+    table.answered(number, answer).err()
+}
+
+/// Says whether answers go to the jobs of their numbers, though the one that was loaded last stands first, and each is taken in once.
+pub fn answers_arrive(alloc: Global) -> Result<bool, Refusal> {
+    let mut table = empty_table(alloc)?;
+    let second = load(alloc, &mut table, B)?;
+    let first = load(alloc, &mut table, A)?;
+    let started = Answer::Spawned { run: 1, pid: 812 };
+    let is_told = refusal_of(&mut table, second, started).is_none();
+    let is_alone = table.child_after("") == Some(("b", second, 1));
+    let is_refused = refusal_of(&mut table, first, Answer::SpawnRefused { run: 1 }).is_none();
+    let is_stale = refusal_of(&mut table, second, started) == Some(Refusal::Stale);
+    let is_still_alone = table.child_after("") == Some(("b", second, 1));
+    Ok(is_told && is_alone && is_refused && is_stale && is_still_alone)
+}
+
+/// Says whether an answer is refused whose job went at the event before, and one whose number no job has.
+pub fn late_answers_are_refused(alloc: Global) -> Result<bool, Refusal> {
+    let mut table = empty_table(alloc)?;
+    let left = load(alloc, &mut table, IDLE)?;
+    let stays = load(alloc, &mut table, B)?;
+    table.unload("a")?;
+    let late = Answer::SpawnRefused { run: 1 };
+    let is_gone = refusal_of(&mut table, left, late) == Some(Refusal::NoSuchJob);
+    let is_none = refusal_of(&mut table, 7, late) == Some(Refusal::BadRequest);
+    let is_bad = refusal_of(&mut table, stays, Answer::Spawned { run: 1, pid: 0 })
+        == Some(Refusal::BadRequest);
+    let is_other = refusal_of(&mut table, stays, late).is_none();
+    Ok(is_gone && is_none && is_bad && is_other)
 }
 
 /// Says whether the paths that are listed are found one after the other, and then none.

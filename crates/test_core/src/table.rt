@@ -17,6 +17,14 @@ fn children_and_paths_come_in_order(rt: HostRuntime) {
     assert!(rt; paths_follow(rt.alloc()) == Ok(true));
 }
 
+/// An answer that is told by a number goes to the job that has the number, wherever it stands. If the job has gone, or none has the number,
+/// the answer is refused.
+#[test]
+fn answers_are_told_by_number(rt: HostRuntime) {
+    assert!(rt; answers_arrive(rt.alloc()) == Ok(true));
+    assert!(rt; late_answers_are_refused(rt.alloc()) == Ok(true));
+}
+
 #[test]
 fn an_override_of_no_label_opens_no_table(rt: HostRuntime) {
     assert!(rt; is_refused(rt.alloc()));

@@ -1,5 +1,5 @@
 -- No entry is before the first.
-use Rattle.std.proofs.Common.{◌≡◌, arith}
+use Rattle.std.proofs.Common.{arith}
 use Rattle.job_table.proofs.index.place_all.Goals as goal
 
 pub place_from-requires-clause-before : goal.place_from-requires-clause-before

@@ -1,5 +1,5 @@
 -- One more place is marked.
-use Rattle.std.proofs.Common.{◌≡◌, ◌+◌, ◌==◌, ◌||◌, ◌≤◌, ℕ, Bool, true, false, nat_lt, refl, sym, ap, ◌∙◌, arith}
+use Rattle.std.proofs.Common.{◌≡◌, ◌+◌, ◌==◌, ◌||◌, ℕ, Bool, true, false, nat_lt, refl, ap, arith}
 use Rattle.std.proofs.lemmas.Bool.Decides.{nat_tests}
 use Rattle.job_table.proofs.MinutesLemmas.{no-marks, more-marks, same-marks, one-mark}
 use Rattle.job_table.proofs.mark.mark_each.Goals as goal

@@ -1,5 +1,5 @@
 -- One more mark.
-use Rattle.std.proofs.Common.{◌<◌, ◌+◌, ◌==◌, ◌||◌, length, take, Some, sym, ap, subst, ◌∙◌, arith}
+use Rattle.std.proofs.Common.{◌<◌, ◌+◌, ◌==◌, ◌||◌, length, take, sym, ap, subst, ◌∙◌, arith}
 use Rattle.std.specs.Prelude.{slice_get}
 use Rattle.std.specs.List.{list_any}
 use Rattle.std.proofs.lemmas.List.{take_all}

@@ -1,5 +1,5 @@
 -- One more of the overrides is among those that are in order.
-use Rattle.std.proofs.Common.{◌≡◌, ◌≤◌, ◌-◌, suc, take, drop, length, reverse, ◌∙◌, subst, arith}
+use Rattle.std.proofs.Common.{◌≡◌, ◌-◌, suc, take, drop, reverse, ◌∙◌, subst, arith}
 use Rattle.job_table.specs.StandsFor.{KeepsSettings}
 use Rattle.job_table.proofs.SettingOrderLemmas.{keeps-step, parts, as-long}
 use Rattle.job_table.proofs.setting_order.in_order.Goals as goal

@@ -1,5 +1,5 @@
 -- The setting takes the place of the label's earlier one, or its own place among the others.
-use Rattle.std.proofs.Common.{◌≡◌, length, ap, sym, subst, ◌∙◌}
+use Rattle.std.proofs.Common.{length, ap, sym, subst, ◌∙◌}
 use Rattle.std.specs.List.{filter, position}
 use Rattle.std.proofs.lemmas.List.Edits.{length-insert}
 use Rattle.history_model.specs.Search.{first}

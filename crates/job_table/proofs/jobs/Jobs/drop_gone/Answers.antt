@@ -1,5 +1,5 @@
 -- What is left is what stays.
-use Rattle.std.proofs.Common.{◌≡◌, ℕ, true, false, is_some, None, map, length, drop, ap, sym, subst, ◌∙◌, ◌<◌, arith}
+use Rattle.std.proofs.Common.{◌≡◌, ℕ, true, is_some, map, length, drop, ap, sym, subst, ◌∙◌, ◌<◌, arith}
 use Rattle.std.specs.Vec.{with_items}
 use Rattle.std.specs.List.{list_any, filter}
 use Rattle.job_table.specs.Tables.{IsOnce, definition_of_number}

@@ -1,5 +1,5 @@
 -- The three cases.
-use Rattle.std.proofs.Common.{◌≡◌, sym, subst}
+use Rattle.std.proofs.Common.{sym, subst}
 use Rattle.job_table.specs.Leaving.{StayBut}
 use Rattle.job_table.proofs.LeavingLemmas.{filter-all}
 use Rattle.job_table.proofs.jobs.Jobs.drop_left.Goals as goal

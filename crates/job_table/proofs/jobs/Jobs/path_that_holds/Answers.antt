@@ -1,5 +1,5 @@
 -- The path is that of the one job with the label.
-use Rattle.std.proofs.Common.{◌≡◌, ap, sym, ◌∙◌, subst, map}
+use Rattle.std.proofs.Common.{ap, sym, ◌∙◌, subst, map}
 use Rattle.std.specs.List.{position}
 use Rattle.history_model.specs.Search.{first}
 use Rattle.history_model.specs.FactsOfPast.{Keeps}

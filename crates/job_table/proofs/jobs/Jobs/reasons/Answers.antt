@@ -1,5 +1,5 @@
 -- The reasons are those of the one job with the label.
-use Rattle.std.proofs.Common.{◌≡◌, Some, ap, sym, ◌∙◌, subst, map}
+use Rattle.std.proofs.Common.{Some, ap, sym, ◌∙◌, subst, map}
 use Rattle.std.specs.List.{position}
 use Rattle.std.specs.Option.{option_map}
 use Rattle.history_model.specs.Search.{first}

@@ -4,12 +4,12 @@ use Rattle.launcher.proofs.SettlingLemmas.{so-far-start, so-far-turn, so-far-end
 use Rattle.launcher.proofs.host.Host.settle.Goals as goal
 
 pub loop-next-init : goal.loop-next-init
-loop-next-init g c = (λ s names waits waiting fits. so-far-start s names waits c.args.self.now.room.answers c.args.self.now.table _ _ waiting fits, refl)
+loop-next-init g c = (λ s names waits waiting fits. so-far-start s names waits c.args.self.now.answers c.args.self.now.table _ _ waiting fits, refl)
 
 pub loop-next-preserved : goal.loop-next-preserved
 loop-next-preserved g c = (
   λ s names waits waiting fits.
-      so-far-turn s names c.args.self.now.room.answers c.loop-next.self.room.answers c.handle.new.self.room.answers c.loop-next.next c.at-pending.result c.loop-next.self.table c.handle.new.self.table
+      so-far-turn s names c.args.self.now.answers c.loop-next.self.answers c.handle.new.self.answers c.loop-next.next c.at-pending.result c.loop-next.self.table c.handle.new.self.table
       _ _ _ _ _ _ (omega arith) c.at-pending.ensures (c.loop-next.invariant.0 s names waits waiting fits) c.handle.ensures.handled,
   c.handle.ensures.store ∙ c.loop-next.invariant.1,
 )

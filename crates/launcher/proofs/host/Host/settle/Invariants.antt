@@ -11,8 +11,8 @@ use Rattle.history_model.specs.declared.TheConstants.{MAX_JOBS}
 
 abbrev pub invariant-loop-next : goal.invariant-loop-next
 invariant-loop-next g l =
-    ((s : State) (names : List Name) (waits : List JobOrder) → IsWaiting l.fn.self.table s names waits l.fn.self.room.answers → weigh_orders waits ≤ 3 * MAX_JOBS →
-    IsSoFar s names l.fn.self.room.answers l.self.room.answers l.next l.self.table (g.E.Edge.told l.fn.self.edge) (g.E.Edge.told l.self.edge) l.fn.self.journal l.self.journal)
+    ((s : State) (names : List Name) (waits : List JobOrder) → IsWaiting l.fn.self.table s names waits l.fn.self.answers → weigh_orders waits ≤ 3 * MAX_JOBS →
+    IsSoFar s names l.fn.self.answers l.self.answers l.next l.self.table (g.E.Edge.told l.fn.self.edge) (g.E.Edge.told l.self.edge) l.fn.self.journal l.self.journal)
     × (l.self.store ≡ l.fn.self.store)
 
 abbrev pub decreases-loop-next : goal.decreases-loop-next

@@ -2,7 +2,7 @@
 use Rattle.std.proofs.Common.{◌≡◌, ℕ, List, [], ◌++◌, ap, ◌∙◌, arith}
 use Rattle.std.specs.Prelude.{Result, Ok, Err, IsOk, is_ok, if◌then◌else◌}
 use Rattle.std.proofs.lemmas.Bool.{false≢true}
-use Rattle.launcher.proofs.room.LabelRoom.copy.Goals as goal
+use Rattle.live_loop.proofs.label_room.LabelRoom.copy.Goals as goal
 
 is-copied : {U E : Type 0} (r : Result U E) (new old found : List ℕ) → new ≡ (if is_ok r then old ++ found else old) → IsOk r → old ≡ [] → new ≡ found
 is-copied (Ok u) new old found bytes ok empty = bytes ∙ ap (λ (x : List ℕ). x ++ found) empty

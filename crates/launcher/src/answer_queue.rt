@@ -1,8 +1,7 @@
-//! The room that turns need, reserved once: for the answers that are still to be made events, and for one label.
+//! The answers of a turn that are still to be made events. The room that turns need for them is reserved once.
 
-ghost use Rattle.std.specs.Prelude.{◌≡◌, ℕ, ◌<◌, ◌≤◌, ◌*◌, List, [], ◌∷◌, ◌++◌, length, slice_index_or, IsUtf8};
+ghost use Rattle.std.specs.Prelude.{◌≡◌, ◌<◌, ◌≤◌, ◌*◌, List, [], ◌∷◌, ◌++◌, length, slice_index_or};
 ghost use Rattle.std.specs.Vec.{vec_capacity};
-ghost use Rattle.std.specs.String.{string_bytes, string_capacity};
 ghost use Rattle.history_model.specs.declared.TheConstants.{MAX_JOBS};
 ghost use Rattle.std.specs.List.{AllByRecursion};
 ghost use Rattle.outside.specs.declared.unheard.Unheard.{Unheard as Answered};
@@ -15,9 +14,6 @@ use std::marker::Model;
 
 /// How many answers one turn has at most: of each job one spawn, one KILL and one TERM.
 const MOST_ANSWERS: usize = 3 * MAX_JOBS;
-
-/// How many bytes a label has at most.
-const LONGEST_LABEL: usize = 255;
 
 /// The answers of a turn, oldest first, with room for as many as a turn has. A line can say each. To a contract, their list.
 #[derive(Drop)]
@@ -74,59 +70,5 @@ impl AnswerQueue {
         if self.len() < MOST_ANSWERS {
             self.answers.push_reserved(answer);
         }
-    }
-}
-
-/// Room for a label. To a contract, the text that stands in it.
-#[derive(Drop)]
-pub struct LabelRoom {
-    text: String,
-}
-
-impl Model for LabelRoom {
-    ghost Value = { List ℕ };
-
-    ghost view = { λ r. string_bytes r.text };
-
-    ghost invariant = { λ r. 255 ≤ string_capacity r.text };
-}
-
-impl LabelRoom {
-    /// Room with no text. `AllocError` if memory for it was refused.
-    pub fn new(alloc: Global) -> Result<LabelRoom, AllocError> {
-        let text = String::with_capacity(alloc, LONGEST_LABEL)?;
-        Ok(LabelRoom { text })
-    }
-
-    /// Copies a text of at most 255 bytes, as each label is. Takes no memory for it.
-    pub fn copy(&mut self, text: &str)
-        ensures { length text.now ≤ 255 → self.new ≡ text.now }
-    {
-        self.text.clear();
-        let _copied = self.text.push_str(text);
-    }
-
-    /// The text, lent.
-    pub fn as_str(&self) -> &str
-        ensures text { result.now ≡ self.now }
-        ensures utf8 { IsUtf8 result.now }
-    {
-        self.text.as_str()
-    }
-}
-
-/// What turns need of memory, reserved once, so that no turn is cut short for want of it.
-#[derive(Drop)]
-pub struct Room {
-    pub answers: AnswerQueue,
-    pub label: LabelRoom,
-}
-
-impl Room {
-    /// All room that turns ever need. `AllocError` if memory for it was refused.
-    pub fn new(alloc: Global) -> Result<Room, AllocError> {
-        let answers = AnswerQueue::new(alloc)?;
-        let label = LabelRoom::new(alloc)?;
-        Ok(Room { answers, label })
     }
 }
