@@ -1,8 +1,6 @@
 -- The numbers of a turn: while it lasts each stands for one job.
-use Rattle.std.proofs.Common.{◌≡◌, ℕ, ◌==◌, ◌≤◌, Bool, true, false, not, ◌&&◌, cond, List, [], ◌∷◌, ◌++◌, map, length, Option, Some, None, is_some, refl, sym, ap, subst, ◌∙◌, arith}
-use Rattle.std.specs.Prelude.{nat_lt, nat_le}
-use Rattle.std.proofs.lemmas.Bool.Decides.{nat_tests}
-use Rattle.std.specs.List.{filter, list_all, list_any, AllByRecursion}
+use Rattle.std.proofs.Common.{◌≡◌, ℕ, ◌==◌, Bool, true, false, ◌&&◌, cond, List, [], ◌∷◌, ◌++◌, map, Option, Some, None, is_some, refl, sym, ap, subst, ◌∙◌}
+use Rattle.std.specs.List.{filter, list_all, AllByRecursion}
 use Rattle.std.specs.Cmp.Lexicographic.{same_text}
 use Rattle.std.proofs.lemmas.Bool.{eqb-true, false≢true}
 use Rattle.history_model.specs.declared.Act.{Act}
@@ -12,7 +10,7 @@ use Rattle.history_model.specs.declared.Reading.{Reading}
 use Rattle.history_model.specs.Items.{History}
 use Rattle.history_model.specs.Search.{first}
 use Rattle.history_model.specs.Runs.{is_answer_to}
-use Rattle.history_model.specs.Labels.{Label, is_forbidden, is_label, is_same}
+use Rattle.history_model.specs.Labels.{Label, is_same}
 use Rattle.history_model.specs.Machine.{Job, is_of, past_in}
 use Rattle.history_model.specs.MachineLaws.{labels_of}
 use Rattle.job_defs.specs.Described.{Described}

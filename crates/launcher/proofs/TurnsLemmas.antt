@@ -10,7 +10,6 @@ use Rattle.history_model.specs.declared.Ask.TheVariants.{Unload, Shutdown}
 use Rattle.history_model.specs.Items.{Loaded, Read, Saw, Asked, Answered}
 use Rattle.history_model.specs.Clock.{definition_of}
 use Rattle.history_model.specs.Calendar.{calendar_fires}
-use Rattle.history_model.specs.Labels.{Label}
 use Rattle.history_model.specs.Machine.{State, Job, Event, Unreadable, Load, UnloadJob, Set, ListJobs, PrintJob, ShutDown, Tick, Sight, OfJob}
 use Rattle.history_model.specs.Acceptance.{refusal_in}
 use Rattle.history_model.specs.Step.{outcome, outcome_by, step, step_by, taken, sight_of, run, orders_in}

@@ -1,5 +1,5 @@
 -- Whether an input was a load that was accepted.
-use Rattle.std.specs.Prelude.{Bool, true, false, ◌&&◌, Option, Some, None, is_none}
+use Rattle.std.specs.Prelude.{Bool, true, false, ◌&&◌, Option, Some, is_none}
 use Rattle.history_model.specs.declared.Refusal.{Refusal}
 use Rattle.history_model.specs.declared.event.Event as journal
 use Rattle.history_model.specs.declared.event.Event.TheVariants as journaled
