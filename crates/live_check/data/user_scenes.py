@@ -193,7 +193,9 @@ class User:
         """The events of the journal's lines, each with the line of its outcome. The first line is the header, which has none."""
         ran = self.stage.replay(journal)
         check(ran.returncode == 0, f"the replay of {journal} ends with {ran.returncode}: {ran.stderr!r}")
-        return list(zip(text_at(self.stage.at(journal)).splitlines()[1:], ran.stdout.splitlines()))
+        events, outcomes = text_at(self.stage.at(journal)).splitlines()[1:], ran.stdout.splitlines()
+        check(len(events) == len(outcomes), f"{journal} has {len(events)} events, and its replay gives {len(outcomes)} outcomes")
+        return list(zip(events, outcomes))
 
     def replays(self, journal, part, *lines):
         """The replay gives these outcomes of the events that have this text in their line."""
@@ -294,13 +296,15 @@ def two_jobs_at_once(stage):
     user = User(stage)
     user.make("one.json", ONE)
     user.make("two.json", TWO)
-    user.serve()
+    user.serve("--journal journal")
     user.ask("load one.json")
     user.ask("load two.json")
     user.tells("print one", "last exit = code 0")
     user.tells("print two", "last exit = code 0")
+    user.ask("list", text=LISTED + "-\t0\tone\n-\t0\ttwo\n")
     user.ask("shutdown")
     user.ended(0, REMOVED)
+    user.compare("journal")
 
 
 def what_is_around_a_job(stage):

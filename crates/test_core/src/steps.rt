@@ -16,6 +16,16 @@ const IDLE: &str = r#"{"Label":"a","ProgramArguments":["/bin/x"]}"#;
 const WATCHING: &str =
     r#"{"Label":"w","ProgramArguments":["/bin/x"],"WatchPaths":["/v","/t"],"QueueDirectories":["/u"]}"#;
 
+/// What a table is tried for.
+#[derive(Clone, Copy)]
+pub enum Trial {
+    GivenBack,
+    Kept,
+    Children,
+    Paths,
+    Shutdown,
+}
+
 /// A table with no job, whose clock shows UTC.
 pub fn empty_table(alloc: Global) -> Result<JobTable, Refusal> {
     let Ok(zone) = Zone::fixed(0) else {
@@ -37,12 +47,11 @@ pub fn load(alloc: Global, table: &mut JobTable, definition: &str) -> Result<Job
 }
 
 /// Loads and unloads a job again and again, and says whether it always has the number that it had first.
-pub fn is_given_back(alloc: Global) -> Result<bool, Refusal> {
-    let mut table = empty_table(alloc)?;
-    let first = load(alloc, &mut table, IDLE)?;
+fn is_given_back(alloc: Global, table: &mut JobTable) -> Result<bool, Refusal> {
+    let first = load(alloc, table, IDLE)?;
     table.unload("a")?;
     for _ in 0..100 {
-        if load(alloc, &mut table, IDLE)? != first {
+        if load(alloc, table, IDLE)? != first {
             return Ok(false);
         }
         table.unload("a")?;
@@ -52,12 +61,11 @@ pub fn is_given_back(alloc: Global) -> Result<bool, Refusal> {
 
 /// Says whether a job has its number still when another has left and a third has come, which has the number of the one
 /// that left.
-pub fn is_kept(alloc: Global) -> Result<bool, Refusal> {
-    let mut table = empty_table(alloc)?;
-    let first = load(alloc, &mut table, IDLE)?;
-    let second = load(alloc, &mut table, B)?;
+fn is_kept(alloc: Global, table: &mut JobTable) -> Result<bool, Refusal> {
+    let first = load(alloc, table, IDLE)?;
+    let second = load(alloc, table, B)?;
     table.unload("a")?;
-    let third = load(alloc, &mut table, C)?;
+    let third = load(alloc, table, C)?;
     table.spawn_refused("b", 1)?;
     let step = table.clock(alloc, at(10_000, 1_700_000_010))?;
     let [order, ..] = step.orders else {
@@ -68,18 +76,16 @@ pub fn is_kept(alloc: Global) -> Result<bool, Refusal> {
 }
 
 /// Says whether the children of two jobs are found one after the other, and then none.
-pub fn children_follow(alloc: Global) -> Result<bool, Refusal> {
-    let mut table = empty_table(alloc)?;
-    let second = load(alloc, &mut table, B)?;
-    let first = load(alloc, &mut table, A)?;
-    load(alloc, &mut table, C)?;
+fn children_follow(alloc: Global, table: &mut JobTable) -> Result<bool, Refusal> {
+    let second = load(alloc, table, B)?;
+    let first = load(alloc, table, A)?;
+    load(alloc, table, C)?;
     table.spawned("a", 1, 812)?;
     table.spawned("b", 1, 813)?;
-    Ok(
-        table.child_after("") == Some(("a", first, 1))
-            && table.child_after("a") == Some(("b", second, 1))
-            && table.child_after("b").is_none(),
-    )
+    let is_first = table.child_after("") == Some(("a", first, 1));
+    let is_second = table.child_after("a") == Some(("b", second, 1));
+    let is_last = table.child_after("b").is_none();
+    Ok(is_first && is_second && is_last)
 }
 
 /// The refusal of an answer that is told by its job's number, if it is refused.
@@ -117,24 +123,36 @@ pub fn late_answers_are_refused(alloc: Global) -> Result<bool, Refusal> {
 }
 
 /// Says whether the paths that are listed are found one after the other, and then none.
-pub fn paths_follow(alloc: Global) -> Result<bool, Refusal> {
-    let mut table = empty_table(alloc)?;
-    load(alloc, &mut table, WATCHING)?;
-    Ok(
-        table.path_after("") == Some("/t")
-            && table.path_after("/t") == Some("/u")
-            && table.path_after("/u") == Some("/v")
-            && table.path_after("/v").is_none(),
-    )
+fn paths_follow(alloc: Global, table: &mut JobTable) -> Result<bool, Refusal> {
+    load(alloc, table, WATCHING)?;
+    let is_first = table.path_after("") == Some("/t");
+    let is_second = table.path_after("/t") == Some("/u");
+    let is_third = table.path_after("/u") == Some("/v");
+    let is_last = table.path_after("/v").is_none();
+    Ok(is_first && is_second && is_third && is_last)
 }
 
 /// Says whether a table shuts down once that is asked, and not before.
-pub fn is_shut_down(alloc: Global) -> Result<bool, Refusal> {
-    let mut table = empty_table(alloc)?;
-    load(alloc, &mut table, IDLE)?;
+fn is_shut_down(alloc: Global, table: &mut JobTable) -> Result<bool, Refusal> {
+    load(alloc, table, IDLE)?;
     let before = table.is_shutting_down();
     table.shutdown()?;
     Ok(!before && table.is_shutting_down())
+}
+
+/// Says whether a new table stands this trial. The table is let go in one place, since each is proved for its whole type.
+pub fn stands(alloc: Global, trial: Trial) -> bool {
+    let Ok(mut table) = empty_table(alloc) else {
+        return false;
+    };
+    let is_so = match trial {
+        Trial::GivenBack => is_given_back(alloc, &mut table),
+        Trial::Kept => is_kept(alloc, &mut table),
+        Trial::Children => children_follow(alloc, &mut table),
+        Trial::Paths => paths_follow(alloc, &mut table),
+        Trial::Shutdown => is_shut_down(alloc, &mut table),
+    };
+    is_so == Ok(true)
 }
 
 /// Says whether an override of an empty label is refused.

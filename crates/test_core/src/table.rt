@@ -6,15 +6,15 @@ use crate::steps::*;
 /// job keeps its number, and an order with it is the job's.
 #[test]
 fn numbers_are_given_back_and_kept(rt: HostRuntime) {
-    assert!(rt; is_given_back(rt.alloc()) == Ok(true));
-    assert!(rt; is_kept(rt.alloc()) == Ok(true));
+    assert!(rt; stands(rt.alloc(), Trial::GivenBack));
+    assert!(rt; stands(rt.alloc(), Trial::Kept));
 }
 
 /// Children come in the order of labels, and so do the paths that are listed.
 #[test]
 fn children_and_paths_come_in_order(rt: HostRuntime) {
-    assert!(rt; children_follow(rt.alloc()) == Ok(true));
-    assert!(rt; paths_follow(rt.alloc()) == Ok(true));
+    assert!(rt; stands(rt.alloc(), Trial::Children));
+    assert!(rt; stands(rt.alloc(), Trial::Paths));
 }
 
 /// An answer that is told by a number goes to the job that has the number, wherever it stands. If the job has gone, or none has the number,
@@ -32,5 +32,5 @@ fn an_override_of_no_label_opens_no_table(rt: HostRuntime) {
 
 #[test]
 fn a_shutdown_is_told(rt: HostRuntime) {
-    assert!(rt; is_shut_down(rt.alloc()) == Ok(true));
+    assert!(rt; stands(rt.alloc(), Trial::Shutdown));
 }

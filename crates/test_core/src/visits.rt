@@ -37,7 +37,7 @@ enum Event {
 type Row = (Event, Option<(u32, usize)>);
 
 /// Each label is one of `a000` to `a098`, of jobs that start each hour, or `x`, that starts each 30 seconds.
-static MANY: &[Row] = &[
+const MANY: &[Row] = &[
     (Clock(29_999), Some((0, 0))),
     (Clock(30_000), Some((1, 1))),
     (Spawned("x", 1), Some((1, 0))),
@@ -58,7 +58,7 @@ static MANY: &[Row] = &[
 ];
 
 /// After an hour the interval of each of these jobs is over; a moment later that of none.
-static ALL: &[Row] = &[
+const ALL: &[Row] = &[
     (Clock(3_600_000), Some((100, 100))),
     (Clock(3_600_001), Some((0, 0))),
 ];
@@ -71,7 +71,7 @@ const B: &str = r#"{"Label":"b","Program":"/bin/x","StartInterval":30,"ThrottleI
 const HALF_PAST: &str = r#"{"Label":"m","Program":"/bin/x","StartCalendarInterval":{"Minute":30}}"#;
 
 /// Two jobs have the same moments. One leaves, and its number goes to the next load. The minute 22:14 is no job's.
-static FEW: &[Row] = &[
+const FEW: &[Row] = &[
     (Load(B), Some((1, 0))),
     (Load(A), Some((1, 0))),
     (Load(HALF_PAST), Some((1, 0))),
@@ -96,7 +96,7 @@ const FIRST_TO_WATCH: &str = r#"{"Label":"a0005","Program":"/bin/x","WatchPaths"
 const LAST_TO_WATCH: &str = r#"{"Label":"y","Program":"/bin/x","WatchPaths":["/u","/w"]}"#;
 
 /// Two of the many jobs list the path, and one of them another too.
-static WATCHED: &[Row] = &[
+const WATCHED: &[Row] = &[
     (Load(FIRST_TO_WATCH), Some((1, 0))),
     (Load(LAST_TO_WATCH), Some((1, 0))),
     (Saw("/v"), Some((0, 0))),
@@ -109,7 +109,7 @@ static WATCHED: &[Row] = &[
 ];
 
 /// A setting asks no job, but with an unload the job that it stops. One that leaves is not asked.
-static SETTINGS: &[Row] = &[
+const SETTINGS: &[Row] = &[
     (Load(A), Some((1, 0))),
     (Load(B), Some((1, 0))),
     (Disable("x"), Some((0, 0))),
@@ -140,7 +140,7 @@ const IDLE: &str = r#"{"Label":"i","Program":"/bin/x"}"#;
 
 /// A minute of no job, then those of each job's entries. What has no minute is asked at each one. The job of 22:30 has a throttle,
 /// which ends before 22:45.
-static MINUTES: &[Row] = &[
+const MINUTES: &[Row] = &[
     (Load(QUARTERS), Some((1, 0))),
     (Load(HALF_PAST), Some((1, 0))),
     (Clock(39_999), Some((0, 0))),
@@ -160,7 +160,7 @@ static MINUTES: &[Row] = &[
 ];
 
 /// A reading over an hour crosses the minutes of each calendar.
-static HOUR: &[Row] = &[
+const HOUR: &[Row] = &[
     (Load(QUARTERS), Some((1, 0))),
     (Load(HALF_PAST), Some((1, 0))),
     (Load(IDLE), Some((1, 0))),
@@ -173,7 +173,7 @@ const LISTENING: &str =
 
 /// Each call for one event of one job. An unload and a shutdown are no events of one job. A spawn comes 10 seconds after the last one,
 /// a signal that was refused a second later.
-static OF_ONE_JOB: &[Row] = &[
+const OF_ONE_JOB: &[Row] = &[
     (Load(LISTENING), Some((1, 0))),
     (Came("s", 1), Some((1, 1))),
     (Came("s", 2), Some((1, 0))),
@@ -316,25 +316,53 @@ fn first_fault(alloc: Global, table: &mut JobTable, rows: &[Row]) -> Option<usiz
     None
 }
 
-/// The same of a new table, with the hundred jobs or with none.
-fn fault_from_new(alloc: Global, is_full: bool, rows: &[Row]) -> Option<usize> {
-    let Ok(mut table) = empty_table(alloc) else {
-        return Some(rows.len());
-    };
-    if is_full && are_loaded(alloc, &mut table) != Ok(true) {
-        return Some(rows.len());
+/// What a new table is tried by: the rows of `MOMENTS`, or other rows with the hundred jobs or with none.
+#[derive(Clone, Copy)]
+enum Rows {
+    Moments,
+    Full(&'static [Row]),
+    Few(&'static [Row]),
+}
+
+static ROWS: &[Rows] = &[
+    Rows::Full(MANY),
+    Rows::Full(ALL),
+    Rows::Full(WATCHED),
+    Rows::Few(FEW),
+    Rows::Few(SETTINGS),
+    Rows::Few(MINUTES),
+    Rows::Few(HOUR),
+    Rows::Few(OF_ONE_JOB),
+];
+
+fn fault_in(alloc: Global, table: &mut JobTable, rows: Rows) -> Option<usize> {
+    match rows {
+        Rows::Moments => first_other(alloc, table),
+        Rows::Full(rows) => {
+            if are_loaded(alloc, table) != Ok(true) {
+                return Some(rows.len());
+            }
+            first_fault(alloc, table, rows)
+        }
+        Rows::Few(rows) => first_fault(alloc, table, rows),
     }
-    first_fault(alloc, &mut table, rows)
+}
+
+/// The position of the first row that goes another way than it says, of a new table.
+fn fault_from_new(alloc: Global, rows: Rows) -> Option<usize> {
+    match empty_table(alloc) {
+        Ok(mut table) => fault_in(alloc, &mut table, rows),
+        Err(_) => Some(usize::MAX),
+    }
 }
 
 /// The position of the first row of `MOMENTS` that goes another way than it says.
-fn first_other(alloc: Global) -> Option<usize> {
-    let Ok(mut table) = empty_table(alloc) else {
-        return Some(MOMENTS.len());
-    };
+fn first_other(alloc: Global, table: &mut JobTable) -> Option<usize> {
     for (position, (event, moment, calendar)) in MOMENTS.iter().enumerate() {
-        let accepted = happens(alloc, &mut table, *event).is_some();
-        if !accepted || table.next_up() != *moment || table.has_calendars() != *calendar {
+        let accepted = happens(alloc, table, *event).is_some();
+        let is_moment = table.next_up() == *moment;
+        let is_calendar = table.has_calendars() == *calendar;
+        if !accepted || !is_moment || !is_calendar {
             return Some(position);
         }
     }
@@ -343,15 +371,14 @@ fn first_other(alloc: Global) -> Option<usize> {
 
 #[test]
 fn the_jobs_that_are_touched_are_asked(rt: HostRuntime) {
-    for rows in [MANY, ALL, WATCHED] {
-        assert_eq!(rt; fault_from_new(rt.alloc(), true, rows), None);
-    }
-    for rows in [FEW, SETTINGS, MINUTES, HOUR, OF_ONE_JOB] {
-        assert_eq!(rt; fault_from_new(rt.alloc(), false, rows), None);
+    for rows in ROWS {
+        let fault = fault_from_new(rt.alloc(), *rows);
+        assert_eq!(rt; fault, None);
     }
 }
 
 #[test]
 fn the_next_moment_is_told(rt: HostRuntime) {
-    assert_eq!(rt; first_other(rt.alloc()), None);
+    let fault = fault_from_new(rt.alloc(), Rows::Moments);
+    assert_eq!(rt; fault, None);
 }

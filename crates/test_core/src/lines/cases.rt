@@ -168,3 +168,10 @@ system/@b\n\
 user/501/@b\n\
 user/0123456789/@b\n\
 gui/4294967295/@b";
+
+/// One line of no byte.
+pub const EMPTY_LINE: &str = "\n";
+
+/// The label that an `@` stands for, of 255 bytes.
+pub const LABEL: &str =
+    "bbbbbbbbbbbbbbbbbbbbbbbbbbbbbbbbbbbbbbbbbbbbbbbbbbbbbbbbbbbbbbbbbbbbbbbbbbbbbbbbbbbbbbbbbbbbbbbbbbbbbbbbbbbbbbbbbbbbbbbbbbbbbbbbbbbbbbbbbbbbbbbbbbbbbbbbbbbbbbbbbbbbbbbbbbbbbbbbbbbbbbbbbbbbbbbbbbbbbbbbbbbbbbbbbbbbbbbbbbbbbbbbbbbbbbbbbbbbbbbbbbbbbbbbbbbbbbb";
