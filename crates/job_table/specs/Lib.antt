@@ -6,7 +6,7 @@ pub mod Counts
 pub mod Minutes
 pub mod Periods
 pub mod Triggers
-pub mod Entries
+pub mod Seats
 pub mod Sound
 pub mod Alike
 pub mod Touch

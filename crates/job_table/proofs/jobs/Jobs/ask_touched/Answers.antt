@@ -9,7 +9,7 @@ use Rattle.job_table.specs.StandsFor.{KeepsJobs, numbered_all}
 use Rattle.job_table.specs.Counts.{counts, count_in, IsCounted}
 use Rattle.job_table.specs.Triggers.{AreListed}
 use Rattle.job_table.specs.Index.{ArePlaced, IsIndexOf, AreTimed, AreAlone, HaveRoom, place_in}
-use Rattle.job_table.specs.Entries.{name, rows, gone, is_named}
+use Rattle.job_table.specs.Seats.{name, rows, gone, is_named}
 use Rattle.job_table.specs.Leaving.{StayBut}
 use Rattle.job_table.specs.Minutes.{some_calendar}
 use Rattle.job_table.specs.Touch.{is_touched}
@@ -43,22 +43,22 @@ visit_ready-visited-requires-clause-spared c =
     let old = c.args.self.now in
     let ready = c.mark_touched.new.ready in
     subst (AreSpared ready old.reading c.args.touch 0) (sym c.deref_mut.ensures.value)
-    (spared-all c.args.touch ready old.reading 0 old.entries.items (marked-at c.args.touch ready c.deref.result.now old.entries.items c.deref.ensures.value c.mark_touched.ensures.touched))
+    (spared-all c.args.touch ready old.reading 0 old.seats.items (marked-at c.args.touch ready c.deref.result.now old.seats.items c.deref.ensures.value c.mark_touched.ensures.touched))
 
 pub visit_ready-visited-requires-clause-timed : goal.visit_ready-visited-requires-clause-timed
-visit_ready-visited-requires-clause-timed c = λ place entry there none.
+visit_ready-visited-requires-clause-timed c = λ place seat there none.
     let ready = c.mark_touched.new.ready in
     let at = ap (λ xs. slice_get xs place) (sym c.deref_mut.ensures.value) ∙ there in
-    c.requires.timed place entry at
-    (not-true (is_spared ready place) (is_touched c.args.touch place entry.def) (c.mark_touched.ensures.touched place entry (ap (λ xs. slice_get xs place) c.deref.ensures.value ∙ at)) none)
+    c.requires.timed place seat at
+    (not-true (is_spared ready place) (is_touched c.args.touch place seat.def) (c.mark_touched.ensures.touched place seat (ap (λ xs. slice_get xs place) c.deref.ensures.value ∙ at)) none)
 
 pub returns-clause-kept : goal.returns-clause-kept
 returns-clause-kept c = λ jobs item for fine rests keeps.
     let old = c.args.self.now in
-    let es = old.entries.items in
+    let es = old.seats.items in
     let ready = c.mark_touched.new.ready in
-    let after = c.visit_ready-visited.new.entries in
-    let whole = lent-back after (drop (length after) es) old.entries.len (omega arith) in
+    let after = c.visit_ready-visited.new.seats in
+    let whole = lent-back after (drop (length after) es) old.seats.len (omega arith) in
     let lent = c.deref_mut.ensures.value in
     let all = rows-all es c.requires.stay in
     let idle = rest-all c.args.touch ready old.reading item 0 es jobs (marked-at c.args.touch ready c.deref.result.now es c.deref.ensures.value c.mark_touched.ensures.touched)
@@ -69,10 +69,10 @@ returns-clause-kept c = λ jobs item for fine rests keeps.
 pub returns-clause-orders : goal.returns-clause-orders
 returns-clause-orders c = λ jobs item for fine rests keeps.
     let old = c.args.self.now in
-    let es = old.entries.items in
+    let es = old.seats.items in
     let ready = c.mark_touched.new.ready in
-    let after = c.visit_ready-visited.new.entries in
-    let whole = lent-back after (drop (length after) es) old.entries.len (omega arith) in
+    let after = c.visit_ready-visited.new.seats in
+    let whole = lent-back after (drop (length after) es) old.seats.len (omega arith) in
     let lent = c.deref_mut.ensures.value in
     let names = ap (map name) whole ∙ c.visit_ready-visited.ensures.names ∙ ap (map name) lent in
     let all = rows-all es c.requires.stay in
@@ -84,19 +84,19 @@ returns-clause-orders c = λ jobs item for fine rests keeps.
 
 pub returns-clause-counted : goal.returns-clause-counted
 returns-clause-counted c =
-    let es = c.args.self.now.entries.items in
-    let after = c.visit_ready-visited.new.entries in
-    let whole = lent-back after (drop (length after) es) c.args.self.now.entries.len (omega arith) in
+    let es = c.args.self.now.seats.items in
+    let after = c.visit_ready-visited.new.seats in
+    let whole = lent-back after (drop (length after) es) c.args.self.now.seats.len (omega arith) in
     subst (λ all. IsCounted (counts (rows es)) (rows all) (gone all) c.visit_ready-visited.result.0) (sym whole)
     (visits-counted c.mark_touched.new.ready es after c.visit_ready-visited.result.0 c.requires.stay c.requires.sound.once
     (subst (λ all. AreVisitedOnce c.mark_touched.new.ready 0 all after) c.deref_mut.ensures.value c.visit_ready-visited.ensures.visits) c.visit_ready-visited.ensures.visited)
 
 pub returns-clause-spared : goal.returns-clause-spared
 returns-clause-spared c = λ label others.
-    let es = c.args.self.now.entries.items in
+    let es = c.args.self.now.seats.items in
     let ready = c.mark_touched.new.ready in
-    let after = c.visit_ready-visited.new.entries in
-    let whole = lent-back after (drop (length after) es) c.args.self.now.entries.len (omega arith) in
+    let after = c.visit_ready-visited.new.seats in
+    let whole = lent-back after (drop (length after) es) c.args.self.now.seats.len (omega arith) in
     let marked = marked-at c.args.touch ready c.deref.result.now es c.deref.ensures.value c.mark_touched.ensures.touched in
     ap (λ xs. count_in (counts (rows xs)) label) whole
     ∙ spared-count ready 0 es after label c.requires.stay (subst (λ all. AreVisitedOnce ready 0 all after) c.deref_mut.ensures.value c.visit_ready-visited.ensures.visits)
@@ -106,14 +106,14 @@ returns-clause-spared c = λ label others.
 pub returns-clause-whole : goal.returns-clause-whole
 returns-clause-whole c =
     let old = c.args.self.now in
-    let es = old.entries.items in
-    let after = c.visit_ready-visited.new.entries in
-    let whole = lent-back after (drop (length after) es) old.entries.len (omega arith) in
+    let es = old.seats.items in
+    let after = c.visit_ready-visited.new.seats in
+    let whole = lent-back after (drop (length after) es) old.seats.len (omega arith) in
     let names = ap (map name) whole ∙ c.visit_ready-visited.ensures.names ∙ ap (map name) c.deref_mut.ensures.value in
     let long : length after ≡ length es = omega arith in
     let fits = c.requires.sound.named.marks in
     let index : Index = record { timers = c.visit_ready-visited.new.timers; ready = c.visit_ready-visited.new.ready; places = old.index.places } in
-    let indexed : IsIndexOf index old.reading.up (with_items old.entries after).items = record {
+    let indexed : IsIndexOf index old.reading.up (with_items old.seats after).items = record {
       timed = subst (AreTimed c.visit_ready-visited.new.timers old.reading.up) (sym whole) c.visit_ready-visited.ensures.timed;
       alone = subst (AreAlone c.visit_ready-visited.new.timers) (ap (map name) c.deref_mut.ensures.value ∙ sym names) c.visit_ready-visited.ensures.alone;
       space = subst (HaveRoom c.visit_ready-visited.new.timers) (sym names)
@@ -139,7 +139,7 @@ returns-clause-whole c =
             (ap (list_all (is_known (map name es))) c.requires.empty));
         few = let few = c.requires.sound.few in omega (arith, few);
         room = let room = c.requires.sound.room in let more = c.visit_ready-visited.ensures.capacity in omega (arith, room, more);
-        named = named-of index old.reading.up (with_items old.entries after).items indexed;
+        named = named-of index old.reading.up (with_items old.seats after).items indexed;
         periods = subst HavePeriods (sym names) c.requires.sound.periods;
         calendars = c.requires.sound.calendars ∙ ap some_calendar (sym names);
         listed = subst (AreListed c.args.self.now.triggers.items) (sym names) c.requires.sound.listed;
