@@ -21,6 +21,8 @@ pub mod Listed
 pub mod Nearest
 pub mod Moments
 pub mod Visiting
+pub mod Visits
+pub mod Asking
 pub mod Marking
 pub mod Index
 pub mod Touching

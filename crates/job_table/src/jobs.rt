@@ -1,26 +1,23 @@
 //! The fields of the table, and the parts of which its events are made.
 
-ghost use Rattle.std.specs.Prelude.{◌≡◌, ◌<◌, [], List, Option, OnOk, OnErr, map, length, Some};
-ghost use Rattle.std.specs.List.{filter_map, flat_map, filter, position};
+ghost use Rattle.std.specs.Prelude.{◌≡◌, ◌<◌, [], List, OnOk, OnErr, map, length, Some};
+ghost use Rattle.std.specs.List.{filter, position};
 ghost use Rattle.history_model.specs.Search.{first};
-ghost use Rattle.history_model.specs.Items.{Item};
 ghost use Rattle.history_model.specs.Machine.{Job, is_of, past_in};
 ghost use Rattle.history_model.specs.Labels.{Label};
 ghost use Rattle.history_model.specs.Acceptance.{refusal_at};
-ghost use Rattle.history_model.specs.Step.{heard, heard_one, stays, orders_of};
+ghost use Rattle.history_model.specs.Step.{heard_one};
 ghost use Rattle.history_model.specs.JobItems.{item_of};
-ghost use Rattle.job_table.specs.StandsFor.{KeepsJobs, labelled};
+ghost use Rattle.job_table.specs.StandsFor.{KeepsJobs};
 ghost use Rattle.job_table.specs.Numbers.{row_names, KeepsNames};
 ghost use Rattle.job_table.specs.Room.{HasSameRoom};
-ghost use Rattle.job_table.specs.Seats.{rows, gone, name, has_label, AllStay};
-ghost use Rattle.job_table.specs.Counts.{counts, Counts, IsCounted};
+ghost use Rattle.job_table.specs.Seats.{rows, name, has_label, AllStay};
+ghost use Rattle.job_table.specs.Counts.{counts, Counts};
 ghost use Rattle.job_core.specs.Memory.{NeedsNoMemory};
-ghost use Rattle.job_table.specs.Hearing.{AreFor, IsAccepted, present_with};
 ghost use Rattle.job_table.specs.Loads.{refused_with};
-ghost use Rattle.job_table.specs.Touched.{IsChangedAt, IsHandedAt, AreTimedBut, RestBut, SparesBut};
+ghost use Rattle.job_table.specs.Touched.{IsChangedAt, IsHandedAt};
 ghost use Rattle.job_table.specs.Telling.{IsTold};
-ghost use Rattle.job_table.specs.Index.{ArePlaced};
-ghost use Rattle.job_table.specs.Touch.{heard_at};
+ghost use Rattle.job_table.specs.Asking.{CanAsk, AsksTouched};
 ghost use Rattle.std.specs.Option.{ForSome};
 
 use crate::gone_jobs::Gone;
@@ -150,35 +147,8 @@ impl Jobs {
 
     /// Tells the jobs that the touch reaches what it is for them, and asks them alone. The reading stays.
     pub fn ask_touched(&mut self, touch: Touch<'_>)
-        requires sound { IsSound self.old }
-        requires stay { AllStay self.old.seats.items }
-        requires empty { self.old.orders.items ≡ [] }
-        requires still { present_with touch self.old.reading ≡ self.old.reading }
-        requires inside { ForSome (heard_at touch) (λ place. place < length self.old.seats.items) }
-        requires placed { ArePlaced self.old.index.places.items self.old.seats.items }
-        requires timed { AreTimedBut touch self.old }
-        ensures kept { (jobs : List Job) (item : Job → Option Item) →
-            AreFor touch.entry item (rows self.old.seats.items) jobs →
-            IsAccepted self.old.reading item →
-            RestBut touch.entry 0 (rows self.old.seats.items) jobs →
-            KeepsJobs self.old.reading (rows self.old.seats.items) jobs →
-            KeepsJobs self.old.reading (rows self.new.seats.items)
-            (filter_map stays (heard item jobs)) }
-        ensures orders { (jobs : List Job) (item : Job → Option Item) →
-            AreFor touch.entry item (rows self.old.seats.items) jobs →
-            IsAccepted self.old.reading item →
-            RestBut touch.entry 0 (rows self.old.seats.items) jobs →
-            KeepsJobs self.old.reading (rows self.old.seats.items) jobs →
-            labelled (map name self.new.seats.items) self.new.orders.items
-            ≡ flat_map orders_of (heard item jobs) }
-        ensures names { map name self.new.seats.items ≡ map name self.old.seats.items }
-        ensures counted { IsCounted (counts (rows self.old.seats.items))
-            (rows self.new.seats.items) (gone self.new.seats.items) self.new.visited }
-        ensures spared { SparesBut touch.entry self.old.seats.items self.new.seats.items }
-        ensures triggers { self.new.triggers ≡ self.old.triggers }
-        ensures whole { IsWhole self.new }
-        ensures alike { IsAlike self.old self.new }
-        ensures room { HasSameRoom (seen_table self.old) (seen_table self.new) }
+        requires { CanAsk touch self.old }
+        ensures { AsksTouched touch.entry self.old self.new }
     {
         mark_touched(
             &self.seats,

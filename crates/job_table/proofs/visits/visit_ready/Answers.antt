@@ -45,14 +45,14 @@ loop-number-init c = record {
   capacity = refl;
   few = omega arith;
   known = λ names all before. before;
-  timed = λ k e at reached. at-first k (is_spared c.args.ready.now k) reached (λ spares. c.requires.timed k e at spares);
-  alone = c.requires.alone;
+  timed = λ k e at reached. at-first k (is_spared c.args.ready.now k) reached (λ spares. c.requires.can.timed k e at spares);
+  alone = c.requires.can.alone;
   marks = refl;
   space = refl;
-  stays = c.requires.stay;
+  stays = c.requires.can.stay;
   walked = record {
     untouched = refl;
-    spared = c.requires.spared;
+    spared = c.requires.can.spared;
     once = tt;
     count = refl;
     way = λ jobs item for accepted rests keeps. record { past = []; rest = jobs; kept = tt; waits = keeps; for = for; rests = rests; leads = refl; gives = refl };
@@ -66,13 +66,13 @@ retime-requires-clause-room c =
     let number = c.in-Some.number in
     let popped = c.in-Some.ensures in
     let here = going-marks c.loop-number.ready c.args.ready.now c.loop-number.front inv.taken inv.behind number popped.there in
-    let within : number < length c.args.seats.now = c.requires.inside number here.1 in
+    let within : number < length c.args.seats.now = c.requires.can.inside number here.1 in
     let long : length es ≡ length c.args.seats.now = omega arith in
     let inside : number < length es = omega (arith, within, long) in
     let e : Seat = get_or es number c.index-seats-place.result in
     let is : e ≡ get_or es number e = ap (get_or es number) c.index-seats-place.is in
     subst (λ r. c.visit.new.self.number < r) (sym inv.space)
-    (c.requires.numbers c.visit.new.self.number
+    (c.requires.can.numbers c.visit.new.self.number
     (ap (λ n. is_some (definition_of_number (map name c.args.seats.now) n.number)) c.visit.ensures.name
     ∙ subst (λ ns. is_some (definition_of_number ns e.number) ≡ true) inv.names (named-at (map name es) es es number e inside refl is (all-named es))))
 
@@ -89,7 +89,7 @@ loop-number-preserved c =
     let new = c.visit.new.self in
     let here = going-marks ready ready0 front inv.taken inv.behind number popped.there in
     let after : front ≤ number = here.0 in
-    let within : number < length es0 = c.requires.inside number here.1 in
+    let within : number < length es0 = c.requires.can.inside number here.1 in
     let long : length es ≡ length es0 = omega arith in
     let inside : number < length es = omega (arith, within, long) in
     let e : Seat = get_or es number c.index-seats-place.result in
@@ -98,8 +98,8 @@ loop-number-preserved c =
     λ k low high. ap not (sym (inv.behind k low) ∙ popped.least k (omega (arith, high, after))) in
     let passed : IsWalked c.args.before c.args.now c.args.touch ready0 es0 c.args.orders.now.items es number c.loop-number.orders.items c.loop-number.visited =
     subst (λ k. IsWalked c.args.before c.args.now c.args.touch ready0 es0 c.args.orders.now.items es k c.loop-number.orders.items c.loop-number.visited) (omega (arith, after))
-    (skip-to c.args.before c.args.now c.args.touch ready0 c.requires.now es0 c.args.orders.now.items es (number - front) front c.loop-number.orders.items c.loop-number.visited
-    c.requires.stay (omega (arith, within, after)) between inv.walked) in
+    (skip-to c.args.before c.args.now c.args.touch ready0 c.requires.can.now es0 c.args.orders.now.items es (number - front) front c.loop-number.orders.items c.loop-number.visited
+    c.requires.can.stay (omega (arith, within, after)) between inv.walked) in
     let counts : c.if-not-seat.visited ≡ cond new.has_gone c.loop-number.visited (suc c.loop-number.visited) = elim c.if-not-seat.branch [
       | then-not-seat w ↦ w.visited-is ∙ add-one c.loop-number.visited ∙ ap (λ b. cond b c.loop-number.visited (suc c.loop-number.visited)) (sym w.if-not-seat.true)
       | else-not-seat w ↦ w.visited-is ∙ ap (λ b. cond b c.loop-number.visited (suc c.loop-number.visited)) (sym w.if-not-seat.false)
@@ -113,7 +113,7 @@ loop-number-preserved c =
       capacity = c.visit.ensures.capacity ∙ inv.capacity;
       few = elim c.if-not-seat.branch [ then-not-seat w ↦ omega arith | else-not-seat w ↦ omega arith ];
       known = λ names all before. c.visit.ensures.known names (named-at names es0 es number e inside passed.untouched is all) (inv.known names all before);
-      timed = retimed es number e new c.loop-number.timers c.retime.new.timers c.args.now.up front (is_spared ready0) (subst IsOnce (sym inv.names) c.requires.once) inside is c.visit.ensures.name c.retime.ensures
+      timed = retimed es number e new c.loop-number.timers c.retime.new.timers c.args.now.up front (is_spared ready0) (subst IsOnce (sym inv.names) c.requires.can.once) inside is c.visit.ensures.name c.retime.ensures
           (λ k low high. between k low (omega (arith, high, after))) inv.timed;
       alone = alone-after c.loop-number.timers c.retime.new.timers (map name es0) new.number (moment_for new c.args.now.up) c.retime.ensures
           (ap (λ n. is_some (definition_of_number (map name es0) n.number)) c.visit.ensures.name ∙ named-at (map name es0) es0 es number e inside passed.untouched is (all-named es0)) inv.alone;
@@ -124,8 +124,8 @@ loop-number-preserved c =
         | else-not-seat w ↦ subst (λ g. StayBut g (slice_set es number new)) (sym (w.gone-is ∙ w.and-gone.ensures)) (went-more c.loop-number.gone number es new inv.stays)
       ];
       walked = subst (λ k. IsWalked c.args.before c.args.now c.args.touch ready0 es0 c.args.orders.now.items (slice_set es number new) k c.visit.new.orders.items c.if-not-seat.visited) (sym (add-one number))
-          (visit-one c.args.before c.args.now c.args.touch ready0 c.requires.now es0 c.args.orders.now.items es number e new c.loop-number.orders.items c.visit.new.orders.items c.loop-number.visited c.if-not-seat.visited
-          c.requires.stay within inside is (ap not here.1) c.visit.ensures.visit c.visit.ensures.decided counts passed);
+          (visit-one c.args.before c.args.now c.args.touch ready0 c.requires.can.now es0 c.args.orders.now.items es number e new c.loop-number.orders.items c.visit.new.orders.items c.loop-number.visited c.if-not-seat.visited
+          c.requires.can.stay within inside is (ap not here.1) c.visit.ensures.visit c.visit.ensures.decided counts passed);
     }
 
 -- no mark is left
@@ -133,42 +133,31 @@ none-marked : (now first : Places) (front : ℕ) → ((place : ℕ) → front �
     (k : ℕ) → front ≤ k → is_spared first k ≡ true
 none-marked now first front behind none k after = ap not (sym (behind k after) ∙ none k)
 
-pub returns-clause-kept : goal.returns-clause-kept
-returns-clause-kept c =
-    let inv = c.loop-number.invariant in
-    (walk-over c.args.before c.args.now c.args.touch c.args.ready.now c.requires.now c.args.seats.now c.args.orders.now.items c.loop-number.seats c.loop-number.front c.loop-number.orders.items c.loop-number.visited
-    c.requires.stay (omega arith) inv.front (none-marked c.loop-number.ready c.args.ready.now c.loop-number.front inv.behind c.in_default.ensures.1) inv.walked).kept
-
-pub returns-clause-orders : goal.returns-clause-orders
-returns-clause-orders c =
-    let inv = c.loop-number.invariant in
-    (walk-over c.args.before c.args.now c.args.touch c.args.ready.now c.requires.now c.args.seats.now c.args.orders.now.items c.loop-number.seats c.loop-number.front c.loop-number.orders.items c.loop-number.visited
-    c.requires.stay (omega arith) inv.front (none-marked c.loop-number.ready c.args.ready.now c.loop-number.front inv.behind c.in_default.ensures.1) inv.walked).orders
-
-pub returns-clause-visited : goal.returns-clause-visited
-returns-clause-visited c =
-    let inv = c.loop-number.invariant in
-    (walk-over c.args.before c.args.now c.args.touch c.args.ready.now c.requires.now c.args.seats.now c.args.orders.now.items c.loop-number.seats c.loop-number.front c.loop-number.orders.items c.loop-number.visited
-    c.requires.stay (omega arith) inv.front (none-marked c.loop-number.ready c.args.ready.now c.loop-number.front inv.behind c.in_default.ensures.1) inv.walked).counted
-
 pub returns-clause-visits : goal.returns-clause-visits
 returns-clause-visits c =
     let inv = c.loop-number.invariant in
-    (walk-over c.args.before c.args.now c.args.touch c.args.ready.now c.requires.now c.args.seats.now c.args.orders.now.items c.loop-number.seats c.loop-number.front c.loop-number.orders.items c.loop-number.visited
-    c.requires.stay (omega arith) inv.front (none-marked c.loop-number.ready c.args.ready.now c.loop-number.front inv.behind c.in_default.ensures.1) inv.walked).visits
-
-pub returns-clause-timed : goal.returns-clause-timed
-returns-clause-timed c = λ k e at.
-    let inv = c.loop-number.invariant in
-    inv.timed k e at (reached k c.loop-number.front (is_spared c.args.ready.now)
-    (none-marked c.loop-number.ready c.args.ready.now c.loop-number.front inv.behind c.in_default.ensures.1) (nat_lt k c.loop-number.front) refl)
+    let rest = none-marked c.loop-number.ready c.args.ready.now c.loop-number.front inv.behind c.in_default.ensures.1 in
+    let whole = walk-over c.args.before c.args.now c.args.touch c.args.ready.now c.requires.can.now c.args.seats.now c.args.orders.now.items c.loop-number.seats c.loop-number.front c.loop-number.orders.items c.loop-number.visited
+    c.requires.can.stay (omega arith) inv.front rest inv.walked in
+    record {
+      kept = whole.kept;
+      orders = whole.orders;
+      visited = whole.counted;
+      stay = inv.stays;
+      visits = whole.visits;
+      known = inv.known;
+      names = inv.names;
+      timed = λ k e at. inv.timed k e at (reached k c.loop-number.front (is_spared c.args.ready.now) rest (nat_lt k c.loop-number.front) refl);
+      alone = inv.alone;
+    }
   where
     reached : (k front : ℕ) (spared : ℕ → Bool) → ((j : ℕ) → front ≤ j → spared j ≡ true) → (b : Bool) → nat_lt k front ≡ b → (k < front) ⊎ (spared k ≡ true)
     reached k front spared rest true is = inl (grind (arith, nat_tests, is))
     reached k front spared rest false is = let above : front ≤ k = grind (arith, nat_tests, is) in inr (rest k above)
 
-pub returns-clause-done : goal.returns-clause-done
-returns-clause-done c = λ place. ap (λ places. has_place places place) c.in_default.ensures.0 ∙ c.in_default.ensures.1 place
-
-pub returns-clause-marks : goal.returns-clause-marks
-returns-clause-marks c = ap place_room c.in_default.ensures.0 ∙ c.loop-number.invariant.marks
+pub returns-clause-unmarked : goal.returns-clause-unmarked
+returns-clause-unmarked c = record {
+  done = λ place. ap (λ places. has_place places place) c.in_default.ensures.0 ∙ c.in_default.ensures.1 place;
+  marks = ap place_room c.in_default.ensures.0 ∙ c.loop-number.invariant.marks;
+  space = c.loop-number.invariant.space;
+}
