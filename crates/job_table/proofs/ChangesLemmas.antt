@@ -11,31 +11,31 @@ use Rattle.history_model.specs.Step.{Outcome, with_orders, step, step_by, outcom
 use Rattle.job_table.specs.Tables.{Table}
 use Rattle.job_table.specs.StandsFor.{KeepsState, labelled, acts_in}
 use Rattle.job_table.specs.Changes.{withdrawn, set_of}
-use Rattle.job_table.specs.Entries.{rows, name}
+use Rattle.job_table.specs.Seats.{rows, name}
 use Rattle.job_table.specs.Outcomes.{plain_outcome}
 use Rattle.job_table.specs.Alike.{IsAlike}
-use Rattle.job_table.specs.Sound.{seen}
+use Rattle.job_table.specs.Sound.{seen_table}
 use Rattle.job_table.specs.declared.jobs.Jobs.{Jobs}
 use Rattle.job_table.proofs.EventsLemmas.{alike-state}
 use Rattle.job_table.proofs.RestLemmas.{rests-with_orders}
 
 -- the state with its orders once the job heard its unload, or nobody did
 pub record IsWithdrawn (new : Jobs) (s : State) : Type 0 where
-  pub kept : KeepsState (seen new) (with_orders s)
-  pub orders : acts_in (seen new) ≡ flat_map orders_of s.jobs
+  pub kept : KeepsState (seen_table new) (with_orders s)
+  pub orders : acts_in (seen_table new) ≡ flat_map orders_of s.jobs
 
-pub none-withdrawn : (old new : Jobs) (label : Label) (b : Bool) (s : State) → b ≡ false → IsAlike old new → rows new.entries.items ≡ rows old.entries.items → new.orders.items ≡ [] →
-    old.reading.up ≤ MAX_UP → KeepsState (seen old) s → IsWithdrawn new (withdrawn label b s)
+pub none-withdrawn : (old new : Jobs) (label : Label) (b : Bool) (s : State) → b ≡ false → IsAlike old new → rows new.seats.items ≡ rows old.seats.items → new.orders.items ≡ [] →
+    old.reading.up ≤ MAX_UP → KeepsState (seen_table old) s → IsWithdrawn new (withdrawn label b s)
 none-withdrawn old new label true s is alike same orders range keeps = cc
 none-withdrawn old new label false s is alike same orders range keeps =
-    let idle = rests-with_orders (seen old) s range keeps in
+    let idle = rests-with_orders (seen_table old) s range keeps in
     record {
-      kept = subst (KeepsState (seen new)) (sym idle.0) (alike-state old new s alike keeps same);
-      orders = ap (labelled (map name new.entries.items)) orders ∙ sym idle.1;
+      kept = subst (KeepsState (seen_table new)) (sym idle.0) (alike-state old new s alike keeps same);
+      orders = ap (labelled (map name new.seats.items)) orders ∙ sym idle.1;
     }
 
 pub one-withdrawn : (new : Jobs) (label : Label) (b : Bool) (s : State) (result : Result (Unit {0}) Refusal) → b ≡ true → (b ≡ true → refusal_in s (UnloadJob label false true) ≡ None) →
-    outcome s (UnloadJob label false true) ≡ plain_outcome result (seen new) → KeepsState (seen new) (step s (UnloadJob label false true)) → is_ok result ≡ true →
+    outcome s (UnloadJob label false true) ≡ plain_outcome result (seen_table new) → KeepsState (seen_table new) (step s (UnloadJob label false true)) → is_ok result ≡ true →
     IsWithdrawn new (withdrawn label b s)
 one-withdrawn new label false s result is allowed answer kept good = cc
 one-withdrawn new label true s (Err refusal) is allowed answer kept good = cc
@@ -43,7 +43,7 @@ one-withdrawn new label true s (Ok done) is allowed answer kept good =
     let e = UnloadJob label false true in
     let none = allowed refl in
     record {
-      kept = subst (KeepsState (seen new)) (ap (λ o. step_by o s e) none) kept;
+      kept = subst (KeepsState (seen_table new)) (ap (λ o. step_by o s e) none) kept;
       orders = ap (λ (o : Outcome). o.orders) (sym answer ∙ ap (λ o. outcome_by o s e) none);
     }
 

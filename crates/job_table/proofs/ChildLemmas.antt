@@ -17,9 +17,9 @@ use Rattle.history_model.proofs.RunsLemmas.{sound, child-present}
 use Rattle.history_model.proofs.BooleanLemmas.{or-second, and-both}
 use Rattle.job_table.specs.Tables.{Name, IsOther, IsOnce, labels_in}
 use Rattle.job_table.specs.StandsFor.{KeepsJobs}
-use Rattle.job_table.specs.Entries.{row, name, rows, is_above, place_for}
+use Rattle.job_table.specs.Seats.{row, name, rows, is_above, place_for}
 use Rattle.job_table.specs.Nearest.{IsNearest, with_child, run_in}
-use Rattle.job_table.specs.declared.entry.Entry.{Entry}
+use Rattle.job_table.specs.declared.seat.Seat.{Seat}
 use Rattle.job_table.proofs.SettingLemmas.{is-label}
 use Rattle.job_table.proofs.FirstLemmas.{IsFirstWhere, first-where, none-where, none-at, passes-at, within-where}
 use Rattle.std.proofs.lemmas.Option.{slice_get_within, slice_get-get_or}
@@ -29,7 +29,7 @@ use Rattle.history_model.proofs.LabelOrderLemmas.{before-trans, same_self}
 
 module _ (at : Reading) where
   -- no other job has the label, with a child or without
-  no-other : (n : Name) (es : List Entry) (jobs : List Job) → IsOther n (map name es) → KeepsJobs at (rows es) jobs → list_any (is_same n.described.label) (with_child jobs) ≡ false
+  no-other : (n : Name) (es : List Seat) (jobs : List Job) → IsOther n (map name es) → KeepsJobs at (rows es) jobs → list_any (is_same n.described.label) (with_child jobs) ≡ false
   no-other n [] [] other keeps = refl
   no-other n [] (job ∷ jobs) other keeps = absurd keeps
   no-other n (e ∷ es) jobs other keeps = go e.has_gone jobs keeps (λ js. no-other n es js other.2)
@@ -45,7 +45,7 @@ module _ (at : Reading) where
           one (Some c) = λ i. (ap (is_same n.described.label) (sym keeps.0.label) ∙ other.1) i || later jobs keeps.1 i
 
   -- the one job with the label has a child
-  pub child-there : (label : Label) (es : List Entry) (jobs : List Job) → IsOnce (map name es) → KeepsJobs at (rows es) jobs → list_any (is_same label) (with_child jobs) ≡ true →
+  pub child-there : (label : Label) (es : List Seat) (jobs : List Job) → IsOnce (map name es) → KeepsJobs at (rows es) jobs → list_any (is_same label) (with_child jobs) ≡ true →
       is_some (run_in (past_in (first (filter (is_of label) jobs)))) ≡ true
   child-there label [] [] once keeps among = cc
   child-there label [] (job ∷ jobs) once keeps among = absurd keeps
@@ -83,8 +83,8 @@ run-present past o lawful is some = ap run_in is ∙ go (child past) refl (sym (
 -- ---- the first with a child behind a text
 
 -- if no job whose label passes has a child, none with a child passes
-pub none-with-child : (at : Reading) (q : Label → Bool) (es : List Entry) (jobs : List Job) → KeepsJobs at (rows es) jobs →
-    ((k : ℕ) (e : Entry) → slice_get es k ≡ Some e → q e.def.label ≡ true → e.has_gone ≡ false → (past : History) → Keeps e.core.facts past → is_some (child past) ≡ false) → list_any q (with_child jobs) ≡ false
+pub none-with-child : (at : Reading) (q : Label → Bool) (es : List Seat) (jobs : List Job) → KeepsJobs at (rows es) jobs →
+    ((k : ℕ) (e : Seat) → slice_get es k ≡ Some e → q e.def.label ≡ true → e.has_gone ≡ false → (past : History) → Keeps e.core.facts past → is_some (child past) ≡ false) → list_any q (with_child jobs) ≡ false
 none-with-child at q [] [] keeps none = refl
 none-with-child at q [] (job ∷ jobs) keeps none = absurd keeps
 none-with-child at q (e ∷ es) jobs keeps none = go e.has_gone refl jobs keeps (λ js kept. none-with-child at q es js kept (λ k x there. none (suc k) x there))
@@ -104,7 +104,7 @@ none-with-child at q (e ∷ es) jobs keeps none = go e.has_gone refl jobs keeps 
         one None is = later jobs keeps.1
         one (Some c) is = λ i. passes c is (q job.label) refl i || later jobs keeps.1 i
 
-pub one-with-child : (at : Reading) (es : List Entry) (jobs : List Job) (k : ℕ) (e : Entry) → KeepsJobs at (rows es) jobs → slice_get es k ≡ Some e → e.has_gone ≡ false →
+pub one-with-child : (at : Reading) (es : List Seat) (jobs : List Job) (k : ℕ) (e : Seat) → KeepsJobs at (rows es) jobs → slice_get es k ≡ Some e → e.has_gone ≡ false →
     ((past : History) → Keeps e.core.facts past → is_some (child past) ≡ true) → list_any (is_same e.def.label) (with_child jobs) ≡ true
 one-with-child at [] jobs zero e keeps there stay has = cc
 one-with-child at [] jobs (suc k) e keeps there stay has = cc
@@ -141,11 +141,11 @@ one-with-child at (x ∷ xs) jobs (suc k) e keeps there stay has = go x.has_gone
         one (Some c) = or-second (is_same e.def.label job.label) (list_any (is_same e.def.label) (with_child jobs)) (later jobs keeps.1)
 
 -- no job that was passed, of those behind the text, has a child
-abbrev pub ArePassedBy : List ℕ → List Entry → ℕ → Type 0
-ArePassedBy text es place = (k : ℕ) (e : Entry) → slice_get es k ≡ Some e → k < place → is_before text e.def.label ≡ true → e.has_gone ≡ false →
+abbrev pub ArePassedBy : List ℕ → List Seat → ℕ → Type 0
+ArePassedBy text es place = (k : ℕ) (e : Seat) → slice_get es k ≡ Some e → k < place → is_before text e.def.label ≡ true → e.has_gone ≡ false →
     (past : History) → Keeps e.core.facts past → is_some (child past) ≡ false
 
-pub passed-more : (text : List ℕ) (es : List Entry) (place : ℕ) (one : Entry) → slice_get es place ≡ Some one →
+pub passed-more : (text : List ℕ) (es : List Seat) (place : ℕ) (one : Seat) → slice_get es place ≡ Some one →
     (one.has_gone ≡ false → (past : History) → Keeps one.core.facts past → is_some (child past) ≡ false) → ArePassedBy text es place → ArePassedBy text es (place + 1)
 passed-more text es place one at own before k e there low behind stay = go (k == place) refl
   where
@@ -157,7 +157,7 @@ passed-more text es place one at own before k e there low behind stay = go (k ==
         subst (λ x. (past : History) → Keeps x.core.facts past → is_some (child past) ≡ false) equal (own (ap (λ x. x.has_gone) equal ∙ stay))
     go false apart = before k e there (grind (arith, nat_tests, low, apart)) behind stay
 
-pub nearest-child : (at : Reading) (text : List ℕ) (es : List Entry) (order : AreInOrder (labels_in (map name es))) (jobs : List Job) (k : ℕ) (e : Entry) → KeepsJobs at (rows es) jobs →
+pub nearest-child : (at : Reading) (text : List ℕ) (es : List Seat) (order : AreInOrder (labels_in (map name es))) (jobs : List Job) (k : ℕ) (e : Seat) → KeepsJobs at (rows es) jobs →
     slice_get es k ≡ Some e → is_before text e.def.label ≡ true → e.has_gone ≡ false → ((past : History) → Keeps e.core.facts past → is_some (child past) ≡ true) → ArePassedBy text es k →
     IsNearest text (with_child jobs) e.def.label
 nearest-child at text es order jobs k e keeps there behind stay has passed = record {
@@ -167,7 +167,7 @@ nearest-child at text es order jobs k e keeps there behind stay has passed = rec
       (λ j y here between. (let both = and-both (is_before text y.def.label) (is_before y.def.label e.def.label) between in passed j y here (nearer j y here both.1) both.0));
 }
   where
-    nearer : (j : ℕ) (y : Entry) → slice_get es j ≡ Some y → is_before y.def.label e.def.label ≡ true → j < k
+    nearer : (j : ℕ) (y : Seat) → slice_get es j ≡ Some y → is_before y.def.label e.def.label ≡ true → j < k
     nearer j y here before = go (nat_lt j k) refl (j == k) refl
       where
         go : (b : Bool) → nat_lt j k ≡ b → (c : Bool) → (j == k) ≡ c → j < k
@@ -184,20 +184,20 @@ nearest-child at text es order jobs k e keeps there behind stay has passed = rec
 -- ---- where the jobs behind a text begin
 
 module _ (text : List ℕ) where
-  first-before : (es : List Entry) (p k : ℕ) (e : Entry) → IsFirstWhere (is_above text) es p → k < p → slice_get es k ≡ Some e → is_above text e ≡ false
+  first-before : (es : List Seat) (p k : ℕ) (e : Seat) → IsFirstWhere (is_above text) es p → k < p → slice_get es k ≡ Some e → is_above text e ≡ false
   first-before [] p k e first low there = absurd first
   first-before (x ∷ xs) zero k e first low there = absurd (omega (arith, low))
   first-before (x ∷ xs) (suc p) zero e first low there = let same : x ≡ e = cc in ap (is_above text) (sym same) ∙ first.0
   first-before (x ∷ xs) (suc p) (suc k) e first low there = first-before xs p k e first.1 (omega (arith, low)) there
 
-  pub none-above-before : (es : List Entry) (k : ℕ) (e : Entry) → slice_get es k ≡ Some e → k < place_for text es → is_above text e ≡ false
+  pub none-above-before : (es : List Seat) (k : ℕ) (e : Seat) → slice_get es k ≡ Some e → k < place_for text es → is_above text e ≡ false
   none-above-before es k e there low = go (position (is_above text) es) refl low
     where
       go : (o : Option ℕ) → position (is_above text) es ≡ o → k < unwrap_or o (length es) → is_above text e ≡ false
       go None is low = none-at (is_above text) es (none-where (is_above text) es (sym is)) k e there
       go (Some p) is low = first-before es p k e (first-where (is_above text) es p (sym is)) low there
 
-  pub all-above-from : (es : List Entry) → AreInOrder (labels_in (map name es)) → (k : ℕ) (e : Entry) → slice_get es k ≡ Some e → place_for text es ≤ k → is_above text e ≡ true
+  pub all-above-from : (es : List Seat) → AreInOrder (labels_in (map name es)) → (k : ℕ) (e : Seat) → slice_get es k ≡ Some e → place_for text es ≤ k → is_above text e ≡ true
   all-above-from es order k e there up = go (position (is_above text) es) refl up
     where
       go : (o : Option ℕ) → position (is_above text) es ≡ o → unwrap_or o (length es) ≤ k → is_above text e ≡ true

@@ -5,7 +5,7 @@ use Rattle.std.specs.List.{filter, filter_map, flat_map, list_any}
 use Rattle.history_model.specs.declared.Reading.{Reading as Moment}
 use Rattle.history_model.specs.declared.Obs.{Obs}
 use Rattle.history_model.specs.declared.CivilMinute.{CivilMinute}
-use Rattle.history_model.specs.declared.Entry.{Entry as Due}
+use Rattle.history_model.specs.declared.Entry.{Entry}
 use Rattle.history_model.specs.declared.Refusal.{Refusal}
 use Rattle.history_model.specs.declared.Refusal.TheVariants.{ClockRefused}
 use Rattle.history_model.specs.Acceptance.{refused_if}
@@ -24,18 +24,18 @@ use Rattle.job_defs.specs.Definitions.{definition}
 use Rattle.calendar_due.specs.Rules.{minute_at}
 use Rattle.job_table.specs.Tables.{Row}
 use Rattle.job_table.specs.StandsFor.{KeepsJobs, KeepsSettings, KeepsState, labelled}
-use Rattle.job_table.specs.Entries.{row, name, rows, AllStay}
-use Rattle.job_table.specs.Sound.{seen}
+use Rattle.job_table.specs.Seats.{row, name, rows, AllStay}
+use Rattle.job_table.specs.Sound.{seen_table}
 use Rattle.job_table.specs.Alike.{IsAlike}
 use Rattle.job_table.specs.Minutes.{is_some_entry, has_calendars, some_calendar}
 use Rattle.job_table.specs.Touch.{item_for}
 use Rattle.job_table.specs.Hearing.{refusal_if, AreFor, IsAccepted}
 use Rattle.job_table.specs.declared.jobs.Jobs.{Jobs}
-use Rattle.job_table.specs.declared.entry.Touch.{Touch}
-use Rattle.job_table.specs.declared.entry.Touch.TheVariants as touch
+use Rattle.job_table.specs.declared.seat.Touch.{Touch}
+use Rattle.job_table.specs.declared.seat.Touch.TheVariants as touch
 use Rattle.job_table.proofs.ListLemmas.{any-map}
 use Rattle.job_table.proofs.PlacesLemmas.{rows-all}
-use Rattle.job_table.specs.declared.entry.Entry.{Entry}
+use Rattle.job_table.specs.declared.seat.Seat.{Seat}
 use Rattle.job_table.specs.Outcomes.{IsOrderedFrom}
 use Rattle.history_model.proofs.BooleanLemmas.{or-true}
 
@@ -47,7 +47,7 @@ alike-both {a} {b} {c} p q = record {
   shutdown = q.shutdown ∙ p.shutdown;
 }
 
-pub alike-state : (old new : Jobs) (s : State) → IsAlike old new → KeepsState (seen old) s → rows new.entries.items ≡ rows old.entries.items → KeepsState (seen new) s
+pub alike-state : (old new : Jobs) (s : State) → IsAlike old new → KeepsState (seen_table old) s → rows new.seats.items ≡ rows old.seats.items → KeepsState (seen_table new) s
 alike-state old new s is keeps same = record {
   reading = is.reading ∙ keeps.reading;
   zone = ap minute_at is.zone ∙ keeps.zone;
@@ -58,8 +58,8 @@ alike-state old new s is keeps same = record {
 }
 
 -- the jobs as the table's own reading sees them
-pub own-jobs : (t : Jobs) (s : State) → KeepsState (seen t) s → KeepsJobs t.reading (rows t.entries.items) s.jobs
-own-jobs t s keeps = subst (λ at. KeepsJobs at (rows t.entries.items) s.jobs) (sym keeps.reading) keeps.jobs
+pub own-jobs : (t : Jobs) (s : State) → KeepsState (seen_table t) s → KeepsJobs t.reading (rows t.seats.items) s.jobs
+own-jobs t s keeps = subst (λ at. KeepsJobs at (rows t.seats.items) s.jobs) (sym keeps.reading) keeps.jobs
 
 -- what an event hands on, but for the jobs
 pub record IsHead (t : Jobs) (s : State) : Type 0 where
@@ -68,7 +68,7 @@ pub record IsHead (t : Jobs) (s : State) : Type 0 where
   pub settings : KeepsSettings t.settings.items s.settings
   pub shutdown : t.is_shutting_down ≡ s.is_shutting_down
 
-pub head : (old new : Jobs) (s : State) → IsAlike old new → KeepsState (seen old) s → IsHead new s
+pub head : (old new : Jobs) (s : State) → IsAlike old new → KeepsState (seen_table old) s → IsHead new s
 head old new s is keeps = record {
   reading = is.reading ∙ keeps.reading;
   zone = ap minute_at is.zone ∙ keeps.zone;
@@ -78,13 +78,13 @@ head old new s is keeps = record {
 
 -- the table once the jobs are visited, from the state with their orders
 pub with_orders-so : (begun new : Jobs) (t : State) → IsAlike begun new → IsHead begun t →
-    KeepsJobs begun.reading (rows new.entries.items) (filter_map stays t.jobs) → labelled (map name new.entries.items) new.orders.items ≡ flat_map orders_of t.jobs → IsOrderedFrom (seen new) t
+    KeepsJobs begun.reading (rows new.seats.items) (filter_map stays t.jobs) → labelled (map name new.seats.items) new.orders.items ≡ flat_map orders_of t.jobs → IsOrderedFrom (seen_table new) t
 with_orders-so begun new t is same kept orders = record {
   reading = is.reading ∙ same.reading;
   zone = ap minute_at is.zone ∙ same.zone;
   settings = λ label. ap (λ held. first (filter (sets label) held.items)) is.settings ∙ same.settings label;
   shutdown = is.shutdown ∙ same.shutdown;
-  jobs = subst (λ at. KeepsJobs at (rows new.entries.items) (filter_map stays t.jobs)) same.reading kept;
+  jobs = subst (λ at. KeepsJobs at (rows new.seats.items) (filter_map stays t.jobs)) same.reading kept;
   orders = orders;
 }
 
@@ -117,7 +117,7 @@ any-none : {X : Type 0} (xs : List X) → list_any (λ x. false) xs ≡ false
 any-none [] = refl
 any-none (x ∷ xs) = any-none xs
 
-fires-same : (zone : Zone) (calendar : List Due) (minutes : List CivilMinute) (previous wall : ℕ) →
+fires-same : (zone : Zone) (calendar : List Entry) (minutes : List CivilMinute) (previous wall : ℕ) →
     (is_some_entry calendar ≡ true → minutes ≡ map zone (crossed previous wall)) →
     list_any (λ minute. list_any (λ entry. matches entry minute) calendar) minutes ≡ calendar_fires zone calendar previous wall
 fires-same zone [] minutes previous wall is = any-none minutes ∙ sym (any-none (crossed previous wall))
@@ -169,9 +169,9 @@ pub unstored : (a : Bool) (r : Refusal) (rest : Option Refusal) → a ≡ true �
 unstored a r rest is = ap (λ b. refused_if (not b) r (or_else rest None)) is ∙ or-None rest
 
 -- the entries have calendar entries if their names do
-pub calendars-names : (es : List Entry) → list_any (λ e. is_some_entry e.def.calendar) es ≡ some_calendar (map name es)
+pub calendars-names : (es : List Seat) → list_any (λ e. is_some_entry e.def.calendar) es ≡ some_calendar (map name es)
 calendars-names es = sym (any-map (λ n. is_some_entry n.described.calendar) name es)
 
 -- the rows of a table whose jobs all stay have calendar entries if its entries do
-pub calendars-rows : (es : List Entry) → AllStay es → has_calendars (rows es) ≡ list_any (λ e. is_some_entry e.def.calendar) es
+pub calendars-rows : (es : List Seat) → AllStay es → has_calendars (rows es) ≡ list_any (λ e. is_some_entry e.def.calendar) es
 calendars-rows es stay = ap has_calendars (rows-all es stay) ∙ any-map (λ r. is_some_entry r.described.calendar) row es

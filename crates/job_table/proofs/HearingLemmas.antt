@@ -13,22 +13,22 @@ use Rattle.history_model.specs.Step.{heard, with_item, lists}
 use Rattle.job_defs.specs.Definitions.{definition}
 use Rattle.job_defs.specs.Described.{Described}
 use Rattle.job_table.specs.StandsFor.{KeepsJobs}
-use Rattle.job_table.specs.Entries.{row}
+use Rattle.job_table.specs.Seats.{row}
 use Rattle.job_table.specs.Touch.{item_for}
 use Rattle.job_table.specs.Hearing.{followed, refusal_if, IsHeard, AreHeard, AreFor, IsAccepted, present_with}
-use Rattle.job_table.specs.declared.entry.Entry.{Entry}
-use Rattle.job_table.specs.declared.entry.Touch.{Touch}
-use Rattle.job_table.specs.declared.entry.Touch.TheVariants.{Heard, Shutdown, Reading, Sight}
+use Rattle.job_table.specs.declared.seat.Seat.{Seat}
+use Rattle.job_table.specs.declared.seat.Touch.{Touch}
+use Rattle.job_table.specs.declared.seat.Touch.TheVariants.{Heard, Shutdown, Reading, Sight}
 
 pub accepted-kept : (result : Result (Unit {0}) Refusal) (o : Option Refusal) (new : Facts) (past : History) → result ≡ reply o → o ≡ None → OnOk result (Keeps new past) → Keeps new past
 accepted-kept (Ok u) o new past is none kept = kept
 accepted-kept (Err r) None new past is none kept = cc
 accepted-kept (Err r) (Some s) new past is none kept = cc
 
-pub heard-as : {at : Moment} {o p : Option Item} {e new : Entry} → o ≡ p → IsHeard at o e new → IsHeard at p e new
+pub heard-as : {at : Moment} {o p : Option Item} {e new : Seat} → o ≡ p → IsHeard at o e new → IsHeard at p e new
 heard-as {at} {o} {p} {e} {new} same heard = subst (λ q. IsHeard at q e new) same heard
 
-pub heard-nothing : {at : Moment} {e : Entry} → IsHeard at None e e
+pub heard-nothing : {at : Moment} {e : Seat} → IsHeard at None e e
 heard-nothing = record { name = refl; going = refl; decided = refl; kept = λ past keeps present fine. keeps }
 
 pub label-with : (job : Job) (o : Option Item) → job.label ≡ (with_item job o).label
@@ -75,7 +75,7 @@ take-of-drop (y ∷ ys) (suc i) x rest e = ap (λ zs. y ∷ zs) (take-of-drop ys
 
 module _ (at : Moment) (touch : Touch) where
   -- each job of the machine with its item
-  pub heard-rows : (item : Job → Option Item) (es later : List Entry) (jobs : List Job) → AreHeard at touch es later → AreFor touch item (map row es) jobs → IsAccepted at item →
+  pub heard-rows : (item : Job → Option Item) (es later : List Seat) (jobs : List Job) → AreHeard at touch es later → AreFor touch item (map row es) jobs → IsAccepted at item →
       KeepsJobs at (map row es) jobs → KeepsJobs (present_with touch at) (map row later) (heard item jobs)
   heard-rows item [] [] [] all for accepted keeps = tt
   heard-rows item [] [] (job ∷ jobs) all for accepted keeps = absurd keeps

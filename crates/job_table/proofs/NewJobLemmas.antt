@@ -13,21 +13,21 @@ use Rattle.history_model.specs.Labels.{Label, is_same}
 use Rattle.history_model.specs.Machine.{Job}
 use Rattle.history_model.specs.Step.{with_job}
 use Rattle.history_model.specs.MachineLaws.{AreInOrder}
-use Rattle.job_table.specs.Periods.{HasPeriod, HavePeriods}
+use Rattle.job_table.specs.Periods.{HasPositivePeriod, HavePeriods}
 use Rattle.job_table.proofs.PeriodsLemmas.{periods-placed}
 use Rattle.job_table.specs.Tables.{Row, IsOnce, is_known, labels_in}
 use Rattle.job_table.specs.StandsFor.{KeepsJob, KeepsJobs, IsAtRest}
-use Rattle.job_table.specs.Entries.{row, name, has_label, is_above, place_for, entered}
+use Rattle.job_table.specs.Seats.{row, name, has_label, is_above, place_for, seats_with}
 use Rattle.job_table.specs.Index.{moment_for, IsNamed, IsIndexed}
 use Rattle.job_table.specs.Loads.{IsReady}
 use Rattle.job_table.specs.Minutes.{is_some_entry, some_calendar}
 use Rattle.job_table.specs.Triggers.{under, listed_in, AreOrdered}
 use Rattle.job_table.specs.declared.trigger.Listed.{Listed}
 use Rattle.job_table.specs.Touch.{is_touched}
-use Rattle.job_table.specs.Sound.{seen, AreHeld, AreFree, IsSound}
+use Rattle.job_table.specs.Sound.{seen_table, AreHeld, AreFree, IsSound}
 use Rattle.job_table.specs.Touched.{AreTimedBut, RestBut}
-use Rattle.job_table.specs.declared.entry.Entry.{Entry}
-use Rattle.job_table.specs.declared.entry.Touch.TheVariants.{Heard}
+use Rattle.job_table.specs.declared.seat.Seat.{Seat}
+use Rattle.job_table.specs.declared.seat.Touch.TheVariants.{Heard}
 use Rattle.job_table.specs.declared.jobs.Jobs.{Jobs}
 use Rattle.job_table.specs.declared.loading.Ready.{Ready}
 use Rattle.job_table.proofs.FirstLemmas.{IsFirstWhere, NonePasses, first-where, none-where, within-where}
@@ -42,8 +42,8 @@ pub place-low : {X : Type 0} (p : X → Bool) (xs : List X) (o : Option ℕ) →
 place-low p xs None is = omega arith
 place-low p xs (Some k) is = let low = within-where p xs k (first-where p xs k is) in omega (arith, low)
 
--- each other entry stood there before
-pub stood : (new : Entry) (es : List Entry) (k j : ℕ) (e : Entry) → k ≤ length es → slice_get (take k es ++ new ∷ drop k es) j ≡ Some e → k ≢ j → (i : ℕ) × (slice_get es i ≡ Some e)
+-- each other seat stood there before
+pub stood : (new : Seat) (es : List Seat) (k j : ℕ) (e : Seat) → k ≤ length es → slice_get (take k es ++ new ∷ drop k es) j ≡ Some e → k ≢ j → (i : ℕ) × (slice_get es i ≡ Some e)
 stood new es zero zero e low there differ = absurd (differ refl)
 stood new es zero (suc j) e low there differ = (j, there)
 stood new [] (suc k) j e low there differ = let clash : ⊥ = omega (arith, low) in absurd clash
@@ -52,31 +52,31 @@ stood new (x ∷ xs) (suc k) (suc j) e low there differ =
     let found = stood new xs k j e (omega (arith, low)) there (λ same. differ (ap suc same)) in (suc found.0, found.1)
 
 -- at its place is the new one
-stands : (new : Entry) (es : List Entry) (k : ℕ) → k ≤ length es → slice_get (take k es ++ new ∷ drop k es) k ≡ Some new
+stands : (new : Seat) (es : List Seat) (k : ℕ) → k ≤ length es → slice_get (take k es ++ new ∷ drop k es) k ≡ Some new
 stands new es zero low = refl
 stands new [] (suc k) low = let clash : ⊥ = omega (arith, low) in absurd clash
 stands new (x ∷ xs) (suc k) low = stands new xs k (omega (arith, low))
 
-pub more-entries : (new : Entry) (es : List Entry) (k : ℕ) → length (take k es ++ new ∷ drop k es) ≡ suc (length es)
-more-entries new es zero = refl
-more-entries new [] (suc k) = refl
-more-entries new (e ∷ es) (suc k) = ap suc (more-entries new es k)
+pub more-seats : (new : Seat) (es : List Seat) (k : ℕ) → length (take k es ++ new ∷ drop k es) ≡ suc (length es)
+more-seats new es zero = refl
+more-seats new [] (suc k) = refl
+more-seats new (e ∷ es) (suc k) = ap suc (more-seats new es k)
 
 -- a job with another label is not at the place of the new one
-pub new-apart : (new : Entry) (es later : List Entry) (k heard : ℕ) (label : Label) → later ≡ take k es ++ new ∷ drop k es → heard ≡ k → k ≤ length es → is_same label new.def.label ≡ false →
-    (j : ℕ) (e : Entry) → slice_get later j ≡ Some e → has_label label e ≡ true → is_touched (Heard heard) j e.def ≡ false
+pub new-apart : (new : Seat) (es later : List Seat) (k heard : ℕ) (label : Label) → later ≡ take k es ++ new ∷ drop k es → heard ≡ k → k ≤ length es → is_same label new.def.label ≡ false →
+    (j : ℕ) (e : Seat) → slice_get later j ≡ Some e → has_label label e ≡ true → is_touched (Heard heard) j e.def ≡ false
 new-apart new es later k heard label is at low differ j e there has = go (heard == j) refl where
   go : (b : Bool) → (heard == j) ≡ b → (heard == j) ≡ false
   go false apart = apart
   go true same =
       let here : k ≡ j = grind (arith, nat_tests, same, at) in
       let own : Some new ≡ Some e = sym (stands new es k low) ∙ ap (λ xs. slice_get xs k) (sym is) ∙ ap (slice_get later) here ∙ there in
-      let entry : new ≡ e = cc in
-      let clash : true ≡ false = sym has ∙ ap (has_label label) (sym entry) ∙ differ in
+      let seat : new ≡ e = cc in
+      let clash : true ≡ false = sym has ∙ ap (has_label label) (sym seat) ∙ differ in
       absurd (cc clash)
 
-module _ (at : Reading) (new : Entry) (job : Job) (this : KeepsJob at (row new) job) (heard : ℕ) where
-  rest-at : (rs : List Row) (es : List Entry) (k place : ℕ) (jobs : List Job) → KeepsJobs at (map row es) jobs → IsFirstWhere (is_above new.def.label) es k → heard ≡ place + k →
+module _ (at : Reading) (new : Seat) (job : Job) (this : KeepsJob at (row new) job) (heard : ℕ) where
+  rest-at : (rs : List Row) (es : List Seat) (k place : ℕ) (jobs : List Job) → KeepsJobs at (map row es) jobs → IsFirstWhere (is_above new.def.label) es k → heard ≡ place + k →
       AllByRecursion IsAtRest jobs → RestBut (Heard heard) place rs (with_job job jobs)
   rest-at [] es k place jobs keeps first is rests = tt
   rest-at (row ∷ rs) [] k place jobs keeps first is rests = absurd first
@@ -88,7 +88,7 @@ module _ (at : Reading) (new : Entry) (job : Job) (this : KeepsJob at (row new) 
       subst (RestBut (Heard heard) place (row ∷ rs)) (ap (λ b. cond b (job ∷ j ∷ js) (j ∷ with_job job js)) (sym (before-job at new job this e j false keeps.0 first.0)))
       ((λ apart. rests.0), rest-at rs es k (suc place) js keeps.1 first.1 (omega (arith, is)) rests.1)
 
-  rest-last : (rs : List Row) (es : List Entry) (place : ℕ) (jobs : List Job) → KeepsJobs at (map row es) jobs → NonePasses (is_above new.def.label) es → heard ≡ place + length es →
+  rest-last : (rs : List Row) (es : List Seat) (place : ℕ) (jobs : List Job) → KeepsJobs at (map row es) jobs → NonePasses (is_above new.def.label) es → heard ≡ place + length es →
       AllByRecursion IsAtRest jobs → RestBut (Heard heard) place rs (with_job job jobs)
   rest-last [] es place jobs keeps none is rests = tt
   rest-last (row ∷ rs) [] place [] keeps none is rests =
@@ -100,7 +100,7 @@ module _ (at : Reading) (new : Entry) (job : Job) (this : KeepsJob at (row new) 
       ((λ apart. rests.0), rest-last rs es (suc place) js keeps.1 none.1 (omega (arith, is)) rests.1)
 
 -- the others rest as they did
-pub rest-entered : (at : Reading) (new : Entry) (job : Job) (this : KeepsJob at (row new) job) (rs : List Row) (es : List Entry) (jobs : List Job) (o : Option ℕ) → KeepsJobs at (map row es) jobs →
+pub rest-entered : (at : Reading) (new : Seat) (job : Job) (this : KeepsJob at (row new) job) (rs : List Row) (es : List Seat) (jobs : List Job) (o : Option ℕ) → KeepsJobs at (map row es) jobs →
     o ≡ position (is_above new.def.label) es → AllByRecursion IsAtRest jobs → RestBut (Heard (unwrap_or o (length es))) 0 rs (with_job job jobs)
 rest-entered at new job this rs es jobs None keeps is rests =
     rest-last at new job this (length es) rs es 0 jobs keeps (none-where (is_above new.def.label) es is) (omega arith) rests
@@ -109,14 +109,14 @@ rest-entered at new job this rs es jobs (Some k) keeps is rests =
 
 -- ---- the table with the new job
 
-pub entered-sound : (old new : Jobs) (ready : Ready) → IsSound old → IsReady (seen old) ready → new.reading ≡ old.reading → new.entries.items ≡ entered ready.entry old.entries.items →
-    vec_len new.entries ≡ vec_len old.entries + 1 → new.orders ≡ old.orders → get old.numbers old.numbers.vacant_key ≡ None → Updates old.numbers new.numbers old.numbers.vacant_key (Some tt) →
-    new.index ≡ old.index → HasPeriod ready.entry.def → new.has_calendars ≡ (old.has_calendars || is_some_entry ready.entry.def.calendar) →
-    ((test : Listed → Bool) → count_by test new.triggers.items ≡ count_by test old.triggers.items + count_by (λ trigger. test (under ready.entry.number trigger)) ready.triggers.items) →
+pub entered-sound : (old new : Jobs) (ready : Ready) → IsSound old → IsReady (seen_table old) ready → new.reading ≡ old.reading → new.seats.items ≡ seats_with ready.seat old.seats.items →
+    vec_len new.seats ≡ vec_len old.seats + 1 → new.orders ≡ old.orders → get old.numbers old.numbers.vacant_key ≡ None → Updates old.numbers new.numbers old.numbers.vacant_key (Some tt) →
+    new.index ≡ old.index → HasPositivePeriod ready.seat.def → new.has_calendars ≡ (old.has_calendars || is_some_entry ready.seat.def.calendar) →
+    ((test : Listed → Bool) → count_by test new.triggers.items ≡ count_by test old.triggers.items + count_by (λ trigger. test (under ready.seat.number trigger)) ready.triggers.items) →
     AreOrdered new.triggers.items → IsSound new
-entered-sound old new ready sound is reading entries count orders vacant numbers index period calendars exact listed =
-    let es = old.entries.items in
-    let own = ready.entry in
+entered-sound old new ready sound is reading seats count orders vacant numbers index period calendars exact listed =
+    let es = old.seats.items in
+    let own = ready.seat in
     let k = place_for own.def.label es in
     let other = is-other old.numbers own es sound.held (subst (λ n. get old.numbers n ≡ None) (sym is.number) vacant) is.absent in
     let updated = subst (λ n. Updates old.numbers new.numbers n (Some tt)) (sym is.number) numbers in
@@ -125,24 +125,24 @@ entered-sound old new ready sound is reading entries count orders vacant numbers
     record {
       in_range = subst (λ at. at.up ≤ MAX_UP) (sym reading) sound.in_range;
       wall = subst (λ at. at.wall ≤ MAX_WALL) (sym reading) sound.wall;
-      once = subst (λ all. IsOnce (map name all)) (sym entries) (once-placed own es k sound.once other);
-      held = subst (AreHeld new.numbers) (sym entries) (held-placed old.numbers new.numbers own es k updated other sound.held);
-      free = subst (λ all. AreFree new.numbers (map name all)) (sym entries) (free-placed old.numbers new.numbers own es k updated sound.free);
-      known = ap (list_all (is_known (map name new.entries.items))) none;
+      once = subst (λ all. IsOnce (map name all)) (sym seats) (once-placed own es k sound.once other);
+      held = subst (AreHeld new.numbers) (sym seats) (held-placed old.numbers new.numbers own es k updated other sound.held);
+      free = subst (λ all. AreFree new.numbers (map name all)) (sym seats) (free-placed old.numbers new.numbers own es k updated sound.free);
+      known = ap (list_all (is_known (map name new.seats.items))) none;
       few = let few = is.few in omega (arith, few, count);
       room = let room = is.orders in omega (arith, room, count, same);
-      named = subst (λ i. IsNamed i (map name new.entries.items)) (sym index) (subst (λ all. IsNamed old.index (map name all)) (sym entries)
+      named = subst (λ i. IsNamed i (map name new.seats.items)) (sym index) (subst (λ all. IsNamed old.index (map name all)) (sym seats)
           (index-placed old.index own es k (subst (λ n. n < room_of old.index.timers) (sym is.number) is.moments)
           (subst (λ n. n < length old.index.places.items) (sym is.number) is.numbered) (let marks = is.marks in omega (arith, marks)) sound.named));
-      periods = subst (λ all. HavePeriods (map name all)) (sym entries) (periods-placed own es k period sound.periods);
-      calendars = calendars ∙ ap (λ b. b || is_some_entry own.def.calendar) sound.calendars ∙ sym (calendars-placed own es k) ∙ ap (λ all. some_calendar (map name all)) (sym entries);
+      periods = subst (λ all. HavePeriods (map name all)) (sym seats) (periods-placed own es k period sound.periods);
+      calendars = calendars ∙ ap (λ b. b || is_some_entry own.def.calendar) sound.calendars ∙ sym (calendars-placed own es k) ∙ ap (λ all. some_calendar (map name all)) (sym seats);
       listed = record {
-        exact = subst (λ all. (test : Listed → Bool) → count_by test new.triggers.items ≡ count_by test (listed_in (map name all))) (sym entries)
+        exact = subst (λ all. (test : Listed → Bool) → count_by test new.triggers.items ≡ count_by test (listed_in (map name all))) (sym seats)
             (exact-placed old.triggers.items new.triggers.items own es k sound.listed.exact
             (λ test. exact test ∙ ap (λ ts. count_by test old.triggers.items + count_by (λ trigger. test (under own.number trigger)) ts) is.touches));
         order = listed;
       };
-      order = subst (λ all. AreInOrder (labels_in (map name all))) (sym entries) (order-placed own es is.absent sound.order);
+      order = subst (λ all. AreInOrder (labels_in (map name all))) (sym seats) (order-placed own es is.absent sound.order);
     }
 
 -- the places may be other ones
@@ -170,8 +170,8 @@ replaced-sound t places long sound = record {
 }
 
 -- each other job has its moment
-pub timed-entered : (old t : Jobs) (new : Entry) (k heard : ℕ) → t.entries.items ≡ take k old.entries.items ++ new ∷ drop k old.entries.items → heard ≡ k → k ≤ length old.entries.items → IsIndexed old →
+pub timed-entered : (old t : Jobs) (new : Seat) (k heard : ℕ) → t.seats.items ≡ take k old.seats.items ++ new ∷ drop k old.seats.items → heard ≡ k → k ≤ length old.seats.items → IsIndexed old →
     t.index.timers ≡ old.index.timers → t.reading ≡ old.reading → AreTimedBut (Heard heard) t
-timed-entered old t new k heard entries at low indexed timers reading j e there apart =
-    let found = stood new old.entries.items k j e low (ap (λ xs. slice_get xs j) (sym entries) ∙ there) (subst (λ p. p ≢ j) at (differs heard j apart)) in
+timed-entered old t new k heard seats at low indexed timers reading j e there apart =
+    let found = stood new old.seats.items k j e low (ap (λ xs. slice_get xs j) (sym seats) ∙ there) (subst (λ p. p ≢ j) at (differs heard j apart)) in
     ap (λ heap. moment_in heap e.number) timers ∙ indexed.timed found.0 e found.1 ∙ ap (λ r. moment_for e r.up) (sym reading)

@@ -6,7 +6,7 @@ use Rattle.std.specs.List.Sorted.{IsPartitionPoint, IsPartitionedBy}
 use Rattle.std.proofs.lemmas.Bool.Decides.{nat_tests}
 use Rattle.std.proofs.lemmas.Option.{slice_get_within, slice_get-get_or, get_or_from_slice_get, slice_get_cases}
 use Rattle.history_model.specs.Labels.{is_same, is_before}
-use Rattle.job_table.specs.Triggers.{rank, is_of, is_below, is_behind, AreOrdered}
+use Rattle.job_table.specs.Triggers.{rank, has_rank, is_below, is_behind, AreOrdered}
 use Rattle.job_table.specs.declared.trigger.Listed.{Listed}
 use Rattle.job_table.proofs.NearestLemmas.{not-before-self}
 use Rattle.job_table.proofs.SettingLemmas.{is-label}
@@ -168,8 +168,8 @@ run p (x ∷ xs) (suc from) n low mid far =
 pub run-is : (xs : List Listed) (k : List ℕ) (from to : ℕ) → from ≤ to →
     ((j : ℕ) (y : Listed) → slice_get xs j ≡ Some y → j < from → is_below k y ≡ true) → ((j : ℕ) (y : Listed) → slice_get xs j ≡ Some y → from ≤ j → is_below k y ≡ false) →
     ((j : ℕ) (y : Listed) → slice_get xs j ≡ Some y → j < to → is_behind k y ≡ false) → ((j : ℕ) (y : Listed) → slice_get xs j ≡ Some y → to ≤ j → is_behind k y ≡ true) →
-    take (to - from) (drop from xs) ≡ filter (is_of k) xs
-run-is xs k from to up low high near far = run (is_of k) xs from (to - from)
+    take (to - from) (drop from xs) ≡ filter (has_rank k) xs
+run-is xs k from to up low high near far = run (has_rank k) xs from (to - from)
     (λ j y at less. apart-before k (rank y.trigger) (low j y at less))
     (λ j y at upper less. one-of k (rank y.trigger) (high j y at upper) (near j y at (omega (arith, less, up))))
     (λ j y at upper. apart-behind k (rank y.trigger) (far j y at (omega (arith, upper, up))))

@@ -10,8 +10,8 @@ use Rattle.history_model.specs.FactsOfPast.{Keeps, ordered}
 use Rattle.history_model.specs.Machine.{Job}
 use Rattle.job_table.specs.Tables.{Row}
 use Rattle.job_table.specs.StandsFor.{KeepsJobs}
-use Rattle.job_table.specs.Entries.{row, rows}
-use Rattle.job_table.specs.declared.entry.Entry.{Entry}
+use Rattle.job_table.specs.Seats.{row, rows}
+use Rattle.job_table.specs.declared.seat.Seat.{Seat}
 
 pub now-ordered : (o : Option Act) (t : History) → now (ordered o t) ≡ now t
 now-ordered None t = refl
@@ -34,9 +34,9 @@ rows-cons : (b : Bool) (r : Row) (xs ys both : List Row) → both ≡ xs ++ ys �
 rows-cons true r xs ys both e = e
 rows-cons false r xs ys both e = ap (λ rs. r ∷ rs) e
 
-pub rows-append : (xs ys : List Entry) → rows (xs ++ ys) ≡ rows xs ++ rows ys
+pub rows-append : (xs ys : List Seat) → rows (xs ++ ys) ≡ rows xs ++ rows ys
 rows-append [] ys = refl
 rows-append (e ∷ es) ys = rows-cons e.has_gone (row e) (rows es) (rows ys) (rows (es ++ ys)) (rows-append es ys)
 
-pub rows-stay : (e : Entry) (es : List Entry) → e.has_gone ≡ false → rows (e ∷ es) ≡ row e ∷ rows es
+pub rows-stay : (e : Seat) (es : List Seat) → e.has_gone ≡ false → rows (e ∷ es) ≡ row e ∷ rows es
 rows-stay e es stays = ap (λ b. cond b (rows es) (row e ∷ rows es)) stays

@@ -1,17 +1,17 @@
--- The text of the list grows entry by entry.
+-- The text of the list grows seat by seat.
 use Rattle.std.proofs.Common.{◌≡◌, ℕ, suc, Bool, true, false, List, [], ◌∷◌, ◌++◌, cond, ◌+◌, ◌<◌, drop, length, get_or, add-one, subst, append-nil, refl, sym, ap, ◌∙◌, append_assoc}
 use Rattle.std.specs.List.{flat_map}
 use Rattle.history_model.specs.declared.Reading.{Reading}
 use Rattle.history_model.specs.Machine.{Job}
 use Rattle.history_model.specs.Texts.{shown_text}
 use Rattle.job_table.specs.StandsFor.{KeepsJob, KeepsJobs}
-use Rattle.job_table.specs.Entries.{row, rows}
+use Rattle.job_table.specs.Seats.{row, rows}
 use Rattle.job_table.specs.Listed.{IsListed}
-use Rattle.job_table.specs.declared.entry.Entry.{Entry}
+use Rattle.job_table.specs.declared.seat.Seat.{Seat}
 use Rattle.job_table.proofs.ListLemmas.{at-drop}
 
--- the list comes one entry further
-pub listed-step : (at : Reading) (es : List Entry) (i : ℕ) (e : Entry) (text later whole : List ℕ) → i < length es → e ≡ get_or es i e →
+-- the list comes one seat further
+pub listed-step : (at : Reading) (es : List Seat) (i : ℕ) (e : Seat) (text later whole : List ℕ) → i < length es → e ≡ get_or es i e →
     (e.has_gone ≡ true → later ≡ text) → ((job : Job) → e.has_gone ≡ false → KeepsJob at (row e) job → later ≡ text ++ shown_text job) →
     IsListed at (rows (drop i es)) text whole → IsListed at (rows (drop (i + 1) es)) later whole
 listed-step at es i e text later whole within is going line way =

@@ -16,16 +16,16 @@ use Rattle.history_model.specs.Texts.{text_after}
 use Rattle.history_model.proofs.FreshOrdersLemmas.{differ-sym}
 use Rattle.history_model.proofs.LabelOrderLemmas.{same_self}
 use Rattle.job_table.specs.Tables.{Name, Table, IsOther, IsOnce, label_of}
-use Rattle.job_table.specs.Entries.{row, name, rows, has_label, has_number}
+use Rattle.job_table.specs.Seats.{row, name, rows, has_label, has_number}
 use Rattle.job_table.specs.Alike.{IsAlike}
 use Rattle.job_table.specs.Counts.{counts, Counts, IsCounted}
 use Rattle.job_table.specs.Loads.{refused_with}
-use Rattle.job_table.specs.Numbers.{names_of, KeepsNames}
+use Rattle.job_table.specs.Numbers.{row_names, KeepsNames}
 use Rattle.job_table.specs.Outcomes.{plain_outcome, IsOrderedFrom}
-use Rattle.job_table.specs.Sound.{seen}
+use Rattle.job_table.specs.Sound.{seen_table}
 use Rattle.job_table.specs.StandsFor.{KeepsState}
 use Rattle.job_table.specs.Telling.{IsTold}
-use Rattle.job_table.specs.declared.entry.Entry.{Entry}
+use Rattle.job_table.specs.declared.seat.Seat.{Seat}
 use Rattle.job_table.specs.declared.jobs.Jobs.{Jobs}
 use Rattle.job_table.proofs.EventsLemmas.{alike-both, alike-state}
 use Rattle.job_table.proofs.FirstLemmas.{first-where, within-where}
@@ -53,13 +53,13 @@ on-err (Ok done) so holds = tt
 on-err (Err refusal) so holds = so holds
 
 -- what the job was told is the machine's event
-pub told-done : (old begun new : Jobs) (s : State) (e : Event) (label : Label) (item : Item) (result : Result (Unit {0}) Refusal) → IsAlike old begun → rows begun.entries.items ≡ rows old.entries.items →
-    IsAlike begun new → old.reading.up ≤ MAX_UP → IsTold label item (seen begun) result (seen new) → taken s e ≡ record s { jobs = heard_one label item s.jobs } →
-    refusal_in s e ≡ refusal_at (past_of s label) item → text_after e (with_orders (taken s e)) ≡ [] → KeepsState (seen old) s → IsDone s e (seen new) (plain_outcome result (seen new))
+pub told-done : (old begun new : Jobs) (s : State) (e : Event) (label : Label) (item : Item) (result : Result (Unit {0}) Refusal) → IsAlike old begun → rows begun.seats.items ≡ rows old.seats.items →
+    IsAlike begun new → old.reading.up ≤ MAX_UP → IsTold label item (seen_table begun) result (seen_table new) → taken s e ≡ record s { jobs = heard_one label item s.jobs } →
+    refusal_in s e ≡ refusal_at (past_of s label) item → text_after e (with_orders (taken s e)) ≡ [] → KeepsState (seen_table old) s → IsDone s e (seen_table new) (plain_outcome result (seen_table new))
 told-done old begun new s e label item result begins same tells range told takes refusal quiet keeps =
     let start = alike-state old begun s begins keeps same in
-    decides (seen old) (seen new) s e result range keeps (replied result (refusal_in s e) (told.answer s start ∙ sym refusal))
-    (on-ok result (λ asked none. subst (IsOrderedFrom (seen new)) (sym takes) (asked s start)) told.asked)
+    decides (seen_table old) (seen_table new) s e result range keeps (replied result (refusal_in s e) (told.answer s start ∙ sym refusal))
+    (on-ok result (λ asked none. subst (IsOrderedFrom (seen_table new)) (sym takes) (asked s start)) told.asked)
     (on-err result (λ stays t before. alike-state old new t (alike-both begins tells) before (stays ∙ same)) told.same)
     quiet
 
@@ -68,7 +68,7 @@ counts-from (Ok done) old begun new same counted = subst (λ rs. IsCounted (coun
 counts-from (Err refusal) old begun new same counted = counted ∙ same
 
 pub names-from : (result : Result (Unit {0}) Refusal) (old begun new : Table) → begun.rows ≡ old.rows → KeepsNames result begun new → KeepsNames result old new
-names-from (Ok done) old begun new same named = named ∙ ap names_of same
+names-from (Ok done) old begun new same named = named ∙ ap row_names same
 names-from (Err refusal) old begun new same named = tt
 
 -- ---- the place
@@ -101,16 +101,16 @@ agrees (m ∷ names) number once is = go (m.number == number) refl (agrees names
   go true at later is = (at ∙ sym (same_self m.described.label), apart-from m names number (eqb-true m.number number at) once.0)
   go false at later is = (at ∙ sym (other-known m names number once.0 is), later is)
 
-rows-agree : (number : ℕ) (label : Label) (es : List Entry) → Agrees number label (map name es) → Agrees number label (names_of (rows es))
+rows-agree : (number : ℕ) (label : Label) (es : List Seat) → Agrees number label (map name es) → Agrees number label (row_names (rows es))
 rows-agree number label [] all = tt
 rows-agree number label (e ∷ es) all = go e.has_gone (rows-agree number label es all.1) where
-  go : (b : Bool) → Agrees number label (names_of (rows es)) → Agrees number label (names_of (cond b (rows es) (row e ∷ rows es)))
+  go : (b : Bool) → Agrees number label (row_names (rows es)) → Agrees number label (row_names (cond b (rows es) (row e ∷ rows es)))
   go true rest = rest
   go false rest = (all.0, rest)
 
-entries-agree : (number : ℕ) (label : Label) (es : List Entry) → Agrees number label (map name es) → AllByRecursion (λ e. has_number number e ≡ has_label label e) es
-entries-agree number label [] all = tt
-entries-agree number label (e ∷ es) all = (all.0, entries-agree number label es all.1)
+seats-agree : (number : ℕ) (label : Label) (es : List Seat) → Agrees number label (map name es) → AllByRecursion (λ e. has_number number e ≡ has_label label e) es
+seats-agree number label [] all = tt
+seats-agree number label (e ∷ es) all = (all.0, seats-agree number label es all.1)
 
 prefix-same : {X : Type 0} (p q : X → Bool) (xs : List X) → AllByRecursion (λ x. p x ≡ q x) xs → prefix_len (λ x. not (p x)) xs ≡ prefix_len (λ x. not (q x)) xs
 prefix-same p q [] each = refl
@@ -120,9 +120,9 @@ position-same : {X : Type 0} (p q : X → Bool) (xs : List X) → AllByRecursion
 position-same p q xs each = ap (λ k. cond (nat_lt k (length xs)) (Some k) None) (prefix-same p q xs each)
 
 -- once the jobs that left are dropped, the job of the number stands where the job of its label stands
-pub number-label : (es later : List Entry) (number : ℕ) → IsOnce (map name es) → map name later ≡ names_of (rows es) → is_label (label_of (map name es) number) ≡ true →
+pub number-label : (es later : List Seat) (number : ℕ) → IsOnce (map name es) → map name later ≡ row_names (rows es) → is_label (label_of (map name es) number) ≡ true →
     position (has_number number) later ≡ position (has_label (label_of (map name es) number)) later
 number-label es later number once same is =
     let label = label_of (map name es) number in
     position-same (has_number number) (has_label label) later
-    (entries-agree number label later (subst (Agrees number label) (sym same) (rows-agree number label es (agrees (map name es) number once is))))
+    (seats-agree number label later (subst (Agrees number label) (sym same) (rows-agree number label es (agrees (map name es) number once is))))

@@ -18,19 +18,19 @@ use Rattle.job_defs.specs.Definitions.{definition}
 use Rattle.job_defs.specs.Described.{Described}
 use Rattle.job_table.specs.Tables.{Row, Name, IsOther, IsOnce}
 use Rattle.job_table.specs.StandsFor.{KeepsJobs, KeepsState, IsAtRest, labelled}
-use Rattle.job_table.specs.Sound.{seen}
+use Rattle.job_table.specs.Sound.{seen_table}
 use Rattle.job_table.specs.Alike.{IsAlike}
 use Rattle.job_table.specs.Index.{moment_for, place_in, ArePlaced, IsIndexed}
 use Rattle.job_table.specs.Counts.{counts, count_in}
-use Rattle.job_table.specs.Entries.{row, name, rows, AllStay, has_label}
-use Rattle.job_table.specs.Touch.{item_for, concerns, heard_at, is_at, is_touched}
+use Rattle.job_table.specs.Seats.{row, name, rows, AllStay, has_label}
+use Rattle.job_table.specs.Touch.{item_for, is_touch_for, heard_at, is_at, is_touched}
 use Rattle.job_table.specs.Hearing.{AreFor, IsAccepted}
 use Rattle.job_table.specs.Touched.{IsChangedAt, IsHandedAt, AreTimedBut, RestBut, SparesBut}
 use Rattle.job_table.specs.Visiting.{is_spared, AreSpared, AreAtRest, AreVisitedOnce}
-use Rattle.job_table.specs.declared.entry.Touch.{Touch}
-use Rattle.job_table.specs.declared.entry.Touch.TheVariants.{Heard, Shutdown, Reading, Sight}
+use Rattle.job_table.specs.declared.seat.Touch.{Touch}
+use Rattle.job_table.specs.declared.seat.Touch.TheVariants.{Heard, Shutdown, Reading, Sight}
 use Rattle.job_table.proofs.HearingLemmas.{heard-as, heard-nothing}
-use Rattle.job_table.specs.declared.entry.Entry.{Entry}
+use Rattle.job_table.specs.declared.seat.Seat.{Seat}
 use Rattle.job_table.specs.declared.jobs.Jobs.{Jobs}
 use Rattle.job_table.proofs.MomentsLemmas.{set-same, set-other}
 use Rattle.job_table.proofs.FirstLemmas.{IsFirstWhere, first-where, within-where}
@@ -45,14 +45,14 @@ use Rattle.history_model.proofs.FreshOrdersLemmas.{differ-sym}
 
 -- ---- a job that the touch does not reach
 
-none-of : (touch : Touch) (d : Described) → concerns touch d ≡ false → item_for touch d ≡ None
+none-of : (touch : Touch) (d : Described) → is_touch_for touch d ≡ false → item_for touch d ≡ None
 none-of (Heard place) d apart = refl
 none-of Shutdown d apart = cc
 none-of (Reading at minutes) d apart = cc
 none-of (Sight path obs) d apart = ap (λ b. if b then Some (Saw path.now obs) else None) apart
 
 none-for : (touch : Touch) (place : ℕ) (d : Described) → is_touched touch place d ≡ false → item_for touch d ≡ None
-none-for touch place d apart = none-of touch d (or-false (concerns touch d) (is_at (heard_at touch) place) apart).0
+none-for touch place d apart = none-of touch d (or-false (is_touch_for touch d) (is_at (heard_at touch) place) apart).0
 
 pub not-true : (s b : Bool) → s ≡ not b → s ≡ true → b ≡ false
 not-true s true is held = let clash : true ≡ false = sym held ∙ is in absurd (cc clash)
@@ -60,22 +60,22 @@ not-true s false is held = refl
 
 module _ (touch : Touch) (ready : Places) where
   -- from this place on: the jobs that the touch reaches have a mark, and no other
-  abbrev pub AreMarked : ℕ → List Entry → Type 0
-  AreMarked place es = (k : ℕ) (e : Entry) → slice_get es k ≡ Some e → is_spared ready (place + k) ≡ not (is_touched touch (place + k) e.def)
+  abbrev pub AreMarked : ℕ → List Seat → Type 0
+  AreMarked place es = (k : ℕ) (e : Seat) → slice_get es k ≡ Some e → is_spared ready (place + k) ≡ not (is_touched touch (place + k) e.def)
 
-  at-head : (place : ℕ) (e : Entry) (es : List Entry) → AreMarked place (e ∷ es) → is_spared ready place ≡ true → is_touched touch place e.def ≡ false
+  at-head : (place : ℕ) (e : Seat) (es : List Seat) → AreMarked place (e ∷ es) → is_spared ready place ≡ true → is_touched touch place e.def ≡ false
   at-head place e es marked none =
       not-true (is_spared ready place) (is_touched touch place e.def) (subst (λ p. is_spared ready p ≡ not (is_touched touch p e.def)) (omega arith) (marked 0 e refl)) none
 
-  at-tail : (place : ℕ) (e : Entry) (es : List Entry) → AreMarked place (e ∷ es) → AreMarked (suc place) es
+  at-tail : (place : ℕ) (e : Seat) (es : List Seat) → AreMarked place (e ∷ es) → AreMarked (suc place) es
   at-tail place e es marked = λ k x there. subst (λ p. is_spared ready p ≡ not (is_touched touch p x.def)) (omega arith) (marked (suc k) x there)
 
-  pub spared-all : (at : Moment) (place : ℕ) (es : List Entry) → AreMarked place es → AreSpared ready at touch place es
+  pub spared-all : (at : Moment) (place : ℕ) (es : List Seat) → AreMarked place es → AreSpared ready at touch place es
   spared-all at place [] marked = tt
   spared-all at place (e ∷ es) marked =
       (λ none. heard-as (sym (none-for touch place e.def (at-head place e es marked none))) heard-nothing, spared-all at (suc place) es (at-tail place e es marked))
 
-  pub rest-all : (at : Moment) (item : Job → Option Item) (place : ℕ) (es : List Entry) (jobs : List Job) → AreMarked place es → AreFor touch item (map row es) jobs → KeepsJobs at (map row es) jobs →
+  pub rest-all : (at : Moment) (item : Job → Option Item) (place : ℕ) (es : List Seat) (jobs : List Job) → AreMarked place es → AreFor touch item (map row es) jobs → KeepsJobs at (map row es) jobs →
       RestBut touch place (map row es) jobs → AreAtRest ready place (heard item jobs)
   rest-all at item place [] [] marked for keeps rests = tt
   rest-all at item place [] (job ∷ jobs) marked for keeps rests = absurd keeps
@@ -85,15 +85,15 @@ module _ (touch : Touch) (ready : Places) where
     rest-all at item (suc place) es jobs (at-tail place e es marked) for.1 keeps.1 rests.1,
   )
 
-pub marked-at : (touch : Touch) (ready : Places) (lent es : List Entry) → lent ≡ es →
-    ((k : ℕ) (e : Entry) → slice_get lent k ≡ Some e → is_spared ready k ≡ not (is_touched touch k e.def)) → AreMarked touch ready 0 es
+pub marked-at : (touch : Touch) (ready : Places) (lent es : List Seat) → lent ≡ es →
+    ((k : ℕ) (e : Seat) → slice_get lent k ≡ Some e → is_spared ready k ≡ not (is_touched touch k e.def)) → AreMarked touch ready 0 es
 marked-at touch ready lent es same marked k e there =
     subst (λ p. is_spared ready p ≡ not (is_touched touch p e.def)) (omega arith) (marked k e (ap (λ xs. slice_get xs k) same ∙ there))
 
 -- ---- the count of a label that no job at a mark has
 
-pub spared-count : (ready : Places) (place : ℕ) (es later : List Entry) (label : Label) → AllStay es → AreVisitedOnce ready place es later →
-    ((k : ℕ) (e : Entry) → slice_get es k ≡ Some e → has_label label e ≡ true → is_spared ready (place + k) ≡ true) →
+pub spared-count : (ready : Places) (place : ℕ) (es later : List Seat) (label : Label) → AllStay es → AreVisitedOnce ready place es later →
+    ((k : ℕ) (e : Seat) → slice_get es k ≡ Some e → has_label label e ≡ true → is_spared ready (place + k) ≡ true) →
     count_in (counts (rows later)) label ≡ count_in (counts (map row es)) label
 spared-count ready place [] [] label stay visits spared = refl
 spared-count ready place [] (n ∷ ns) label stay visits spared = absurd visits
@@ -122,14 +122,14 @@ first-passes p [] k d here = absurd here
 first-passes p (x ∷ xs) zero d here = here
 first-passes p (x ∷ xs) (suc k) d here = first-passes p xs k d here.1
 
-pub changed-at : (es : List Entry) (k : ℕ) (new : Entry) → k < length es → IsChangedAt k es (slice_set es k new)
+pub changed-at : (es : List Seat) (k : ℕ) (new : Seat) → k < length es → IsChangedAt k es (slice_set es k new)
 changed-at es k new within =
     record {
       inside = slice_get_within (slice_set es k new) k new (set-same es k new within);
       others = λ j x there differ. sym (set-other es k j new (λ same. differ (sym same))) ∙ there;
     }
 
-pub handed-at : (label : Label) (es : List Entry) (k : ℕ) (e new : Entry) → Some k ≡ position (has_label label) es → e ≡ get_or es k e → name new ≡ name e →
+pub handed-at : (label : Label) (es : List Seat) (k : ℕ) (e new : Seat) → Some k ≡ position (has_label label) es → e ≡ get_or es k e → name new ≡ name e →
     IsHandedAt label k es (slice_set es k new)
 handed-at label es k e new at is named =
     let first = first-where (has_label label) es k at in
@@ -138,12 +138,12 @@ handed-at label es k e new at is named =
       at = at;
       own = λ x there. (
           let same : Some new ≡ Some x = sym here ∙ there in
-          let entry : new ≡ x = cc in
-          ap (λ n. is_same label n.described.label) (sym (ap name entry) ∙ named) ∙ ap (has_label label) is ∙ first-passes (has_label label) es k e first
+          let seat : new ≡ x = cc in
+          ap (λ n. is_same label n.described.label) (sym (ap name seat) ∙ named) ∙ ap (has_label label) is ∙ first-passes (has_label label) es k e first
           );
     }
 
-pub placed-names : (places : List ℕ) (es later : List Entry) → map name later ≡ map name es → ArePlaced places es → ArePlaced places later
+pub placed-names : (places : List ℕ) (es later : List Seat) → map name later ≡ map name es → ArePlaced places es → ArePlaced places later
 placed-names places es later names placed k e there =
     let found = name-get es later k e names there in
     let own = placed k found.0 found.1 in
@@ -152,7 +152,7 @@ placed-names places es later names placed k e there =
 pub differs : (place k : ℕ) → (place == k) ≡ false → place ≢ k
 differs place k other same = let clash : ⊥ = grind (arith, nat_tests, other, same) in clash
 
-pub timed-but : (begun heard : Jobs) (place : ℕ) → IsChangedAt place begun.entries.items heard.entries.items → IsIndexed begun → heard.index ≡ begun.index → heard.reading ≡ begun.reading →
+pub timed-but : (begun heard : Jobs) (place : ℕ) → IsChangedAt place begun.seats.items heard.seats.items → IsIndexed begun → heard.index ≡ begun.index → heard.reading ≡ begun.reading →
     AreTimedBut (Heard place) heard
 timed-but begun heard place changed indexed index reading k e there apart =
     ap (λ i. moment_in i.timers e.number) index ∙ indexed.timed k e (changed.others k e there (differs place k apart)) ∙ ap (λ r. moment_for e r.up) (sym reading)
@@ -173,7 +173,7 @@ rest-each touch place (row ∷ rs) [] rests = tt
 rest-each touch place (row ∷ rs) (job ∷ jobs) rests = ((λ apart. rests.0), rest-each touch (suc place) rs jobs rests.1)
 
 -- the others rest as they did
-pub rest-handed : (at : Moment) (label : Label) (item : Item) (heard : ℕ) (rs : List Row) (es : List Entry) (k place : ℕ) (jobs : List Job) → KeepsJobs at (map row es) jobs → IsFirstAt label es k →
+pub rest-handed : (at : Moment) (label : Label) (item : Item) (heard : ℕ) (rs : List Row) (es : List Seat) (k place : ℕ) (jobs : List Job) → KeepsJobs at (map row es) jobs → IsFirstAt label es k →
     heard ≡ place + k → AllByRecursion IsAtRest jobs → RestBut (Heard heard) place rs (heard_one label item jobs)
 rest-handed at label item heard [] es k place jobs keeps here is rests = tt
 rest-handed at label item heard (row ∷ rs) [] k place jobs keeps here is rests = absurd here
@@ -188,51 +188,51 @@ rest-handed at label item heard (row ∷ rs) (e ∷ es) (suc k) place (job ∷ j
     ((λ apart. rests.0), rest-handed at label item heard rs es k (suc place) jobs keeps.1 here.1 (omega (arith, is)) rests.1)
 
 -- the table once the jobs that the touch reaches are visited, which heard already
-pub heard-already : (heard new : Jobs) (t : State) (place : ℕ) → IsAlike heard new → IsHead heard t → KeepsJobs heard.reading (rows heard.entries.items) t.jobs →
-    RestBut (Heard place) 0 (rows heard.entries.items) t.jobs →
-    ((jobs : List Job) (what : Job → Option Item) → AreFor (Heard place) what (rows heard.entries.items) jobs → IsAccepted heard.reading what → RestBut (Heard place) 0 (rows heard.entries.items) jobs →
-    KeepsJobs heard.reading (rows heard.entries.items) jobs → KeepsJobs heard.reading (rows new.entries.items) (filter_map stays (heard_of what jobs))) →
-    ((jobs : List Job) (what : Job → Option Item) → AreFor (Heard place) what (rows heard.entries.items) jobs → IsAccepted heard.reading what → RestBut (Heard place) 0 (rows heard.entries.items) jobs →
-    KeepsJobs heard.reading (rows heard.entries.items) jobs → labelled (map name new.entries.items) new.orders.items ≡ flat_map orders_of (heard_of what jobs)) →
-    IsOrderedFrom (seen new) t
+pub heard-already : (heard new : Jobs) (t : State) (place : ℕ) → IsAlike heard new → IsHead heard t → KeepsJobs heard.reading (rows heard.seats.items) t.jobs →
+    RestBut (Heard place) 0 (rows heard.seats.items) t.jobs →
+    ((jobs : List Job) (what : Job → Option Item) → AreFor (Heard place) what (rows heard.seats.items) jobs → IsAccepted heard.reading what → RestBut (Heard place) 0 (rows heard.seats.items) jobs →
+    KeepsJobs heard.reading (rows heard.seats.items) jobs → KeepsJobs heard.reading (rows new.seats.items) (filter_map stays (heard_of what jobs))) →
+    ((jobs : List Job) (what : Job → Option Item) → AreFor (Heard place) what (rows heard.seats.items) jobs → IsAccepted heard.reading what → RestBut (Heard place) 0 (rows heard.seats.items) jobs →
+    KeepsJobs heard.reading (rows heard.seats.items) jobs → labelled (map name new.seats.items) new.orders.items ≡ flat_map orders_of (heard_of what jobs)) →
+    IsOrderedFrom (seen_table new) t
 heard-already heard new t place asks is keeps rests kept orders =
     let none = heard-none t.jobs in
     with_orders-so heard new t asks is
-    (subst (λ js. KeepsJobs heard.reading (rows new.entries.items) (filter_map stays js)) none (kept t.jobs (λ job. None) (for-none place (rows heard.entries.items) t.jobs) (λ job present. refl) rests keeps))
-    (orders t.jobs (λ job. None) (for-none place (rows heard.entries.items) t.jobs) (λ job present. refl) rests keeps ∙ ap (flat_map orders_of) none)
+    (subst (λ js. KeepsJobs heard.reading (rows new.seats.items) (filter_map stays js)) none (kept t.jobs (λ job. None) (for-none place (rows heard.seats.items) t.jobs) (λ job present. refl) rests keeps))
+    (orders t.jobs (λ job. None) (for-none place (rows heard.seats.items) t.jobs) (λ job present. refl) rests keeps ∙ ap (flat_map orders_of) none)
 
 -- the table once the one job has the item and is asked
-pub handed-on : (begun heard new : Jobs) (s t : State) (label : Label) (item : Item) (place : ℕ) → KeepsState (seen begun) s →
-    AllStay begun.entries.items → IsAlike begun heard → IsAlike heard new → IsHead heard t → heard_one label item s.jobs ≡ t.jobs →
-    IsHandedAt label place begun.entries.items heard.entries.items →
-    ((jobs : List Job) → KeepsJobs begun.reading (rows begun.entries.items) jobs → KeepsJobs begun.reading (rows heard.entries.items) (heard_one label item jobs)) →
-    ((jobs : List Job) (what : Job → Option Item) → AreFor (Heard place) what (rows heard.entries.items) jobs → IsAccepted heard.reading what → RestBut (Heard place) 0 (rows heard.entries.items) jobs →
-    KeepsJobs heard.reading (rows heard.entries.items) jobs → KeepsJobs heard.reading (rows new.entries.items) (filter_map stays (heard_of what jobs))) →
-    ((jobs : List Job) (what : Job → Option Item) → AreFor (Heard place) what (rows heard.entries.items) jobs → IsAccepted heard.reading what → RestBut (Heard place) 0 (rows heard.entries.items) jobs →
-    KeepsJobs heard.reading (rows heard.entries.items) jobs → labelled (map name new.entries.items) new.orders.items ≡ flat_map orders_of (heard_of what jobs)) →
-    IsOrderedFrom (seen new) t
+pub handed-on : (begun heard new : Jobs) (s t : State) (label : Label) (item : Item) (place : ℕ) → KeepsState (seen_table begun) s →
+    AllStay begun.seats.items → IsAlike begun heard → IsAlike heard new → IsHead heard t → heard_one label item s.jobs ≡ t.jobs →
+    IsHandedAt label place begun.seats.items heard.seats.items →
+    ((jobs : List Job) → KeepsJobs begun.reading (rows begun.seats.items) jobs → KeepsJobs begun.reading (rows heard.seats.items) (heard_one label item jobs)) →
+    ((jobs : List Job) (what : Job → Option Item) → AreFor (Heard place) what (rows heard.seats.items) jobs → IsAccepted heard.reading what → RestBut (Heard place) 0 (rows heard.seats.items) jobs →
+    KeepsJobs heard.reading (rows heard.seats.items) jobs → KeepsJobs heard.reading (rows new.seats.items) (filter_map stays (heard_of what jobs))) →
+    ((jobs : List Job) (what : Job → Option Item) → AreFor (Heard place) what (rows heard.seats.items) jobs → IsAccepted heard.reading what → RestBut (Heard place) 0 (rows heard.seats.items) jobs →
+    KeepsJobs heard.reading (rows heard.seats.items) jobs → labelled (map name new.seats.items) new.orders.items ≡ flat_map orders_of (heard_of what jobs)) →
+    IsOrderedFrom (seen_table new) t
 handed-on begun heard new s t label item place keeps stay hands asks is jobs handed heard_kept kept orders =
     let start = own-jobs begun s keeps in
-    let with_it : KeepsJobs heard.reading (rows heard.entries.items) t.jobs =
-    subst (λ at. KeepsJobs at (rows heard.entries.items) t.jobs) (sym hands.reading) (subst (KeepsJobs begun.reading (rows heard.entries.items)) jobs (heard_kept s.jobs start)) in
-    let rests : RestBut (Heard place) 0 (rows heard.entries.items) t.jobs =
-    subst (RestBut (Heard place) 0 (rows heard.entries.items)) jobs
-    (rest-handed begun.reading label item place (rows heard.entries.items) begun.entries.items place 0 s.jobs (subst (λ rs. KeepsJobs begun.reading rs s.jobs) (rows-all begun.entries.items stay) start)
-    (first-where (has_label label) begun.entries.items place handed.at) (omega arith) keeps.rests) in
+    let with_it : KeepsJobs heard.reading (rows heard.seats.items) t.jobs =
+    subst (λ at. KeepsJobs at (rows heard.seats.items) t.jobs) (sym hands.reading) (subst (KeepsJobs begun.reading (rows heard.seats.items)) jobs (heard_kept s.jobs start)) in
+    let rests : RestBut (Heard place) 0 (rows heard.seats.items) t.jobs =
+    subst (RestBut (Heard place) 0 (rows heard.seats.items)) jobs
+    (rest-handed begun.reading label item place (rows heard.seats.items) begun.seats.items place 0 s.jobs (subst (λ rs. KeepsJobs begun.reading rs s.jobs) (rows-all begun.seats.items stay) start)
+    (first-where (has_label label) begun.seats.items place handed.at) (omega arith) keeps.rests) in
     heard-already heard new t place asks is with_it rests kept orders
 
 -- no job of another label was asked
-pub others-spared : (begun heard new : Jobs) (label : Label) (place : ℕ) → IsHandedAt label place begun.entries.items heard.entries.items → SparesBut (Heard place) heard.entries.items new.entries.items →
-    counts (rows heard.entries.items) ≡ counts (rows begun.entries.items) → (other : Label) → is_same other label ≡ false →
-    count_in (counts (rows new.entries.items)) other ≡ count_in (counts (rows begun.entries.items)) other
+pub others-spared : (begun heard new : Jobs) (label : Label) (place : ℕ) → IsHandedAt label place begun.seats.items heard.seats.items → SparesBut (Heard place) heard.seats.items new.seats.items →
+    counts (rows heard.seats.items) ≡ counts (rows begun.seats.items) → (other : Label) → is_same other label ≡ false →
+    count_in (counts (rows new.seats.items)) other ≡ count_in (counts (rows begun.seats.items)) other
 others-spared begun heard new label place handed spares same other differ = spares other apart ∙ ap (λ cs. count_in cs other) same where
-  apart : (k : ℕ) (e : Entry) → slice_get heard.entries.items k ≡ Some e → has_label other e ≡ true → is_touched (Heard place) k e.def ≡ false
+  apart : (k : ℕ) (e : Seat) → slice_get heard.seats.items k ≡ Some e → has_label other e ≡ true → is_touched (Heard place) k e.def ≡ false
   apart k e there has = go (place == k) refl where
     go : (b : Bool) → (place == k) ≡ b → (place == k) ≡ false
     go false is = is
     go true is =
         let here : place ≡ k = grind (arith, nat_tests, is) in
-        let own : has_label label e ≡ true = handed.own e (ap (slice_get heard.entries.items) here ∙ there) in
+        let own : has_label label e ≡ true = handed.own e (ap (slice_get heard.seats.items) here ∙ there) in
         let mine : label ≡ e.def.label = is-label label e.def.label own in
         let theirs : other ≡ e.def.label = is-label other e.def.label has in
         let clash : true ≡ false = sym (same_self label) ∙ ap (λ l. is_same l label) (mine ∙ sym theirs) ∙ differ in
@@ -240,13 +240,13 @@ others-spared begun heard new label place handed spares same other differ = spar
 
 -- ---- a label's definition is that of its past
 
-other-label : (n : Name) (es : List Entry) (k : ℕ) (e : Entry) → IsOther n (map name es) → slice_get es k ≡ Some e → is_same n.described.label e.def.label ≡ false
+other-label : (n : Name) (es : List Seat) (k : ℕ) (e : Seat) → IsOther n (map name es) → slice_get es k ≡ Some e → is_same n.described.label e.def.label ≡ false
 other-label n [] zero e other at = cc
 other-label n [] (suc k) e other at = cc
 other-label n (x ∷ xs) zero e other at = let same : x ≡ e = cc in ap (λ y. is_same n.described.label y.def.label) (sym same) ∙ other.1
 other-label n (x ∷ xs) (suc k) e other at = other-label n xs k e other.2 at
 
-pub definition-at : (at : Moment) (label : Label) (past : History) (es : List Entry) (jobs : List Job) (k : ℕ) (e : Entry) → KeepsJobs at (map row es) jobs → IsOnce (map name es) →
+pub definition-at : (at : Moment) (label : Label) (past : History) (es : List Seat) (jobs : List Job) (k : ℕ) (e : Seat) → KeepsJobs at (map row es) jobs → IsOnce (map name es) →
     past_in (first (filter (is_of label) jobs)) ≡ Some past → slice_get es k ≡ Some e → has_label label e ≡ true → definition e.def ≡ definition_of past
 definition-at at label past [] jobs zero e keeps once found there has = cc
 definition-at at label past [] jobs (suc k) e keeps once found there has = cc
@@ -265,11 +265,11 @@ definition-at at label past (x ∷ xs) (job ∷ jobs) (suc k) e keeps once found
     definition-at at label past xs jobs k e keeps.1 once.1 rest there has
 
 -- no job that does not list the path was asked
-pub unlisted-spared : (path : Bor (List ℕ)) (obs : Obs) (begun new : Jobs) (s : State) (label : Label) (past : History) → KeepsJobs begun.reading (rows begun.entries.items) s.jobs →
-    AllStay begun.entries.items → IsOnce (map name begun.entries.items) → SparesBut (Sight path obs) begun.entries.items new.entries.items →
+pub unlisted-spared : (path : Bor (List ℕ)) (obs : Obs) (begun new : Jobs) (s : State) (label : Label) (past : History) → KeepsJobs begun.reading (rows begun.seats.items) s.jobs →
+    AllStay begun.seats.items → IsOnce (map name begun.seats.items) → SparesBut (Sight path obs) begun.seats.items new.seats.items →
     past_in (first (filter (is_of label) s.jobs)) ≡ Some past → lists (definition_of past) path.now ≡ false →
-    count_in (counts (rows new.entries.items)) label ≡ count_in (counts (rows begun.entries.items)) label
+    count_in (counts (rows new.seats.items)) label ≡ count_in (counts (rows begun.seats.items)) label
 unlisted-spared path obs begun new s label past keeps stay once spares found apart =
     spares label (λ k e there has. ap (λ d. lists d path.now || false)
-    (definition-at begun.reading label past begun.entries.items s.jobs k e (subst (λ rs. KeepsJobs begun.reading rs s.jobs) (rows-all begun.entries.items stay) keeps) once found there has)
+    (definition-at begun.reading label past begun.seats.items s.jobs k e (subst (λ rs. KeepsJobs begun.reading rs s.jobs) (rows-all begun.seats.items stay) keeps) once found there has)
     ∙ ap (λ b. b || false) apart)

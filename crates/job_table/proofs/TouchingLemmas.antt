@@ -9,7 +9,7 @@ use Rattle.std.proofs.Math.Nat.{div-lt_iff_lt-mul, le-div_iff_mul-le, mul-le-mul
 use Rattle.place_set.specs.Places.{Places}
 use Rattle.history_model.specs.declared.Reading.{Reading as Moment}
 use Rattle.history_model.specs.declared.CivilMinute.{CivilMinute}
-use Rattle.history_model.specs.declared.Entry.{Entry as Due}
+use Rattle.history_model.specs.declared.Entry.{Entry}
 use Rattle.history_model.specs.Items.{History}
 use Rattle.history_model.specs.Search.{first}
 use Rattle.history_model.specs.Clock.{now, load_of, definition_of, crosses_interval}
@@ -24,12 +24,12 @@ use Rattle.history_model.proofs.ComingLemmas.{next-by}
 use Rattle.history_model.proofs.MomentsLemmas.{is-one}
 use Rattle.job_table.specs.StandsFor.{KeepsJob, KeepsJobs}
 use Rattle.job_table.specs.Counts.{counts, count_in}
-use Rattle.job_table.specs.Entries.{row, name, rows, AllStay}
+use Rattle.job_table.specs.Seats.{row, name, rows, AllStay}
 use Rattle.job_table.specs.Periods.{HavePeriods}
 use Rattle.job_table.specs.Index.{is_minute_among}
 use Rattle.job_table.specs.Minutes.{is_some_entry, has_calendars}
 use Rattle.job_table.specs.Visiting.{is_spared, AreVisitedOnce}
-use Rattle.job_table.specs.declared.entry.Entry.{Entry}
+use Rattle.job_table.specs.declared.seat.Seat.{Seat}
 use Rattle.history_model.specs.declared.TheConstants.{SECOND}
 use Rattle.history_model.proofs.BooleanLemmas.{or-true, or-false}
 
@@ -83,21 +83,21 @@ touch-moment zone at f past m keeps positive next due =
 
 -- ---- minutes
 
-none-swapped : (zone : Zone) (cal : List Due) (ms : List ℕ) → list_any (is_minute_crossed zone ms) cal ≡ false → is_minute_among cal (map zone ms) ≡ false
+none-swapped : (zone : Zone) (cal : List Entry) (ms : List ℕ) → list_any (is_minute_crossed zone ms) cal ≡ false → is_minute_among cal (map zone ms) ≡ false
 none-swapped zone cal [] none = refl
 none-swapped zone cal (m ∷ ms) none = λ i. head cal none i || none-swapped zone cal ms (tail cal none) i where
   parts : (a b c : Bool) → ((a || b) || c) ≡ false → (a ≡ false) × ((b || c) ≡ false)
   parts true b c e = cc
   parts false b c e = (refl, e)
 
-  head : (cal : List Due) → list_any (is_minute_crossed zone (m ∷ ms)) cal ≡ false → list_any (λ entry. allows entry.minute (zone m).minute) cal ≡ false
+  head : (cal : List Entry) → list_any (is_minute_crossed zone (m ∷ ms)) cal ≡ false → list_any (λ entry. allows entry.minute (zone m).minute) cal ≡ false
   head [] none = refl
   head (entry ∷ rest) none =
       let both = or-false (allows entry.minute (zone m).minute || list_any (λ n. allows entry.minute (zone n).minute) ms) (list_any (is_minute_crossed zone (m ∷ ms)) rest) none in
       let one = or-false (allows entry.minute (zone m).minute) (list_any (λ n. allows entry.minute (zone n).minute) ms) both.0 in
       λ i. one.0 i || head rest both.1 i
 
-  tail : (cal : List Due) → list_any (is_minute_crossed zone (m ∷ ms)) cal ≡ false → list_any (is_minute_crossed zone ms) cal ≡ false
+  tail : (cal : List Entry) → list_any (is_minute_crossed zone (m ∷ ms)) cal ≡ false → list_any (is_minute_crossed zone ms) cal ≡ false
   tail [] none = refl
   tail (entry ∷ rest) none =
       let both = or-false (allows entry.minute (zone m).minute || list_any (λ n. allows entry.minute (zone n).minute) ms) (list_any (is_minute_crossed zone (m ∷ ms)) rest) none in
@@ -118,13 +118,13 @@ touch-minute zone at past minutes is among = go (list_any (is_minute_crossed zon
 -- ---- the counts of those that are spared
 
 -- a job with a mark is touched
-abbrev pub MarksTouch : Zone → Moment → Places → ℕ → List Entry → List Job → Type 0
+abbrev pub MarksTouch : Zone → Moment → Places → ℕ → List Seat → List Job → Type 0
 MarksTouch zone at ready place [] jobs = Unit {0}
 MarksTouch zone at ready place (e ∷ es) [] = Unit {0}
 MarksTouch zone at ready place (e ∷ es) (job ∷ jobs) =
     (is_spared ready place ≡ false → touches zone at job.past ≡ true) × MarksTouch zone at ready (suc place) es jobs
 
-pub spared-count : (zone : Zone) (before at : Moment) (ready : Places) (place : ℕ) (es later : List Entry) (jobs : List Job) (label : Label) (past : History) →
+pub spared-count : (zone : Zone) (before at : Moment) (ready : Places) (place : ℕ) (es later : List Seat) (jobs : List Job) (label : Label) (past : History) →
     AllStay es → AreVisitedOnce ready place es later → KeepsJobs before (map row es) jobs → MarksTouch zone at ready place es jobs →
     past_in (first (filter (is_of label) jobs)) ≡ Some past → touches zone at past ≡ false →
     count_in (counts (rows later)) label ≡ count_in (counts (map row es)) label
@@ -162,17 +162,17 @@ spared-count zone before at ready place (e ∷ es) (n ∷ ns) (job ∷ jobs) lab
                 ∙ ap (λ b. if b then n.core.decided else count_in (counts (rows ns)) label) is
 
 -- why a job has a mark
-abbrev pub IsReason : Moment → Moment → List CivilMinute → Entry → Type 0
+abbrev pub IsReason : Moment → Moment → List CivilMinute → Seat → Type 0
 IsReason before at minutes e = ((m : ℕ) × (next_by e.core.facts before.up ≡ Some m) × (m ≤ at.up)) ⊎ (is_minute_among e.def.calendar minutes ≡ true)
 
-some-entry : (calendar : List Due) (minutes : List CivilMinute) → is_minute_among calendar minutes ≡ true → is_some_entry calendar ≡ true
+some-entry : (calendar : List Entry) (minutes : List CivilMinute) → is_minute_among calendar minutes ≡ true → is_some_entry calendar ≡ true
 some-entry [] minutes among = let clash : true ≡ false = sym among ∙ none-any minutes in absurd (cc clash) where
   none-any : (ms : List CivilMinute) → is_minute_among [] ms ≡ false
   none-any [] = refl
   none-any (m ∷ ms) = none-any ms
 some-entry (entry ∷ rest) minutes among = refl
 
-reason-touches : (zone : Zone) (before at : Moment) (minutes : List CivilMinute) (e : Entry) (job : Job) → KeepsJob before (row e) job → ForSome (definition_of job.past).start_interval (λ seconds. 0 < seconds) →
+reason-touches : (zone : Zone) (before at : Moment) (minutes : List CivilMinute) (e : Seat) (job : Job) → KeepsJob before (row e) job → ForSome (definition_of job.past).start_interval (λ seconds. 0 < seconds) →
     (is_some_entry e.def.calendar ≡ true → minutes ≡ map zone (crossed before.wall at.wall)) → IsReason before at minutes e → touches zone at job.past ≡ true
 reason-touches zone before at minutes e job keeps positive crosses (inl moment) =
     touch-moment zone at e.core.facts job.past moment.0 keeps.keeps positive (subst (λ r. next_by e.core.facts r.up ≡ Some moment.0) keeps.present moment.1) moment.2
@@ -180,8 +180,8 @@ reason-touches zone before at minutes e job keeps positive crosses (inr among) =
     touch-minute zone at job.past minutes (crosses (some-entry e.def.calendar minutes among) ∙ ap (λ r. map zone (crossed r.wall at.wall)) keeps.present)
     (ap (λ d. is_minute_among d.calendar minutes) (sym keeps.definition) ∙ among)
 
-pub marks-touch : (zone : Zone) (before at : Moment) (minutes : List CivilMinute) (ready : Places) (place : ℕ) (es : List Entry) (jobs : List Job) → HavePeriods (map name es) →
-    ((k : ℕ) (e : Entry) → slice_get es k ≡ Some e → is_spared ready (place + k) ≡ false → IsReason before at minutes e) →
+pub marks-touch : (zone : Zone) (before at : Moment) (minutes : List CivilMinute) (ready : Places) (place : ℕ) (es : List Seat) (jobs : List Job) → HavePeriods (map name es) →
+    ((k : ℕ) (e : Seat) → slice_get es k ≡ Some e → is_spared ready (place + k) ≡ false → IsReason before at minutes e) →
     (has_calendars (map row es) ≡ true → minutes ≡ map zone (crossed before.wall at.wall)) → KeepsJobs before (map row es) jobs → MarksTouch zone at ready place es jobs
 marks-touch zone before at minutes ready place [] jobs periods reasons crosses keeps = tt
 marks-touch zone before at minutes ready place (e ∷ es) [] periods reasons crosses keeps = tt

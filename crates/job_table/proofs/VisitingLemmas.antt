@@ -17,14 +17,14 @@ use Rattle.history_model.specs.Step.{acts_of, listed, stays, heard, with_item}
 use Rattle.history_model.proofs.BooleanLemmas.{or-second}
 use Rattle.job_defs.specs.Definitions.{definition}
 use Rattle.job_table.specs.Tables.{Row}
-use Rattle.job_table.specs.StandsFor.{KeepsJob, KeepsJobs, IsAtRest, numbered, numbered_all}
+use Rattle.job_table.specs.StandsFor.{KeepsJob, KeepsJobs, IsAtRest, numbered_orders, numbered_all}
 use Rattle.job_table.specs.Counts.{next_count}
-use Rattle.job_table.specs.Entries.{row, name, rows, AllStay}
+use Rattle.job_table.specs.Seats.{row, name, rows, AllStay}
 use Rattle.job_table.specs.Touch.{item_for}
 use Rattle.job_table.specs.Hearing.{followed, refusal_if, IsHeard, AreFor, IsAccepted, present_with}
 use Rattle.job_table.specs.Visiting.{is_spared, IsVisit, AreSpared, AreAtRest, IsOnWay, AreVisitedOnce, count_visited}
-use Rattle.job_table.specs.declared.entry.Entry.{Entry}
-use Rattle.job_table.specs.declared.entry.Touch.{Touch}
+use Rattle.job_table.specs.declared.seat.Seat.{Seat}
+use Rattle.job_table.specs.declared.seat.Touch.{Touch}
 use Rattle.job_table.proofs.ListLemmas.{at-drop, set-drop, set-take, drop-suc}
 use Rattle.job_table.proofs.ScanLemmas.{KeepsJobs-append, now-ordered, definition-ordered, rows-append, rows-stay}
 use Rattle.job_table.proofs.HearingLemmas.{heard-rows, label-with, past-with, definition-with, present-touch, take-of-drop}
@@ -38,7 +38,7 @@ rest-acts : (job : Job) → IsAtRest job → acts_of job.past ≡ []
 rest-acts job rest = λ i. cond (rest.1 i) (map Close (waiting job.past) ++ Gone ∷ []) (listed (rest.0 i))
 
 module _ (before at : Reading) (touch : Touch) (item : Job → Option Item) (ready : Places) (is_now : at ≡ present_with touch before) (accepted : IsAccepted before item) where
-  skip-head : (place : ℕ) (e : Entry) (done todo : List Row) (earlier all : List Order) (after : List Job) → is_spared ready place ≡ true → IsHeard before (item_for touch e.def) e e →
+  skip-head : (place : ℕ) (e : Seat) (done todo : List Row) (earlier all : List Order) (after : List Job) → is_spared ready place ≡ true → IsHeard before (item_for touch e.def) e e →
       IsOnWay before at touch item ready place done (row e ∷ todo) earlier all after → IsOnWay before at touch item ready (suc place) (done ++ row e ∷ []) todo earlier all after
   skip-head place e done todo earlier all after spared heard_self way = go way.rest way.waits way.for way.rests way.leads way.gives where
     go : (rest : List Job) → KeepsJobs before (row e ∷ todo) rest → AreFor touch item (row e ∷ todo) rest → AreAtRest ready place (heard item rest) →
@@ -58,10 +58,10 @@ module _ (before at : Reading) (touch : Touch) (item : Job → Option Item) (rea
           for = for.1;
           rests = rests.1;
           leads = append_assoc way.past (next ∷ []) (filter_map stays (heard item rest)) ∙ ap (λ o. way.past ++ cons_option o (filter_map stays (heard item rest))) (sym (rest-stays next idle)) ∙ leads;
-          gives = ap (λ acts. earlier ++ (numbered e.number acts ++ numbered_all todo (heard item rest))) (sym (rest-acts next idle)) ∙ gives;
+          gives = ap (λ acts. earlier ++ (numbered_orders e.number acts ++ numbered_all todo (heard item rest))) (sym (rest-acts next idle)) ∙ gives;
         }
 
-  visit-head : (place : ℕ) (e new : Entry) (done todo : List Row) (earlier later all : List Order) (after : List Job) → IsVisit before at (item_for touch e.def) e new earlier later →
+  visit-head : (place : ℕ) (e new : Seat) (done todo : List Row) (earlier later all : List Order) (after : List Job) → IsVisit before at (item_for touch e.def) e new earlier later →
       IsOnWay before at touch item ready place done (row e ∷ todo) earlier all after → IsOnWay before at touch item ready (suc place) (done ++ rows (new ∷ [])) todo later all after
   visit-head place e new done todo earlier later all after visit way = go way.rest way.waits way.for way.rests way.leads way.gives where
     end : (b : Bool) (job : Job) (rest : List Job) → KeepsJob before (row e) job → KeepsJobs before todo rest → AreFor touch item todo rest → AreAtRest ready (suc place) (heard item rest) →
@@ -113,23 +113,23 @@ module _ (before at : Reading) (touch : Touch) (item : Job → Option Item) (rea
         let fine : refusal_if (item_for touch e.def) job.past ≡ None = ap (λ o. refusal_if o job.past) same ∙ accepted job this.present in
         let is : at ≡ now (followed (item_for touch e.def) job.past) = is_now ∙ present-touch touch before e.def (item job) job same this.present ∙ ap now (sym past) in
         let going : new.has_gone ≡ is_gone next.past = visit.going job.past this.keeps this.present fine is ∙ ap is_gone past in
-        let orders : later ≡ earlier ++ numbered e.number (acts_of next.past) =
-        visit.orders job.past this.keeps this.present fine is ∙ ap (λ t. earlier ++ numbered e.number (acts_of t)) past in
+        let orders : later ≡ earlier ++ numbered_orders e.number (acts_of next.past) =
+        visit.orders job.past this.keeps this.present fine is ∙ ap (λ t. earlier ++ numbered_orders e.number (acts_of t)) past in
         let kept : is_gone next.past ≡ false → Keeps new.core.facts (ordered (due next.past) next.past) =
         λ staying. subst (λ t. Keeps new.core.facts (ordered (due t) t)) past (visit.kept job.past this.keeps this.present fine is (ap is_gone past ∙ staying)) in
         rw going
         (end (is_gone next.past) job rest this waits.1 for.1 rests.1 same this.keeps refl going kept leads
-        (ap (λ os. os ++ numbered_all todo (heard item rest)) orders ∙ append_assoc earlier (numbered e.number (acts_of next.past)) (numbered_all todo (heard item rest)) ∙ gives))
+        (ap (λ os. os ++ numbered_all todo (heard item rest)) orders ∙ append_assoc earlier (numbered_orders e.number (acts_of next.past)) (numbered_all todo (heard item rest)) ∙ gives))
 
--- ---- along the entries
+-- ---- along the seats
 
-stay-drop : (es : List Entry) (i : ℕ) → AllStay es → AllStay (drop i es)
+stay-drop : (es : List Seat) (i : ℕ) → AllStay es → AllStay (drop i es)
 stay-drop [] zero stay = tt
 stay-drop [] (suc i) stay = tt
 stay-drop (e ∷ es) zero stay = stay
 stay-drop (e ∷ es) (suc i) stay = stay-drop es i stay.1
 
-head-at : (es : List Entry) (i : ℕ) → i < length es → (e : Entry) × (drop i es ≡ e ∷ drop (suc i) es)
+head-at : (es : List Seat) (i : ℕ) → i < length es → (e : Seat) × (drop i es ≡ e ∷ drop (suc i) es)
 head-at [] i within = let clash : ⊥ = omega (arith, within) in absurd clash
 head-at (e ∷ es) zero within = (e, refl)
 head-at (e ∷ es) (suc i) within = head-at es i (omega (arith, within))
@@ -143,7 +143,7 @@ take-length xs zero within = take-none xs
 take-length [] (suc i) within = let clash : ⊥ = omega (arith, within) in absurd clash
 take-length (x ∷ xs) (suc i) within = ap suc (take-length xs i (omega (arith, within)))
 
-drop-some : (es : List Entry) (i : ℕ) (e : Entry) (rest : List Entry) → drop i es ≡ e ∷ rest → i ≤ length es
+drop-some : (es : List Seat) (i : ℕ) (e : Seat) (rest : List Seat) → drop i es ≡ e ∷ rest → i ≤ length es
 drop-some [] zero e rest is = cc
 drop-some [] (suc i) e rest is = cc
 drop-some (x ∷ xs) zero e rest is = omega arith
@@ -162,7 +162,7 @@ or-left true b is = refl
 or-left false b is = is
 
 module _ (ready : Places) where
-  once-snoc : (place : ℕ) (es later : List Entry) (e new : Entry) → AreVisitedOnce ready place es later → name new ≡ name e →
+  once-snoc : (place : ℕ) (es later : List Seat) (e new : Seat) → AreVisitedOnce ready place es later → name new ≡ name e →
       new.core.decided ≡ cond (new.has_gone || is_spared ready (place + length es)) e.core.decided (next_count e.core.decided) → (is_spared ready (place + length es) ≡ true → new ≡ e) → AreVisitedOnce ready place (es ++ e ∷ []) (later ++ new ∷ [])
   once-snoc place [] [] e new all named up same = (named, subst (λ p. new.core.decided ≡ cond (new.has_gone || is_spared ready p) e.core.decided (next_count e.core.decided)) (omega arith) up, subst (λ p. is_spared ready p ≡ true → new ≡ e) (omega arith) same, tt)
   once-snoc place [] (n ∷ ns) e new all named up same = absurd all
@@ -176,7 +176,7 @@ module _ (ready : Places) where
         (subst (λ p. is_spared ready p ≡ true → new ≡ e) (omega arith) same),
   )
 
-  count-snoc : (place : ℕ) (es : List Entry) (e : Entry) (b : Bool) → (e.has_gone || is_spared ready (place + length es)) ≡ b →
+  count-snoc : (place : ℕ) (es : List Seat) (e : Seat) (b : Bool) → (e.has_gone || is_spared ready (place + length es)) ≡ b →
       count_visited ready place (es ++ e ∷ []) ≡ cond b (count_visited ready place es) (suc (count_visited ready place es))
   count-snoc place [] e b is = ap (λ v. cond v 0 1) (subst (λ p. (e.has_gone || is_spared ready p) ≡ b) (omega arith) is)
   count-snoc place (x ∷ xs) e b is = go (x.has_gone || is_spared ready place) b (count-snoc (suc place) xs e b (subst (λ p. (e.has_gone || is_spared ready p) ≡ b) (omega arith) is)) where
@@ -188,9 +188,9 @@ module _ (ready : Places) where
     go false true is = ap suc is
     go false false is = ap suc is
 
-module _ (before at : Reading) (touch : Touch) (ready : Places) (es0 : List Entry) (first : List Order) where
+module _ (before at : Reading) (touch : Touch) (ready : Places) (es0 : List Seat) (first : List Order) where
   -- the walk has come so far
-  pub record IsWalked (es : List Entry) (front : ℕ) (earlier : List Order) (visited : ℕ) : Type 0 where
+  pub record IsWalked (es : List Seat) (front : ℕ) (earlier : List Order) (visited : ℕ) : Type 0 where
     pub untouched : drop front es ≡ drop front es0
     pub spared : AreSpared ready before touch front (drop front es0)
     pub once : AreVisitedOnce ready 0 (take front es0) (take front es)
@@ -198,11 +198,11 @@ module _ (before at : Reading) (touch : Touch) (ready : Places) (es0 : List Entr
     pub way : (jobs : List Job) (item : Job → Option Item) → AreFor touch item (rows es0) jobs → IsAccepted before item → AreAtRest ready 0 (heard item jobs) → KeepsJobs before (rows es0) jobs →
         IsOnWay before at touch item ready front (rows (take front es)) (rows (drop front es0)) earlier (first ++ numbered_all (rows es0) (heard item jobs)) (filter_map stays (heard item jobs))
 
-module _ (before at : Reading) (touch : Touch) (ready : Places) (is_now : at ≡ present_with touch before) (es0 : List Entry) (first : List Order) where
-  abbrev IsWalkedHere : List Entry → ℕ → List Order → ℕ → Type 0
+module _ (before at : Reading) (touch : Touch) (ready : Places) (is_now : at ≡ present_with touch before) (es0 : List Seat) (first : List Order) where
+  abbrev IsWalkedHere : List Seat → ℕ → List Order → ℕ → Type 0
   IsWalkedHere es front earlier visited = IsWalked before at touch ready es0 first es front earlier visited
 
-  pub skip-one : (es : List Entry) (i : ℕ) (earlier : List Order) (visited : ℕ) → AllStay es0 → i < length es0 → is_spared ready i ≡ true → IsWalkedHere es i earlier visited → IsWalkedHere es (suc i) earlier visited
+  pub skip-one : (es : List Seat) (i : ℕ) (earlier : List Order) (visited : ℕ) → AllStay es0 → i < length es0 → is_spared ready i ≡ true → IsWalkedHere es i earlier visited → IsWalkedHere es (suc i) earlier visited
   skip-one es i earlier visited stay within spared walked =
       let found = head-at es0 i within in
       let e = found.0 in
@@ -232,7 +232,7 @@ module _ (before at : Reading) (touch : Touch) (ready : Places) (is_now : at ≡
             (walked.way jobs item for accepted rests keeps)));
       }
 
-  pub skip-to : (es : List Entry) (n i : ℕ) (earlier : List Order) (visited : ℕ) → AllStay es0 → i + n ≤ length es0 → ((k : ℕ) → i ≤ k → k < i + n → is_spared ready k ≡ true) →
+  pub skip-to : (es : List Seat) (n i : ℕ) (earlier : List Order) (visited : ℕ) → AllStay es0 → i + n ≤ length es0 → ((k : ℕ) → i ≤ k → k < i + n → is_spared ready k ≡ true) →
       IsWalkedHere es i earlier visited → IsWalkedHere es (i + n) earlier visited
   skip-to es zero i earlier visited stay within spared walked = subst (λ k. IsWalkedHere es k earlier visited) (omega arith) walked
   skip-to es (suc n) i earlier visited stay within spared walked =
@@ -240,7 +240,7 @@ module _ (before at : Reading) (touch : Touch) (ready : Places) (is_now : at ≡
       (skip-to es n (suc i) earlier visited stay (omega (arith, within)) (λ k low high. spared k (omega (arith, low)) (omega (arith, high)))
       (skip-one es i earlier visited stay (omega (arith, within)) (spared i (omega arith) (omega arith)) walked))
 
-  pub visit-one : (es : List Entry) (i : ℕ) (e new : Entry) (earlier later : List Order) (visited more : ℕ) → AllStay es0 → i < length es0 → i < length es → e ≡ get_or es i e → is_spared ready i ≡ false →
+  pub visit-one : (es : List Seat) (i : ℕ) (e new : Seat) (earlier later : List Order) (visited more : ℕ) → AllStay es0 → i < length es0 → i < length es → e ≡ get_or es i e → is_spared ready i ≡ false →
       IsVisit before at (item_for touch e.def) e new earlier later → new.core.decided ≡ cond new.has_gone e.core.decided (next_count e.core.decided) → more ≡ cond new.has_gone visited (suc visited) →
       IsWalkedHere es i earlier visited → IsWalkedHere (slice_set es i new) (suc i) later more
   visit-one es i e new earlier later visited more stay within inside is marked visit decided counts walked =
@@ -270,7 +270,7 @@ module _ (before at : Reading) (touch : Touch) (ready : Places) (is_now : at ≡
             (walked.way jobs item for accepted rests keeps)));
       }
 
-  pub record IsThrough (es : List Entry) (earlier : List Order) (visited : ℕ) : Type 0 where
+  pub record IsThrough (es : List Seat) (earlier : List Order) (visited : ℕ) : Type 0 where
     pub kept : (jobs : List Job) (item : Job → Option Item) → AreFor touch item (rows es0) jobs → IsAccepted before item → AreAtRest ready 0 (heard item jobs) → KeepsJobs before (rows es0) jobs →
         KeepsJobs at (rows es) (filter_map stays (heard item jobs))
     pub orders : (jobs : List Job) (item : Job → Option Item) → AreFor touch item (rows es0) jobs → IsAccepted before item → AreAtRest ready 0 (heard item jobs) → KeepsJobs before (rows es0) jobs →
@@ -279,7 +279,7 @@ module _ (before at : Reading) (touch : Touch) (ready : Places) (is_now : at ≡
     pub visits : AreVisitedOnce ready 0 es0 es
 
   -- the walk is over
-  pub walk-end : (es : List Entry) (earlier : List Order) (visited : ℕ) → length es ≡ length es0 → IsWalkedHere es (length es0) earlier visited → IsThrough es earlier visited
+  pub walk-end : (es : List Seat) (earlier : List Order) (visited : ℕ) → length es ≡ length es0 → IsWalkedHere es (length es0) earlier visited → IsThrough es earlier visited
   walk-end es earlier visited long walked =
       let whole : take (length es0) es ≡ es = ap (λ n. take n es) (sym long) ∙ take-whole es in
       let whole0 : take (length es0) es0 ≡ es0 = take-whole es0 in
@@ -305,7 +305,7 @@ module _ (before at : Reading) (touch : Touch) (ready : Places) (is_now : at ≡
           go rest [] none gives = sym (append-nil earlier) ∙ gives
           go rest (r ∷ rs) none gives = cc
 
-  pub walk-over : (es : List Entry) (front : ℕ) (earlier : List Order) (visited : ℕ) → AllStay es0 → length es ≡ length es0 → front ≤ length es0 → ((k : ℕ) → front ≤ k → is_spared ready k ≡ true) →
+  pub walk-over : (es : List Seat) (front : ℕ) (earlier : List Order) (visited : ℕ) → AllStay es0 → length es ≡ length es0 → front ≤ length es0 → ((k : ℕ) → front ≤ k → is_spared ready k ≡ true) →
       IsWalkedHere es front earlier visited → IsThrough es earlier visited
   walk-over es front earlier visited stay long within spared walked =
       walk-end es earlier visited long (subst (λ k. IsWalkedHere es k earlier visited) (omega (arith, within))

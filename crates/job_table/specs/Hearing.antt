@@ -8,11 +8,11 @@ use Rattle.history_model.specs.Refusals.{refusal_of}
 use Rattle.history_model.specs.FactsOfPast.{Keeps}
 use Rattle.history_model.specs.Machine.{Job}
 use Rattle.job_table.specs.Tables.{Row}
-use Rattle.job_table.specs.Entries.{name}
+use Rattle.job_table.specs.Seats.{name}
 use Rattle.job_table.specs.Touch.{item_for}
-use Rattle.job_table.specs.declared.entry.Entry.{Entry}
-use Rattle.job_table.specs.declared.entry.Touch.{Touch}
-use Rattle.job_table.specs.declared.entry.Touch.TheVariants as touch
+use Rattle.job_table.specs.declared.seat.Seat.{Seat}
+use Rattle.job_table.specs.declared.seat.Touch.{Touch}
+use Rattle.job_table.specs.declared.seat.Touch.TheVariants as touch
 
 -- the past with the item, if there is one
 abbrev pub followed : Option Item → History → History
@@ -23,15 +23,15 @@ abbrev pub refusal_if : Option Item → History → Option Refusal
 refusal_if None past = None
 refusal_if (Some item) past = refusal_of item past
 
--- an entry once its core has seen the item
-pub record IsHeard (at : Reading) (item : Option Item) (e new : Entry) : Type 0 where
+-- a seat once its core has seen the item
+pub record IsHeard (at : Reading) (item : Option Item) (e new : Seat) : Type 0 where
   pub name : name new ≡ name e
   pub going : new.has_gone ≡ e.has_gone
   pub decided : new.core.decided ≡ e.core.decided
   pub kept : (past : History) → Keeps e.core.facts past → at ≡ now past →
       refusal_if item past ≡ None → Keeps new.core.facts (followed item past)
 
-abbrev pub AreHeard : Reading → Touch → List Entry → List Entry → Type 0
+abbrev pub AreHeard : Reading → Touch → List Seat → List Seat → Type 0
 AreHeard at touch [] [] = Unit {0}
 AreHeard at touch [] (new ∷ rest) = ⊥
 AreHeard at touch (e ∷ es) [] = ⊥

@@ -1,4 +1,4 @@
--- The index of moments: what holds of it beside the entries.
+-- The index of moments: what holds of it beside the seats.
 use Rattle.std.specs.Prelude.{◌≡◌, ℕ, ◌<◌, ◌≤◌, Bool, true, cond, List, length, map, Option, Some, None, is_some, slice_get, slice_index_or}
 use Rattle.place_set.specs.Places.{has_place, place_room}
 use Rattle.timer_heap.specs.Timers.{Timers, moment_in, room}
@@ -8,22 +8,22 @@ use Rattle.std.specs.Prelude.{false}
 use Rattle.std.specs.List.{list_any}
 use Rattle.history_model.specs.declared.Reading.{Reading}
 use Rattle.history_model.specs.declared.CivilMinute.{CivilMinute}
-use Rattle.history_model.specs.declared.Entry.{Entry as Due}
+use Rattle.history_model.specs.declared.Entry.{Entry}
 use Rattle.history_model.specs.Calendar.{allows}
 use Rattle.history_model.specs.LaterMoments.{IsLater}
-use Rattle.job_table.specs.Entries.{name}
-use Rattle.job_table.specs.declared.entry.Entry.{Entry}
+use Rattle.job_table.specs.Seats.{name}
+use Rattle.job_table.specs.declared.seat.Seat.{Seat}
 use Rattle.job_table.specs.declared.jobs.Jobs.{Jobs}
 use Rattle.job_table.specs.declared.jobs.Index.{Index}
 
 -- the moment that the job's number is to have: none if the job is gone
-abbrev pub moment_for : Entry → ℕ → Option ℕ
+abbrev pub moment_for : Seat → ℕ → Option ℕ
 moment_for e up = cond e.has_gone None (next_by e.core.facts up)
 
 -- each job's number has its moment
-abbrev pub AreTimed : Timers → ℕ → List Entry → Type 0
+abbrev pub AreTimed : Timers → ℕ → List Seat → Type 0
 AreTimed timers up es =
-    (k : ℕ) (e : Entry) → slice_get es k ≡ Some e → moment_in timers e.number ≡ moment_for e up
+    (k : ℕ) (e : Seat) → slice_get es k ≡ Some e → moment_in timers e.number ≡ moment_for e up
 
 -- no number has a moment that is no job's
 abbrev pub AreAlone : Timers → List Name → Type 0
@@ -40,9 +40,9 @@ abbrev pub place_in : List ℕ → ℕ → ℕ
 place_in places number = slice_index_or places number 0
 
 -- each job's number has its place
-abbrev pub ArePlaced : List ℕ → List Entry → Type 0
+abbrev pub ArePlaced : List ℕ → List Seat → Type 0
 ArePlaced places es =
-    (k : ℕ) (e : Entry) → slice_get es k ≡ Some e → (e.number < length places)
+    (k : ℕ) (e : Seat) → slice_get es k ≡ Some e → (e.number < length places)
     × (place_in places e.number ≡ k)
 
 -- what of the index goes by names alone
@@ -54,8 +54,8 @@ pub record IsNamed (index : Index) (names : List Name) : Type 0 where
   pub empty : (place : ℕ) → has_place index.ready place ≡ false
   pub marks : length names ≤ place_room index.ready
 
--- the index is that of these entries, at this moment, and has no mark
-pub record IsIndexOf (index : Index) (up : ℕ) (es : List Entry) : Type 0 where
+-- the index is that of these seats, at this moment, and has no mark
+pub record IsIndexOf (index : Index) (up : ℕ) (es : List Seat) : Type 0 where
   pub timed : AreTimed index.timers up es
   pub alone : AreAlone index.timers (map name es)
   pub space : HaveRoom index.timers (map name es)
@@ -63,16 +63,16 @@ pub record IsIndexOf (index : Index) (up : ℕ) (es : List Entry) : Type 0 where
   pub empty : (place : ℕ) → has_place index.ready place ≡ false
   pub marks : length es ≤ place_room index.ready
 
--- the index beside the entries, as each event finds and leaves it
+-- the index beside the seats, as each event finds and leaves it
 abbrev pub IsIndexed : Jobs → Type 0
-IsIndexed t = IsIndexOf t.index t.reading.up t.entries.items
+IsIndexed t = IsIndexOf t.index t.reading.up t.seats.items
 
 -- some entry has no Minute, or that of one of these minutes
-abbrev pub is_minute_among : List Due → List CivilMinute → Bool
+abbrev pub is_minute_among : List Entry → List CivilMinute → Bool
 is_minute_among calendar minutes =
     list_any (λ minute. list_any (λ entry. allows entry.minute minute.minute) calendar) minutes
 
 -- no moment of the job is reached, and none of its minutes is among these
-pub record IsSpare (before at : Reading) (minutes : List CivilMinute) (e : Entry) : Type 0 where
+pub record IsSpare (before at : Reading) (minutes : List CivilMinute) (e : Seat) : Type 0 where
   pub later : IsLater at.up (next_by e.core.facts before.up)
   pub apart : is_minute_among e.def.calendar minutes ≡ false

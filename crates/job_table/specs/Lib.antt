@@ -6,7 +6,7 @@ pub mod Counts
 pub mod Minutes
 pub mod Periods
 pub mod Triggers
-pub mod Entries
+pub mod Seats
 pub mod Sound
 pub mod Alike
 pub mod Touch
@@ -21,6 +21,8 @@ pub mod Listed
 pub mod Nearest
 pub mod Moments
 pub mod Visiting
+pub mod Visits
+pub mod Asking
 pub mod Marking
 pub mod Index
 pub mod Touching

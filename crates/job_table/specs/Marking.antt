@@ -4,9 +4,9 @@ use Rattle.place_set.specs.Places.{Places, has_place, place_room}
 use Rattle.timer_heap.specs.Timers.{Timers, moment_in}
 use Rattle.history_model.specs.declared.CivilMinute.{CivilMinute}
 use Rattle.job_table.specs.Index.{is_minute_among, place_in}
-use Rattle.job_table.specs.declared.entry.Entry.{Entry}
+use Rattle.job_table.specs.declared.seat.Seat.{Seat}
 use Rattle.std.specs.List.{list_any, filter}
-use Rattle.job_table.specs.Triggers.{is_of, is_placed_at}
+use Rattle.job_table.specs.Triggers.{has_rank, is_placed_at}
 use Rattle.job_table.specs.declared.trigger.Listed.{Listed}
 use Rattle.history_model.specs.LaterMoments.{IsLater}
 
@@ -29,10 +29,10 @@ IsReachedAt up timers places place =
     × (moment_in timers number ≡ Some moment) × (moment ≤ up)
 
 -- the place is that of a job with a calendar entry whose minute is among these
-abbrev pub IsMinuteAt : List Entry → List CivilMinute → ℕ → Type 0
+abbrev pub IsMinuteAt : List Seat → List CivilMinute → ℕ → Type 0
 IsMinuteAt es minutes place =
-    (entry : Entry) × (slice_get es place ≡ Some entry)
-    × (is_minute_among entry.def.calendar minutes ≡ true)
+    (seat : Seat) × (slice_get es place ≡ Some seat)
+    × (is_minute_among seat.def.calendar minutes ≡ true)
 
 -- each listed job has a place, and a place has room for its mark
 abbrev pub HaveMarks : List Listed → List ℕ → Places → Type 0
@@ -43,7 +43,7 @@ HaveMarks listed places ready =
 -- a listed job with this rank stands at the place
 abbrev pub stands_at : List Listed → List ℕ → List ℕ → ℕ → Bool
 stands_at listed places rank place =
-    list_any (is_placed_at places place) (filter (is_of rank) listed)
+    list_any (is_placed_at places place) (filter (has_rank rank) listed)
 
 -- the places that pass have a mark, and each other one is as it was
 pub record Marks (old new : Places) (passes : ℕ → Bool) : Type 0 where

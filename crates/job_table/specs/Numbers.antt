@@ -7,12 +7,12 @@ use Rattle.job_table.specs.Loads.{described_in, number_in}
 use Rattle.job_table.specs.declared.loading.Ready.{Ready}
 
 -- the row's number, and the definition that it stands for
-abbrev pub name_of : Row → Name
-name_of row = record { number = row.number; described = row.described }
+abbrev pub row_name : Row → Name
+row_name row = record { number = row.number; described = row.described }
 
 -- these for each row
-abbrev pub names_of : List Row → List Name
-names_of rows = map name_of rows
+abbrev pub row_names : List Row → List Name
+row_names rows = map row_name rows
 
 -- a loaded job has the name's number
 abbrev pub is_loaded : List Row → Name → Bool
@@ -28,12 +28,12 @@ pub record IsNumbered (table : Table) : Type 0 where
   pub once : IsOnce table.names
   pub named : AllByRecursion
       (λ row. definition_of_number table.names row.number ≡ Some row.described) table.rows
-  pub gone : names_of table.gone ≡ not_loaded table.rows table.names
+  pub gone : row_names table.gone ≡ not_loaded table.rows table.names
 
 -- after an event that was accepted the names are those of the jobs that were loaded before it: no
 -- job changes its number
 abbrev pub KeepsNames : {A : Type 0} → Result A Refusal → Table → Table → Type 0
-KeepsNames (Ok a) old new = new.names ≡ names_of old.rows
+KeepsNames (Ok a) old new = new.names ≡ row_names old.rows
 KeepsNames (Err refusal) old new = Unit {0}
 
 -- after a load each number that a loaded job had is still its own, and the new job has the number

@@ -6,9 +6,9 @@ use Rattle.job_defs.specs.Described.{Described}
 use Rattle.job_table.specs.Tables.{Name}
 
 -- the interval is above 0, if there is one
-abbrev pub HasPeriod : Described → Type 0
-HasPeriod d = ForSome d.start_interval (λ seconds. 0 < seconds)
+abbrev pub HasPositivePeriod : Described → Type 0
+HasPositivePeriod d = ForSome d.start_interval (λ seconds. 0 < seconds)
 
 -- that of each of the definitions
 abbrev pub HavePeriods : List Name → Type 0
-HavePeriods names = AllByRecursion (λ name. HasPeriod name.described) names
+HavePeriods names = AllByRecursion (λ name. HasPositivePeriod name.described) names

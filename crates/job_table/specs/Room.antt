@@ -7,13 +7,13 @@ use Rattle.history_model.specs.Machine.{sets}
 use Rattle.job_table.specs.Tables.{Table}
 
 -- one more, unless the new one takes the place of one
-abbrev pub one_more : Option ℕ → ℕ → ℕ
-one_more None held = held + 1
-one_more (Some place) held = held
+abbrev pub one_setting_more : Option ℕ → ℕ → ℕ
+one_setting_more None held = held + 1
+one_setting_more (Some place) held = held
 
 -- how many settings are held once the label has its new one: one more, only if it had none
 abbrev pub held_with : Label → List Setting → ℕ
-held_with label settings = one_more (position (sets label) settings) (length settings)
+held_with label settings = one_setting_more (position (sets label) settings) (length settings)
 
 -- how many are held once the new one, if there is one, is made
 abbrev pub held_after : Option Setting → List Setting → ℕ

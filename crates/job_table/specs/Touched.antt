@@ -7,28 +7,28 @@ use Rattle.timer_heap.specs.Timers.{moment_in}
 use Rattle.job_table.specs.Tables.{Row}
 use Rattle.job_table.specs.StandsFor.{IsAtRest}
 use Rattle.job_table.specs.Counts.{counts, count_in}
-use Rattle.job_table.specs.Entries.{rows, has_label}
+use Rattle.job_table.specs.Seats.{rows, has_label}
 use Rattle.job_table.specs.Index.{moment_for}
 use Rattle.job_table.specs.Touch.{is_touched}
-use Rattle.job_table.specs.declared.entry.Entry.{Entry}
-use Rattle.job_table.specs.declared.entry.Touch.{Touch}
+use Rattle.job_table.specs.declared.seat.Seat.{Seat}
+use Rattle.job_table.specs.declared.seat.Touch.{Touch}
 use Rattle.job_table.specs.declared.jobs.Jobs.{Jobs}
 
--- each entry but the one at this place is as it was
-pub record IsChangedAt (place : ℕ) (es later : List Entry) : Type 0 where
+-- each seat but the one at this place is as it was
+pub record IsChangedAt (place : ℕ) (es later : List Seat) : Type 0 where
   pub inside : place < length later
-  pub others : (k : ℕ) (e : Entry) → slice_get later k ≡ Some e → place ≢ k →
+  pub others : (k : ℕ) (e : Seat) → slice_get later k ≡ Some e → place ≢ k →
       slice_get es k ≡ Some e
 
 -- the job at this place is the first with the label
-pub record IsHandedAt (label : Label) (place : ℕ) (es later : List Entry) : Type 0 where
+pub record IsHandedAt (label : Label) (place : ℕ) (es later : List Seat) : Type 0 where
   pub at : Some place ≡ position (has_label label) es
-  pub own : (e : Entry) → slice_get later place ≡ Some e → has_label label e ≡ true
+  pub own : (e : Seat) → slice_get later place ≡ Some e → has_label label e ≡ true
 
 -- each job that the touch does not reach has its moment
 abbrev pub AreTimedBut : Touch → Jobs → Type 0
 AreTimedBut touch t =
-    (k : ℕ) (e : Entry) → slice_get t.entries.items k ≡ Some e → is_touched touch k e.def ≡ false →
+    (k : ℕ) (e : Seat) → slice_get t.seats.items k ≡ Some e → is_touched touch k e.def ≡ false →
     moment_in t.index.timers e.number ≡ moment_for e t.reading.up
 
 -- from this place on: the jobs that the touch does not reach rest
@@ -40,9 +40,9 @@ RestBut touch place (row ∷ rows) (job ∷ jobs) =
     × RestBut touch (suc place) rows jobs
 
 -- the count of a label stays if the touch reaches no job that has it
-abbrev pub SparesBut : Touch → List Entry → List Entry → Type 0
+abbrev pub SparesBut : Touch → List Seat → List Seat → Type 0
 SparesBut touch es later =
     (label : Label) →
-    ((place : ℕ) (e : Entry) → slice_get es place ≡ Some e → has_label label e ≡ true →
+    ((place : ℕ) (e : Seat) → slice_get es place ≡ Some e → has_label label e ≡ true →
     is_touched touch place e.def ≡ false) →
     count_in (counts (rows later)) label ≡ count_in (counts (rows es)) label

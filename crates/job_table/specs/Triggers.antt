@@ -4,9 +4,9 @@ use Rattle.std.specs.List.{flat_map, AllByRecursion}
 use Rattle.history_model.specs.Labels.{is_same, is_before}
 use Rattle.job_defs.specs.Described.{Described}
 use Rattle.job_table.specs.Tables.{Name}
-use Rattle.job_table.specs.Entries.{stays}
+use Rattle.job_table.specs.Seats.{seat_stays}
 use Rattle.job_table.specs.Index.{place_in}
-use Rattle.job_table.specs.declared.entry.Entry.{Entry}
+use Rattle.job_table.specs.declared.seat.Seat.{Seat}
 use Rattle.job_table.specs.declared.trigger.Trigger.{Trigger}
 use Rattle.job_table.specs.declared.trigger.Trigger.TheVariants.{Minute, Path}
 use Rattle.job_table.specs.declared.trigger.Sought.{Sought}
@@ -40,8 +40,8 @@ path_in (Minute minute) = None
 path_in (Path path) = Some path
 
 -- the trigger has this rank
-abbrev pub is_of : List ℕ → Listed → Bool
-is_of sought one = is_same sought (rank one.trigger)
+abbrev pub has_rank : List ℕ → Listed → Bool
+has_rank sought one = is_same sought (rank one.trigger)
 
 -- the trigger stands before this rank
 abbrev pub is_below : List ℕ → Listed → Bool
@@ -79,17 +79,17 @@ pub record AreListed (listed : List Listed) (names : List Name) : Type 0 where
   pub order : AreOrdered listed
 
 -- the job is there and is not gone
-abbrev pub is_staying : Option Entry → Bool
+abbrev pub is_staying : Option Seat → Bool
 is_staying None = false
-is_staying (Some e) = stays e
+is_staying (Some e) = seat_stays e
 
 -- a job stands at this place, if there is one, and is not gone
-abbrev pub stays_at : List Entry → Option ℕ → Bool
+abbrev pub stays_at : List Seat → Option ℕ → Bool
 stays_at es None = false
 stays_at es (Some place) = is_staying (slice_get es place)
 
 -- the job with this number stands at the number's place and is not gone
-abbrev pub stays_under : List ℕ → List Entry → Listed → Bool
+abbrev pub stays_under : List ℕ → List Seat → Listed → Bool
 stays_under places es one = stays_at es (slice_get places one.number)
 
 -- the job of the trigger stands at this place

@@ -10,7 +10,7 @@ use crate::{JobTable, Step};
 use history_model::{Answer, Ask, Ended, JobItem, JobNo, Refusal};
 
 impl JobTable {
-    ghost use Rattle.job_table.specs.Ends.{IsAnswer, GoesOn, AreKnown};
+    ghost use Rattle.job_table.specs.Ends.{IsAnswer, TableGoesOn, AreKnown};
     ghost use Rattle.job_table.specs.Tables.{label_of};
     ghost use Rattle.job_core.specs.Memory.{NeedsNoMemory};
 
@@ -20,7 +20,7 @@ impl JobTable {
         ensures answer { IsAnswer (OfJob label.now (Asked Ask.Start)) self.old result }
         ensures memory { NeedsNoMemory result }
         ensures known { IfOk result AreKnown }
-        ensures* kept { sem 𝓛 (GoesOn self.entry result (OfJob label.now (Asked Ask.Start))) }
+        ensures* kept { sem 𝓛 (TableGoesOn self.entry result (OfJob label.now (Asked Ask.Start))) }
     {
         self.hear(label, JobItem::Asked(Ask::Start))
     }
@@ -31,7 +31,7 @@ impl JobTable {
         ensures answer { IsAnswer (OfJob label.now (Asked Ask.Stop)) self.old result }
         ensures memory { NeedsNoMemory result }
         ensures known { IfOk result AreKnown }
-        ensures* kept { sem 𝓛 (GoesOn self.entry result (OfJob label.now (Asked Ask.Stop))) }
+        ensures* kept { sem 𝓛 (TableGoesOn self.entry result (OfJob label.now (Asked Ask.Stop))) }
     {
         self.hear(label, JobItem::Asked(Ask::Stop))
     }
@@ -44,7 +44,7 @@ impl JobTable {
         ensures memory { NeedsNoMemory result }
         ensures known { IfOk result AreKnown }
         ensures* kept { sem 𝓛
-            (GoesOn self.entry result (OfJob label.now (Asked (Ask.Kickstart kills_first)))) }
+            (TableGoesOn self.entry result (OfJob label.now (Asked (Ask.Kickstart kills_first)))) }
     {
         self.hear(label, JobItem::Asked(Ask::Kickstart(kills_first)))
     }
@@ -55,7 +55,7 @@ impl JobTable {
         ensures answer { IsAnswer (OfJob label.now (Came conn)) self.old result }
         ensures memory { NeedsNoMemory result }
         ensures known { IfOk result AreKnown }
-        ensures* kept { sem 𝓛 (GoesOn self.entry result (OfJob label.now (Came conn))) }
+        ensures* kept { sem 𝓛 (TableGoesOn self.entry result (OfJob label.now (Came conn))) }
     {
         self.hear(label, JobItem::Came(conn))
     }
@@ -65,7 +65,7 @@ impl JobTable {
         ensures answer { IsAnswer (OfJob label.now (Left conn)) self.old result }
         ensures memory { NeedsNoMemory result }
         ensures known { IfOk result AreKnown }
-        ensures* kept { sem 𝓛 (GoesOn self.entry result (OfJob label.now (Left conn))) }
+        ensures* kept { sem 𝓛 (TableGoesOn self.entry result (OfJob label.now (Left conn))) }
     {
         self.hear(label, JobItem::Left(conn))
     }
@@ -78,7 +78,7 @@ impl JobTable {
         ensures memory { NeedsNoMemory result }
         ensures known { IfOk result AreKnown }
         ensures* kept { sem 𝓛
-            (GoesOn self.entry result (OfJob label.now (Answered (answers.Spawned run pid)))) }
+            (TableGoesOn self.entry result (OfJob label.now (Answered (answers.Spawned run pid)))) }
     {
         self.hear(label, JobItem::Answered(Answer::Spawned { run, pid }))
     }
@@ -91,7 +91,7 @@ impl JobTable {
         ensures memory { NeedsNoMemory result }
         ensures known { IfOk result AreKnown }
         ensures* kept { sem 𝓛
-            (GoesOn self.entry result (OfJob label.now (Answered (answers.SpawnRefused run)))) }
+            (TableGoesOn self.entry result (OfJob label.now (Answered (answers.SpawnRefused run)))) }
     {
         self.hear(label, JobItem::Answered(Answer::SpawnRefused { run }))
     }
@@ -103,7 +103,7 @@ impl JobTable {
         ensures memory { NeedsNoMemory result }
         ensures known { IfOk result AreKnown }
         ensures* kept { sem 𝓛
-            (GoesOn self.entry result (OfJob label.now (Answered (answers.Termed run ok)))) }
+            (TableGoesOn self.entry result (OfJob label.now (Answered (answers.Termed run ok)))) }
     {
         self.hear(label, JobItem::Answered(Answer::Termed { run, ok }))
     }
@@ -115,7 +115,7 @@ impl JobTable {
         ensures memory { NeedsNoMemory result }
         ensures known { IfOk result AreKnown }
         ensures* kept { sem 𝓛
-            (GoesOn self.entry result (OfJob label.now (Answered (answers.Killed run ok)))) }
+            (TableGoesOn self.entry result (OfJob label.now (Answered (answers.Killed run ok)))) }
     {
         self.hear(label, JobItem::Answered(Answer::Killed { run, ok }))
     }
@@ -125,7 +125,7 @@ impl JobTable {
         ensures answer { IsAnswer (OfJob label.now (RunEnded run how)) self.old result }
         ensures memory { NeedsNoMemory result }
         ensures known { IfOk result AreKnown }
-        ensures* kept { sem 𝓛 (GoesOn self.entry result (OfJob label.now (RunEnded run how))) }
+        ensures* kept { sem 𝓛 (TableGoesOn self.entry result (OfJob label.now (RunEnded run how))) }
     {
         self.hear(label, JobItem::Ended { run, how })
     }
@@ -136,7 +136,7 @@ impl JobTable {
         ensures answer { IsAnswer (OfJob label.now (WaitRefused run)) self.old result }
         ensures memory { NeedsNoMemory result }
         ensures known { IfOk result AreKnown }
-        ensures* kept { sem 𝓛 (GoesOn self.entry result (OfJob label.now (WaitRefused run))) }
+        ensures* kept { sem 𝓛 (TableGoesOn self.entry result (OfJob label.now (WaitRefused run))) }
     {
         self.hear(label, JobItem::WaitRefused { run })
     }
@@ -149,7 +149,7 @@ impl JobTable {
             self.old result }
         ensures memory { NeedsNoMemory result }
         ensures known { IfOk result AreKnown }
-        ensures* kept { sem 𝓛 (GoesOn self.entry result
+        ensures* kept { sem 𝓛 (TableGoesOn self.entry result
             (OfJob (label_of self.old.names number) (Answered answer))) }
     {
         self.jobs.hear_answer(number, answer)?;

@@ -1,34 +1,31 @@
 //! The fields of the table, and the parts of which its events are made.
 
-ghost use Rattle.std.specs.Prelude.{◌≡◌, ◌<◌, [], List, Option, OnOk, OnErr, map, length, Some};
-ghost use Rattle.std.specs.List.{filter_map, flat_map, filter, position};
+ghost use Rattle.std.specs.Prelude.{◌≡◌, ◌<◌, [], List, OnOk, OnErr, map, length, Some};
+ghost use Rattle.std.specs.List.{filter, position};
 ghost use Rattle.history_model.specs.Search.{first};
-ghost use Rattle.history_model.specs.Items.{Item};
 ghost use Rattle.history_model.specs.Machine.{Job, is_of, past_in};
 ghost use Rattle.history_model.specs.Labels.{Label};
 ghost use Rattle.history_model.specs.Acceptance.{refusal_at};
-ghost use Rattle.history_model.specs.Step.{heard, heard_one, stays, orders_of};
+ghost use Rattle.history_model.specs.Step.{heard_one};
 ghost use Rattle.history_model.specs.JobItems.{item_of};
-ghost use Rattle.job_table.specs.StandsFor.{KeepsJobs, labelled};
-ghost use Rattle.job_table.specs.Numbers.{names_of, KeepsNames};
+ghost use Rattle.job_table.specs.StandsFor.{KeepsJobs};
+ghost use Rattle.job_table.specs.Numbers.{row_names, KeepsNames};
 ghost use Rattle.job_table.specs.Room.{HasSameRoom};
-ghost use Rattle.job_table.specs.Entries.{rows, gone, name, has_label, AllStay};
-ghost use Rattle.job_table.specs.Counts.{counts, Counts, IsCounted};
+ghost use Rattle.job_table.specs.Seats.{rows, name, has_label, AllStay};
+ghost use Rattle.job_table.specs.Counts.{counts, Counts};
 ghost use Rattle.job_core.specs.Memory.{NeedsNoMemory};
-ghost use Rattle.job_table.specs.Hearing.{AreFor, IsAccepted, present_with};
 ghost use Rattle.job_table.specs.Loads.{refused_with};
-ghost use Rattle.job_table.specs.Touched.{IsChangedAt, IsHandedAt, AreTimedBut, RestBut, SparesBut};
+ghost use Rattle.job_table.specs.Touched.{IsChangedAt, IsHandedAt};
 ghost use Rattle.job_table.specs.Telling.{IsTold};
-ghost use Rattle.job_table.specs.Index.{ArePlaced};
-ghost use Rattle.job_table.specs.Touch.{heard_at};
+ghost use Rattle.job_table.specs.Asking.{CanAsk, AsksTouched};
 ghost use Rattle.std.specs.Option.{ForSome};
 
-use crate::entry::{Entry, Touch};
-use crate::leaving::Gone;
-use crate::mark::mark_touched;
+use crate::gone_jobs::Gone;
+use crate::marks::mark_touched;
+use crate::seat::{Seat, Touch};
 use crate::settings::Settings;
 use crate::trigger::Listed;
-use crate::visit::visit_ready;
+use crate::visits::visit_ready;
 use calendar_due::Zone;
 use history_model::{JobItem, Order, Reading, Refusal};
 use job_core::JobEvent;
@@ -43,7 +40,7 @@ pub struct Jobs {
     pub zone: Zone,
     pub settings: Settings,
     pub is_shutting_down: bool,
-    pub entries: Vec<Entry>,
+    pub seats: Vec<Seat>,
     pub numbers: Slab<()>,
     pub orders: Vec<Order>,
     pub visited: u32,
@@ -68,7 +65,7 @@ pub struct Index {
 }
 
 impl Jobs {
-    ghost use Rattle.job_table.specs.Sound.{seen, IsSound, IsWhole};
+    ghost use Rattle.job_table.specs.Sound.{seen_table, IsSound, IsWhole};
     ghost use Rattle.job_table.specs.Alike.{IsAlike};
 
     /// Drops the jobs that went at the last event, and its orders.
@@ -76,12 +73,12 @@ impl Jobs {
         requires { IsWhole self.old }
         ensures whole { IsWhole self.new }
         ensures sound { IsSound self.new }
-        ensures stay { AllStay self.new.entries.items }
-        ensures rows { rows self.new.entries.items ≡ rows self.old.entries.items }
-        ensures names { map name self.new.entries.items ≡ names_of (rows self.old.entries.items) }
+        ensures stay { AllStay self.new.seats.items }
+        ensures rows { rows self.new.seats.items ≡ rows self.old.seats.items }
+        ensures names { map name self.new.seats.items ≡ row_names (rows self.old.seats.items) }
         ensures orders { self.new.orders.items ≡ [] }
         ensures alike { IsAlike self.old self.new }
-        ensures room { HasSameRoom (seen self.old) (seen self.new) }
+        ensures room { HasSameRoom (seen_table self.old) (seen_table self.new) }
     {
         self.orders.clear();
         self.drop_left();
@@ -92,17 +89,17 @@ impl Jobs {
     /// those of the job.
     pub fn tell(&mut self, found: Option<usize>, item: JobItem) -> Result<(), Refusal>
         requires whole { IsWhole self.old }
-        requires stay { AllStay self.old.entries.items }
+        requires stay { AllStay self.old.seats.items }
         requires empty { self.old.orders.items ≡ [] }
-        requires inside { ForSome found (λ place. place < length self.old.entries.items) }
-        ensures told { (label : Label) → found ≡ position (has_label label) self.old.entries.items →
-            IsTold label (item_of item) (seen self.old) result (seen self.new) }
-        ensures counted { Counts result (seen self.old) (seen self.new) }
-        ensures names { KeepsNames result (seen self.old) (seen self.new) }
+        requires inside { ForSome found (λ place. place < length self.old.seats.items) }
+        ensures told { (label : Label) → found ≡ position (has_label label) self.old.seats.items →
+            IsTold label (item_of item) (seen_table self.old) result (seen_table self.new) }
+        ensures counted { Counts result (seen_table self.old) (seen_table self.new) }
+        ensures names { KeepsNames result (seen_table self.old) (seen_table self.new) }
         ensures memory { NeedsNoMemory result }
         ensures whole { IsWhole self.new }
         ensures alike { IsAlike self.old self.new }
-        ensures room { HasSameRoom (seen self.old) (seen self.new) }
+        ensures room { HasSameRoom (seen_table self.old) (seen_table self.new) }
     {
         let Some(place) = found else {
             return Err(Refusal::NoSuchJob);
@@ -115,80 +112,53 @@ impl Jobs {
     /// Tells the job at this place what happened to it.
     fn hand_at(&mut self, place: usize, item: JobItem) -> Result<(), Refusal>
         requires sound { IsSound self.old }
-        requires stay { AllStay self.old.entries.items }
-        requires inside { place < length self.old.entries.items }
+        requires stay { AllStay self.old.seats.items }
+        requires inside { place < length self.old.seats.items }
         ensures answer { (label : Label) (jobs : List Job) →
-            Some place ≡ position (has_label label) self.old.entries.items →
-            KeepsJobs self.old.reading (rows self.old.entries.items) jobs →
+            Some place ≡ position (has_label label) self.old.seats.items →
+            KeepsJobs self.old.reading (rows self.old.seats.items) jobs →
             refused_with result
             ≡ refusal_at (past_in (first (filter (is_of label) jobs))) (item_of item) }
         ensures place { (label : Label) →
-            Some place ≡ position (has_label label) self.old.entries.items →
-            IsHandedAt label place self.old.entries.items self.new.entries.items }
+            Some place ≡ position (has_label label) self.old.seats.items →
+            IsHandedAt label place self.old.seats.items self.new.seats.items }
         ensures kept { (label : Label) (jobs : List Job) →
-            Some place ≡ position (has_label label) self.old.entries.items →
-            KeepsJobs self.old.reading (rows self.old.entries.items) jobs →
+            Some place ≡ position (has_label label) self.old.seats.items →
+            KeepsJobs self.old.reading (rows self.old.seats.items) jobs →
             OnOk result
-            (KeepsJobs self.old.reading (rows self.new.entries.items)
+            (KeepsJobs self.old.reading (rows self.new.seats.items)
             (heard_one label (item_of item) jobs)) }
-        ensures rows { OnErr result (rows self.new.entries.items ≡ rows self.old.entries.items) }
-        ensures others { IsChangedAt place self.old.entries.items self.new.entries.items }
-        ensures names { map name self.new.entries.items ≡ map name self.old.entries.items }
-        ensures counts { counts (rows self.new.entries.items)
-            ≡ counts (rows self.old.entries.items) }
+        ensures rows { OnErr result (rows self.new.seats.items ≡ rows self.old.seats.items) }
+        ensures others { IsChangedAt place self.old.seats.items self.new.seats.items }
+        ensures names { map name self.new.seats.items ≡ map name self.old.seats.items }
+        ensures counts { counts (rows self.new.seats.items)
+            ≡ counts (rows self.old.seats.items) }
         ensures memory { NeedsNoMemory result }
         ensures sound { IsSound self.new }
-        ensures stay { AllStay self.new.entries.items }
+        ensures stay { AllStay self.new.seats.items }
         ensures index { self.new.index ≡ self.old.index }
         ensures orders { self.new.orders ≡ self.old.orders }
         ensures alike { IsAlike self.old self.new }
-        ensures room { HasSameRoom (seen self.old) (seen self.new) }
+        ensures room { HasSameRoom (seen_table self.old) (seen_table self.new) }
     {
-        let entry = &mut self.entries[place];
-        entry.core.event(JobEvent::Item(item), self.reading)
+        let seat = &mut self.seats[place];
+        seat.core.event(JobEvent::Item(item), self.reading)
     }
 
     /// Tells the jobs that the touch reaches what it is for them, and asks them alone. The reading stays.
     pub fn ask_touched(&mut self, touch: Touch<'_>)
-        requires sound { IsSound self.old }
-        requires stay { AllStay self.old.entries.items }
-        requires empty { self.old.orders.items ≡ [] }
-        requires still { present_with touch self.old.reading ≡ self.old.reading }
-        requires inside { ForSome (heard_at touch) (λ place. place < length self.old.entries.items) }
-        requires placed { ArePlaced self.old.index.places.items self.old.entries.items }
-        requires timed { AreTimedBut touch self.old }
-        ensures kept { (jobs : List Job) (item : Job → Option Item) →
-            AreFor touch.entry item (rows self.old.entries.items) jobs →
-            IsAccepted self.old.reading item →
-            RestBut touch.entry 0 (rows self.old.entries.items) jobs →
-            KeepsJobs self.old.reading (rows self.old.entries.items) jobs →
-            KeepsJobs self.old.reading (rows self.new.entries.items)
-            (filter_map stays (heard item jobs)) }
-        ensures orders { (jobs : List Job) (item : Job → Option Item) →
-            AreFor touch.entry item (rows self.old.entries.items) jobs →
-            IsAccepted self.old.reading item →
-            RestBut touch.entry 0 (rows self.old.entries.items) jobs →
-            KeepsJobs self.old.reading (rows self.old.entries.items) jobs →
-            labelled (map name self.new.entries.items) self.new.orders.items
-            ≡ flat_map orders_of (heard item jobs) }
-        ensures names { map name self.new.entries.items ≡ map name self.old.entries.items }
-        ensures counted { IsCounted (counts (rows self.old.entries.items))
-            (rows self.new.entries.items) (gone self.new.entries.items) self.new.visited }
-        ensures spared { SparesBut touch.entry self.old.entries.items self.new.entries.items }
-        ensures triggers { self.new.triggers ≡ self.old.triggers }
-        ensures whole { IsWhole self.new }
-        ensures alike { IsAlike self.old self.new }
-        ensures room { HasSameRoom (seen self.old) (seen self.new) }
+        requires { CanAsk touch self.old }
+        ensures { AsksTouched touch.entry self.old self.new }
     {
         mark_touched(
-            &self.entries,
+            &self.seats,
             touch,
             &self.triggers,
             &self.index.places,
             &mut self.index.ready,
         );
         let (visited, gone) = visit_ready(
-            &mut self.entries,
+            &mut self.seats,
             &mut self.index.ready,
             &mut self.index.timers,
             touch,

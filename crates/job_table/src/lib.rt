@@ -12,40 +12,40 @@ ghost use Rattle.history_model.specs.Acceptance.{refusal_in};
 ghost use Rattle.history_model.specs.declared.Refusal.TheVariants.{NoMemory};
 ghost use Rattle.history_model.specs.Machine.{State, opened, past_of, ListJobs, PrintJob, OfJob, UnloadJob, ShutDown, Tick, Sight};
 
-mod advance;
-mod after;
+mod all_seats;
 mod byte_order;
 mod calls;
-mod changing;
-mod entry;
 mod events;
-mod find;
-mod held;
+mod gone_jobs;
+mod held_parts;
 mod index;
 mod jobs;
-mod leaving;
 mod loading;
-mod mark;
+mod marks;
 mod moments;
+mod next_in_order;
 mod opening;
+mod places;
 mod prepared;
 mod questions;
-mod scan;
+mod reading;
+mod reasons;
+mod seat;
 mod setting_order;
 mod settings;
+mod settings_change;
 mod texts;
 mod trigger;
 mod triggers;
-mod visit;
-mod why;
+mod visits;
 
+use all_seats::all_gone;
 use calendar_due::Zone;
-pub use changing::NewSetting;
 use history_model::{DemandKind, JobItem, JobNo, Obs, Order, Reading, Reasons, Refusal, Setting};
 use job_defs::Def;
 use jobs::Jobs;
 pub use loading::Ready;
-use scan::all_gone;
+pub use settings_change::NewSetting;
 use std::alloc::Global;
 use std::marker::Model;
 
@@ -60,9 +60,9 @@ impl Model for JobTable {
 
     ghost Value = { Table };
 
-    ghost use Rattle.job_table.specs.Sound.{seen, IsWhole};
+    ghost use Rattle.job_table.specs.Sound.{seen_table, IsWhole};
 
-    ghost view = { λ t. seen t.jobs };
+    ghost view = { λ t. seen_table t.jobs };
 
     ghost invariant = { λ t. IsWhole t.jobs };
 }
@@ -102,7 +102,7 @@ impl<'a> Step<'a> {
 }
 
 impl JobTable {
-    ghost use Rattle.job_table.specs.Ends.{IsAnswer, GoesOn, GoesOnUnless, AreKnown, acts_of, names_in};
+    ghost use Rattle.job_table.specs.Ends.{IsAnswer, TableGoesOn, TableGoesOnUnless, AreKnown, lent_acts, names_in};
     ghost use Rattle.job_table.specs.Outcomes.{UnlessMemory, IsReplyText, Means};
     ghost use Rattle.job_core.specs.Memory.{NeedsNoMemory};
     ghost use Rattle.job_table.specs.StandsFor.{acts_in, is_none, KeepsState};
@@ -145,7 +145,7 @@ impl JobTable {
     /// Lends what the last event gave.
     #[tactic(auto, using(crate::proofs::NumbersLemmas::numbered, crate::proofs::TriggerCountLemmas::triggers_held))]
     pub fn last_step(&self) -> Step<'_>
-        ensures orders { acts_of result ≡ acts_in self.now }
+        ensures orders { lent_acts result ≡ acts_in self.now }
         ensures visited { result.visited ≡ self.now.visited }
         ensures known { AreKnown result }
         ensures names { names_in result ≡ self.now.names }
@@ -166,7 +166,7 @@ impl JobTable {
         ensures answer { IsAnswer (OfJob label.now (item_of item)) self.old result }
         ensures memory { NeedsNoMemory result }
         ensures known { IfOk result AreKnown }
-        ensures* kept { sem 𝓛 (GoesOn self.entry result (OfJob label.now (item_of item))) }
+        ensures* kept { sem 𝓛 (TableGoesOn self.entry result (OfJob label.now (item_of item))) }
     {
         self.jobs.hear(label, item)?;
         Ok(self.last_step())
@@ -178,7 +178,7 @@ impl JobTable {
         ensures answer { IsAnswer ShutDown self.old result }
         ensures memory { NeedsNoMemory result }
         ensures known { IfOk result AreKnown }
-        ensures* kept { sem 𝓛 (GoesOn self.entry result ShutDown) }
+        ensures* kept { sem 𝓛 (TableGoesOn self.entry result ShutDown) }
     {
         self.jobs.shut_down()?;
         Ok(self.last_step())
@@ -191,7 +191,7 @@ impl JobTable {
             IsAnswer (UnloadJob label.now false store) self.old result }
         ensures memory { NeedsNoMemory result }
         ensures known { IfOk result AreKnown }
-        ensures* kept { sem 𝓛 (GoesOn self.entry result (UnloadJob label.now false true)) }
+        ensures* kept { sem 𝓛 (TableGoesOn self.entry result (UnloadJob label.now false true)) }
     {
         self.jobs.unload(label)?;
         Ok(self.last_step())
@@ -202,7 +202,7 @@ impl JobTable {
         ensures answer { IsAnswer (Sight path.now obs) self.old result }
         ensures ok { IsOk result }
         ensures known { IfOk result AreKnown }
-        ensures* kept { sem 𝓛 (GoesOn self.entry result (Sight path.now obs)) }
+        ensures* kept { sem 𝓛 (TableGoesOn self.entry result (Sight path.now obs)) }
     {
         self.jobs.saw(path, obs);
         Ok(self.last_step())
@@ -216,7 +216,7 @@ impl JobTable {
         ensures answer { UnlessMemory result (IsAnswer (Tick at) self.old result) }
         ensures memory { result ≡ Err NoMemory → has_calendars self.old.rows ≡ true }
         ensures known { IfOk result AreKnown }
-        ensures* kept { sem 𝓛 (GoesOnUnless self.entry result (Tick at)) }
+        ensures* kept { sem 𝓛 (TableGoesOnUnless self.entry result (Tick at)) }
     {
         self.jobs.clock(alloc, at)?;
         Ok(self.last_step())
@@ -228,7 +228,7 @@ impl JobTable {
         ensures text { IfOk result (λ text. IsReplyText ListJobs self.now (string_bytes text)) }
         ensures memory { IfErr result (λ refusal. refusal ≡ NoMemory) }
     {
-        match questions::list(alloc, &self.jobs.entries) {
+        match questions::list(alloc, &self.jobs.seats) { // for the proof
             Ok(text) => Ok(text),
             Err(_) => Err(Refusal::NoMemory),
         }
@@ -300,6 +300,6 @@ impl JobTable {
     pub fn is_empty(&self) -> bool
         ensures { (s : State) → KeepsState self.now s → result ≡ is_none s.jobs }
     {
-        all_gone(&self.jobs.entries)
+        all_gone(&self.jobs.seats)
     }
 }

@@ -8,8 +8,8 @@ ghost use Rattle.job_table.specs.Minutes.{is_some_entry, has_calendars};
 ghost use Rattle.job_table.specs.Moments.{IsNextUp, have_calendars};
 
 use crate::JobTable;
-use crate::entry::Entry;
-use crate::leaving::Gone;
+use crate::gone_jobs::Gone;
+use crate::seat::Seat;
 
 impl JobTable {
     /// The least moment, in milliseconds of `up` and after the last reading, at which time alone may make an order of a loaded
@@ -29,14 +29,16 @@ impl JobTable {
     {
         match self.jobs.gone {
             Gone::Nobody => self.jobs.has_calendars,
-            _ => is_some_with_calendar(&self.jobs.entries),
+            _ => is_some_with_calendar(&self.jobs.seats),
         }
     }
 }
 
 /// Whether a job that is not gone has calendar entries.
-fn is_some_with_calendar(entries: &[Entry]) -> bool
-    ensures { result ≡ list_any (λ e. not e.has_gone && is_some_entry e.def.calendar) entries.now }
+fn is_some_with_calendar(seats: &[Seat]) -> bool
+    ensures { result ≡ list_any (λ e. not e.has_gone && is_some_entry e.def.calendar) seats.now }
 {
-    entries.iter().any(|entry| !entry.has_gone && !entry.def.calendar().is_empty())
+    seats
+        .iter()
+        .any(|seat| !seat.has_gone && !seat.def.calendar().is_empty())
 }

@@ -7,7 +7,7 @@ ghost use Rattle.job_table.specs.Triggers.{rank, rank_of, path_in, triggers_of, 
 ghost use Rattle.job_table.specs.declared.trigger.Trigger.TheVariants as triggers;
 
 use crate::byte_order::is_before;
-use history_model::{Entry as Due, JobNo, Text};
+use history_model::{Entry, JobNo, Text};
 use job_defs::{Def, PathState};
 use std::alloc::{AllocError, Global};
 
@@ -91,7 +91,7 @@ pub fn triggers_of(alloc: Global, def: &Def) -> Result<Vec<Trigger>, AllocError>
     Ok(all)
 }
 
-fn add_minutes(all: &mut Vec<Trigger>, calendar: &[Due]) -> Result<(), AllocError>
+fn add_minutes(all: &mut Vec<Trigger>, calendar: &[Entry]) -> Result<(), AllocError>
     ensures { OnOk result (all.new.items
         ≡ all.old.items ++ map (λ due. triggers.Minute due.minute) calendar.now) }
 {

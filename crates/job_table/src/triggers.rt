@@ -4,19 +4,19 @@ ghost use Rattle.std.specs.Prelude.{◌≡◌, ◌≤◌, ◌<◌, ◌+◌, ℕ,
 ghost use Rattle.std.specs.List.{filter};
 ghost use Rattle.std.specs.Option.{option_map};
 ghost use Rattle.std.specs.Vec.{vec_capacity, vec_len};
-ghost use Rattle.job_table.specs.Entries.{name, rows};
+ghost use Rattle.job_table.specs.Seats.{name, rows};
 ghost use Rattle.job_table.specs.Index.{ArePlaced};
 ghost use Rattle.job_table.specs.Nearest.{IsNearestOf, paths_in};
-ghost use Rattle.job_table.specs.Triggers.{rank_of, is_of, is_below, is_behind, under, AreOrdered, AreListed, stays_under};
+ghost use Rattle.job_table.specs.Triggers.{rank_of, has_rank, is_below, is_behind, under, AreOrdered, AreListed, stays_under};
 
-use crate::entry::Entry;
+use crate::seat::Seat;
 use crate::trigger::{Listed, Sought, Trigger, is_earlier};
 use history_model::JobNo;
 
 /// Those of this trigger, which stand side by side.
 pub fn run_of<'x>(listed: &'x [Listed], sought: Sought<'_>) -> &'x [Listed]
     requires { AreOrdered listed.now }
-    ensures { result.now ≡ filter (is_of (rank_of sought.entry)) listed.now }
+    ensures { result.now ≡ filter (has_rank (rank_of sought.entry)) listed.now }
 {
     let from = listed.partition_point(|one| is_below(one, sought));
     let to = end_of_run(listed, from, sought);
@@ -91,24 +91,24 @@ pub fn enlist(listed: &mut Vec<Listed>, triggers: Vec<Trigger>, number: JobNo)
 }
 
 /// Drops the triggers of the jobs that are gone.
-pub fn forget(listed: &mut Vec<Listed>, places: &[u32], entries: &[Entry])
+pub fn forget(listed: &mut Vec<Listed>, places: &[u32], seats: &[Seat])
     ensures items { listed.new.items
-        ≡ filter (stays_under places.now entries.now) listed.old.items }
+        ≡ filter (stays_under places.now seats.now) listed.old.items }
     ensures capacity { vec_capacity listed.new ≡ vec_capacity listed.old }
 {
-    listed.retain(|one| stays(one, places, entries));
+    listed.retain(|one| stays(one, places, seats));
 }
 
 /// Whether the job of this trigger is not gone.
-fn stays(one: &Listed, places: &[u32], entries: &[Entry]) -> bool
-    ensures { result ≡ stays_under places.now entries.now one.now }
+fn stays(one: &Listed, places: &[u32], seats: &[Seat]) -> bool
+    ensures { result ≡ stays_under places.now seats.now one.now }
 {
     let Some(place) = places.get(one.number as usize) else {
         return false;
     };
-    match entries.get(*place as usize) {
+    match seats.get(*place as usize) {
         None => false,
-        Some(entry) => !entry.has_gone,
+        Some(seat) => !seat.has_gone,
     }
 }
 
@@ -116,18 +116,18 @@ fn stays(one: &Listed, places: &[u32], entries: &[Entry]) -> bool
 pub fn path_after<'x>(
     listed: &'x [Listed],
     places: &[u32],
-    entries: &[Entry],
+    seats: &[Seat],
     text: &str,
 ) -> Option<&'x str>
-    requires listed { AreListed listed.now (map name entries.now) }
-    requires placed { ArePlaced places.now entries.now }
-    ensures { IsNearestOf text.now (paths_in (rows entries.now))
+    requires listed { AreListed listed.now (map name seats.now) }
+    requires placed { ArePlaced places.now seats.now }
+    ensures { IsNearestOf text.now (paths_in (rows seats.now))
         (option_map (λ path. path.now) result) }
 {
     let mut place = place_behind(listed, Sought::Path(text));
     while place < listed.len() {
         let one = &listed[place];
-        if stays(one, places, entries) {
+        if stays(one, places, seats) {
             return one.trigger.path();
         }
         place += 1;

@@ -7,7 +7,7 @@ use Rattle.history_model.specs.declared.event.Event.TheVariants as journaled
 use Rattle.history_model.specs.Labels.{Label, is_label}
 use Rattle.history_model.proofs.BooleanLemmas.{and-false}
 use Rattle.launcher.specs.Accepting.{is_accepted_load, is_load}
-use Rattle.launcher.specs.Inputs.{asked_in, if_label, is_asked}
+use Rattle.launcher.specs.Inputs.{asked_in, event_if_label, is_asked_of_a_job}
 
 -- a line that is a request is a load if its event is
 pub line_loads : (e : journal.Event) → is_load (asked_in e) ≡ is_load (Some e)
@@ -19,7 +19,7 @@ line_loads (journaled.Print job) = refl
 line_loads journaled.Shutdown = refl
 line_loads (journaled.Clock at) = refl
 line_loads (journaled.Saw path obs) = refl
-line_loads (journaled.OfJob job item) = go (is_asked item) where
+line_loads (journaled.OfJob job item) = go (is_asked_of_a_job item) where
   go : (b : Bool) → is_load (if b then Some (journaled.OfJob job item) else None) ≡ false
   go true = refl
   go false = refl
@@ -36,7 +36,7 @@ pub refused_load : (event : Option journal.Event) (refusal : Refusal) → false 
 refused_load event refusal = sym (and-false (is_load event))
 
 -- nor does what happens to a job, whether its name is a label or not
-pub label_loads : (name : Label) (e : journal.Event) (refusal : Option Refusal) → is_load (Some e) ≡ false → false ≡ is_accepted_load (if_label name e) refusal
+pub label_loads : (name : Label) (e : journal.Event) (refusal : Option Refusal) → is_load (Some e) ≡ false → false ≡ is_accepted_load (event_if_label name e) refusal
 label_loads name e refusal is = go (is_label name) where
   go : (b : Bool) → false ≡ (is_load (if b then Some e else None) && is_none refusal)
   go true = sym (ap (λ c. c && is_none refusal) is)

@@ -12,7 +12,7 @@ use Rattle.history_model.specs.Acceptance.{refusal_in}
 use Rattle.history_model.specs.Step.{Outcome, outcome, step, step_by}
 use Rattle.job_table.specs.Tables.{Table}
 use Rattle.job_table.specs.StandsFor.{KeepsState}
-use Rattle.job_table.specs.Loads.{load_of, refused_with}
+use Rattle.job_table.specs.Loads.{load_of_bytes, refused_with}
 use Rattle.job_table.specs.Changes.{set_of}
 use Rattle.job_table.specs.Numbers.{IsNumbered}
 use Rattle.job_table.specs.Outcomes.{UnlessMemory, IsReplyText, Means}
@@ -38,8 +38,8 @@ use Rattle.child_edge.proofs.CallsLemmas.{tells_nothing}
 pub loaded : (bytes : List ℕ) (writes_setting force : Bool) (outside : Outside) (refusal : Option Refusal) (words : List ℕ) (old new : Standing) (before after : List Setting → Type 0) →
     (is_memory refusal ≡ true → IsUntouched old.table new.table (told_of old.calls old.stores) (told_of new.calls new.stores)) → (is_memory refusal ≡ true → new.journal ≡ old.journal) →
     (is_memory refusal ≡ false → (s : State) → IsLed s → KeepsState old.table s → LoadTurnOf s (load_request bytes writes_setting force) outside refusal old new) →
-    ((s : State) → KeepsState old.table s → before s.settings → after (settings_after refusal s (load_of bytes writes_setting force outside.bind outside.store))) →
-    (refusal ≡ None → (s : State) → KeepsState old.table s → (outcome s (load_of bytes writes_setting force outside.bind outside.store)).text ≡ words) →
+    ((s : State) → KeepsState old.table s → before s.settings → after (settings_after refusal s (load_of_bytes bytes writes_setting force outside.bind outside.store))) →
+    (refusal ≡ None → (s : State) → KeepsState old.table s → (outcome s (load_of_bytes bytes writes_setting force outside.bind outside.store)).text ≡ words) →
     Hears (Some (journaled.Load bytes writes_setting force true true)) refusal words old new before after
 loaded bytes writes_setting force outside refusal words old new before after untouched silent turned stored text =
     hears (journaled.Load bytes writes_setting force true true) refusal words old new before after
@@ -47,7 +47,7 @@ loaded bytes writes_setting force outside refusal words old new before after unt
       record {
         untouched = untouched memory;
         silent = subst (λ (x : JournalState). Grows old.journal x []) (sym (silent memory)) (grows_nothing old.journal);
-        stored = λ s keeps holds. unsettled after refusal s (load_of bytes writes_setting force outside.bind outside.store) memory (stored s keeps holds);
+        stored = λ s keeps holds. unsettled after refusal s (load_of_bytes bytes writes_setting force outside.bind outside.store) memory (stored s keeps holds);
       },
       silent memory,
     ))
@@ -63,7 +63,7 @@ loaded bytes writes_setting force outside refusal words old new before after unt
       numbers = turn.numbers;
       stays = turn.stays;
       text = λ none. text none s keeps;
-      stored = λ holds. settled after refusal s (load_of bytes writes_setting force outside.bind outside.store) other (stored s keeps holds);
+      stored = λ holds. settled after refusal s (load_of_bytes bytes writes_setting force outside.bind outside.store) other (stored s keeps holds);
     })
 
 -- a turn of a setting, under each of its names

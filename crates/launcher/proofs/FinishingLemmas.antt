@@ -4,7 +4,7 @@ use Rattle.std.specs.List.{list_all}
 use Rattle.history_model.specs.Machine.{State, Event}
 use Rattle.job_table.specs.Tables.{Table, is_known}
 use Rattle.job_table.specs.StandsFor.{KeepsState, labelled, acts_in}
-use Rattle.job_table.specs.Ends.{AreKnown, acts_of, names_in}
+use Rattle.job_table.specs.Ends.{AreKnown, lent_acts, names_in}
 use Rattle.job_table.specs.Numbers.{IsNumbered}
 use Rattle.job_table.specs.declared.Step.{Step}
 use Rattle.outside.specs.declared.unheard.Unheard.{Unheard}
@@ -16,7 +16,7 @@ use Rattle.child_edge.specs.Calls.{ToldCall}
 
 -- the orders of the step are those of the event, and the turn goes by the names of the table that the event left
 pub finished : (before mid new : Table) (s : State) (e : Event) (line : List ℕ) (lent : Step) (first after : List Unheard) (a b c : Option (List ToldCall)) (k m n : JournalState) →
-    acts_of lent ≡ acts_in mid → AreKnown lent → names_in lent ≡ mid.names → IsNumbered mid → Carried lent.orders.now [] first a b → Settles mid first after new b c m n →
+    lent_acts lent ≡ acts_in mid → AreKnown lent → names_in lent ≡ mid.names → IsNumbered mid → Carried lent.orders.now [] first a b → Settles mid first after new b c m n →
     Grows k m line → NamesLabel e → IsLed s → KeepsState before s → HasTaken s e mid → Finishes s e line mid.names new (trace a k) (trace c n)
 unfolding turned-at
 finished before mid new s e line lent first after a b c k m n acts known names numbered carried settles noted short led keeps taken =

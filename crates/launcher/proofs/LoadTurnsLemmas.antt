@@ -13,7 +13,7 @@ use Rattle.job_defs.specs.Definitions.{given, has_sockets}
 use Rattle.job_defs.specs.Keys.{def_of}
 use Rattle.job_table.specs.Tables.{Table, Row, Name, IsOnce}
 use Rattle.job_table.specs.StandsFor.{KeepsState}
-use Rattle.job_table.specs.Loads.{IsAdmitted, load_of, given_in, refusal_outside, described_in, number_in, setting_in}
+use Rattle.job_table.specs.Loads.{IsAdmitted, load_of_bytes, given_in, refusal_outside, described_in, number_in, new_setting_in}
 use Rattle.job_table.specs.Outcomes.{IsSameFor, Means}
 use Rattle.job_table.specs.declared.loading.Ready.{Ready}
 use Rattle.child_edge.specs.Calls.{ToldCall}
@@ -25,7 +25,7 @@ use Rattle.outside.proofs.AskLemmas.{told_nothing}
 use Rattle.launcher.specs.Journals.{JournalState, Grows}
 use Rattle.launcher.specs.Turns.{AreNumbered, IsLed, TurnsOf, trace}
 use Rattle.launcher.proofs.NumbersLemmas.{AreNamed, rows-named, keeps-numbers, same-numbers}
-use Rattle.job_table.specs.Numbers.{names_of}
+use Rattle.job_table.specs.Numbers.{row_names}
 use Rattle.launcher.proofs.StoredSettingsLemmas.{load_settings}
 use Rattle.launcher.specs.Lines.{load_line}
 use Rattle.launcher.specs.LoadTurns.{AsksFor, EndsLoad, LoadTurnOf, Makes, is_memory, label_read, label_written, load_request, settings_after, stamps_after, standing}
@@ -82,7 +82,7 @@ nothing_done s e line new r a k n is noted keeps led = record {
 }
 
 -- names that are those of the rows stand for their jobs
-pub named-before : (old : Table) (names : List Name) → IsOnce names → names ≡ names_of old.rows → AreNumbered names old
+pub named-before : (old : Table) (names : List Name) → IsOnce names → names ≡ row_names old.rows → AreNumbered names old
 named-before old names once same = record { once = once; named = subst (λ (x : List Name). AreNamed x old.rows) (sym same) (rows-named old.rows (subst IsOnce same once)) }
 
 -- the same jobs are named by the same names
@@ -91,26 +91,26 @@ named-alike old mid names same numbers = record { once = numbers.once; named = s
 
 -- a load that was refused before the outside was asked
 pub never_called : (s : State) (bytes : List ℕ) (writes_setting force : Bool) (r : Refusal) (old new : Table) (a : Option (List ToldCall)) (t : Option (List StoreCall)) (k n : JournalState) → new.rows ≡ old.rows →
-    ((bind store : Bool) → refusal_in s (load_of bytes writes_setting force bind store) ≡ Some r) → Grows k n (load_line bytes writes_setting force (record { bind = true; store = true })) → KeepsState new s → IsLed s →
+    ((bind store : Bool) → refusal_in s (load_of_bytes bytes writes_setting force bind store) ≡ Some r) → Grows k n (load_line bytes writes_setting force (record { bind = true; store = true })) → KeepsState new s → IsLed s →
     LoadTurnOf s (load_request bytes writes_setting force) (record { bind = true; store = true }) (Some r) (standing old a t k) (standing new a t n)
 never_called s bytes writes_setting force r old new a t k n same is noted keeps led = record {
   job = 0;
   mid = a;
   asks = subst (λ o. AsksFor o (def_of bytes) 0 writes_setting s.reading.wall (record { bind = true; store = true }) (told_of a t) (told_of a t)) (sym (is true true))
       (record { bind = refl; store = refl; tells = tells_nothing a; stores = told_nothing t });
-  turn = nothing_done s (load_of bytes writes_setting force true true) (load_line bytes writes_setting force (record { bind = true; store = true })) new r a k n (is true true) noted keeps led;
+  turn = nothing_done s (load_of_bytes bytes writes_setting force true true) (load_line bytes writes_setting force (record { bind = true; store = true })) new r a k n (is true true) noted keeps led;
   own = λ none. let no : Some r ≡ None = none in cc;
   numbers = λ none. let no : Some r ≡ None = none in cc;
   stays = same-numbers old new same;
 }
 
 module _ (s : State) (bytes : List ℕ) (writes_setting force : Bool) (outside : Outside) (old mid new : Table) (ready : Ready) (a c : Option (List ToldCall)) (t u : Option (List StoreCall)) (k n : JournalState)
-    (admitted : IsAdmitted old bytes writes_setting force (described_in ready)) (setting : is_some (setting_in ready) ≡ writes_setting) (same : IsSameFor old mid) (rows : mid.rows ≡ old.rows) (led : IsLed s) (keeps : KeepsState old s) where
-  as_read : Load (Ok (given (described_in ready))) (is_some (setting_in ready)) force outside.bind outside.store ≡ load_of bytes writes_setting force outside.bind outside.store
+    (admitted : IsAdmitted old bytes writes_setting force (described_in ready)) (setting : is_some (new_setting_in ready) ≡ writes_setting) (same : IsSameFor old mid) (rows : mid.rows ≡ old.rows) (led : IsLed s) (keeps : KeepsState old s) where
+  as_read : Load (Ok (given (described_in ready))) (is_some (new_setting_in ready)) force outside.bind outside.store ≡ load_of_bytes bytes writes_setting force outside.bind outside.store
   as_read = λ i. Load (given_in (sym admitted.read i)) (setting i) force outside.bind outside.store
 
   asks_for : (middle : Option (List ToldCall)) → Asks (number_in ready) (described_in ready) writes_setting mid.reading.wall outside (told_of a t) (told_of middle u) →
-      AsksFor (refusal_in s (load_of bytes writes_setting force true true)) (def_of bytes) (number_in ready) writes_setting s.reading.wall outside (told_of a t) (told_of middle u)
+      AsksFor (refusal_in s (load_of_bytes bytes writes_setting force true true)) (def_of bytes) (number_in ready) writes_setting s.reading.wall outside (told_of a t) (told_of middle u)
   asks_for middle asks =
       subst (λ o. AsksFor o (def_of bytes) (number_in ready) writes_setting s.reading.wall outside (told_of a t) (told_of middle u)) (sym (admitted.remains s true true keeps ∙ well_answered (described_in ready) writes_setting))
       (subst (λ d. AsksFor None d (number_in ready) writes_setting s.reading.wall outside (told_of a t) (told_of middle u)) (sym admitted.read)
@@ -120,7 +120,7 @@ module _ (s : State) (bytes : List ℕ) (writes_setting force : Bool) (outside :
   pub load_ended : (refusal : Option Refusal) → EndsLoad ready writes_setting mid.reading.wall outside refusal (load_line bytes writes_setting force outside) (standing mid a t k) (standing new c u n) →
       LoadTurnOf s (load_request bytes writes_setting force) outside refusal (standing old a t k) (standing new c u n)
   load_ended None ends =
-      let none : refusal_in s (load_of bytes writes_setting force outside.bind outside.store) ≡ None = admitted.remains s outside.bind outside.store keeps ∙ sym ends.answer in
+      let none : refusal_in s (load_of_bytes bytes writes_setting force outside.bind outside.store) ≡ None = admitted.remains s outside.bind outside.store keeps ∙ sym ends.answer in
       let first = ends.made refl s force outside.bind outside.store led (same s keeps) (ap (refusal_in s) as_read ∙ none) in
       let made = subst (λ (x : Event). Makes s x (load_line bytes writes_setting force outside) ready mid new (trace ends.mid k) (trace c n)) as_read first in
       let before_it : AreNumbered made.turn.names old = named-alike old mid made.turn.names rows made.numbers in
@@ -134,14 +134,14 @@ module _ (s : State) (bytes : List ℕ) (writes_setting force : Bool) (outside :
         stays = keeps-numbers made.turn.names old new before_it (made.turn.numbers refl);
       }
   load_ended (Some r) ends =
-      let refused : refusal_in s (load_of bytes writes_setting force outside.bind outside.store) ≡ Some r = admitted.remains s outside.bind outside.store keeps ∙ sym ends.answer in
+      let refused : refusal_in s (load_of_bytes bytes writes_setting force outside.bind outside.store) ≡ Some r = admitted.remains s outside.bind outside.store keeps ∙ sym ends.answer in
       let remains = ends.refused r refl in
       record {
         job = number_in ready;
         mid = ends.mid;
         asks = asks_for ends.mid ends.asks;
-        turn = subst (λ x. TurnsOf s (load_of bytes writes_setting force outside.bind outside.store) (load_line bytes writes_setting force outside) (Some r) new (trace ends.mid k) (trace x n)) (sym remains.1)
-            (nothing_done s (load_of bytes writes_setting force outside.bind outside.store) (load_line bytes writes_setting force outside) new r ends.mid k n refused remains.2 (subst (λ x. KeepsState x s) (sym remains.0) (same s keeps)) led);
+        turn = subst (λ x. TurnsOf s (load_of_bytes bytes writes_setting force outside.bind outside.store) (load_line bytes writes_setting force outside) (Some r) new (trace ends.mid k) (trace x n)) (sym remains.1)
+            (nothing_done s (load_of_bytes bytes writes_setting force outside.bind outside.store) (load_line bytes writes_setting force outside) new r ends.mid k n refused remains.2 (subst (λ x. KeepsState x s) (sym remains.0) (same s keeps)) led);
         own = λ none. let no : Some r ≡ None = none in cc;
         numbers = λ none. let no : Some r ≡ None = none in cc;
         stays = same-numbers old new (ap (λ (x : Table). x.rows) remains.0 ∙ rows);
@@ -150,9 +150,9 @@ module _ (s : State) (bytes : List ℕ) (writes_setting force : Bool) (outside :
 -- what the machine then sets is what was stored
 pub load_sets : (s : State) (bytes : List ℕ) (writes_setting force : Bool) (outside : Outside) (old : Table) (d : Described) (refusal : Option Refusal) → IsAdmitted old bytes writes_setting force d → KeepsState old s →
     refusal ≡ refusal_outside d writes_setting outside.bind outside.store → (has_sockets d ≡ false → outside.bind ≡ true) → ((writes_setting && outside.bind) ≡ false → outside.store ≡ true) →
-    settings_after refusal s (load_of bytes writes_setting force outside.bind outside.store) ≡ set_if (writes_setting && (outside.bind && outside.store)) d.label false s.settings
+    settings_after refusal s (load_of_bytes bytes writes_setting force outside.bind outside.store) ≡ set_if (writes_setting && (outside.bind && outside.store)) d.label false s.settings
 load_sets s bytes writes_setting force outside old d refusal admitted keeps answer unbound unstored =
-    let e = load_of bytes writes_setting force outside.bind outside.store in
+    let e = load_of_bytes bytes writes_setting force outside.bind outside.store in
     ap (λ b. if b then s.settings else (step s e).settings) (ap is_memory answer ∙ not_memory d writes_setting outside.bind outside.store)
     ∙ load_settings s bytes d writes_setting force outside.bind outside.store admitted.read (admitted.remains s outside.bind outside.store keeps) unbound unstored
 

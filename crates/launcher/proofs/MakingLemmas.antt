@@ -25,7 +25,7 @@ use Rattle.table_opening.specs.Openings.{OpensBy, StandsOpened}
 use Rattle.launcher.specs.declared.host.HostFault.{HostFault}
 use Rattle.launcher.specs.declared.host.HostFault.TheVariants as faults
 use Rattle.launcher.specs.Faults.{IsFaultOf, fault_of_store}
-use Rattle.launcher.specs.Hosts.{with_settings, IsNewWith}
+use Rattle.launcher.specs.Hosts.{with_overrides, IsNewWith}
 use Rattle.launcher.specs.Writable.{IsWritableHeader}
 use Rattle.child_edge.specs.Calls.{ToldCall}
 use Rattle.launcher.specs.LoadTurns.{standing}
@@ -47,14 +47,14 @@ pub led_first : (header : Header) (s : State) → OpensBy header s → opening_r
 led_first header s opens admitted = subst IsLed (sym opens.state) (led_opened (record { reading = header.reading; zone = shown_by opens.ahead; overrides = header.overrides }) (within header.reading header.overrides admitted))
 
 pub made_new : (header : Header) (settings : List Setting) (table : Table) (calls : Option (List ToldCall)) (stores stores' : Option (List StoreCall)) (first noted : JournalState) (before after : List Setting → Type 0) →
-    StandsOpened (with_settings header settings) table → IsWritableHeader (with_settings header settings) → AreTold stores [] stores' → Grows first noted (header_line (with_settings header settings)) → ((list : List Setting) → before list → after (reverse settings)) →
+    StandsOpened (with_overrides header settings) table → IsWritableHeader (with_overrides header settings) → AreTold stores [] stores' → Grows first noted (header_line (with_overrides header settings)) → ((list : List Setting) → before list → after (reverse settings)) →
     IsNewWith settings header calls stores first (standing table calls stores' noted) before after
 made_new header settings table calls stores stores' first noted before after stands told uncalled grew holds = (
   record {
     settings = settings;
     machine = stands.machine;
     opens = stands.opens;
-    led = led_first (with_settings header settings) stands.machine stands.opens stands.admitted;
+    led = led_first (with_overrides header settings) stands.machine stands.opens stands.admitted;
     kept = stands.kept;
     none = refl;
     uncalled = uncalled;
@@ -73,7 +73,7 @@ stores_fault header answers.NoMemory = tt
 stores_fault header answers.Refused = tt
 
 -- the header's own settings are no part of its fault
-pub same_fault : (header : Header) (settings : List Setting) (fault : HostFault) → IsFaultOf (with_settings header settings) fault → IsFaultOf header fault
+pub same_fault : (header : Header) (settings : List Setting) (fault : HostFault) → IsFaultOf (with_overrides header settings) fault → IsFaultOf header fault
 same_fault header settings faults.NoMemory is = tt
 same_fault header settings faults.Store is = tt
 same_fault header settings faults.Header is = is

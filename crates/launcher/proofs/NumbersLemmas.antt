@@ -16,7 +16,7 @@ use Rattle.history_model.specs.MachineLaws.{labels_of}
 use Rattle.job_defs.specs.Described.{Described}
 use Rattle.job_table.specs.Tables.{Table, Row, Name, IsOther, IsOnce, is_known, label_of, definition_of_number}
 use Rattle.job_table.specs.StandsFor.{KeepsJobs, labelled}
-use Rattle.job_table.specs.Numbers.{name_of, names_of}
+use Rattle.job_table.specs.Numbers.{row_name, row_names}
 use Rattle.child_edge.specs.declared.plain.Scripted.{Scripted}
 use Rattle.child_edge.specs.declared.plain.Scripted.TheVariants.{Started, Done, Running, Over, Seen, At, Refused, NoMemory}
 use Rattle.child_edge.specs.Calls.{ToldCall}
@@ -32,17 +32,17 @@ use Rattle.history_model.proofs.LawfulLemmas.{eqb-self}
 abbrev pub AreNamed : List Name → List Row → Type 0
 AreNamed names rows = AllByRecursion (λ row. definition_of_number names row.number ≡ Some row.described) rows
 
-more-named : (n : Name) (names : List Name) (rows : List Row) → IsOther n (names_of rows) → AreNamed names rows → AreNamed (n ∷ names) rows
+more-named : (n : Name) (names : List Name) (rows : List Row) → IsOther n (row_names rows) → AreNamed names rows → AreNamed (n ∷ names) rows
 more-named n names [] other all = tt
 more-named n names (row ∷ rows) other all =
     (ap (λ b. cond b (Some n.described) (definition_of_number names row.number)) other.0 ∙ all.0, more-named n names rows other.2 all.1)
 
 -- if each number stands once, it stands for its row's definition
-pub rows-named : (rows : List Row) → IsOnce (names_of rows) → AreNamed (names_of rows) rows
+pub rows-named : (rows : List Row) → IsOnce (row_names rows) → AreNamed (row_names rows) rows
 rows-named [] once = tt
 rows-named (row ∷ rows) once = (
-  ap (λ b. cond b (Some row.described) (definition_of_number (names_of rows) row.number)) (eqb-self row.number),
-  more-named (name_of row) (names_of rows) rows once.0 (rows-named rows once.1),
+  ap (λ b. cond b (Some row.described) (definition_of_number (row_names rows) row.number)) (eqb-self row.number),
+  more-named (row_name row) (row_names rows) rows once.0 (rows-named rows once.1),
 )
 
 pub label-is : (names : List Name) (n : ℕ) (d : Described) → definition_of_number names n ≡ Some d → label_of names n ≡ d.label
@@ -53,18 +53,18 @@ label-is (name ∷ names) n d e = go (name.number == n) (label-is names n d) e w
   go false rest e = rest e
 
 -- a number of one of the rows stands for the same in names that know all rows
-pub through : (names : List Name) (rows : List Row) → AreNamed names rows → (n : ℕ) (d : Described) → definition_of_number (names_of rows) n ≡ Some d → definition_of_number names n ≡ Some d
+pub through : (names : List Name) (rows : List Row) → AreNamed names rows → (n : ℕ) (d : Described) → definition_of_number (row_names rows) n ≡ Some d → definition_of_number names n ≡ Some d
 through names [] named n d e = cc
 through names (row ∷ rows) named n d e = go (row.number == n) refl (through names rows named.1 n d) e where
-  go : (b : Bool) → (row.number == n) ≡ b → (definition_of_number (names_of rows) n ≡ Some d → definition_of_number names n ≡ Some d) →
-      cond b (Some row.described) (definition_of_number (names_of rows) n) ≡ Some d → definition_of_number names n ≡ Some d
+  go : (b : Bool) → (row.number == n) ≡ b → (definition_of_number (row_names rows) n ≡ Some d → definition_of_number names n ≡ Some d) →
+      cond b (Some row.described) (definition_of_number (row_names rows) n) ≡ Some d → definition_of_number names n ≡ Some d
   go true is rest e =
       let number : row.number ≡ n = eqb-true row.number n is in
       ap (definition_of_number names) (sym number) ∙ named.0 ∙ e
   go false is rest e = rest e
 
 -- the rows of the next table are named too
-pub named-next : (names : List Name) (before after : List Row) → AreNamed names before → AreNamed (names_of before) after → AreNamed names after
+pub named-next : (names : List Name) (before after : List Row) → AreNamed names before → AreNamed (row_names before) after → AreNamed names after
 named-next names before [] named next = tt
 named-next names before (row ∷ rows) named next = (through names before named row.number row.described next.0, named-next names before rows named next.1)
 
@@ -73,14 +73,14 @@ known-some None e = cc
 known-some (Some x) e = (x, refl)
 
 -- so are the numbers of orders
-pub orders-known : (names : List Name) (rows : List Row) → AreNamed names rows → (orders : List Order) → list_all (is_known (names_of rows)) orders ≡ true →
-    (labelled names orders ≡ labelled (names_of rows) orders) × (list_all (is_known names) orders ≡ true)
+pub orders-known : (names : List Name) (rows : List Row) → AreNamed names rows → (orders : List Order) → list_all (is_known (row_names rows)) orders ≡ true →
+    (labelled names orders ≡ labelled (row_names rows) orders) × (list_all (is_known names) orders ≡ true)
 orders-known names rows named [] all = (refl, refl)
 orders-known names rows named (order ∷ orders) all =
-    let both = and-both (is_known (names_of rows) order) (list_all (is_known (names_of rows)) orders) all in
-    let known = known-some (definition_of_number (names_of rows) order.job) both.0 in
+    let both = and-both (is_known (row_names rows) order) (list_all (is_known (row_names rows)) orders) all in
+    let known = known-some (definition_of_number (row_names rows) order.job) both.0 in
     let there = through names rows named order.job known.0 known.1 in
-    let same : label_of names order.job ≡ label_of (names_of rows) order.job = label-is names order.job known.0 there ∙ sym (label-is (names_of rows) order.job known.0 known.1) in
+    let same : label_of names order.job ≡ label_of (row_names rows) order.job = label-is names order.job known.0 there ∙ sym (label-is (row_names rows) order.job known.0 known.1) in
     let rest = orders-known names rows named orders both.1 in (
       (λ i. (same i, order.act) ∷ rest.0 i),
       (λ i. is_some (there i) && rest.1 i),

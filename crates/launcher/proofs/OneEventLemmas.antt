@@ -18,17 +18,17 @@ use Rattle.history_model.proofs.StepLemmas.{IsGood}
 use Rattle.job_table.specs.Tables.{Table, Row, Name, IsOnce, is_known, label_of, definition_of_number}
 use Rattle.job_table.specs.StandsFor.{KeepsJobs, KeepsState, labelled}
 use Rattle.job_defs.specs.Described.{Described}
-use Rattle.job_table.specs.Outcomes.{IsNext, IsNextUnless, UnlessMemory}
+use Rattle.job_table.specs.Outcomes.{IsNextTable, IsNextTableUnless, UnlessMemory}
 use Rattle.history_model.specs.declared.Refusal.TheVariants.{NoMemory}
 use Rattle.job_table.specs.Ends.{AreKnown, IsAnswer, Visits, Numbers, names_in}
-use Rattle.job_table.specs.Numbers.{names_of, IsNumbered}
+use Rattle.job_table.specs.Numbers.{row_names, IsNumbered}
 use Rattle.job_table.specs.declared.Step.{Step}
 use Rattle.outside.specs.declared.unheard.Unheard.{Unheard}
 use Rattle.outside.specs.Orders.{answers_in}
 use Rattle.history_model.specs.Turns.{JobOrder, wanting, is_answer}
 use Rattle.history_model.proofs.TurnsLemmas.{IsTurning, turning-step}
 use Rattle.history_model.proofs.LabelOrderLemmas.{heard_one-labels, same_self, order-run, all-stays}
-use Rattle.launcher.specs.Turns.{AreNumbered, Carried, orders_lent, IsUncalled, event_in, AreTheirs, IsLabel, IsOrderly, IsWaiting, HappensTo, Happens, Handled, trace}
+use Rattle.launcher.specs.Turns.{AreNumbered, Carried, orders_lent, IsUncalled, answer_event, AreTheirs, IsLabel, IsOrderly, IsWaiting, HappensTo, Happens, Handled, trace}
 use Rattle.job_table.specs.Loads.{refused_with}
 use Rattle.job_core.specs.Memory.{NeedsNoMemory}
 use Rattle.ctl_protocol.specs.EventWriter.{event_line}
@@ -46,13 +46,13 @@ unless (Err _) holds = holds
 
 -- what the table answered, and the orders that were then carried out
 pub happens : (e : Event) (old new : Table) (result : Result Step Refusal) (before after : List Unheard) (told told' : Option (List ToldCall)) →
-    IsAnswer e old result → IfOk result AreKnown → IsNext e old new × Visits result old new × Numbers result old new → Carried (orders_lent result) before after told told' →
+    IsAnswer e old result → IfOk result AreKnown → IsNextTable e old new × Visits result old new × Numbers result old new → Carried (orders_lent result) before after told told' →
     Happens e (refused_with result) old new before after told told'
 happens e old new (Ok lent) before after told told' answer known ends carried = λ s keeps.
     let numbers = ends.2 in
-    let names : names_in lent ≡ names_of old.rows = numbers.2 ∙ numbers.1 in
-    let all : list_all (is_known (names_of old.rows)) lent.orders.now ≡ true = subst (λ ns. list_all (is_known ns) lent.orders.now ≡ true) names known in
-    let orders : labelled (names_of old.rows) lent.orders.now ≡ (outcome s e).orders =
+    let names : names_in lent ≡ row_names old.rows = numbers.2 ∙ numbers.1 in
+    let all : list_all (is_known (row_names old.rows)) lent.orders.now ≡ true = subst (λ ns. list_all (is_known ns) lent.orders.now ≡ true) names known in
+    let orders : labelled (row_names old.rows) lent.orders.now ≡ (outcome s e).orders =
     ap (λ ns. labelled ns lent.orders.now) (sym names) ∙ sym (ap (λ o. o.orders) (answer s keeps)) in
     let before_it : AreNumbered new.names old =
     record { once = numbers.0.once; named = subst (λ (x : List Name). AreNamed x old.rows) (sym numbers.1) (rows-named old.rows (subst IsOnce numbers.1 numbers.0.once)) } in
@@ -96,7 +96,7 @@ happens e old new (Err refusal) before after told told' answer known ends carrie
 
 -- what is handed on: the answer is that of the table
 pub handed-on : (e e' : Event) (old new : Table) (lent : Result Step Refusal) (result : Result (Unit {0}) Refusal) (before after : List Unheard) (told told' : Option (List ToldCall)) → e ≡ e' →
-    refused_with result ≡ refused_with lent → IsAnswer e old lent → IfOk lent AreKnown → IsNext e old new × Visits lent old new × Numbers lent old new →
+    refused_with result ≡ refused_with lent → IsAnswer e old lent → IfOk lent AreKnown → IsNextTable e old new × Visits lent old new × Numbers lent old new →
     Carried (orders_lent lent) before after told told' → UnlessMemory result (Happens e' (refused_with result) old new before after told told')
 handed-on e e' old new lent result before after told told' is same answer known ends carried =
     unless result
@@ -105,7 +105,7 @@ handed-on e e' old new lent result before after told told' is same answer known 
 
 -- of a reading, which may find no memory
 pub read-on : (e e' : Event) (old new : Table) (lent : Result Step Refusal) (result : Result (Unit {0}) Refusal) (before after : List Unheard) (told told' : Option (List ToldCall)) → e ≡ e' →
-    refused_with result ≡ refused_with lent → UnlessMemory lent (IsAnswer e old lent) → IfOk lent AreKnown → IsNextUnless lent e old new × Visits lent old new × Numbers lent old new →
+    refused_with result ≡ refused_with lent → UnlessMemory lent (IsAnswer e old lent) → IfOk lent AreKnown → IsNextTableUnless lent e old new × Visits lent old new × Numbers lent old new →
     Carried (orders_lent lent) before after told told' → UnlessMemory result (Happens e' (refused_with result) old new before after told told')
 read-on e e' old new (Ok lent) result before after told told' is same answer known ends carried = handed-on e e' old new (Ok lent) result before after told told' is same answer known ends carried
 read-on e e' old new (Err NoMemory) (Ok done) before after told told' is same answer known ends carried = cc
@@ -126,7 +126,7 @@ ok-needs-none (Err refusal) ok = absurd (false≢true ok)
 
 -- what is handed on of an answer, which needs no memory
 pub answer-on : (e : Event) (old new : Table) (lent : Result Step Refusal) (result : Result (Unit {0}) Refusal) (before after : List Unheard) (told told' : Option (List ToldCall)) →
-    refused_with result ≡ refused_with lent → IsAnswer e old lent → IfOk lent AreKnown → IsNext e old new × Visits lent old new × Numbers lent old new →
+    refused_with result ≡ refused_with lent → IsAnswer e old lent → IfOk lent AreKnown → IsNextTable e old new × Visits lent old new × Numbers lent old new →
     Carried (orders_lent lent) before after told told' → Happens e (refused_with result) old new before after told told'
 answer-on e old new lent result before after told told' same answer known ends carried =
     subst (λ r. Happens e r old new before after told told') (sym same) (happens e old new lent before after told told' answer known ends carried)
@@ -138,12 +138,12 @@ refused-rows old new (Err refusal) (Err other) same visits = visits.0
 
 -- a reading that found no memory was not taken in
 pub not-read : (e : Event) (old new : Table) (lent : Result Step Refusal) (result : Result (Unit {0}) Refusal) (before after : List Unheard) (told told' : Option (List ToldCall)) →
-    refused_with result ≡ refused_with lent → IsNextUnless lent e old new → Visits lent old new → Carried (orders_lent lent) before after told told' → result ≡ Err NoMemory → IsUncalled old new told told'
+    refused_with result ≡ refused_with lent → IsNextTableUnless lent e old new → Visits lent old new → Carried (orders_lent lent) before after told told' → result ≡ Err NoMemory → IsUncalled old new told told'
 not-read e old new (Ok lent) result before after told told' same next visits carried is = let none : Some NoMemory ≡ None = ap refused_with (sym is) ∙ same in cc
 not-read e old new (Err refusal) result before after told told' same next visits carried is =
     let none : Some NoMemory ≡ Some refusal = ap refused_with (sym is) ∙ same in
     let memory : refusal ≡ NoMemory = cc in
-    record { same = subst (λ r. IsNextUnless {A = Step} (Err r) e old new) memory next; rows = visits.0; tells = none-called [] before after told told' refl carried }
+    record { same = subst (λ r. IsNextTableUnless {A = Step} (Err r) e old new) memory next; rows = visits.0; tells = none-called [] before after told told' refl carried }
 
 -- ---- what the machine is in the midst of a turn
 
@@ -185,7 +185,7 @@ still-named (Err refusal) old new same numbered loaded = subst (AreNamed new.nam
 
 -- the answer goes to its job, and then those that it ordered wait behind the others
 pub handled : (result : Result (Unit {0}) Refusal) (old new : Table) (before after : List Unheard) (told told' : Option (List ToldCall)) (written written' : JournalState) (pending : Unheard) (said : Label) →
-    said ≡ label_of new.names pending.job → IsNumbered old → IsNumbered new → IsUtf8 said → Happens (event_in old.names pending) (refused_with result) old new before after told told' →
+    said ≡ label_of new.names pending.job → IsNumbered old → IsNumbered new → IsUtf8 said → Happens (answer_event old.names pending) (refused_with result) old new before after told told' →
     OnErr result (new.rows ≡ old.rows) → Grows written written' (event_line (journaled_answer said pending.answer)) →
     (s : State) (names : List Name) (job_order : JobOrder) (waits : List JobOrder) (rest : List Unheard) → IsWaiting old s names (job_order ∷ waits) (pending ∷ rest) →
     Handled s names job_order waits pending rest before after new (trace told written) (trace told' written')
@@ -194,7 +194,7 @@ handled result old new before after told told' written written' pending said loo
     let named_by : (table : List Name) → AreNamed table old.rows → label_of table pending.job ≡ job_order.0 =
     λ table there. stands s.reading names table pending job_order _ old.rows s.jobs is.keeps.jobs is.numbers.once is.numbers.named there is.orderly.labels is.fresh.0.1 is.theirs.0 in
     let heard : label_of old.names pending.job ≡ label_of names pending.job = named_by old.names numbered.named ∙ sym own in
-    let e : Event = event_in names pending in
+    let e : Event = answer_event names pending in
     let did : HappensTo s e (refused_with result) old new before after told told' =
     subst (λ (l : Label). HappensTo s (OfJob l (Answered pending.answer)) (refused_with result) old new before after told told') heard (happened s is.keeps) in
     let after_it : AreNamed new.names old.rows = still-named result old new same known did.loaded in

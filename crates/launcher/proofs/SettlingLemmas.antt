@@ -17,7 +17,7 @@ use Rattle.history_model.specs.Turns.{JobOrder, wanting}
 use Rattle.history_model.specs.AwaitedOrders.{weigh_orders}
 use Rattle.history_model.proofs.TurnsLemmas.{weigh-append}
 use Rattle.history_model.proofs.TurnBoundLemmas.{length-heavy}
-use Rattle.launcher.specs.Turns.{IsNamedIn, event_in, AreTheirs, IsWaiting, Handled, Settled, trace}
+use Rattle.launcher.specs.Turns.{IsNamedIn, answer_event, AreTheirs, IsWaiting, Handled, Settled, trace}
 use Rattle.launcher.specs.Journals.{JournalState, Grows}
 use Rattle.launcher.proofs.JournalsLemmas.{grows_nothing, grows_append}
 use Rattle.launcher.specs.Lines.{answer_text, answer_texts}
@@ -52,10 +52,10 @@ pub record IsSoFar (s : State) (names : List Name) (first answers : List Unheard
   pub all : answers ≡ first ++ answers_in made
   pub orders : List Order
   pub calls : calls_in made ≡ map call_of orders
-  pub by_label : labelled names orders ≡ orders_in (map (event_in names) (take k answers)) s
+  pub by_label : labelled names orders ≡ orders_in (map (answer_event names) (take k answers)) s
   pub noted : Grows written written' (answer_texts names (take k answers))
   pub waits : List JobOrder
-  pub waiting : IsWaiting table (run (map (event_in names) (take k answers)) s) names waits (drop k answers)
+  pub waiting : IsWaiting table (run (map (answer_event names) (take k answers)) s) names waits (drop k answers)
   pub within : k ≤ length answers
   pub fits : k + weigh_orders waits ≤ 3 * MAX_JOBS
   pub named : AllByRecursion (IsNamedIn names) (take k answers)
@@ -87,8 +87,8 @@ so-far-end s names first answers k table told told' written written' far all tel
       all = far.all;
       orders = far.orders;
       calls = far.calls;
-      by_label = far.by_label ∙ ap (λ ps. orders_in (map (event_in names) ps) s) whole;
-      kept = subst (λ ps. KeepsState table (run (map (event_in names) ps) s)) whole far.waiting.keeps;
+      by_label = far.by_label ∙ ap (λ ps. orders_in (map (answer_event names) ps) s) whole;
+      kept = subst (λ ps. KeepsState table (run (map (answer_event names) ps) s)) whole far.waiting.keeps;
       few = omega (arith, all, far.fits);
       noted = subst (λ ps. Grows written written' (answer_texts names ps)) whole far.noted;
       numbers = far.waiting.numbers;
@@ -104,13 +104,13 @@ pub so-far-next : (s : State) (names : List Name) (first answers answers' : List
     IsSoFar s names first answers' (k + 1) table' told told'' written written''
 so-far-next s names first answers answers' k d table table' told told' told'' written written' written'' in_range far handles = go far.waits far.fits (subst (IsWaiting table t names far.waits) here far.waiting) where
   t : State
-  t = run (map (event_in names) (take k answers)) s
+  t = run (map (answer_event names) (take k answers)) s
 
   p : Unheard
   p = get_or answers k d
 
   e : Event
-  e = event_in names p
+  e = answer_event names p
 
   here : drop k answers ≡ p ∷ drop (suc k) answers
   here = drop-cons answers k d in_range
@@ -130,7 +130,7 @@ so-far-next s names first answers answers' k d table table' told told' told'' wr
       let grown : answers' ≡ answers ++ answers_in made = did.carried.kept enough in
       let taken : take (k + 1) answers' ≡ take k answers ++ p ∷ [] =
       ap (take (k + 1)) grown ∙ take-append-le (k + 1) answers (answers_in made) (omega (arith, in_range)) ∙ take_more answers k d in_range in
-      let events : map (event_in names) (take (k + 1) answers') ≡ map (event_in names) (take k answers) ++ e ∷ [] = ap (map (event_in names)) taken ∙ map-append (event_in names) (take k answers) (p ∷ []) in
+      let events : map (answer_event names) (take (k + 1) answers') ≡ map (answer_event names) (take k answers) ++ e ∷ [] = ap (map (answer_event names)) taken ∙ map-append (answer_event names) (take k answers) (p ∷ []) in
       let texts : answer_texts names (take (k + 1) answers') ≡ answer_texts names (take k answers) ++ answer_text names p =
       ap (answer_texts names) taken ∙ flat_map-append (answer_text names) (take k answers) (p ∷ []) ∙ ap (λ xs. answer_texts names (take k answers) ++ xs) (append-nil (answer_text names p)) in
       let dropped : drop (k + 1) answers' ≡ drop (suc k) answers ++ answers_in made =
@@ -141,11 +141,11 @@ so-far-next s names first answers answers' k d table table' told told' told'' wr
         all = grown ∙ ap (λ xs. xs ++ answers_in made) far.all ∙ append_assoc first (answers_in far.made) (answers_in made) ∙ ap (λ xs. first ++ xs) (sym (filter_map-append answer_in far.made made));
         orders = far.orders ++ did.orders;
         calls = map-append (λ x. x.0) far.made made ∙ (λ i. far.calls i ++ did.carried.calls i) ∙ sym (map-append call_of far.orders did.orders);
-        by_label = map-append _ far.orders did.orders ∙ (λ i. far.by_label i ++ did.ordered i) ∙ sym (orders-snoc (map (event_in names) (take k answers)) e s) ∙ ap (λ es. orders_in es s) (sym events);
+        by_label = map-append _ far.orders did.orders ∙ (λ i. far.by_label i ++ did.ordered i) ∙ sym (orders-snoc (map (answer_event names) (take k answers)) e s) ∙ ap (λ es. orders_in es s) (sym events);
         noted = subst (Grows written written'') (sym texts) (grows_append written written' written'' (answer_texts names (take k answers)) (answer_text names p) far.noted did.noted);
         waits = waits ++ new;
         waiting = subst (λ es. IsWaiting table' (run es s) names (waits ++ new) (drop (k + 1) answers')) (sym events)
-            (subst (λ (u : State). IsWaiting table' u names (waits ++ new) (drop (k + 1) answers')) (sym (run-snoc (map (event_in names) (take k answers)) e s))
+            (subst (λ (u : State). IsWaiting table' u names (waits ++ new) (drop (k + 1) answers')) (sym (run-snoc (map (answer_event names) (take k answers)) e s))
             (subst (IsWaiting table' (step t e) names (waits ++ new)) (sym dropped) next));
         within = omega (arith, in_range, ap length grown, length-append answers (answers_in made));
         fits = omega (arith, less, fits);

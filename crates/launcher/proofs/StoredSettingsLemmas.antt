@@ -11,23 +11,23 @@ use Rattle.job_defs.specs.Described.{Described}
 use Rattle.job_defs.specs.Definitions.{has_sockets, given}
 use Rattle.job_defs.specs.Keys.{def_of}
 use Rattle.job_table.specs.Tables.{Name}
-use Rattle.job_table.specs.Loads.{load_of, given_in, refusal_outside}
+use Rattle.job_table.specs.Loads.{load_of_bytes, given_in, refusal_outside}
 use Rattle.outside.specs.declared.unheard.Unheard.{Unheard}
 use Rattle.outside.specs.Orders.{answers_in}
-use Rattle.launcher.specs.Turns.{event_in, events_in}
+use Rattle.launcher.specs.Turns.{answer_event, answer_events}
 use Rattle.child_edge.specs.Calls.{ToldCall}
 
-answer-settings : (names : List Name) (p : Unheard) (s : State) → (step s (event_in names p)).settings ≡ s.settings
-answer-settings names p s = go (refusal_in s (event_in names p)) where
-  go : (o : Option Refusal) → (step_by o s (event_in names p)).settings ≡ s.settings
+answer-settings : (names : List Name) (p : Unheard) (s : State) → (step s (answer_event names p)).settings ≡ s.settings
+answer-settings names p s = go (refusal_in s (answer_event names p)) where
+  go : (o : Option Refusal) → (step_by o s (answer_event names p)).settings ≡ s.settings
   go None = refl
   go (Some refusal) = refl
 
-answers-settings : (names : List Name) (ps : List Unheard) (s : State) → (run (map (event_in names) ps) s).settings ≡ s.settings
+answers-settings : (names : List Name) (ps : List Unheard) (s : State) → (run (map (answer_event names) ps) s).settings ≡ s.settings
 answers-settings names [] s = refl
-answers-settings names (p ∷ ps) s = answers-settings names ps (step s (event_in names p)) ∙ answer-settings names p s
+answers-settings names (p ∷ ps) s = answers-settings names ps (step s (answer_event names p)) ∙ answer-settings names p s
 
-pub turn_settings : (s : State) (input : Event) (names : List Name) (entries : List ToldCall) → (run (input ∷ events_in names entries) s).settings ≡ (step s input).settings
+pub turn_settings : (s : State) (input : Event) (names : List Name) (entries : List ToldCall) → (run (input ∷ answer_events names entries) s).settings ≡ (step s input).settings
 turn_settings s input names entries = answers-settings names (answers_in entries) (step s input)
 
 load-given : (s : State) (d : Described) (writes_setting force bind store : Bool) → refusal_in s (Load (Ok (given d)) writes_setting force bind store) ≡ refusal_outside d writes_setting bind store →
@@ -48,9 +48,9 @@ load-given s d writes_setting force bind store remains uncalled unstored =
       go false is false true store uncalled unstored = refl
       go false is writes_setting false store uncalled unstored = let no : false ≡ true = uncalled is in cc
 
-pub load_settings : (s : State) (bytes : List ℕ) (d : Described) (writes_setting force bind store : Bool) → def_of bytes ≡ Ok d → refusal_in s (load_of bytes writes_setting force bind store) ≡ refusal_outside d writes_setting bind store →
+pub load_settings : (s : State) (bytes : List ℕ) (d : Described) (writes_setting force bind store : Bool) → def_of bytes ≡ Ok d → refusal_in s (load_of_bytes bytes writes_setting force bind store) ≡ refusal_outside d writes_setting bind store →
     (has_sockets d ≡ false → bind ≡ true) → ((writes_setting && bind) ≡ false → store ≡ true) →
-    (step s (load_of bytes writes_setting force bind store)).settings ≡ set_if (writes_setting && (bind && store)) d.label false s.settings
+    (step s (load_of_bytes bytes writes_setting force bind store)).settings ≡ set_if (writes_setting && (bind && store)) d.label false s.settings
 load_settings s bytes d writes_setting force bind store read remains uncalled unstored =
     ap (λ r. (step s (Load (given_in r) writes_setting force bind store)).settings) read
     ∙ load-given s d writes_setting force bind store (ap (λ r. refusal_in s (Load (given_in r) writes_setting force bind store)) (sym read) ∙ remains) uncalled unstored

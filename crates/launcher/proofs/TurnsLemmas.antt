@@ -25,7 +25,7 @@ use Rattle.history_model.specs.Turns.{JobOrder, wanting}
 use Rattle.history_model.specs.AwaitedOrders.{weigh_orders}
 use Rattle.history_model.proofs.LabelOrderLemmas.{heard-labels, heard_one-labels, order-run, all-stays, all-with}
 use Rattle.history_model.proofs.TurnBoundLemmas.{turning-start, within-step, length-heavy}
-use Rattle.launcher.specs.Turns.{event_in, events_in, AreTheirs, IsWaiting, Begins, Happens, Settled, NamesLabel, IsLabel, IsNamedIn, IsLed, TurnsOf, Turns, trace}
+use Rattle.launcher.specs.Turns.{answer_event, answer_events, AreTheirs, IsWaiting, Begins, Happens, Settled, NamesLabel, IsLabel, IsNamedIn, IsLed, TurnsOf, Turns, trace}
 use Rattle.job_table.specs.Loads.{refused_with}
 use Rattle.launcher.specs.Events.{event_of_ref}
 use Rattle.ctl_protocol.specs.EventWriter.{event_line}
@@ -73,10 +73,10 @@ led-step table s e keeps led is = record {
   go (Some refusal) = led.orderly.labels
   go None = all-stays IsLabel (taken s e).jobs (taken-labels s e is led.orderly.labels)
 
-pub led-answers : (names : List Name) (pending : List Unheard) (s : State) → IsLed s → IsLed (run (map (event_in names) pending) s)
+pub led-answers : (names : List Name) (pending : List Unheard) (s : State) → IsLed s → IsLed (run (map (answer_event names) pending) s)
 led-answers names [] s led = led
 led-answers names (p ∷ ps) s led =
-    led-answers names ps (step s (event_in names p)) (record { orderly = orderly-next s (label_of names p.job) (Answered p.answer) led.orderly; few = within-step s (event_in names p) led.few })
+    led-answers names ps (step s (answer_event names p)) (record { orderly = orderly-next s (label_of names p.job) (Answered p.answer) led.orderly; few = within-step s (answer_event names p) led.few })
 
 -- ---- the first event
 
@@ -128,7 +128,7 @@ turned-at s e line old mid new first after a b c k m n is led keeps did noted se
     let entries : List ToldCall = did.carried.entries ++ done.made in
     let all : answers_in entries ≡ after =
     filter_map-append answer_in did.carried.entries done.made ∙ ap (λ xs. xs ++ answers_in done.made) (sym start.2) ∙ sym done.all in
-    let events : events_in mid.names entries ≡ map (event_in mid.names) after = ap (map (event_in mid.names)) all in
+    let events : answer_events mid.names entries ≡ map (answer_event mid.names) after = ap (map (answer_event mid.names)) all in
     record {
       names = mid.names;
       entries = entries;
@@ -141,7 +141,7 @@ turned-at s e line old mid new first after a b c k m n is led keeps did noted se
       };
       led = subst (λ es. IsLed (run es (step s e))) (sym events) (led-answers mid.names after (step s e) (led-step old s e keeps led is));
       replies = did.replies;
-      few = subst (λ (es : List Event). length es ≤ 3 * MAX_JOBS) (sym events) (subst (λ (n : ℕ). n ≤ 3 * MAX_JOBS) (sym (length-map after (event_in mid.names))) done.few);
+      few = subst (λ (es : List Event). length es ≤ 3 * MAX_JOBS) (sym events) (subst (λ (n : ℕ). n ≤ 3 * MAX_JOBS) (sym (length-map after (answer_event mid.names))) done.few);
       numbers = λ none. done.numbers;
       noted = subst (λ ps. Grows k n (line ++ answer_texts mid.names ps)) (sym all) (grows_append k m n line (answer_texts mid.names after) noted done.noted);
       tellable = subst (AllByRecursion IsTellablePending) (sym all) done.tellable;

@@ -24,7 +24,7 @@ use Rattle.event_reader.specs.Members.{◌>>=◌, text_key, flag_or, label_key, 
 use Rattle.event_reader.specs.EventLines.{has_load_keys, load_shape, unload_shape, job_shape, target_shape, setting_shape, kickstart_shape, bare_shape, asked_shape, request_shape_of, request_at}
 use Rattle.ctl_protocol.specs.EventWriter.{is_writable}
 use Rattle.launcher.specs.declared.input.Input.TheVariants as inputs
-use Rattle.launcher.specs.Inputs.{asked_in, if_label, is_asked}
+use Rattle.launcher.specs.Inputs.{asked_in, event_if_label, is_asked_of_a_job}
 use Rattle.launcher.specs.Writable.{SaysFitIf, IsWritable, IsWritableIf, IsWritableInput}
 
 -- ---- what is read of a request names a label
@@ -130,7 +130,7 @@ asked_writable (events.Print job) is fit = record { writable = is; fit = fit }
 asked_writable events.Shutdown is fit = record { writable = is; fit = fit }
 asked_writable (events.Clock at) is fit = tt
 asked_writable (events.Saw path obs) is fit = tt
-asked_writable (events.OfJob job item) is fit = go (is_asked item) fit where
+asked_writable (events.OfJob job item) is fit = go (is_asked_of_a_job item) fit where
   go : (b : Bool) → SaysFitIf (if b then Some (events.OfJob job item) else None) → IsWritableIf (if b then Some (events.OfJob job item) else None)
   go true fits = record { writable = is; fit = fits }
   go false fits = tt
@@ -160,7 +160,7 @@ no_line_writable line is = subst (λ (o : Option Event). IsWritableIf (option_an
 -- ---- all else by its type
 
 -- under a name that is no label nothing is heard
-if_writable : (job : List ℕ) (e : Event) → (is_label job ≡ true → IsWritable e) → IsWritableIf (if_label job e)
+if_writable : (job : List ℕ) (e : Event) → (is_label job ≡ true → IsWritable e) → IsWritableIf (event_if_label job e)
 if_writable job e says = go (is_label job) refl where
   go : (b : Bool) → is_label job ≡ b → IsWritableIf (if b then Some e else None)
   go true is = says is

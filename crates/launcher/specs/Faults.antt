@@ -12,7 +12,7 @@ use Rattle.outside.specs.declared.store.StoreFault.TheVariants as answers
 use Rattle.table_opening.specs.Openings.{IsNoZone, StandsOpened}
 use Rattle.launcher.specs.declared.host.HostFault.{HostFault}
 use Rattle.launcher.specs.declared.host.HostFault.TheVariants as faults
-use Rattle.launcher.specs.Hosts.{with_settings}
+use Rattle.launcher.specs.Hosts.{with_overrides}
 
 -- the header tells no machine: its zone is none, or its reading is past a limit
 abbrev pub IsBadHeader : Header → Type 0
@@ -55,6 +55,6 @@ abbrev pub ComesOf : {A : Type 0} → (A → Table) → (List Setting → A → 
     Result (List Setting) StoreFault → Result A HostFault → Type 0
 ComesOf table is_new header (Err fault) result = result ≡ Err (fault_of_store fault)
 ComesOf table is_new header (Ok settings) (Ok made) =
-    StandsOpened (with_settings header settings) (table made) × is_new settings made
+    StandsOpened (with_overrides header settings) (table made) × is_new settings made
 ComesOf table is_new header (Ok settings) (Err fault) =
-    IsFaultWith (with_settings header settings) fault
+    IsFaultWith (with_overrides header settings) fault

@@ -16,7 +16,7 @@ use Rattle.ctl_protocol.specs.EventWriter.{event_line}
 use Rattle.ctl_protocol.specs.HeaderLines.{header_line}
 use Rattle.job_table.specs.Tables.{Name, definition_of_number}
 use Rattle.job_table.specs.StandsFor.{KeepsState}
-use Rattle.job_table.specs.Loads.{load_of}
+use Rattle.job_table.specs.Loads.{load_of_bytes}
 use Rattle.child_edge.specs.Calls.{ToldCall}
 use Rattle.outside.specs.declared.asking.Outside.{Outside}
 use Rattle.outside.specs.Asking.{Told, told_of}
@@ -49,7 +49,7 @@ AsksSetting s request outside before after =
 -- of a load its sockets and then the store, of a setting the store; of anything else nothing
 abbrev pub AsksOutside : State → journal.Event → ℕ → Outside → Told → Told → Type 0
 AsksOutside s (journaled.Load def writes_setting force bind store) job outside before after =
-    AsksFor (refusal_in s (load_of def writes_setting force true true))
+    AsksFor (refusal_in s (load_of_bytes def writes_setting force true true))
     (def_of def) job writes_setting s.reading.wall outside before after
 AsksOutside s (journaled.Unload label true store) job outside before after =
     AsksSetting s (set_request label true true) outside before after
@@ -142,8 +142,8 @@ HostStamps stamped event refusal old new = (s : State) → KeepsState old.table 
 -- ---- the first moment
 
 -- the header with these settings in place of its own
-abbrev pub with_settings : Header → List Setting → Header
-with_settings header settings =
+abbrev pub with_overrides : Header → List Setting → Header
+with_overrides header settings =
     record { reading = header.reading; zone = header.zone; overrides = settings }
 
 -- A new launcher: it stands for the machine that the header opens with the settings that the store
@@ -153,13 +153,13 @@ pub record IsNew (header : Header) (calls : Option (List ToldCall)) (stores : Op
     (journal : JournalState) (new : Standing) (before after : List Setting → Type 0) : Type 0 where
   pub settings : List Setting
   pub machine : State
-  pub opens : OpensBy (with_settings header settings) machine
+  pub opens : OpensBy (with_overrides header settings) machine
   pub led : IsLed machine
   pub kept : KeepsState new.table machine
   pub none : new.calls ≡ calls
   pub uncalled : AreTold stores [] new.stores
-  pub noted : Grows journal new.journal (header_line (with_settings header settings))
-  pub writable : IsWritableHeader (with_settings header settings)
+  pub noted : Grows journal new.journal (header_line (with_overrides header settings))
+  pub writable : IsWritableHeader (with_overrides header settings)
   pub stored : (list : List Setting) → before list → after machine.settings
 
 -- and these are the settings that the store gave

@@ -12,11 +12,11 @@ use Rattle.launcher.specs.declared.input.Input.{Input}
 use Rattle.launcher.specs.declared.input.Input.TheVariants as inputs
 
 -- what a client may ask of a job: start, stop or kickstart
-abbrev pub is_asked : JobItem → Bool
-is_asked (happens.Asked asks.Start) = true
-is_asked (happens.Asked asks.Stop) = true
-is_asked (happens.Asked (asks.Kickstart kills_first)) = true
-is_asked _ = false
+abbrev pub is_asked_of_a_job : JobItem → Bool
+is_asked_of_a_job (happens.Asked asks.Start) = true
+is_asked_of_a_job (happens.Asked asks.Stop) = true
+is_asked_of_a_job (happens.Asked (asks.Kickstart kills_first)) = true
+is_asked_of_a_job _ = false
 
 -- what a client may ask, with the outside's answers as given; whatever else a line could tell is no
 -- request
@@ -32,23 +32,23 @@ asked_in journaled.Shutdown = Some journaled.Shutdown
 asked_in (journaled.Clock at) = None
 asked_in (journaled.Saw path obs) = None
 asked_in (journaled.OfJob job item) =
-    if is_asked item then Some (journaled.OfJob job item) else None
+    if is_asked_of_a_job item then Some (journaled.OfJob job item) else None
 
 -- what happens to the job of this label; under a name that is no label nothing does
-abbrev pub if_label : List ℕ → journal.Event → Option journal.Event
-if_label name event = if is_label name then Some event else None
+abbrev pub event_if_label : List ℕ → journal.Event → Option journal.Event
+event_if_label name event = if is_label name then Some event else None
 
 -- the event that an input is, before the outside was asked; a line that is no request is none
 abbrev pub input_event : Input → Option journal.Event
 input_event (inputs.Line line) = option_and_then asked_in (request_at line.now)
 input_event (inputs.Clock at) = Some (journaled.Clock at)
 input_event (inputs.Saw path obs) = Some (journaled.Saw path.now obs)
-input_event (inputs.Came job conn) = if_label job.now (journaled.OfJob job.now (happens.Came conn))
-input_event (inputs.Left job conn) = if_label job.now (journaled.OfJob job.now (happens.Left conn))
+input_event (inputs.Came job conn) = event_if_label job.now (journaled.OfJob job.now (happens.Came conn))
+input_event (inputs.Left job conn) = event_if_label job.now (journaled.OfJob job.now (happens.Left conn))
 input_event (inputs.Ended job run how) =
-    if_label job.now (journaled.OfJob job.now (happens.Ended run how))
+    event_if_label job.now (journaled.OfJob job.now (happens.Ended run how))
 input_event (inputs.WaitRefused job run) =
-    if_label job.now (journaled.OfJob job.now (happens.WaitRefused run))
+    event_if_label job.now (journaled.OfJob job.now (happens.WaitRefused run))
 
 -- the event with what the outside answered to it
 abbrev pub answered : Outside → journal.Event → journal.Event

@@ -12,7 +12,7 @@ use Rattle.job_defs.specs.Definitions.{given}
 use Rattle.job_defs.specs.Keys.{def_of}
 use Rattle.job_table.specs.Tables.{Table, Name, definition_of_number}
 use Rattle.job_table.specs.StandsFor.{KeepsState, acts_in}
-use Rattle.job_table.specs.Loads.{load_of, refusal_outside, described_in, number_in, setting_in}
+use Rattle.job_table.specs.Loads.{load_of_bytes, refusal_outside, described_in, number_in, new_setting_in}
 use Rattle.job_table.specs.declared.loading.Ready.{Ready}
 use Rattle.job_table.specs.Changes.{set_of}
 use Rattle.job_table.specs.Outcomes.{IsSameFor}
@@ -104,7 +104,7 @@ load_request bytes writes_setting force =
 -- the machine's event of it, with these answers of the outside
 abbrev pub event_of_load : LoadRequest → Outside → Event
 event_of_load request outside =
-    load_of request.bytes request.writes_setting request.force outside.bind outside.store
+    load_of_bytes request.bytes request.writes_setting request.force outside.bind outside.store
 
 -- the label that the text defines, if it does
 abbrev pub label_read : Result Described Fault → Option Label
@@ -183,7 +183,7 @@ pub record HasTaken (s : State) (e : Event) (table : Table) : Type 0 where
 -- the machine's event of a load that was made ready, with these answers of the outside
 abbrev pub ready_load : Ready → Bool → Bool → Bool → Event
 ready_load ready force bind store =
-    Load (Ok (given (described_in ready))) (is_some (setting_in ready)) force bind store
+    Load (Ok (given (described_in ready))) (is_some (new_setting_in ready)) force bind store
 
 -- a load that was accepted is the first event of a turn, which knows the new job, and those that
 -- were loaded, under their numbers

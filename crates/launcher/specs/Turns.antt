@@ -59,12 +59,12 @@ AreKnownIn (Err refusal) = Unit {0}
 -- ---- the events of a turn
 
 -- the event that an answer is; a number stands for its job's label
-abbrev pub event_in : List Name → Unheard → Event
-event_in names pending = OfJob (label_of names pending.job) (Answered pending.answer)
+abbrev pub answer_event : List Name → Unheard → Event
+answer_event names pending = OfJob (label_of names pending.job) (Answered pending.answer)
 
 -- the events that the answers of these calls are
-abbrev pub events_in : List Name → List ToldCall → List Event
-events_in names entries = map (event_in names) (answers_in entries)
+abbrev pub answer_events : List Name → List ToldCall → List Event
+answer_events names entries = map (answer_event names) (answers_in entries)
 
 -- A whole turn of the machine s. Its events are the input and then the answers of the calls, in the
 -- order of the calls. The calls are the orders of all these events, in order, each once: so none is
@@ -73,8 +73,8 @@ pub record IsTurn (s : State) (input : Event) (names : List Name) (entries : Lis
     (new : Table) : Type 0 where
   pub orders : List Order
   pub calls : calls_in entries ≡ map call_of orders
-  pub by_label : labelled names orders ≡ orders_in (input ∷ events_in names entries) s
-  pub kept : KeepsState new (run (input ∷ events_in names entries) s)
+  pub by_label : labelled names orders ≡ orders_in (input ∷ answer_events names entries) s
+  pub kept : KeepsState new (run (input ∷ answer_events names entries) s)
 
 -- ---- in the midst of a turn
 
@@ -168,13 +168,13 @@ pub record Handled (s : State) (names : List Name) (job_order : JobOrder) (waits
     (before after : Trace) : Type 0 where
   pub orders : List Order
   pub carried : Carried orders answers answers' before.calls after.calls
-  pub ordered : labelled names orders ≡ (outcome s (event_in names pending)).orders
+  pub ordered : labelled names orders ≡ (outcome s (answer_event names pending)).orders
   pub waiting : (made : List ToldCall) → calls_in made ≡ map call_of orders →
-      IsWaiting new (step s (event_in names pending)) names
-      (waits ++ wanting (outcome s (event_in names pending)).orders) (rest ++ answers_in made)
+      IsWaiting new (step s (answer_event names pending)) names
+      (waits ++ wanting (outcome s (answer_event names pending)).orders) (rest ++ answers_in made)
   pub noted : Grows before.journal after.journal (answer_text names pending)
   pub named : IsNamedIn names pending
-  pub lighter : weigh_orders (wanting (outcome s (event_in names pending)).orders)
+  pub lighter : weigh_orders (wanting (outcome s (answer_event names pending)).orders)
       < weight job_order.1
 
 -- each answer was made an event, and none remains; `made` are the calls of these events
@@ -185,8 +185,8 @@ pub record Settled (s : State) (names : List Name) (waited settled : List Unhear
   pub all : settled ≡ waited ++ answers_in made
   pub orders : List Order
   pub calls : calls_in made ≡ map call_of orders
-  pub by_label : labelled names orders ≡ orders_in (map (event_in names) settled) s
-  pub kept : KeepsState new (run (map (event_in names) settled) s)
+  pub by_label : labelled names orders ≡ orders_in (map (answer_event names) settled) s
+  pub kept : KeepsState new (run (map (answer_event names) settled) s)
   pub few : length settled ≤ 3 * MAX_JOBS
   pub numbers : AreNumbered names new
   pub noted : Grows before.journal after.journal (answer_texts names settled)
@@ -216,9 +216,9 @@ pub record TurnsOf (s : State) (input : Event) (line : List ℕ) (reply : Option
   pub entries : List ToldCall
   pub tells : Tells before.calls entries after.calls
   pub turn : IsTurn s input names entries new
-  pub led : IsLed (run (input ∷ events_in names entries) s)
+  pub led : IsLed (run (input ∷ answer_events names entries) s)
   pub replies : (outcome s input).refusal ≡ reply
-  pub few : length (events_in names entries) ≤ 3 * MAX_JOBS
+  pub few : length (answer_events names entries) ≤ 3 * MAX_JOBS
   pub numbers : reply ≡ None → AreNumbered names new
   pub noted : Grows before.journal after.journal (line ++ answer_texts names (answers_in entries))
   pub tellable : AllByRecursion IsTellablePending (answers_in entries)

@@ -8,8 +8,8 @@ ghost use Rattle.launcher.specs.Journals.{JournalState, Grows};
 ghost use Rattle.launcher.specs.Turns.{IsLed, NamesLabel, trace};
 ghost use Rattle.launcher.specs.LoadTurns.{Finishes, HasTaken};
 
-use crate::carrying::carry_all;
 use crate::host::Host;
+use crate::orders::carry_all;
 use child_edge::{ChildEdge, SocketEdge};
 use outside::SettingStore;
 use std::alloc::Global;

@@ -11,8 +11,8 @@ ghost use Rattle.launcher.specs.Faults.{ComesOf, FaultOf};
 ghost use Rattle.launcher.specs.Lends.{lends_edge};
 
 use crate::answer_queue::AnswerQueue;
+use crate::host_parts::{Inside, make_inside, store_fault, with_settings};
 use crate::journal::{Journal, Phase};
-use crate::making::{Inside, make_inside, store_fault, with_settings};
 use child_edge::{ChildEdge, SocketEdge};
 use ctl_protocol::{Header, LineReader};
 use job_table::JobTable;
@@ -71,7 +71,7 @@ impl<T: SettingStore + Drop, E: ChildEdge + SocketEdge + Drop, W: Write + Drop> 
             Ok(settings) => settings,
             Err(fault) => return Err(store_fault(fault)),
         };
-        match make_inside(alloc, with_settings(header, settings), journal) {
+        match make_inside(alloc, with_settings(header, settings), journal) { // for the proof
             Ok(
                 Inside {
                     table,

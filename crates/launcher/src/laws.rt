@@ -9,15 +9,15 @@ ghost use Rattle.job_defs.specs.Described.{Described};
 ghost use Rattle.job_defs.specs.Definitions.{has_sockets};
 ghost use Rattle.job_defs.specs.Keys.{def_of};
 ghost use Rattle.job_table.specs.Tables.{Name};
-ghost use Rattle.job_table.specs.Loads.{load_of, refusal_outside};
-ghost use Rattle.launcher.specs.Turns.{events_in};
+ghost use Rattle.job_table.specs.Loads.{load_of_bytes, refusal_outside};
+ghost use Rattle.launcher.specs.Turns.{answer_events};
 ghost use Rattle.child_edge.specs.Calls.{ToldCall};
 
 /// Only the first event of a turn sets anything.
 #[tactic(auto, using(crate::proofs::StoredSettingsLemmas::turn_settings))]
 pub fn answers_set_nothing()
     ensures { (s : State) (input : Event) (names : List Name) (entries : List ToldCall) →
-        (run (input ∷ events_in names entries) s).settings ≡ (step s input).settings }
+        (run (input ∷ answer_events names entries) s).settings ≡ (step s input).settings }
 {}
 
 /// A load that refuses only what the outside refuses sets its label if that was wanted and the store took it, and else nothing.
@@ -27,10 +27,10 @@ pub fn a_load_sets_what_was_stored()
     ensures { (s : State) (bytes : List ℕ) (d : Described)
         (writes_setting force bind store : Bool) →
         def_of bytes ≡ Ok d →
-        refusal_in s (load_of bytes writes_setting force bind store)
+        refusal_in s (load_of_bytes bytes writes_setting force bind store)
         ≡ refusal_outside d writes_setting bind store →
         (has_sockets d ≡ false → bind ≡ true) → ((writes_setting && bind) ≡ false → store ≡ true) →
-        (step s (load_of bytes writes_setting force bind store)).settings
+        (step s (load_of_bytes bytes writes_setting force bind store)).settings
         ≡ set_if (writes_setting && (bind && store)) d.label false s.settings }
 {}
 

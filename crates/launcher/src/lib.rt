@@ -3,26 +3,26 @@
 #![tactic(auto)]
 
 mod answer_queue;
-mod asking;
-mod carrying;
+mod answers;
+mod client_requests;
 mod event_ref;
+mod events;
 mod finishing;
-mod fitting;
-mod hearing;
 mod host;
+mod host_parts;
 mod input;
 mod journal;
 mod journal_writer;
 pub mod laws;
+mod lent_facts;
 mod lines;
 mod loading;
-mod making;
-mod noting;
+mod orders;
 mod questions;
 mod replies;
+mod request_lines;
 mod setting;
 mod settings;
-mod settling;
 mod turns;
 
 pub use host::{Host, HostFault};

@@ -18,7 +18,7 @@ ghost use Rattle.launcher.specs.Lines.{load_line};
 ghost use Rattle.launcher.specs.LoadTurns.{LoadTurnOf, IsUntouched, Makes, EndsLoad, event_of_load, is_memory, label_written, load_request, ready_load, settings_after, stamps_after};
 
 use crate::host::Host;
-use crate::noting::{note_load, note_load_refused};
+use crate::request_lines::{note_load, note_load_refused};
 use child_edge::{ChildEdge, SocketEdge};
 use history_model::Refusal;
 use job_defs::{Def, loaded};

@@ -12,7 +12,7 @@ ghost use Rattle.job_table.specs.Outcomes.{UnlessMemory, IsReplyText, Means};
 ghost use Rattle.launcher.specs.Journals.{Grows};
 
 use crate::host::Host;
-use crate::noting::note_print;
+use crate::request_lines::note_print;
 use child_edge::{ChildEdge, SocketEdge};
 use history_model::{Event, Refusal};
 use outside::SettingStore;

@@ -15,7 +15,7 @@ ghost use Rattle.job_table.specs.Loads.{refused_with};
 ghost use Rattle.launcher.specs.LoadTurns.{SetTurnOf, Sets, IsUntouched, is_memory, set_request, settings_after, stamps_after};
 
 use crate::host::Host;
-use crate::noting::{note_set, note_set_refused};
+use crate::request_lines::{note_set, note_set_refused};
 use child_edge::{ChildEdge, SocketEdge};
 use history_model::Refusal;
 use job_defs::is_label;

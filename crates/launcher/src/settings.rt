@@ -5,7 +5,7 @@ ghost use Rattle.std.specs.List.{AllByRecursion};
 ghost use Rattle.history_model.specs.Labels.{is_before};
 ghost use Rattle.history_model.specs.MachineLaws.{AreInOrder};
 
-use crate::fitting::lend_text;
+use crate::lent_facts::lend_text;
 use history_model::Setting;
 use std::cmp::Ordering;
 

@@ -9,17 +9,17 @@ ghost use Rattle.job_table.specs.Outcomes.{UnlessMemory};
 ghost use Rattle.launcher.specs.Events.{event_of_ref, is_clock};
 ghost use Rattle.launcher.specs.Hosts.{HostHears, HostStamps};
 ghost use Rattle.launcher.specs.Accepting.{is_accepted_load};
-ghost use Rattle.launcher.specs.Inputs.{input_event, if_label, wants_memory};
+ghost use Rattle.launcher.specs.Inputs.{input_event, event_if_label, wants_memory};
 ghost use Rattle.launcher.specs.Lines.{journaled_by};
 ghost use Rattle.launcher.specs.LoadTurns.{is_memory};
 ghost use Rattle.launcher.specs.Turns.{Turns, IsUncalled, trace};
 ghost use Rattle.launcher.specs.Writable.{WritesWhat};
 
 use crate::event_ref::EventRef;
-use crate::fitting::lend_input;
-use crate::hearing::hear;
+use crate::events::hear;
 use crate::host::Host;
 use crate::input::Input;
+use crate::lent_facts::lend_input;
 use crate::lines::note;
 use crate::replies::{done, is_want, refused};
 use child_edge::{ChildEdge, SocketEdge};
@@ -88,9 +88,9 @@ impl<T: SettingStore, E: ChildEdge + SocketEdge, W: Write> Host<T, E, W> {
     /// What happens to the job of this label. A name that is no label is answered by BadRequest.
     fn happen_to(&mut self, alloc: Global, job: &str, item: JobItem) -> Reply
         ensures hears { HostHears E.told T.told T.holds
-            (if_label job.now (journaled.OfJob job.now item))
+            (event_if_label job.now (journaled.OfJob job.now item))
             result.refusal result.text self.old self.new }
-        ensures stamped { HostStamps T.stamped (if_label job.now (journaled.OfJob job.now item))
+        ensures stamped { HostStamps T.stamped (event_if_label job.now (journaled.OfJob job.now item))
             result.refusal self.old self.new }
         ensures memory { is_memory result.refusal ≡ true → ⊥ }
         ensures quiet { is_some result.refusal ≡ true → result.text ≡ [] }

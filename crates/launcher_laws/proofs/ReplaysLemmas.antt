@@ -19,7 +19,7 @@ use Rattle.launcher.specs.Journals.{fresh}
 use Rattle.table_opening.specs.Events.{machine_event, read_as, event_in}
 use Rattle.table_opening.specs.Openings.{OpensBy}
 use Rattle.table_opening.specs.Output.{IsOutput}
-use Rattle.launcher.specs.Hosts.{IsNew, with_settings}
+use Rattle.launcher.specs.Hosts.{IsNew, with_overrides}
 use Rattle.launcher_laws.specs.Runs.{Snapshot, Turn, AreTurns, events_in as parts_events}
 use Rattle.launcher.specs.Writable.{IsWritable, IsWritableHeader}
 use Rattle.launcher_laws.specs.Replays.{outcome_texts, IsReplayed}
@@ -59,9 +59,9 @@ module _ {T : Type 0} (holds : T → List Setting → Type 0) where
   pub replayed : (header : Header) (calls : Option (List ToldCall)) (stores : Option (List StoreCall)) (store : T) (first last : Snapshot T) (turns : List (Turn T)) (bytes : List ℕ) →
       (new : IsNew header calls stores (fresh (Some []) true) first.stands (holds store) (holds first.store)) → AreTurns holds first turns last →
       last.stands.journal.phase ≡ Open → last.stands.journal.bytes ≡ Some bytes →
-      IsReplayed (with_settings header new.settings) turns bytes
+      IsReplayed (with_overrides header new.settings) turns bytes
   replayed header calls stores store first last turns bytes new heard still ends =
-      let h = with_settings header new.settings in
+      let h = with_overrides header new.settings in
       let w = went holds new.machine first turns last new.led new.kept heard in
       let later = w.noted still in
       let begun = grown (fresh (Some []) true) first.stands.journal (header_line h) new.noted later.was in

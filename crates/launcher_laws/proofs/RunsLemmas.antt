@@ -22,7 +22,7 @@ use Rattle.launcher.specs.declared.journal_writer.Cause.{Cause}
 use Rattle.launcher.specs.declared.journal.Phase.TheVariants.{Open, Closed, Reported}
 use Rattle.launcher.specs.Journals.{JournalState, Grows, GrowsIn, reported}
 use Rattle.launcher.specs.Lines.{journaled_answer, answer_texts}
-use Rattle.launcher.specs.Turns.{IsLed, event_in, events_in}
+use Rattle.launcher.specs.Turns.{IsLed, answer_event, answer_events}
 use Rattle.launcher.proofs.StoredSettingsLemmas.{turn_settings}
 use Rattle.launcher.specs.LoadTurns.{is_memory}
 use Rattle.table_opening.specs.Events.{machine_event}
@@ -46,7 +46,7 @@ outcomes_append (x ∷ xs) ys s = ap (λ l. outcome s x ∷ l) (outcomes_append 
 answer_is : (job : Label) (answer : Answer) → machine_event (journaled_answer job answer) ≡ OfJob job (Answered answer)
 answer_is job answer = refl
 
-answers_are : (names : List Name) (ps : List Unheard) → map machine_event (map (answer_told names) ps) ≡ map (event_in names) ps
+answers_are : (names : List Name) (ps : List Unheard) → map machine_event (map (answer_told names) ps) ≡ map (answer_event names) ps
 answers_are names [] = refl
 answers_are names (p ∷ ps) = λ i. answer_is (label_of names p.job) p.answer i ∷ answers_are names ps i
 
@@ -86,10 +86,10 @@ module _ {T : Type 0} (holds : T → List Setting → Type 0) (s : State) (turn 
       let input = machine_event first in
       let names = t.turn.names in
       let ps = answers_in t.turn.entries in
-      let same : input ∷ events_in names t.turn.entries ≡ map machine_event (first ∷ map (answer_told names) ps) = ap (λ l. input ∷ l) (sym (answers_are names ps)) in
+      let same : input ∷ answer_events names t.turn.entries ≡ map machine_event (first ∷ map (answer_told names) ps) = ap (λ l. input ∷ l) (sym (answers_are names ps)) in
       record {
         events = first ∷ map (answer_told names) ps;
-        outs = outcomes (input ∷ events_in names t.turn.entries) s;
+        outs = outcomes (input ∷ answer_events names t.turn.entries) s;
         is_part = inr (record {
           event = event;
           came = came;
@@ -98,7 +98,7 @@ module _ {T : Type 0} (holds : T → List Setting → Type 0) (s : State) (turn 
           answers = map (answer_told names) ps;
           first = refl;
           reply = outcome s input;
-          others = outcomes (events_in names t.turn.entries) (step s input);
+          others = outcomes (answer_events names t.turn.entries) (step s input);
           all = refl;
           refusal = t.turn.replies;
           words = t.text;

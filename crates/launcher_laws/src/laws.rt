@@ -13,7 +13,7 @@ ghost use Rattle.outside.specs.Stores.{StoreCall};
 ghost use Rattle.override_store.specs.declared.stored_settings.StoredSettings.{StoredSettings as Stored};
 ghost use Rattle.launcher.specs.declared.journal.Phase.TheVariants.{Open};
 ghost use Rattle.launcher.specs.Journals.{JournalState, fresh};
-ghost use Rattle.launcher.specs.Hosts.{IsNew, with_settings};
+ghost use Rattle.launcher.specs.Hosts.{IsNew, with_overrides};
 ghost use Rattle.launcher_laws.specs.Runs.{Snapshot, Turn, AreTurns};
 ghost use Rattle.launcher_laws.specs.Lasting.{Lasts, settings_of};
 ghost use Rattle.launcher_laws.specs.Replays.{IsReplayed};
@@ -69,7 +69,7 @@ pub fn a_replay_writes_what_was_replied<T: SettingStore>(store: &T)
         (T.holds store.now) (T.holds first.store)) →
         AreTurns T.holds first turns last →
         last.stands.journal.phase ≡ Open → last.stands.journal.bytes ≡ Some bytes →
-        IsReplayed (with_settings header new.settings) turns bytes }
+        IsReplayed (with_overrides header new.settings) turns bytes }
 {
     let _ = store;
 }

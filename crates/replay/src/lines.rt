@@ -4,7 +4,7 @@ ghost use Rattle.std.specs.Prelude.{◌≡◌, IfOk, Some, None, [], string_byte
 ghost use Rattle.history_model.specs.RefusalTexts.{refusal_text};
 ghost use Rattle.ctl_protocol.specs.Outcomes as outcomes;
 ghost use Rattle.ctl_protocol.specs.Outcomes.{orders_of};
-ghost use Rattle.job_table.specs.Ends.{acts_of, replied};
+ghost use Rattle.job_table.specs.Ends.{lent_acts, step_outcome};
 
 use ctl_protocol::outcome_line;
 use history_model::{Act, Refusal, Reply, Text};
@@ -13,7 +13,7 @@ use std::alloc::{AllocError, Global};
 
 /// The orders of a step, by the labels of their jobs.
 fn labelled_orders<'a>(alloc: Global, step: &Step<'a>) -> Result<Vec<(&'a str, Act)>, AllocError>
-    ensures { IfOk result (λ orders. orders_of orders.items ≡ acts_of step.now) }
+    ensures { IfOk result (λ orders. orders_of orders.items ≡ lent_acts step.now) }
 {
     let mut orders = Vec::new(alloc);
     for order in step.orders {
@@ -31,7 +31,7 @@ pub(crate) fn accepted_line(
     ensures { IfOk result (λ line. line.items
         ≡ outcomes.outcome_line (record {
           refusal = None;
-          orders = acts_of step.now;
+          orders = lent_acts step.now;
           text = text;
         })) }
 {
@@ -64,7 +64,7 @@ pub(crate) fn answer_line(
     alloc: Global,
     answer: Result<Step<'_>, Refusal>,
 ) -> Result<Vec<u8>, AllocError>
-    ensures { IfOk result (λ line. line.items ≡ outcomes.outcome_line (replied answer.entry)) }
+    ensures { IfOk result (λ line. line.items ≡ outcomes.outcome_line (step_outcome answer.entry)) }
 {
     match answer {
         Ok(step) => accepted_line(alloc, &step, Text::new(String::new(alloc))),

@@ -2,7 +2,7 @@
 ghost use Rattle.std.specs.Prelude.{◌≡◌, IfOk};
 ghost use Rattle.history_model.specs.Machine.{Set, UnloadJob};
 ghost use Rattle.job_table.specs.Changes.{set_of};
-ghost use Rattle.job_table.specs.Loads.{load_of, refusal_outside};
+ghost use Rattle.job_table.specs.Loads.{load_of_bytes, refusal_outside};
 ghost use Rattle.replay.specs.Answers.{IsReplied};
 
 use crate::lines::{accepted_line, answer_line, refused_line};
@@ -32,7 +32,7 @@ pub(crate) fn load(
     words: LoadWords,
 ) -> Result<Vec<u8>, AllocError>
     ensures { IfOk result (λ line. IsReplied
-        (load_of def.now words.writes_setting words.force words.bind words.store)
+        (load_of_bytes def.now words.writes_setting words.force words.bind words.store)
         table.old table.new line.items) }
 {
     match table.prepare_load(alloc, def.as_bytes(), words.writes_setting, words.force) {

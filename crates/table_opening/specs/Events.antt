@@ -4,13 +4,13 @@ use Rattle.history_model.specs.declared.event.Event as journal
 use Rattle.history_model.specs.declared.event.Event.TheVariants as journaled
 use Rattle.history_model.specs.JobItems.{item_of}
 use Rattle.history_model.specs.Machine.{Event, Unreadable, UnloadJob, Set, ListJobs, PrintJob, ShutDown, Tick, Sight, OfJob}
-use Rattle.job_table.specs.Loads.{load_of}
+use Rattle.job_table.specs.Loads.{load_of_bytes}
 use Rattle.event_reader.specs.EventLines.{event_at}
 
 -- the machine's event; a load's definition is what its text reads as
 abbrev pub machine_event : journal.Event → Event
 machine_event (journaled.Load def writes_setting force bind store) =
-    load_of def writes_setting force bind store
+    load_of_bytes def writes_setting force bind store
 machine_event (journaled.Unload job writes_setting store) = UnloadJob job writes_setting store
 machine_event (journaled.Set job disabled store) = Set job disabled store
 machine_event journaled.List = ListJobs

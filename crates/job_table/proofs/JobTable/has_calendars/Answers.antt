@@ -9,7 +9,7 @@ use Rattle.job_table.proofs.JobTable.has_calendars.Goals as goal
 
 by-flag : (c : goal.In-Nobody) → c.self.inside.jobs.has_calendars ≡ has_calendars c.args.self.now.rows
 by-flag c =
-    let es = c.self.inside.jobs.entries.items in
+    let es = c.self.inside.jobs.seats.items in
     c.self.invariant.sound.calendars
     ∙ sym (stay-rows es (subst (λ g. StayBut g es) c.in-Nobody.is c.self.invariant.stay) ∙ calendars-names es)
     ∙ ap (λ t. has_calendars t.rows) c.self.view_is
@@ -22,7 +22,7 @@ returns-in-Nobody-clause-jobs c = λ s keeps. by-flag c ∙ calendars-jobs s.rea
 
 pub returns-in_default-clause-jobs : goal.returns-in_default-clause-jobs
 returns-in_default-clause-jobs c = λ s keeps.
-    let es = c.self.inside.jobs.entries.items in
+    let es = c.self.inside.jobs.seats.items in
     c.is_some_with_calendar.ensures
     ∙ ap (list_any (λ e. not e.has_gone && is_some_entry e.def.calendar)) c.deref.ensures.value
     ∙ calendars-rows es
@@ -33,5 +33,5 @@ pub returns-in_default-clause-rows : goal.returns-in_default-clause-rows
 returns-in_default-clause-rows c =
     c.is_some_with_calendar.ensures
     ∙ ap (list_any (λ e. not e.has_gone && is_some_entry e.def.calendar)) c.deref.ensures.value
-    ∙ calendars-rows c.self.inside.jobs.entries.items
+    ∙ calendars-rows c.self.inside.jobs.seats.items
     ∙ ap (λ t. has_calendars t.rows) c.self.view_is

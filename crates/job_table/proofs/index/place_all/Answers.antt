@@ -1,4 +1,4 @@
--- No entry is before the first.
+-- No seat is before the first.
 use Rattle.std.proofs.Common.{arith}
 use Rattle.job_table.proofs.index.place_all.Goals as goal
 

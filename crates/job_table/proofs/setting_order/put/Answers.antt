@@ -4,7 +4,7 @@ use Rattle.std.specs.List.{filter, position}
 use Rattle.std.proofs.lemmas.List.Edits.{length-insert}
 use Rattle.history_model.specs.Search.{first}
 use Rattle.history_model.specs.Machine.{sets}
-use Rattle.job_table.specs.Room.{one_more}
+use Rattle.job_table.specs.Room.{one_setting_more}
 use Rattle.job_table.specs.Settings.{AreSet, IsPlaceFor}
 use Rattle.job_table.proofs.FirstLemmas.{first-where}
 use Rattle.job_table.proofs.SettingLemmas.{set-at}
@@ -37,7 +37,7 @@ returns-in-Ok-insert-clause-held c =
     let new = c.args.setting in
     let k = c.in-Err.place in
     let place = subst (λ l. IsPlaceFor l items k) c.as_str.ensures (subst (λ xs. IsPlaceFor c.as_str.result.now xs k) c.deref.ensures.value c.in-Err.ensures.absent) in
-    ap length c.in-Ok-insert.ensures.items ∙ length-insert items k new place.bound ∙ ap (λ found. one_more found (length items)) (none-set new.label items k place)
+    ap length c.in-Ok-insert.ensures.items ∙ length-insert items k new place.bound ∙ ap (λ found. one_setting_more found (length items)) (none-set new.label items k place)
 
 pub returns-in-Ok-insert-clause-order : goal.returns-in-Ok-insert-clause-order
 returns-in-Ok-insert-clause-order c =

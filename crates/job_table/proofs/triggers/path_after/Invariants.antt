@@ -7,7 +7,7 @@ use Rattle.job_table.proofs.triggers.path_after.Given as goal
 
 abbrev pub invariant-loop-place : goal.invariant-loop-place
 invariant-loop-place l = record {
-  passed : (k : ℕ) (one : Listed) → slice_get l.listed k ≡ Some one → k < l.place → is_behind (1 ∷ l.text) one ≡ true → stays_under l.places l.entries one ≡ false;
+  passed : (k : ℕ) (one : Listed) → slice_get l.listed k ≡ Some one → k < l.place → is_behind (1 ∷ l.text) one ≡ true → stays_under l.places l.seats one ≡ false;
   ahead : (k : ℕ) (one : Listed) → slice_get l.listed k ≡ Some one → l.place ≤ k → is_behind (1 ∷ l.text) one ≡ true;
 }
 

@@ -1,6 +1,6 @@
 -- The places that are marked are those of the jobs that the reading touches.
 use Rattle.std.proofs.Common.{◌≡◌, ◌≤◌, ◌<◌, ◌++◌, true, false, ◌||◌, map, drop, length, Option, Some, None, [], refl, ap, sym, subst, ◌∙◌, nat_lt, arith}
-use Rattle.std.specs.Prelude.{Ok, slice_get}
+use Rattle.std.specs.Prelude.{Ok, is_some, slice_get}
 use Rattle.std.specs.List.{list_all, filter_map}
 use Rattle.std.specs.Vec.{with_items}
 use Rattle.std.proofs.lemmas.Bool.Decides.{nat_tests}
@@ -15,21 +15,21 @@ use Rattle.history_model.specs.Acceptance.{refused_if}
 use Rattle.history_model.specs.Machine.{State, Job, Tick}
 use Rattle.history_model.specs.Step.{heard, stays}
 use Rattle.job_table.specs.Periods.{HavePeriods}
-use Rattle.job_table.specs.Tables.{IsOnce, is_known, labels_in}
+use Rattle.job_table.specs.Tables.{IsOnce, definition_of_number, is_known, labels_in}
 use Rattle.job_table.specs.StandsFor.{KeepsJobs, KeepsState, numbered_all}
 use Rattle.job_table.specs.Counts.{counts, count_in, IsCounted}
 use Rattle.job_table.specs.Triggers.{AreListed, AreOrdered}
 use Rattle.job_table.proofs.MinutesLemmas.{have-marks}
-use Rattle.job_table.specs.Entries.{name, rows, gone, is_named}
+use Rattle.job_table.specs.Seats.{name, rows, gone, is_named, AllStay}
 use Rattle.job_table.specs.Leaving.{StayBut}
 use Rattle.job_table.specs.Index.{AreTimed, AreAlone, ArePlaced, HaveRoom, place_in}
 use Rattle.job_table.specs.Marking.{HavePlaces}
 use Rattle.job_table.specs.Minutes.{has_calendars, some_calendar}
 use Rattle.job_table.specs.Outcomes.{plain_outcome}
-use Rattle.job_table.specs.Sound.{seen, AreFree}
+use Rattle.job_table.specs.Sound.{seen_table, AreFree}
 use Rattle.job_table.specs.Hearing.{AreFor, IsAccepted}
 use Rattle.job_table.specs.Visiting.{is_spared, AreSpared, AreAtRest, AreVisitedOnce}
-use Rattle.job_table.specs.declared.entry.Touch.TheVariants as touch
+use Rattle.job_table.specs.declared.seat.Touch.TheVariants as touch
 use Rattle.job_table.specs.declared.jobs.Jobs.{Jobs}
 use Rattle.job_table.proofs.ListLemmas.{lent-back}
 use Rattle.job_table.proofs.PlacesLemmas.{rows-all}
@@ -58,7 +58,7 @@ pub mark_due-requires-clause-places : goal.mark_due-requires-clause-places
 mark_due-requires-clause-places c =
     let old = c.args.self.now in
     subst (λ ps. HavePlaces old.index.timers ps old.index.ready) (sym c.deref.ensures.value)
-    (have-places old.entries.items old.index.timers old.index.places.items old.index.ready c.requires.indexed.alone c.requires.indexed.placed c.requires.indexed.marks)
+    (have-places old.seats.items old.index.timers old.index.places.items old.index.ready c.requires.indexed.alone c.requires.indexed.placed c.requires.indexed.marks)
 
 pub mark_minutes-requires-clause-order : goal.mark_minutes-requires-clause-order
 mark_minutes-requires-clause-order c = subst AreOrdered (sym c.deref-2.ensures.value) c.requires.sound.listed.order
@@ -67,88 +67,82 @@ pub mark_minutes-requires-clause-places : goal.mark_minutes-requires-clause-plac
 mark_minutes-requires-clause-places c =
     let fits = c.requires.indexed.marks in
     let same = c.mark_due.ensures.room in
-    have-marks c.deref-3.result.now c.args.self.now.entries.items c.deref-2.result.now c.mark_due.new.ready (subst (λ ps. ArePlaced ps c.args.self.now.entries.items) (sym c.deref-3.ensures.value) c.requires.indexed.placed)
-    (subst (λ ls. AreListed ls (map name c.args.self.now.entries.items)) (sym c.deref-2.ensures.value) c.requires.sound.listed) (omega (arith, fits, same))
+    have-marks c.deref-3.result.now c.args.self.now.seats.items c.deref-2.result.now c.mark_due.new.ready (subst (λ ps. ArePlaced ps c.args.self.now.seats.items) (sym c.deref-3.ensures.value) c.requires.indexed.placed)
+    (subst (λ ls. AreListed ls (map name c.args.self.now.seats.items)) (sym c.deref-2.ensures.value) c.requires.sound.listed) (omega (arith, fits, same))
 
-pub visit_ready-visited-requires-clause-inside : goal.visit_ready-visited-requires-clause-inside
-visit_ready-visited-requires-clause-inside c =
+pub visit_ready-visited-requires-clause-can : goal.visit_ready-visited-requires-clause-can
+visit_ready-visited-requires-clause-can c =
     let old = c.args.self.now in
     let indexed = c.requires.indexed in
-    let m = are-marked old.entries.items c.args.self.now.entries.items c.args.at c.args.minutes.now old.index.timers c.mark_due.new.timers old.index.places.items c.deref.result.now c.mark_due.new.ready c.mark_minutes.new.ready
-    c.deref.ensures.value refl c.mark_due.ensures.marked c.mark_due.ensures.marks (c.mark_minutes.ensures.spared c.args.self.now.entries.items (subst (λ ls. AreListed ls (map name c.args.self.now.entries.items)) (sym c.deref-2.ensures.value) c.requires.sound.listed) (subst (λ ps. ArePlaced ps c.args.self.now.entries.items) (sym c.deref-3.ensures.value) c.requires.indexed.placed)) (c.mark_minutes.ensures.marks c.args.self.now.entries.items (subst (λ ls. AreListed ls (map name c.args.self.now.entries.items)) (sym c.deref-2.ensures.value) c.requires.sound.listed) (subst (λ ps. ArePlaced ps c.args.self.now.entries.items) (sym c.deref-3.ensures.value) c.requires.indexed.placed)) in
-    λ place there. subst (λ xs. place < length xs) (sym c.deref_mut.ensures.value)
-    (mark-at old.entries.items c.requires.stay old.reading c.args.at c.args.minutes.now old.index.timers c.mark_due.new.timers old.index.places.items c.mark_due.new.ready c.mark_minutes.new.ready
-    indexed.timed indexed.alone indexed.placed m.marked m.reached m.spared m.minute place there)
-
-pub visit_ready-visited-requires-clause-spared : goal.visit_ready-visited-requires-clause-spared
-visit_ready-visited-requires-clause-spared c =
-    let old = c.args.self.now in
-    let indexed = c.requires.indexed in
-    let m = are-marked old.entries.items c.args.self.now.entries.items c.args.at c.args.minutes.now old.index.timers c.mark_due.new.timers old.index.places.items c.deref.result.now c.mark_due.new.ready c.mark_minutes.new.ready
-    c.deref.ensures.value refl c.mark_due.ensures.marked c.mark_due.ensures.marks (c.mark_minutes.ensures.spared c.args.self.now.entries.items (subst (λ ls. AreListed ls (map name c.args.self.now.entries.items)) (sym c.deref-2.ensures.value) c.requires.sound.listed) (subst (λ ps. ArePlaced ps c.args.self.now.entries.items) (sym c.deref-3.ensures.value) c.requires.indexed.placed)) (c.mark_minutes.ensures.marks c.args.self.now.entries.items (subst (λ ls. AreListed ls (map name c.args.self.now.entries.items)) (sym c.deref-2.ensures.value) c.requires.sound.listed) (subst (λ ps. ArePlaced ps c.args.self.now.entries.items) (sym c.deref-3.ensures.value) c.requires.indexed.placed)) in
-    subst (AreSpared c.mark_minutes.new.ready old.reading (touch.Reading c.args.at c.args.minutes) 0) (sym c.deref_mut.ensures.value)
-    (spared-all old.reading c.args.at c.args.minutes (later old.reading c.args.at c.requires.accepted).0 c.mark_minutes.new.ready 0 old.entries.items
-    (λ k e there none. is-spare old.entries.items c.requires.stay old.reading c.args.at c.args.minutes.now old.index.timers c.mark_due.new.timers old.index.places.items c.mark_due.new.ready c.mark_minutes.new.ready
-    indexed.timed indexed.alone indexed.placed m.marked m.reached m.spared m.minute k e there (subst (λ p. is_spared c.mark_minutes.new.ready p ≡ true) (omega arith) none)))
-
-pub visit_ready-visited-requires-clause-timed : goal.visit_ready-visited-requires-clause-timed
-visit_ready-visited-requires-clause-timed c =
-    let old = c.args.self.now in
-    let indexed = c.requires.indexed in
-    let m = are-marked old.entries.items c.args.self.now.entries.items c.args.at c.args.minutes.now old.index.timers c.mark_due.new.timers old.index.places.items c.deref.result.now c.mark_due.new.ready c.mark_minutes.new.ready
-    c.deref.ensures.value refl c.mark_due.ensures.marked c.mark_due.ensures.marks (c.mark_minutes.ensures.spared c.args.self.now.entries.items (subst (λ ls. AreListed ls (map name c.args.self.now.entries.items)) (sym c.deref-2.ensures.value) c.requires.sound.listed) (subst (λ ps. ArePlaced ps c.args.self.now.entries.items) (sym c.deref-3.ensures.value) c.requires.indexed.placed)) (c.mark_minutes.ensures.marks c.args.self.now.entries.items (subst (λ ls. AreListed ls (map name c.args.self.now.entries.items)) (sym c.deref-2.ensures.value) c.requires.sound.listed) (subst (λ ps. ArePlaced ps c.args.self.now.entries.items) (sym c.deref-3.ensures.value) c.requires.indexed.placed)) in
-    λ k e there none. spare-timed old.entries.items c.requires.stay old.reading c.args.at c.args.minutes.now old.index.timers c.mark_due.new.timers old.index.places.items c.mark_due.new.ready c.mark_minutes.new.ready
-    indexed.timed indexed.alone indexed.placed m.marked m.reached m.spared m.minute (later old.reading c.args.at c.requires.accepted).0 k e (ap (λ xs. slice_get xs k) (sym c.deref_mut.ensures.value) ∙ there) none
-
-pub visit_ready-visited-requires-clause-alone : goal.visit_ready-visited-requires-clause-alone
-visit_ready-visited-requires-clause-alone c =
-    let old = c.args.self.now in
-    let indexed = c.requires.indexed in
-    let m = are-marked old.entries.items c.args.self.now.entries.items c.args.at c.args.minutes.now old.index.timers c.mark_due.new.timers old.index.places.items c.deref.result.now c.mark_due.new.ready c.mark_minutes.new.ready
-    c.deref.ensures.value refl c.mark_due.ensures.marked c.mark_due.ensures.marks (c.mark_minutes.ensures.spared c.args.self.now.entries.items (subst (λ ls. AreListed ls (map name c.args.self.now.entries.items)) (sym c.deref-2.ensures.value) c.requires.sound.listed) (subst (λ ps. ArePlaced ps c.args.self.now.entries.items) (sym c.deref-3.ensures.value) c.requires.indexed.placed)) (c.mark_minutes.ensures.marks c.args.self.now.entries.items (subst (λ ls. AreListed ls (map name c.args.self.now.entries.items)) (sym c.deref-2.ensures.value) c.requires.sound.listed) (subst (λ ps. ArePlaced ps c.args.self.now.entries.items) (sym c.deref-3.ensures.value) c.requires.indexed.placed)) in
-    subst (λ xs. AreAlone c.mark_due.new.timers (map name xs)) (sym c.deref_mut.ensures.value)
-    (alone-still old.entries.items c.requires.stay old.reading c.args.at c.args.minutes.now old.index.timers c.mark_due.new.timers old.index.places.items c.mark_due.new.ready c.mark_minutes.new.ready
-    indexed.timed indexed.alone indexed.placed m.marked m.reached m.spared m.minute)
+    let rises = later old.reading c.args.at c.requires.accepted in
+    let lent = c.deref_mut.ensures.value in
+    let m = are-marked old.seats.items c.args.self.now.seats.items c.args.at c.args.minutes.now old.index.timers c.mark_due.new.timers old.index.places.items c.deref.result.now c.mark_due.new.ready c.mark_minutes.new.ready
+    c.deref.ensures.value refl c.mark_due.ensures.marked c.mark_due.ensures.marks (c.mark_minutes.ensures.spared c.args.self.now.seats.items (subst (λ ls. AreListed ls (map name c.args.self.now.seats.items)) (sym c.deref-2.ensures.value) c.requires.sound.listed) (subst (λ ps. ArePlaced ps c.args.self.now.seats.items) (sym c.deref-3.ensures.value) c.requires.indexed.placed)) (c.mark_minutes.ensures.marks c.args.self.now.seats.items (subst (λ ls. AreListed ls (map name c.args.self.now.seats.items)) (sym c.deref-2.ensures.value) c.requires.sound.listed) (subst (λ ps. ArePlaced ps c.args.self.now.seats.items) (sym c.deref-3.ensures.value) c.requires.indexed.placed)) in
+    record {
+      before_in_range = c.requires.sound.in_range;
+      in_range = rises.1;
+      now = refl;
+      stay = subst AllStay (sym lent) c.requires.stay;
+      few = (let few = c.requires.sound.few in let long = ap length lent in omega (arith, few, long));
+      once = subst (λ xs. IsOnce (map name xs)) (sym lent) c.requires.sound.once;
+      numbers = λ number named. subst (λ r. number < r) (sym c.mark_due.ensures.timers) (indexed.space number (ap (λ xs. is_some (definition_of_number (map name xs) number)) (sym lent) ∙ named));
+      inside =
+          λ place there. subst (λ xs. place < length xs) (sym c.deref_mut.ensures.value)
+          (mark-at old.seats.items c.requires.stay old.reading c.args.at c.args.minutes.now old.index.timers c.mark_due.new.timers old.index.places.items c.mark_due.new.ready c.mark_minutes.new.ready
+          indexed.timed indexed.alone indexed.placed m.marked m.reached m.spared m.minute place there);
+      spared =
+          subst (AreSpared c.mark_minutes.new.ready old.reading (touch.Reading c.args.at c.args.minutes) 0) (sym c.deref_mut.ensures.value)
+          (spared-all old.reading c.args.at c.args.minutes (later old.reading c.args.at c.requires.accepted).0 c.mark_minutes.new.ready 0 old.seats.items
+          (λ k e there none. is-spare old.seats.items c.requires.stay old.reading c.args.at c.args.minutes.now old.index.timers c.mark_due.new.timers old.index.places.items c.mark_due.new.ready c.mark_minutes.new.ready
+          indexed.timed indexed.alone indexed.placed m.marked m.reached m.spared m.minute k e there (subst (λ p. is_spared c.mark_minutes.new.ready p ≡ true) (omega arith) none)));
+      timed =
+          λ k e there none. spare-timed old.seats.items c.requires.stay old.reading c.args.at c.args.minutes.now old.index.timers c.mark_due.new.timers old.index.places.items c.mark_due.new.ready c.mark_minutes.new.ready
+          indexed.timed indexed.alone indexed.placed m.marked m.reached m.spared m.minute (later old.reading c.args.at c.requires.accepted).0 k e (ap (λ xs. slice_get xs k) (sym c.deref_mut.ensures.value) ∙ there) none;
+      alone =
+          subst (λ xs. AreAlone c.mark_due.new.timers (map name xs)) (sym c.deref_mut.ensures.value)
+          (alone-still old.seats.items c.requires.stay old.reading c.args.at c.args.minutes.now old.index.timers c.mark_due.new.timers old.index.places.items c.mark_due.new.ready c.mark_minutes.new.ready
+          indexed.timed indexed.alone indexed.placed m.marked m.reached m.spared m.minute);
+    }
 
 pub returns-clause-counted : goal.returns-clause-counted
 returns-clause-counted c =
-    let es = c.args.self.now.entries.items in
-    let after = c.visit_ready-visited.new.entries in
-    let whole = lent-back after (drop (length after) es) c.args.self.now.entries.len (omega arith) in
+    let es = c.args.self.now.seats.items in
+    let after = c.visit_ready-visited.new.seats in
+    let whole = lent-back after (drop (length after) es) c.args.self.now.seats.len (omega arith) in
     subst (λ all. IsCounted (counts (rows es)) (rows all) (gone all) c.visit_ready-visited.result.0) (sym whole)
     (visits-counted c.mark_minutes.new.ready es after c.visit_ready-visited.result.0 c.requires.stay c.requires.sound.once
-    (subst (λ all. AreVisitedOnce c.mark_minutes.new.ready 0 all after) c.deref_mut.ensures.value c.visit_ready-visited.ensures.visits) c.visit_ready-visited.ensures.visited)
+    (subst (λ all. AreVisitedOnce c.mark_minutes.new.ready 0 all after) c.deref_mut.ensures.value c.visit_ready-visited.ensures.visits.visits) c.visit_ready-visited.ensures.visits.visited)
 
 pub returns-clause-indexed : goal.returns-clause-indexed
 returns-clause-indexed c =
     let old = c.args.self.now in
-    let es = old.entries.items in
-    let after = c.visit_ready-visited.new.entries in
-    let whole = lent-back after (drop (length after) es) old.entries.len (omega arith) in
-    let names = ap (map name) whole ∙ c.visit_ready-visited.ensures.names ∙ ap (map name) c.deref_mut.ensures.value in
+    let es = old.seats.items in
+    let after = c.visit_ready-visited.new.seats in
+    let whole = lent-back after (drop (length after) es) old.seats.len (omega arith) in
+    let names = ap (map name) whole ∙ c.visit_ready-visited.ensures.visits.names ∙ ap (map name) c.deref_mut.ensures.value in
     let indexed = c.requires.indexed in
     let long : length after ≡ length es = omega arith in
     let fits = indexed.marks in
     record {
-      timed = subst (AreTimed c.visit_ready-visited.new.timers c.args.at.up) (sym whole) c.visit_ready-visited.ensures.timed;
-      alone = subst (AreAlone c.visit_ready-visited.new.timers) (ap (map name) c.deref_mut.ensures.value ∙ sym names) c.visit_ready-visited.ensures.alone;
+      timed = subst (AreTimed c.visit_ready-visited.new.timers c.args.at.up) (sym whole) c.visit_ready-visited.ensures.visits.timed;
+      alone = subst (AreAlone c.visit_ready-visited.new.timers) (ap (map name) c.deref_mut.ensures.value ∙ sym names) c.visit_ready-visited.ensures.visits.alone;
       space = subst (HaveRoom c.visit_ready-visited.new.timers) (sym names)
-          (λ number named. subst (λ r. number < r) (sym (c.visit_ready-visited.ensures.space ∙ c.mark_due.ensures.timers)) (indexed.space number named));
+          (λ number named. subst (λ r. number < r) (sym (c.visit_ready-visited.ensures.unmarked.space ∙ c.mark_due.ensures.timers)) (indexed.space number named));
       placed = λ k e there. (let found = name-get es _ k e names there in let own = indexed.placed k found.0 found.1 in
           (subst (λ n. n < length old.index.places.items) found.2 own.0, ap (place_in old.index.places.items) (sym found.2) ∙ own.1));
-      empty = c.visit_ready-visited.ensures.done;
+      empty = c.visit_ready-visited.ensures.unmarked.done;
       marks =
           let count : length _ ≡ length after = ap length whole in
-          let spaces = c.visit_ready-visited.ensures.marks ∙ c.mark_minutes.ensures.room ∙ c.mark_due.ensures.room in
+          let spaces = c.visit_ready-visited.ensures.unmarked.marks ∙ c.mark_minutes.ensures.room ∙ c.mark_due.ensures.room in
           omega (arith, count, long, fits, spaces);
     }
 
 pub returns-clause-sound : goal.returns-clause-sound
 returns-clause-sound c =
-    let es = c.args.self.now.entries.items in
-    let after = c.visit_ready-visited.new.entries in
-    let whole = lent-back after (drop (length after) es) c.args.self.now.entries.len (omega arith) in
-    let names = ap (map name) whole ∙ c.visit_ready-visited.ensures.names ∙ ap (map name) c.deref_mut.ensures.value in
+    let es = c.args.self.now.seats.items in
+    let after = c.visit_ready-visited.new.seats in
+    let whole = lent-back after (drop (length after) es) c.args.self.now.seats.len (omega arith) in
+    let names = ap (map name) whole ∙ c.visit_ready-visited.ensures.visits.names ∙ ap (map name) c.deref_mut.ensures.value in
     record {
       in_range = (later c.args.self.now.reading c.args.at c.requires.accepted).1;
       wall = (later c.args.self.now.reading c.args.at c.requires.accepted).2;
@@ -156,7 +150,7 @@ returns-clause-sound c =
       held = held-names _ _ c.args.self.now.numbers (sym names) c.requires.sound.held;
       free = subst (AreFree c.args.self.now.numbers) (sym names) c.requires.sound.free;
       known = subst (λ ns. list_all (is_known ns) c.visit_ready-visited.new.orders.items ≡ true) (sym names)
-          (c.visit_ready-visited.ensures.known (map name es) (ap (list_all (is_named (map name es))) c.deref_mut.ensures.value ∙ all-named es)
+          (c.visit_ready-visited.ensures.visits.known (map name es) (ap (list_all (is_named (map name es))) c.deref_mut.ensures.value ∙ all-named es)
           (ap (list_all (is_known (map name es))) c.requires.empty));
       few = omega arith;
       room = omega arith;
@@ -169,35 +163,35 @@ returns-clause-sound c =
 
 pub returns-clause-names : goal.returns-clause-names
 returns-clause-names c =
-    let es = c.args.self.now.entries.items in
-    let after = c.visit_ready-visited.new.entries in
-    let whole = lent-back after (drop (length after) es) c.args.self.now.entries.len (omega arith) in
-    ap (map name) whole ∙ c.visit_ready-visited.ensures.names ∙ ap (map name) c.deref_mut.ensures.value
+    let es = c.args.self.now.seats.items in
+    let after = c.visit_ready-visited.new.seats in
+    let whole = lent-back after (drop (length after) es) c.args.self.now.seats.len (omega arith) in
+    ap (map name) whole ∙ c.visit_ready-visited.ensures.visits.names ∙ ap (map name) c.deref_mut.ensures.value
     ∙ names-begun es es c.requires.stay refl
 
 -- the table that is left
 abbrev going-as : goal.After-at-1 → Jobs
 going-as c = record c.args.self.now {
   reading = c.args.at;
-  entries = with_items c.args.self.now.entries c.visit_ready-visited.new.entries;
+  seats = with_items c.args.self.now.seats c.visit_ready-visited.new.seats;
   orders = c.visit_ready-visited.new.orders;
   visited = c.visit_ready-visited.result.0;
   index = record { timers = c.visit_ready-visited.new.timers; ready = c.visit_ready-visited.new.ready; places = c.args.self.now.index.places };
 }
 
 -- the machine's next state, and its outcome
-done : (c : goal.After-at-1) (s : State) → KeepsState (seen c.args.self.now) s → IsDone s (Tick c.args.at) (seen (going-as c)) (plain_outcome (Ok tt) (seen (going-as c)))
+done : (c : goal.After-at-1) (s : State) → KeepsState (seen_table c.args.self.now) s → IsDone s (Tick c.args.at) (seen_table (going-as c)) (plain_outcome (Ok tt) (seen_table (going-as c)))
 done c s keeps =
     let old = c.args.self.now in
     let at = c.args.at in
-    let es = old.entries.items in
-    let after = c.visit_ready-visited.new.entries in
+    let es = old.seats.items in
+    let after = c.visit_ready-visited.new.seats in
     let ready = c.mark_minutes.new.ready in
-    let whole = lent-back after (drop (length after) es) old.entries.len (omega arith) in
-    let names = ap (map name) whole ∙ c.visit_ready-visited.ensures.names ∙ ap (map name) c.deref_mut.ensures.value in
+    let whole = lent-back after (drop (length after) es) old.seats.len (omega arith) in
+    let names = ap (map name) whole ∙ c.visit_ready-visited.ensures.visits.names ∙ ap (map name) c.deref_mut.ensures.value in
     let indexed = c.requires.indexed in
-    let m = are-marked es c.args.self.now.entries.items at c.args.minutes.now old.index.timers c.mark_due.new.timers old.index.places.items c.deref.result.now c.mark_due.new.ready ready
-    c.deref.ensures.value refl c.mark_due.ensures.marked c.mark_due.ensures.marks (c.mark_minutes.ensures.spared c.args.self.now.entries.items (subst (λ ls. AreListed ls (map name c.args.self.now.entries.items)) (sym c.deref-2.ensures.value) c.requires.sound.listed) (subst (λ ps. ArePlaced ps c.args.self.now.entries.items) (sym c.deref-3.ensures.value) c.requires.indexed.placed)) (c.mark_minutes.ensures.marks c.args.self.now.entries.items (subst (λ ls. AreListed ls (map name c.args.self.now.entries.items)) (sym c.deref-2.ensures.value) c.requires.sound.listed) (subst (λ ps. ArePlaced ps c.args.self.now.entries.items) (sym c.deref-3.ensures.value) c.requires.indexed.placed)) in
+    let m = are-marked es c.args.self.now.seats.items at c.args.minutes.now old.index.timers c.mark_due.new.timers old.index.places.items c.deref.result.now c.mark_due.new.ready ready
+    c.deref.ensures.value refl c.mark_due.ensures.marked c.mark_due.ensures.marks (c.mark_minutes.ensures.spared c.args.self.now.seats.items (subst (λ ls. AreListed ls (map name c.args.self.now.seats.items)) (sym c.deref-2.ensures.value) c.requires.sound.listed) (subst (λ ps. ArePlaced ps c.args.self.now.seats.items) (sym c.deref-3.ensures.value) c.requires.indexed.placed)) (c.mark_minutes.ensures.marks c.args.self.now.seats.items (subst (λ ls. AreListed ls (map name c.args.self.now.seats.items)) (sym c.deref-2.ensures.value) c.requires.sound.listed) (subst (λ ps. ArePlaced ps c.args.self.now.seats.items) (sym c.deref-3.ensures.value) c.requires.indexed.placed)) in
     let item : Job → Option Item = λ job. Some (Read at (calendar_fires s.zone (definition_of job.past).calendar s.reading.wall at.wall)) in
     let own : KeepsJobs old.reading (rows es) s.jobs = own-jobs old s keeps in
     let crosses : has_calendars (rows es) ≡ true → c.args.minutes.now ≡ map s.zone (crossed s.reading.wall at.wall) =
@@ -213,10 +207,10 @@ done c s keeps =
     let lent = c.deref_mut.ensures.value in
     let for_lent = subst (λ xs. AreFor (touch.Reading at c.args.minutes) item (rows xs) s.jobs) (sym lent) for in
     let own_lent = subst (λ xs. KeepsJobs old.reading (rows xs) s.jobs) (sym lent) own in
-    let kept : KeepsJobs at (rows after) (filter_map stays (heard item s.jobs)) = c.visit_ready-visited.ensures.kept s.jobs item for_lent fine rests own_lent in
+    let kept : KeepsJobs at (rows after) (filter_map stays (heard item s.jobs)) = c.visit_ready-visited.ensures.visits.kept s.jobs item for_lent fine rests own_lent in
     let orders : c.visit_ready-visited.new.orders.items ≡ numbered_all (rows es) (heard item s.jobs) =
-    c.visit_ready-visited.ensures.orders s.jobs item for_lent fine rests own_lent ∙ (λ i. c.requires.empty i ++ numbered_all (rows (lent i)) (heard item s.jobs)) in
-    accepted (seen old) (seen (going-as c)) s (Tick at) [] c.requires.sound.in_range keeps
+    c.visit_ready-visited.ensures.visits.orders s.jobs item for_lent fine rests own_lent ∙ (λ i. c.requires.empty i ++ numbered_all (rows (lent i)) (heard item s.jobs)) in
+    accepted (seen_table old) (seen_table (going-as c)) s (Tick at) [] c.requires.sound.in_range keeps
     (ap (λ b. refused_if b ClockRefused None) (ap (λ r. is_clock_refused r at) (sym keeps.reading) ∙ c.requires.accepted))
     (record {
       reading = refl;
@@ -236,16 +230,16 @@ returns-clause-kept c = λ s keeps. (done c s keeps).kept
 pub returns-clause-untouched : goal.returns-clause-untouched
 returns-clause-untouched c = λ s keeps label past found none.
     let old = c.args.self.now in
-    let es = old.entries.items in
-    let after = c.visit_ready-visited.new.entries in
-    let whole = lent-back after (drop (length after) es) old.entries.len (omega arith) in
+    let es = old.seats.items in
+    let after = c.visit_ready-visited.new.seats in
+    let whole = lent-back after (drop (length after) es) old.seats.len (omega arith) in
     let own : KeepsJobs old.reading (rows es) s.jobs = own-jobs old s keeps in
     let indexed = c.requires.indexed in
-    let m = are-marked es c.args.self.now.entries.items c.args.at c.args.minutes.now old.index.timers c.mark_due.new.timers old.index.places.items c.deref.result.now c.mark_due.new.ready c.mark_minutes.new.ready
-    c.deref.ensures.value refl c.mark_due.ensures.marked c.mark_due.ensures.marks (c.mark_minutes.ensures.spared c.args.self.now.entries.items (subst (λ ls. AreListed ls (map name c.args.self.now.entries.items)) (sym c.deref-2.ensures.value) c.requires.sound.listed) (subst (λ ps. ArePlaced ps c.args.self.now.entries.items) (sym c.deref-3.ensures.value) c.requires.indexed.placed)) (c.mark_minutes.ensures.marks c.args.self.now.entries.items (subst (λ ls. AreListed ls (map name c.args.self.now.entries.items)) (sym c.deref-2.ensures.value) c.requires.sound.listed) (subst (λ ps. ArePlaced ps c.args.self.now.entries.items) (sym c.deref-3.ensures.value) c.requires.indexed.placed)) in
+    let m = are-marked es c.args.self.now.seats.items c.args.at c.args.minutes.now old.index.timers c.mark_due.new.timers old.index.places.items c.deref.result.now c.mark_due.new.ready c.mark_minutes.new.ready
+    c.deref.ensures.value refl c.mark_due.ensures.marked c.mark_due.ensures.marks (c.mark_minutes.ensures.spared c.args.self.now.seats.items (subst (λ ls. AreListed ls (map name c.args.self.now.seats.items)) (sym c.deref-2.ensures.value) c.requires.sound.listed) (subst (λ ps. ArePlaced ps c.args.self.now.seats.items) (sym c.deref-3.ensures.value) c.requires.indexed.placed)) (c.mark_minutes.ensures.marks c.args.self.now.seats.items (subst (λ ls. AreListed ls (map name c.args.self.now.seats.items)) (sym c.deref-2.ensures.value) c.requires.sound.listed) (subst (λ ps. ArePlaced ps c.args.self.now.seats.items) (sym c.deref-3.ensures.value) c.requires.indexed.placed)) in
     let crosses : has_calendars (rows es) ≡ true → c.args.minutes.now ≡ map s.zone (crossed old.reading.wall c.args.at.wall) =
     λ some. c.requires.minutes some ∙ (λ i. map (keeps.zone i) (crossed old.reading.wall c.args.at.wall)) in
-    let visits = subst (λ all. AreVisitedOnce c.mark_minutes.new.ready 0 all after) c.deref_mut.ensures.value c.visit_ready-visited.ensures.visits in
+    let visits = subst (λ all. AreVisitedOnce c.mark_minutes.new.ready 0 all after) c.deref_mut.ensures.value c.visit_ready-visited.ensures.visits.visits in
     ap (λ xs. count_in (counts (rows xs)) label) whole
     ∙ spared-count s.zone old.reading c.args.at c.mark_minutes.new.ready 0 es after s.jobs label past c.requires.stay visits
     (subst (λ rs. KeepsJobs old.reading rs s.jobs) (rows-all es c.requires.stay) own)
@@ -258,7 +252,7 @@ returns-clause-untouched c = λ s keeps label past found none.
 
 pub returns-clause-stay : goal.returns-clause-stay
 returns-clause-stay c =
-    let es = c.args.self.now.entries.items in
-    let after = c.visit_ready-visited.new.entries in
-    let whole = lent-back after (drop (length after) es) c.args.self.now.entries.len (omega arith) in
-    subst (StayBut c.visit_ready-visited.result.1) (sym whole) c.visit_ready-visited.ensures.stay
+    let es = c.args.self.now.seats.items in
+    let after = c.visit_ready-visited.new.seats in
+    let whole = lent-back after (drop (length after) es) c.args.self.now.seats.len (omega arith) in
+    subst (StayBut c.visit_ready-visited.result.1) (sym whole) c.visit_ready-visited.ensures.visits.stay

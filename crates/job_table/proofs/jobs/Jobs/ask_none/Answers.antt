@@ -1,11 +1,11 @@
 -- The rows are as they were.
 use Rattle.std.proofs.Common.{subst}
 use Rattle.job_table.specs.Counts.{counts, IsCounted}
-use Rattle.job_table.specs.Entries.{rows, gone}
+use Rattle.job_table.specs.Seats.{rows, gone}
 use Rattle.job_table.proofs.CountsLemmas.{idle}
 use Rattle.job_table.proofs.jobs.Jobs.ask_none.Goals as goal
 
 pub returns-clause-counted : goal.returns-clause-counted
 returns-clause-counted c =
-    let es = c.begin.new.self.entries.items in
+    let es = c.begin.new.self.seats.items in
     subst (λ rs. IsCounted (counts rs) (rows es) (gone es) 0) c.begin.ensures.rows (idle es c.begin.ensures.stay c.begin.ensures.sound.once)

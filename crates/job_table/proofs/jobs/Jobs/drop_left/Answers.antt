@@ -4,9 +4,9 @@ use Rattle.job_table.specs.Leaving.{StayBut}
 use Rattle.job_table.proofs.LeavingLemmas.{filter-all}
 use Rattle.job_table.proofs.jobs.Jobs.drop_left.Goals as goal
 
-pub returns-in-Nobody-clause-entries : goal.returns-in-Nobody-clause-entries
-returns-in-Nobody-clause-entries c =
-    sym (filter-all c.args.self.now.entries.items (subst (λ g. StayBut g c.args.self.now.entries.items) c.in-Nobody.is c.requires.left))
+pub returns-in-Nobody-clause-seats : goal.returns-in-Nobody-clause-seats
+returns-in-Nobody-clause-seats c =
+    sym (filter-all c.args.self.now.seats.items (subst (λ g. StayBut g c.args.self.now.seats.items) c.in-Nobody.is c.requires.left))
 
 pub drop_one-requires-clause-others : goal.drop_one-requires-clause-others
-drop_one-requires-clause-others c = subst (λ g. StayBut g c.args.self.now.entries.items) c.in-One.is c.requires.left
+drop_one-requires-clause-others c = subst (λ g. StayBut g c.args.self.now.seats.items) c.in-One.is c.requires.left

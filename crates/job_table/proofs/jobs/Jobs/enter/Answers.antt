@@ -2,7 +2,7 @@
 use Rattle.std.proofs.Common.{map, sym, subst}
 use Rattle.history_model.specs.MachineLaws.{AreInOrder}
 use Rattle.job_table.specs.Tables.{labels_in}
-use Rattle.job_table.specs.Entries.{name}
+use Rattle.job_table.specs.Seats.{name}
 use Rattle.job_table.proofs.jobs.Jobs.enter.Goals as goal
 
 pub place_before-place-requires : goal.place_before-place-requires

@@ -8,20 +8,20 @@ use Rattle.history_model.specs.Acceptance.{is_heard}
 use Rattle.history_model.specs.JobItems.{item_of}
 use Rattle.job_table.specs.StandsFor.{KeepsState}
 use Rattle.job_table.specs.Counts.{counts, count_in}
-use Rattle.job_table.specs.Entries.{has_label}
+use Rattle.job_table.specs.Seats.{has_label}
 use Rattle.job_table.specs.Outcomes.{plain_outcome}
-use Rattle.job_table.specs.Sound.{seen}
+use Rattle.job_table.specs.Sound.{seen_table}
 use Rattle.job_table.specs.Telling.{IsTold}
 use Rattle.job_table.proofs.EventsLemmas.{past-refused}
 use Rattle.job_table.proofs.OutcomesLemmas.{IsDone}
 use Rattle.job_table.proofs.TellingLemmas.{told-done, counts-from, names-from, place-inside}
 use Rattle.job_table.proofs.jobs.Jobs.hear.Goals as goal
 
-told : (c : goal.After-tell) → IsTold c.args.label.now (item_of c.args.item) (seen c.begin.new.self) c.tell.result (seen c.tell.new.self)
+told : (c : goal.After-tell) → IsTold c.args.label.now (item_of c.args.item) (seen_table c.begin.new.self) c.tell.result (seen_table c.tell.new.self)
 told c = c.tell.ensures.told c.args.label.now (c.place_of-found.ensures ∙ ap (position (has_label c.args.label.now)) c.deref.ensures.value)
 
-done : (c : goal.After-tell) (s : State) → KeepsState (seen c.args.self.now) s →
-    IsDone s (OfJob c.args.label.now (item_of c.args.item)) (seen c.tell.new.self) (plain_outcome c.tell.result (seen c.tell.new.self))
+done : (c : goal.After-tell) (s : State) → KeepsState (seen_table c.args.self.now) s →
+    IsDone s (OfJob c.args.label.now (item_of c.args.item)) (seen_table c.tell.new.self) (plain_outcome c.tell.result (seen_table c.tell.new.self))
 done c s keeps =
     let label = c.args.label.now in
     let item = item_of c.args.item in
@@ -30,7 +30,7 @@ done c s keeps =
 
 pub tell-requires-clause-inside : goal.tell-requires-clause-inside
 tell-requires-clause-inside c =
-    place-inside (has_label c.args.label.now) c.begin.new.self.entries.items c.place_of-found.result (c.place_of-found.ensures ∙ ap (position (has_label c.args.label.now)) c.deref.ensures.value)
+    place-inside (has_label c.args.label.now) c.begin.new.self.seats.items c.place_of-found.result (c.place_of-found.ensures ∙ ap (position (has_label c.args.label.now)) c.deref.ensures.value)
 
 pub returns-clause-answer : goal.returns-clause-answer
 returns-clause-answer c = λ s keeps. (done c s keeps).outcome
@@ -39,10 +39,10 @@ pub returns-clause-kept : goal.returns-clause-kept
 returns-clause-kept c = λ s keeps. (done c s keeps).kept
 
 pub returns-clause-counted : goal.returns-clause-counted
-returns-clause-counted c = counts-from c.tell.result (seen c.args.self.now) (seen c.begin.new.self) (seen c.tell.new.self) c.begin.ensures.rows c.tell.ensures.counted
+returns-clause-counted c = counts-from c.tell.result (seen_table c.args.self.now) (seen_table c.begin.new.self) (seen_table c.tell.new.self) c.begin.ensures.rows c.tell.ensures.counted
 
 pub returns-clause-names : goal.returns-clause-names
-returns-clause-names c = names-from c.tell.result (seen c.args.self.now) (seen c.begin.new.self) (seen c.tell.new.self) c.begin.ensures.rows c.tell.ensures.names
+returns-clause-names c = names-from c.tell.result (seen_table c.args.self.now) (seen_table c.begin.new.self) (seen_table c.tell.new.self) c.begin.ensures.rows c.tell.ensures.names
 
 pub returns-clause-spared : goal.returns-clause-spared
 returns-clause-spared c = λ s keeps label past found apart. (told c).spared label apart ∙ ap (λ rs. count_in (counts rs) label) c.begin.ensures.rows

@@ -9,10 +9,10 @@ use Rattle.history_model.specs.Acceptance.{is_heard}
 use Rattle.job_table.specs.Tables.{label_of}
 use Rattle.job_table.specs.StandsFor.{KeepsState}
 use Rattle.job_table.specs.Counts.{counts, count_in}
-use Rattle.job_table.specs.Entries.{name, has_number}
+use Rattle.job_table.specs.Seats.{name, has_number}
 use Rattle.job_table.specs.Index.{ArePlaced}
 use Rattle.job_table.specs.Outcomes.{plain_outcome}
-use Rattle.job_table.specs.Sound.{seen}
+use Rattle.job_table.specs.Sound.{seen_table}
 use Rattle.job_table.specs.Telling.{IsTold}
 use Rattle.job_table.proofs.EventsLemmas.{past-refused}
 use Rattle.job_table.proofs.OutcomesLemmas.{IsDone}
@@ -20,19 +20,19 @@ use Rattle.job_table.proofs.TellingLemmas.{told-done, counts-from, names-from, n
 use Rattle.job_table.proofs.jobs.Jobs.hear_answer.Goals as goal
 
 abbrev label-in : goal.After-tell → Label
-label-in c = label_of (map name c.args.self.now.entries.items) c.args.number
+label-in c = label_of (map name c.args.self.now.seats.items) c.args.number
 
 known : (c : goal.After-tell) → is_label (label-in c) ≡ true
 known c = ap is_label (sym c.label.ensures) ∙ sym c.is_label.ensures ∙ c.if-not-is_label.false
 
-told : (c : goal.After-tell) → IsTold (label-in c) (Answered c.args.answer) (seen c.begin.new.self) c.tell.result (seen c.tell.new.self)
+told : (c : goal.After-tell) → IsTold (label-in c) (Answered c.args.answer) (seen_table c.begin.new.self) c.tell.result (seen_table c.tell.new.self)
 told c =
     c.tell.ensures.told (label-in c)
     (c.place_of_number-found.ensures ∙ ap (position (has_number c.args.number)) c.deref.ensures.value
-    ∙ number-label c.args.self.now.entries.items c.begin.new.self.entries.items c.args.number c.requires.sound.sound.once c.begin.ensures.names (known c))
+    ∙ number-label c.args.self.now.seats.items c.begin.new.self.seats.items c.args.number c.requires.sound.sound.once c.begin.ensures.names (known c))
 
-done : (c : goal.After-tell) (s : State) → KeepsState (seen c.args.self.now) s →
-    IsDone s (OfJob (label-in c) (Answered c.args.answer)) (seen c.tell.new.self) (plain_outcome c.tell.result (seen c.tell.new.self))
+done : (c : goal.After-tell) (s : State) → KeepsState (seen_table c.args.self.now) s →
+    IsDone s (OfJob (label-in c) (Answered c.args.answer)) (seen_table c.tell.new.self) (plain_outcome c.tell.result (seen_table c.tell.new.self))
 done c s keeps =
     let item = Answered c.args.answer in
     told-done c.args.self.now c.begin.new.self c.tell.new.self s (OfJob (label-in c) item) (label-in c) item c.tell.result c.begin.ensures.alike c.begin.ensures.rows c.tell.ensures.alike
@@ -45,7 +45,7 @@ place_of_number-found-requires c =
 
 pub tell-requires-clause-inside : goal.tell-requires-clause-inside
 tell-requires-clause-inside c =
-    place-inside (has_number c.args.number) c.begin.new.self.entries.items c.place_of_number-found.result (c.place_of_number-found.ensures ∙ ap (position (has_number c.args.number)) c.deref.ensures.value)
+    place-inside (has_number c.args.number) c.begin.new.self.seats.items c.place_of_number-found.result (c.place_of_number-found.ensures ∙ ap (position (has_number c.args.number)) c.deref.ensures.value)
 
 pub returns-clause-answer : goal.returns-clause-answer
 returns-clause-answer c = λ s keeps. (done c s keeps).outcome
@@ -54,10 +54,10 @@ pub returns-clause-kept : goal.returns-clause-kept
 returns-clause-kept c = λ s keeps. (done c s keeps).kept
 
 pub returns-clause-counted : goal.returns-clause-counted
-returns-clause-counted c = counts-from c.tell.result (seen c.args.self.now) (seen c.begin.new.self) (seen c.tell.new.self) c.begin.ensures.rows c.tell.ensures.counted
+returns-clause-counted c = counts-from c.tell.result (seen_table c.args.self.now) (seen_table c.begin.new.self) (seen_table c.tell.new.self) c.begin.ensures.rows c.tell.ensures.counted
 
 pub returns-clause-names : goal.returns-clause-names
-returns-clause-names c = names-from c.tell.result (seen c.args.self.now) (seen c.begin.new.self) (seen c.tell.new.self) c.begin.ensures.rows c.tell.ensures.names
+returns-clause-names c = names-from c.tell.result (seen_table c.args.self.now) (seen_table c.begin.new.self) (seen_table c.tell.new.self) c.begin.ensures.rows c.tell.ensures.names
 
 pub returns-clause-spared : goal.returns-clause-spared
 returns-clause-spared c = λ s keeps label past found apart. (told c).spared label apart ∙ ap (λ rs. count_in (counts rs) label) c.begin.ensures.rows

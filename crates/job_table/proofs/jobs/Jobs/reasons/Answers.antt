@@ -8,7 +8,7 @@ use Rattle.history_model.specs.Machine.{past_in}
 use Rattle.history_model.specs.Reasons.{reasons_of}
 use Rattle.history_model.specs.MachineLaws.{AreInOrder}
 use Rattle.job_table.specs.Tables.{labels_in}
-use Rattle.job_table.specs.Entries.{name, is_here}
+use Rattle.job_table.specs.Seats.{name, is_loaded_under}
 use Rattle.job_table.proofs.FirstLemmas.{first-where, none-where}
 use Rattle.job_table.proofs.PlacesLemmas.{no-one-here, someone-here}
 use Rattle.job_table.proofs.jobs.Jobs.reasons.Goals as goal
@@ -18,17 +18,17 @@ place_here-requires c = subst (λ es. AreInOrder (labels_in (map name es))) (sym
 
 pub returns-in-None : goal.returns-in-None
 returns-in-None c = λ s keeps.
-    let es = c.args.self.now.entries.items in
+    let es = c.args.self.now.seats.items in
     let label = c.args.label.now in
-    let none = none-where (is_here label) es (c.in-None.ensures ∙ ap (position (is_here label)) c.deref.ensures.value) in
+    let none = none-where (is_loaded_under label) es (c.in-None.ensures ∙ ap (position (is_loaded_under label)) c.deref.ensures.value) in
     λ i. option_map reasons_of (past_in (first (sym (no-one-here s.reading label es s.jobs keeps.jobs none) i)))
 
 pub returns-in-Some : goal.returns-in-Some
 returns-in-Some c = λ s keeps.
-    let es = c.args.self.now.entries.items in
+    let es = c.args.self.now.seats.items in
     let label = c.args.label.now in
     let e = c.index.result.now in
-    let at = c.in-Some.ensures ∙ ap (position (is_here label)) c.deref.ensures.value in
-    let there = someone-here s.reading label es c.in-Some.place e s.jobs keeps.jobs (first-where (is_here label) es c.in-Some.place at) in
+    let at = c.in-Some.ensures ∙ ap (position (is_loaded_under label)) c.deref.ensures.value in
+    let there = someone-here s.reading label es c.in-Some.place e s.jobs keeps.jobs (first-where (is_loaded_under label) es c.in-Some.place at) in
     let row = c.reasons.ensures there.past (subst (λ x. Keeps x.core.facts there.past) (sym c.index.ensures) there.keeps) (keeps.reading ∙ there.present) in
     ap Some row ∙ ap (option_map reasons_of) (sym there.is)

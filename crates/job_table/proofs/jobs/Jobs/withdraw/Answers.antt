@@ -3,11 +3,11 @@ use Rattle.std.proofs.Common.{true, sym, ◌∙◌}
 use Rattle.history_model.specs.Machine.{State}
 use Rattle.job_table.specs.StandsFor.{KeepsState}
 use Rattle.job_table.specs.Changes.{withdrawn}
-use Rattle.job_table.specs.Sound.{seen}
+use Rattle.job_table.specs.Sound.{seen_table}
 use Rattle.job_table.proofs.ChangesLemmas.{IsWithdrawn, none-withdrawn, one-withdrawn, never-refused}
 use Rattle.job_table.proofs.jobs.Jobs.withdraw.Goals as goal
 
-none : (c : goal.After-ask_none) (s : State) → KeepsState (seen c.args.self.now) s → IsWithdrawn c.ask_none.new.self (withdrawn c.args.label.now c.args.unload s)
+none : (c : goal.After-ask_none) (s : State) → KeepsState (seen_table c.args.self.now) s → IsWithdrawn c.ask_none.new.self (withdrawn c.args.label.now c.args.unload s)
 none c s keeps =
     none-withdrawn c.args.self.now c.ask_none.new.self c.args.label.now c.args.unload s c.if-not-unload.true c.ask_none.ensures.alike c.ask_none.ensures.rows
     c.ask_none.ensures.orders c.requires.sound.sound.in_range keeps
@@ -30,10 +30,10 @@ returns-then-is_ok-clause-orders c = λ s keeps allowed.
 
 pub returns-clause-kept : goal.returns-clause-kept
 returns-clause-kept c = λ s keeps allowed.
-    never-refused (seen c.unload.new.self) c.args.label.now c.args.unload s c.unload.result c.if-not-unload.false allowed
+    never-refused (seen_table c.unload.new.self) c.args.label.now c.args.unload s c.unload.result c.if-not-unload.false allowed
     (c.unload.ensures.answer true s keeps) (sym c.is_ok.ensures.value ∙ c.if-is_ok.false)
 
 pub returns-clause-orders : goal.returns-clause-orders
 returns-clause-orders c = λ s keeps allowed.
-    never-refused (seen c.unload.new.self) c.args.label.now c.args.unload s c.unload.result c.if-not-unload.false allowed
+    never-refused (seen_table c.unload.new.self) c.args.label.now c.args.unload s c.unload.result c.if-not-unload.false allowed
     (c.unload.ensures.answer true s keeps) (sym c.is_ok.ensures.value ∙ c.if-is_ok.false)

@@ -5,7 +5,7 @@ use Rattle.std.specs.String.{string_bytes}
 use Rattle.history_model.specs.declared.event.Event.TheVariants as events
 use Rattle.history_model.specs.Step.{outcome}
 use Rattle.job_table.specs.StandsFor.{KeepsState}
-use Rattle.job_table.specs.Loads.{load_of, refused_with}
+use Rattle.job_table.specs.Loads.{load_of_bytes, refused_with}
 use Rattle.launcher.proofs.HostsLemmas.{as_replied}
 use Rattle.launcher.proofs.AskingLemmas.{loaded, load_words}
 use Rattle.launcher.proofs.host.Host.ask_load.Goals as goal
@@ -21,7 +21,7 @@ returns-clause-hears g c =
     as_replied (Some (events.Load c.args.def.now c.args.writes_setting c.args.force true true)) c.told.result.refusal (refused_with did.reply) c.told.result.text c.told.result.text old new before after c.told.ensures.refusal refl
     (loaded c.args.def.now c.args.writes_setting c.args.force did.outside (refused_with did.reply) c.told.result.text old new before after c.load-loaded.ensures.memory c.load-loaded.ensures.silent c.load-loaded.ensures.turn
     c.load-loaded.ensures.stored
-    (load_words string_bytes did.reply c.told.result.text (λ s. KeepsState old.table s) (λ s. (outcome s (load_of c.args.def.now c.args.writes_setting c.args.force did.outside.bind did.outside.store)).text) c.load-loaded.ensures.text c.told.ensures.text))
+    (load_words string_bytes did.reply c.told.result.text (λ s. KeepsState old.table s) (λ s. (outcome s (load_of_bytes c.args.def.now c.args.writes_setting c.args.force did.outside.bind did.outside.store)).text) c.load-loaded.ensures.text c.told.ensures.text))
 
 pub returns-clause-stamped : goal.returns-clause-stamped
 returns-clause-stamped g c = λ s keeps stamps had.

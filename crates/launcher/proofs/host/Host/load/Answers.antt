@@ -6,7 +6,7 @@ use Rattle.history_model.specs.declared.Refusal.TheVariants.{NoMemory}
 use Rattle.history_model.specs.Machine.{State}
 use Rattle.history_model.specs.Acceptance.{refusal_in}
 use Rattle.job_table.specs.StandsFor.{KeepsState}
-use Rattle.job_table.specs.Loads.{IsAdmitted, load_of, described_in, refused_with}
+use Rattle.job_table.specs.Loads.{IsAdmitted, load_of_bytes, described_in, refused_with}
 use Rattle.launcher.specs.declared.loading.Loaded.{Loaded}
 use Rattle.launcher.specs.LoadTurns.{LoadTurnOf, is_memory, label_written, load_request, settings_after, stamps_after, standing}
 use Rattle.launcher.proofs.LoadTurnsLemmas.{load_ended, load_sets, load_stamps, never_called, not_memory, told_unless, unstamped}
@@ -45,8 +45,8 @@ returns-in-Ok-loaded-clause-stored g c = λ s keeps holds.
     let sets = load_sets s c.args.def.now c.args.writes_setting c.args.force outside c.args.self.now.table (described_in c.in-Ok.ready) c.ask_and_load-ended.result.refusal admitted keeps ends.answer
     (λ none. ends.asks.bind ∙ ap (λ h. if h then is_done ends.asks.bound else true) none) ends.asks.store in
     let kept = subst (g.T.SettingStore.holds store) (sym sets) (c.ask_and_load-ended.ensures.stored s.settings holds) in
-    subst (λ a. g.T.SettingStore.holds store (settings_after (refused_with c.reply_to.result.reply) s (load_of c.args.def.now c.args.writes_setting c.args.force a.bind a.store))) (sym c.reply_to.ensures.outside)
-    (subst (λ r. g.T.SettingStore.holds store (settings_after r s (load_of c.args.def.now c.args.writes_setting c.args.force outside.bind outside.store))) (sym c.reply_to.ensures.reply) kept)
+    subst (λ a. g.T.SettingStore.holds store (settings_after (refused_with c.reply_to.result.reply) s (load_of_bytes c.args.def.now c.args.writes_setting c.args.force a.bind a.store))) (sym c.reply_to.ensures.outside)
+    (subst (λ r. g.T.SettingStore.holds store (settings_after r s (load_of_bytes c.args.def.now c.args.writes_setting c.args.force outside.bind outside.store))) (sym c.reply_to.ensures.reply) kept)
 
 pub returns-in-Err-clause-turn : goal.returns-in-Err-clause-turn
 returns-in-Err-clause-turn g c = λ other s led keeps.
@@ -56,12 +56,12 @@ returns-in-Err-clause-turn g c = λ other s led keeps.
     let is = c.uncalled-in-Err.ensures in
     let memory : is_memory (Some c.in-Err.refusal) ≡ false = subst (λ (l : Loaded). is_memory (refused_with l.reply) ≡ false) is other in
     let refused = told_unless c.in-Err.refusal
-    ((s : State) (bind store : Bool) → KeepsState c.args.self.now.table s → refusal_in s (load_of c.as_bytes.result.now c.args.writes_setting c.args.force bind store) ≡ Some c.in-Err.refusal) c.in-Err.ensures.refused memory in
+    ((s : State) (bind store : Bool) → KeepsState c.args.self.now.table s → refusal_in s (load_of_bytes c.as_bytes.result.now c.args.writes_setting c.args.force bind store) ≡ Some c.in-Err.refusal) c.in-Err.ensures.refused memory in
     let before = standing c.args.self.now.table told stored c.args.self.now.journal in
     let after = standing new told stored c.note_load_refused.new.journal in
     subst (λ (l : Loaded). LoadTurnOf s (load_request c.args.def.now c.args.writes_setting c.args.force) l.outside (refused_with l.reply) before after) (sym is)
     (never_called s c.args.def.now c.args.writes_setting c.args.force c.in-Err.refusal c.args.self.now.table new told stored c.args.self.now.journal c.note_load_refused.new.journal c.in-Err.ensures.rows
-    (λ bind store. subst (λ b. refusal_in s (load_of b c.args.writes_setting c.args.force bind store) ≡ Some c.in-Err.refusal) c.as_bytes.ensures.value (refused s bind store keeps))
+    (λ bind store. subst (λ b. refusal_in s (load_of_bytes b c.args.writes_setting c.args.force bind store) ≡ Some c.in-Err.refusal) c.as_bytes.ensures.value (refused s bind store keeps))
     (c.note_load_refused.ensures.noted memory) (c.in-Err.ensures.same s keeps) led)
 
 pub returns-in-Ok-loaded-clause-silent : goal.returns-in-Ok-loaded-clause-silent

@@ -5,13 +5,13 @@ use Rattle.history_model.specs.Machine.{Load}
 use Rattle.job_defs.specs.Definitions.{given}
 use Rattle.job_table.specs.Tables.{Name, IsOnce, definition_of_number}
 use Rattle.launcher.proofs.NumbersLemmas.{AreNamed}
-use Rattle.job_table.specs.Loads.{described_in, number_in, setting_in}
+use Rattle.job_table.specs.Loads.{described_in, number_in, new_setting_in}
 use Rattle.launcher.proofs.host.Host.load_ready.Goals as goal
 
 pub returns-clause-made : goal.returns-clause-made
 returns-clause-made g c = λ s force bind store line written noted led keeps none.
     let is = c.commit_load.ensures.loads s force bind store keeps none in
-    let done = c.finish.ensures.finished c.args.self.now.table s (Load (Ok (given (described_in c.args.ready))) (is_some (setting_in c.args.ready)) force bind store) line written noted c.requires.label led keeps
+    let done = c.finish.ensures.finished c.args.self.now.table s (Load (Ok (given (described_in c.args.ready))) (is_some (new_setting_in c.args.ready)) force bind store) line written noted c.requires.label led keeps
     (record { kept = is.kept; accepted = ap (λ o. o.refusal) is.outcome; orders = ap (λ o. o.orders) is.outcome }) in
     record {
       turn = done.turn;
