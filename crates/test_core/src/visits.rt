@@ -236,8 +236,10 @@ static MOMENTS: &[(Event, Option<u64>, bool)] = &[
 ];
 
 fn told(given: Result<Step<'_>, Refusal>) -> Option<(u32, usize)> {
-    let given = given.ok()?;
-    Some((given.visited, given.orders.len()))
+    match given {
+        Ok(given) => Some((given.visited, given.orders.len())),
+        Err(_) => None,
+    }
 }
 
 /// Disables the label, and with `unload` removes its job.

@@ -21,8 +21,17 @@ const SECOND: &[u8] =
 #[derive(Drop)]
 pub struct Feeding {
     /// Whether a line is taken; otherwise the piece is fed.
-    pub is_taking: bool,
-    pub feed: Option<LineFeed>,
+    is_taking: bool,
+    feed: Option<LineFeed>,
+}
+
+impl Feeding {
+    pub fn new(is_taking: bool) -> Feeding {
+        Feeding {
+            is_taking,
+            feed: None,
+        }
+    }
 }
 
 /// A feed that was given the first piece, and also the second if a line is to be taken.

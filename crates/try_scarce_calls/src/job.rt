@@ -23,6 +23,14 @@ pub enum Part {
     JobCore,
 }
 
+/// Each call by its name.
+pub static PARTS: &[(&str, Part)] = &[
+    ("Conditions::new", Part::Conditions),
+    ("Waiting::new", Part::Waiting),
+    ("Exchange::new", Part::Exchange),
+    ("JobCore::new", Part::JobCore),
+];
+
 /// A part of a job that is made of a definition.
 #[derive(Drop)]
 pub struct Making {

@@ -18,8 +18,17 @@ const LINES: usize = 100;
 /// `Host::new` over a store that has one setting. What it refuses is gone, so all is made anew for each call.
 #[derive(Drop)]
 pub struct Launching {
-    pub parts: Option<Parts>,
-    pub host: Option<Stage>,
+    parts: Option<Parts>,
+    host: Option<Stage>,
+}
+
+impl Launching {
+    pub fn new() -> Launching {
+        Launching {
+            parts: None,
+            host: None,
+        }
+    }
 }
 
 /// A store that disables `a`.

@@ -13,90 +13,75 @@ mod store;
 mod turning;
 
 use crate::feeding::Feeding;
-use crate::job::{DEFINITION, Making, Part};
+use crate::job::{DEFINITION, Making, PARTS};
 use crate::launching::Launching;
 use crate::lines::{CALLS, Telling};
-use crate::opening::{Opening, OwnFile, Place, State};
+use crate::opening::{Opening, OwnFile, State};
 use crate::replaying::Replaying;
-use crate::store::{Call, Using};
+use crate::store::{STORE_CALLS, Using};
 use crate::turning::{TURNS, Turning};
 use anyhow::{Result, bail};
 use job_defs::read_def;
-use scarce_memory::{Hoard, run_with_little, show_run};
-use sqlite::{Alter, File, FileStore};
+use scarce_memory::{Hoard, Trial, run_with_little, show_run};
+use sqlite::{File, FileStore};
 use std::alloc::Global;
 use std::env;
 
+/// Tries a call, and lets the trial go in one place, since each is proved for its whole type.
+fn tried<T: Trial + Drop>(
+    rt: &impl Print,
+    alloc: Global,
+    hoard: &mut Hoard,
+    name: &str,
+    trial: T,
+) -> Result<()> {
+    let mut trial = trial;
+    show_run(rt, alloc, hoard, name, &mut trial)
+}
+
 fn parts(rt: &impl Print, alloc: Global, hoard: &mut Hoard) -> Result<()> {
-    let listed = [
-        ("Conditions::new", Part::Conditions),
-        ("Waiting::new", Part::Waiting),
-        ("Exchange::new", Part::Exchange),
-        ("JobCore::new", Part::JobCore),
-    ];
-    for (name, part) in listed {
+    for (name, part) in PARTS {
         let Ok(def) = read_def(alloc, DEFINITION.as_bytes()) else {
             bail!("the definition was refused");
         };
-        show_run(rt, alloc, hoard, name, &mut Making { part, def })?;
+        tried(rt, alloc, hoard, name, Making { part: *part, def })?;
     }
     Ok(())
 }
 
 fn texts(rt: &impl Print, alloc: Global, hoard: &mut Hoard) -> Result<()> {
     for (name, call) in CALLS {
-        show_run(rt, alloc, hoard, name, &mut Telling::new(alloc, *call)?)?;
+        tried(rt, alloc, hoard, name, Telling::new(alloc, *call)?)?;
     }
     Ok(())
 }
 
 fn streams(rt: &impl Print, alloc: Global, hoard: &mut Hoard) -> Result<()> {
-    let listed = [("LineFeed::feed", false), ("LineFeed::next_line", true)];
-    for (name, is_taking) in listed {
-        let feed = None;
-        show_run(rt, alloc, hoard, name, &mut Feeding { is_taking, feed })?;
-    }
+    tried(rt, alloc, hoard, "LineFeed::feed", Feeding::new(false))?;
+    tried(rt, alloc, hoard, "LineFeed::next_line", Feeding::new(true))?;
     let written = Vec::new(alloc);
-    show_run(rt, alloc, hoard, "replay", &mut Replaying { written })
-}
-
-fn try_opening<R: Print, S: Alter + Drop, P: Place<S> + Drop>(
-    rt: &R,
-    alloc: Global,
-    hoard: &mut Hoard,
-    place: P,
-) -> Result<()> {
-    let mut trial = Opening {
-        place,
-        state: State::Nothing,
-    };
-    show_run(rt, alloc, hoard, "OverrideStore::open_on", &mut trial)
+    tried(rt, alloc, hoard, "replay", Replaying { written })
 }
 
 fn openings(rt: &HostRuntime, hoard: &mut Hoard) -> Result<()> {
-    try_opening::<HostRuntime, FileStore<File>, OwnFile<'_>>(rt, rt.alloc(), hoard, OwnFile { rt })
+    let trial: Opening<FileStore<File>, OwnFile<'_>> = Opening {
+        place: OwnFile { rt },
+        state: State::Nothing,
+    };
+    tried(rt, rt.alloc(), hoard, "OverrideStore::open_on", trial)
 }
 
 fn open_stores(rt: &impl Print, alloc: Global, hoard: &mut Hoard) -> Result<()> {
-    let listed = [
-        ("OverrideStore::set", Call::Set),
-        ("OverrideStore::all", Call::All),
-        ("OverrideStore::changes", Call::Changes),
-    ];
-    for (name, call) in listed {
-        show_run(rt, alloc, hoard, name, &mut Using { call, store: None })?;
+    for (name, call) in STORE_CALLS {
+        tried(rt, alloc, hoard, name, Using::new(*call))?;
     }
     Ok(())
 }
 
 fn launchers(rt: &impl Print, alloc: Global, hoard: &mut Hoard) -> Result<()> {
-    let mut trial = Launching {
-        parts: None,
-        host: None,
-    };
-    show_run(rt, alloc, hoard, "Host::new", &mut trial)?;
+    tried(rt, alloc, hoard, "Host::new", Launching::new())?;
     for turn in TURNS {
-        show_run(rt, alloc, hoard, turn.name, &mut Turning::new(turn))?;
+        tried(rt, alloc, hoard, turn.name, Turning::new(turn))?;
     }
     Ok(())
 }

@@ -72,12 +72,25 @@ pub enum Call {
     Changes,
 }
 
+/// Each call by its name.
+pub static STORE_CALLS: &[(&str, Call)] = &[
+    ("OverrideStore::set", Call::Set),
+    ("OverrideStore::all", Call::All),
+    ("OverrideStore::changes", Call::Changes),
+];
+
 /// A call on a store that came from a database of the first version: if it is refused, the store has the settings that
 /// it had, and the same call with memory is not.
 #[derive(Drop)]
 pub struct Using {
-    pub call: Call,
-    pub store: Option<OverrideStore<MemStore>>,
+    call: Call,
+    store: Option<OverrideStore<MemStore>>,
+}
+
+impl Using {
+    pub fn new(call: Call) -> Using {
+        Using { call, store: None }
+    }
 }
 
 fn made_or(fault: Option<StoreFault>) -> Answer {
@@ -124,8 +137,9 @@ impl Trial for Using {
         let Some(store) = self.store.as_mut() else {
             return false;
         };
-        has(alloc, store, after(self.call, answer))
-            && call_on(alloc, store, self.call) == Answer::Made
-            && has(alloc, store, after(self.call, Answer::Made))
+        let is_kept = has(alloc, store, after(self.call, answer));
+        let is_made = call_on(alloc, store, self.call) == Answer::Made;
+        let is_stored = has(alloc, store, after(self.call, Answer::Made));
+        is_kept && is_made && is_stored
     }
 }

@@ -169,10 +169,11 @@ fn taken(alloc: Global, stage: &mut Stage, turn: &Turn) -> Outcome {
 
 /// Whether a refused turn left all as it was, but for so many calls, and is made with memory.
 fn is_undone(alloc: Global, stage: &mut Stage, turn: &Turn, calls: usize) -> bool {
-    stage.edge().calls().len() == calls
-        && asked(alloc, stage, Input::Line(turn.probe), turn.was) == (0, true)
-        && taken(alloc, stage, turn) == Outcome::Made
-        && asked(alloc, stage, Input::Line(turn.probe), turn.is) == (0, true)
+    let is_uncalled = stage.edge().calls().len() == calls;
+    let was_so = asked(alloc, stage, Input::Line(turn.probe), turn.was) == (0, true);
+    let is_made = taken(alloc, stage, turn) == Outcome::Made;
+    let is_so = asked(alloc, stage, Input::Line(turn.probe), turn.is) == (0, true);
+    is_uncalled && was_so && is_made && is_so
 }
 
 impl Turning {
