@@ -24,7 +24,8 @@ pub fn is_released(alloc: Global) -> Result<bool, Refusal> {
     let mut stage = set_stage(alloc, &[calls[0]], false, 1000)?;
     let refusal = refusal_of(alloc, &mut stage, Input::Line(LOAD_LISTENING));
     let refused = refusal == Some(Refusal::StoreRefused);
-    Ok(refused && has_asked(stage, &calls, 1))
+    let has_asked = has_asked(stage, &calls, 1);
+    Ok(refused && has_asked)
 }
 
 /// Says whether the store is not asked if the sockets were not bound.
@@ -33,5 +34,6 @@ pub fn is_unbound(alloc: Global) -> Result<bool, Refusal> {
     let mut stage = set_stage(alloc, &calls, true, 1000)?;
     let refusal = refusal_of(alloc, &mut stage, Input::Line(LOAD_LISTENING));
     let refused = refusal == Some(Refusal::SocketRefused);
-    Ok(refused && has_asked(stage, &calls, 0))
+    let has_asked = has_asked(stage, &calls, 0);
+    Ok(refused && has_asked)
 }

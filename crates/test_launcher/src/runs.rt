@@ -63,8 +63,18 @@ fn is_answered(alloc: Global, stage: &mut Stage, input: Input<'_>, code: u8, tex
     given == code && reply.text.as_str() == text
 }
 
+/// Says whether the inputs are answered by the codes and texts beside them.
+fn are_answered(alloc: Global, stage: &mut Stage, inputs: &[(Input<'_>, u8, &str)]) -> bool {
+    for (input, code, text) in inputs {
+        if !is_answered(alloc, stage, *input, *code, text) {
+            return false;
+        }
+    }
+    true
+}
+
 /// Says whether the inputs are answered by the codes and texts beside them, and lead to these calls with these answers and to
-/// no other, over a store that answers so.
+/// no other, over a store that answers so. Here and below the launcher is let go in one place, since each is proved for its whole type.
 pub fn is_run(
     alloc: Global,
     answer: bool,
@@ -72,19 +82,17 @@ pub fn is_run(
     calls: &[(EdgeCall, Scripted)],
 ) -> Result<bool, Refusal> {
     let mut stage = set_stage(alloc, calls, answer, 1000)?;
-    for (input, code, text) in inputs {
-        if !is_answered(alloc, &mut stage, *input, *code, text) {
-            return Ok(false);
-        }
-    }
-    Ok(stage.edge().calls() == calls)
+    let are_so = are_answered(alloc, &mut stage, inputs);
+    let is_called = stage.edge().calls() == calls;
+    Ok(are_so && is_called)
 }
 
 /// Says whether the journal of a load over this one answer ends with this line.
 pub fn is_journaled(alloc: Global, answer: Scripted, last: &[u8]) -> Result<bool, Refusal> {
     let mut stage = set_stage(alloc, &[(start(1), answer)], true, 1000)?;
     let made = is_answered(alloc, &mut stage, Input::Line(LOAD), 0, "");
-    Ok(made && holds(stage, LOADED, last))
+    let is_held = holds(stage, LOADED, last);
+    Ok(made && is_held)
 }
 
 /// Says whether the load that the store refused has one line, which tells so.
@@ -92,14 +100,16 @@ pub fn is_noted_unstored(alloc: Global) -> Result<bool, Refusal> {
     let calls = [(EdgeCall::Bind { job: FIRST }, Scripted::Done)];
     let mut stage = set_stage(alloc, &calls, false, 1000)?;
     let refused = is_answered(alloc, &mut stage, Input::Line(LOAD_LISTENING), 9, "");
-    Ok(refused && holds(stage, NOT_STORED, b""))
+    let is_held = holds(stage, NOT_STORED, b"");
+    Ok(refused && is_held)
 }
 
 /// Says whether an input is answered by code 2 and leaves the journal as it was.
 pub fn is_no_event(alloc: Global, input: Input<'_>) -> Result<bool, Refusal> {
     let mut stage = set_stage(alloc, &[], true, 10)?;
     let refused = is_answered(alloc, &mut stage, input, 2, "");
-    Ok(refused && holds(stage, HEADER, b""))
+    let is_held = holds(stage, HEADER, b"");
+    Ok(refused && is_held)
 }
 
 /// Says whether the store holds the one setting that was made.
@@ -136,10 +146,12 @@ pub fn fault_over(
     names: &[&str],
     fault: Option<StoreFault>,
 ) -> Result<Option<HostFault>, Refusal> {
-    let mut store = store(alloc, disabled(alloc, names)?, true);
-    store.fault = fault;
+    let held = disabled(alloc, names)?;
     let header = header(alloc, "UTC0", 0)?;
-    match opened(alloc, header, store, edge(alloc, &[])?, 10) {
+    let edge = edge(alloc, &[])?;
+    let mut store = store(alloc, held, true);
+    store.fault = fault;
+    match opened(alloc, header, store, edge, 10) {
         Ok(_) => Ok(None),
         Err(fault) => Ok(Some(fault)),
     }
@@ -154,7 +166,8 @@ pub fn has_begun_with(alloc: Global) -> Result<bool, Refusal> {
         return Ok(false);
     };
     let refused = is_answered(alloc, &mut stage, Input::Line(LOAD), 5, "");
-    Ok(refused && holds(stage, BEGUN, b""))
+    let is_held = holds(stage, BEGUN, b"");
+    Ok(refused && is_held)
 }
 
 /// Says whether a header of this zone and `up` is refused.

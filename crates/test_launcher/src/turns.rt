@@ -13,6 +13,16 @@ fn has_made(alloc: Global, stage: &mut Stage, input: Input<'_>, made: usize) -> 
     refusal.is_none() && stage.edge().calls().len() == made
 }
 
+/// Makes each of these happen, while so many calls are made.
+fn have_made(alloc: Global, stage: &mut Stage, events: &[(Input<'_>, usize)]) -> bool {
+    for (input, made) in events {
+        if !has_made(alloc, stage, *input, *made) {
+            return false;
+        }
+    }
+    true
+}
+
 /// Says whether a job that is loaded leads to these calls with these answers and to no other, if this happens after its
 /// load. Beside each event stands how many calls were then made in all.
 pub fn is_called(
@@ -21,13 +31,8 @@ pub fn is_called(
     calls: &[(EdgeCall, Scripted)],
 ) -> Result<bool, Refusal> {
     let mut stage = set_stage(alloc, calls, true, 1000)?;
-    if !has_made(alloc, &mut stage, Input::Line(LOAD_AT_ONCE), 1) {
-        return Ok(false);
-    }
-    for (input, made) in events {
-        if !has_made(alloc, &mut stage, *input, *made) {
-            return Ok(false);
-        }
-    }
-    Ok(stage.edge().calls() == calls)
+    let is_loaded = has_made(alloc, &mut stage, Input::Line(LOAD_AT_ONCE), 1);
+    let have_made = have_made(alloc, &mut stage, events);
+    let is_called = stage.edge().calls() == calls;
+    Ok(is_loaded && have_made && is_called)
 }
