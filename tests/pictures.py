@@ -2,6 +2,7 @@
 """Draws journals by `jobscope picture` and looks whether the pictures show what the journals say.
 
     tests/pictures.py [PROGRAM [JOURNAL..]]
+    tests/pictures.py --look FOLDER [PROGRAM [JOURNAL..]]
 
 PROGRAM is build/jobscope if none is given, and the journals are those of crates/try_scope/data/journal. Of each journal the runs, their
 times and their ends are reckoned here, line by line, and compared with the chart:
@@ -12,6 +13,10 @@ times and their ends are reckoned here, line by line, and compared with the char
     refusals  those of jobs that were not loaded before are counted, as they were counted here by hand
 
 One line a journal, and a count. The status is 1 if a picture is at fault.
+
+With --look nothing is compared: Chromium shows the page of each journal in a window of 1280 columns and in one of 390, light and dark, and
+the SVG alone, and each picture goes into the folder as a PNG, to be looked at: no text over another, no text cut off that can't be scrolled
+to, each colour readable, the legend whole. Where it may run no script and load nothing, the page has to look the same, which is compared.
 """
 import glob
 import html.parser
@@ -19,8 +24,10 @@ import json
 import os
 import pty
 import re
+import shutil
 import subprocess
 import sys
+import tempfile
 import unicodedata
 import xml.etree.ElementTree as ET
 
@@ -28,20 +35,22 @@ TOP = os.path.join(os.path.dirname(os.path.abspath(__file__)), "..")
 SVG = "{http://www.w3.org/2000/svg}"
 PLACES, LEFT = 980, 10
 VOID = {"meta", "link", "br", "img", "hr", "rect", "path"}
-# Refusals of jobs that were not loaded before: the loads of "off" (disabled) and "bad" (it runs nothing), a start of "nobody", and a
-# setting of "gui/501/on".
-ROWLESS = {"declined.jsonl": 4}
+# Refusals of jobs that were not loaded before: the loads of "off" (disabled) and "bad" (it runs nothing), and a start of "nobody". The
+# setting of "gui/501/on" is one of the job "on", which is loaded.
+ROWLESS = {"declined.jsonl": 3}
 
 
 def events_of(path):
-    """The header and the events of the whole lines."""
+    """The header and the events of the whole lines; a line behind the header that is no JSON is left out."""
     with open(path, "rb") as file:
         text = file.read()
-    lines = text[: text.rfind(b"\n") + 1].splitlines()
-    try:
-        found = [json.loads(line) for line in lines]
-    except ValueError:
-        return None, []
+    found = []
+    for line in text[: text.rfind(b"\n") + 1].splitlines():
+        try:
+            found.append(json.loads(line))
+        except ValueError:
+            if not found:
+                return None, []
     return (found[0], found[1:]) if found and "ev" not in found[0] else (None, [])
 
 
@@ -90,7 +99,8 @@ def faults_of_svg(text, header, events):
             yield f"{label}: {len(told)} runs began, and the bars stand for {sum(bar[2] for bar in bars)}"
         if all(bar[2] == 1 for bar in bars):
             for (x, width, _), (begun, ended) in zip(bars, told):
-                begin, end = place(axis, begun), place(axis, last if ended is None else max(ended, begun))
+                # One that lives has a bar to the end of the axis, which is a second long at least.
+                begin, end = place(axis, begun), place(axis, axis[1] if ended is None else max(ended, begun))
                 if (x, width) != (LEFT + begin, max(end - begin, 1)):
                     yield f"{label}: a bar stands at {x}, {width} wide; wanted {LEFT + begin}, {max(end - begin, 1)}"
     for element in root.iter(SVG + "rect"):
@@ -192,9 +202,55 @@ def faults_of(program, path):
     yield from faults_of_refusals(said.stdout, os.path.basename(path))
 
 
+# By this a page runs no script, and loads nothing.
+POLICY = """<meta http-equiv="Content-Security-Policy" content="default-src 'none'; style-src 'unsafe-inline'">
+"""
+
+
+def screenshot(source, to, width, is_dark):
+    """Chromium's picture of the file, in a window of so many columns."""
+    browser = shutil.which("chromium") or shutil.which("chromium-browser") or sys.exit("chromium is not on the PATH")
+    with tempfile.TemporaryDirectory() as own:
+        subprocess.run(
+            [browser, "--headless", "--no-sandbox", "--disable-gpu", "--hide-scrollbars", f"--user-data-dir={own}",
+             f"--blink-settings=preferredColorScheme={0 if is_dark else 1}", f"--window-size={width},1800", f"--screenshot={to}",
+             f"file://{os.path.abspath(source)}"],
+            check=True, capture_output=True, timeout=120)
+
+
+def look(folder, program, paths):
+    os.makedirs(folder, exist_ok=True)
+    bad = 0
+    for path in paths:
+        start = os.path.join(folder, os.path.basename(path).removesuffix(".jsonl"))
+        for name, words in ((f"{start}.html", ["--html"]), (f"{start}.svg", [])):
+            with open(name, "wb") as file:
+                subprocess.run([program, "picture", *words, "--journal", path], stdout=file, stderr=subprocess.DEVNULL)
+        if not os.path.getsize(f"{start}.html"):
+            continue
+        for shade in ("light", "dark"):
+            for width in (1280, 390):
+                screenshot(f"{start}.html", f"{start}_{width}_{shade}.png", width, shade == "dark")
+            screenshot(f"{start}.svg", f"{start}_svg_{shade}.png", 1000, shade == "dark")
+        with open(f"{start}.html") as page, open(f"{start}_no_script.html", "w") as file:
+            file.write(page.read().replace("<head>\n", "<head>\n" + POLICY, 1))
+        screenshot(f"{start}_no_script.html", f"{start}_no_script.png", 1280, False)
+        with open(f"{start}_no_script.png", "rb") as one, open(f"{start}_1280_light.png", "rb") as other:
+            if one.read() != other.read():
+                bad += 1
+                print(f"{os.path.basename(path)}: without scripts it looks otherwise")
+    print(f"look at {folder}/*.png")
+    sys.exit(1 if bad else 0)
+
+
 def main():
-    program = sys.argv[1] if len(sys.argv) > 1 else os.path.join(TOP, "build", "jobscope")
-    paths = sys.argv[2:] or sorted(glob.glob(os.path.join(TOP, "crates", "try_scope", "data", "journal", "*.jsonl")))
+    words = sys.argv[1:]
+    folder = words[1] if words[:1] == ["--look"] else None
+    words = words[2:] if folder else words
+    program = words[0] if words else os.path.join(TOP, "build", "jobscope")
+    paths = words[1:] or sorted(glob.glob(os.path.join(TOP, "crates", "try_scope", "data", "journal", "*.jsonl")))
+    if folder:
+        look(folder, program, paths)
     bad = 0
     for path in paths:
         faults = list(faults_of(program, path))

@@ -97,15 +97,15 @@ fn told_of(found: u8) -> &'static str {
 
 // The comma that is the last byte before the offset but for blanks.
 fn comma_before(bytes: &[u8], offset: usize) -> Option<usize> {
-    let front = bytes.get(..offset)?;
-    let mut at = offset;
-    for byte in front.iter().rev() {
-        at = at.saturating_sub(1);
+    let mut comma = None;
+    let mut at: usize = 0;
+    for byte in bytes.get(..offset)? {
         match *byte {
             b' ' | b'\t' | b'\n' | b'\r' => {}
-            b',' => return Some(at),
-            _ => return None,
+            b',' => comma = Some(at),
+            _ => comma = None,
         }
+        at = at.saturating_add(1);
     }
-    None
+    comma
 }

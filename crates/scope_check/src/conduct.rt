@@ -6,7 +6,7 @@ use crate::finding::{Grade, Remark};
 use crate::names::ignored_remark;
 use crate::place::{has_key, place_of};
 use crate::variables::add_variables;
-use history_model::{KeyName, Text};
+use history_model::KeyName;
 use job_defs::Def;
 use json_kinds::key_name;
 use std::alloc::{AllocError, Global};
@@ -40,12 +40,13 @@ fn add(
     told: &str,
     remarks: &mut Vec<Remark>,
 ) -> Result<(), AllocError> {
-    remarks.push(Remark {
-        place: place_of(alloc, text.as_bytes(), key, None)?,
-        grade: Grade::Warning,
-        text: String::from_str(alloc, told)?,
-    })?;
-    Ok(())
+    let place = place_of(alloc, text.as_bytes(), key, None)?;
+    let grade = match key {
+        KeyName::DisabledKey => Grade::Note,
+        _ => Grade::Warning,
+    };
+    let text = String::from_str(alloc, told)?;
+    Ok(remarks.push(Remark { place, grade, text })?)
 }
 
 // Whether something starts the job but a `jobctl start`. `Crashed` alone does not: it holds after the end of a run.
@@ -85,8 +86,9 @@ fn add_starts(
             "KeepAlive: one of its conditions suffices to keep the job running; they need not hold together";
         add(alloc, text, KeyName::KeepAlive, told, remarks)?;
     }
-    let throttle = def.throttle_interval();
+    let throttle = u64::from(def.throttle_interval());
     if let Some(interval) = def.start_interval() {
+        let interval = u64::from(interval);
         if interval < throttle {
             let told = format!(in alloc;
                 "StartInterval is {interval}, less than ThrottleInterval: starts are {throttle} s apart at least"
@@ -99,25 +101,11 @@ fn add_starts(
             "Sockets: the default ThrottleInterval of 10 lets a client wait up to 10 s for the next start; give a smaller one, as 0 or 1";
         add(alloc, text, KeyName::Sockets, told, remarks)?;
     }
-    add_disabled(alloc, text, def, remarks)
-}
-
-fn add_disabled(
-    alloc: Global,
-    text: &str,
-    def: &Def,
-    remarks: &mut Vec<Remark>,
-) -> Result<(), AllocError> {
-    if !def.disabled() {
-        return Ok(());
+    if def.disabled() {
+        let told =
+            "Disabled: a load leaves this job out, unless jobctl enable or load -w or -F says otherwise";
+        add(alloc, text, KeyName::DisabledKey, told, remarks)?;
     }
-    let told =
-        "Disabled: a load leaves this job out, unless jobctl enable or load -w or -F says otherwise";
-    remarks.push(Remark {
-        place: place_of(alloc, text.as_bytes(), KeyName::DisabledKey, None)?,
-        grade: Grade::Note,
-        text: String::from_str(alloc, told)?,
-    })?;
     Ok(())
 }
 
@@ -166,24 +154,16 @@ fn add_paths(
         (KeyName::StandardOutPath, def.standard_out_path()),
         (KeyName::StandardErrorPath, def.standard_error_path()),
     ];
-    for (key, path) in keys {
+    for (key, path) in keys.iter() {
         if let Some(path) = path {
-            add_tilde(alloc, text, key, path, remarks)?;
+            add_tilde(alloc, text, *key, path, remarks)?;
         }
     }
-    add_tildes(alloc, text, KeyName::WatchPaths, def.watch_paths(), remarks)?;
-    let queues = def.queue_directories();
-    add_tildes(alloc, text, KeyName::QueueDirectories, queues, remarks)
-}
-
-fn add_tildes(
-    alloc: Global,
-    text: &str,
-    key: KeyName,
-    paths: &[Text],
-    remarks: &mut Vec<Remark>,
-) -> Result<(), AllocError> {
-    for path in paths {
+    for path in def.watch_paths() {
+        add_tilde(alloc, text, KeyName::WatchPaths, path.as_str(), remarks)?;
+    }
+    let key = KeyName::QueueDirectories;
+    for path in def.queue_directories() {
         add_tilde(alloc, text, key, path.as_str(), remarks)?;
     }
     Ok(())

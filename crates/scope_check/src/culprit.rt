@@ -8,13 +8,12 @@ use json_kinds::names::{
     CRASHED, DAY, HOUR, MINUTE, MONTH, PATH_STATE, SUCCESSFUL_EXIT, WAIT, WEEKDAY,
 };
 use serde_json::Value;
-use std::alloc::{AllocError, Global};
 
 /// The value that has the fault: where it stands below its key, what it is, and what it is to be.
-#[derive(Drop)]
+#[derive(Clone, Copy, Drop)]
 pub(crate) struct Culprit<'a> {
     pub(crate) index: Option<usize>,
-    pub(crate) inside: Option<String>,
+    pub(crate) inside: Option<&'a str>,
     pub(crate) below: Option<(usize, &'static str)>,
     pub(crate) value: &'a Value,
     pub(crate) wanted: Wanted,
@@ -31,11 +30,7 @@ const PARTS: [(&str, u64, u64); 5] = [
 const CONDITIONS: [&str; 2] = [CRASHED, SUCCESSFUL_EXIT];
 
 /// The first value at or below the key's value that does not fit, or the key's value itself.
-pub(crate) fn culprit_in<'a>(
-    alloc: Global,
-    value: &'a Value,
-    key: KeyName,
-) -> Result<Culprit<'a>, AllocError> {
+pub(crate) fn culprit_in(value: &Value, key: KeyName) -> Culprit<'_> {
     let wanted = wanted_of(key);
     let whole = Culprit {
         index: None,
@@ -45,17 +40,28 @@ pub(crate) fn culprit_in<'a>(
         wanted,
     };
     if !wanted.fits(value) {
-        return Ok(whole);
+        return whole;
     }
     let part = match key {
-        KeyName::StartCalendarInterval => in_entries(alloc, value)?,
-        KeyName::KeepAlive => in_conditions(alloc, value)?,
-        KeyName::EnvironmentVariables => in_variables(alloc, value)?,
-        KeyName::Sockets => in_sockets(alloc, value)?,
-        KeyName::InetdCompatibility => in_inetd(alloc, value)?,
+        KeyName::StartCalendarInterval => in_entries(value),
+        KeyName::KeepAlive => in_conditions(value),
+        KeyName::EnvironmentVariables => in_variables(value),
+        KeyName::Sockets => in_sockets(value),
+        KeyName::InetdCompatibility => in_inetd(value),
         _ => in_members(value, key),
     };
-    Ok(part.unwrap_or(whole))
+    part.unwrap_or(whole)
+}
+
+// The value of the key inside, which is to be otherwise.
+fn inner<'a>(key: &'a str, value: &'a Value, wanted: Wanted) -> Culprit<'a> {
+    Culprit {
+        index: None,
+        inside: Some(key),
+        below: None,
+        value,
+        wanted,
+    }
 }
 
 fn in_members(value: &Value, key: KeyName) -> Option<Culprit<'_>> {
@@ -75,106 +81,78 @@ fn in_members(value: &Value, key: KeyName) -> Option<Culprit<'_>> {
     None
 }
 
-fn in_entries(alloc: Global, value: &Value) -> Result<Option<Culprit<'_>>, AllocError> {
+fn in_entries(value: &Value) -> Option<Culprit<'_>> {
     let entries = members_or_one_of(value);
     if entries.len() > 64 {
-        return Ok(None);
+        return None;
     }
     for (index, entry) in entries.iter().enumerate() {
-        if let Some(culprit) = in_entry(alloc, index, entry)? {
-            return Ok(Some(culprit));
+        if let Some(culprit) = in_entry(index, entry) {
+            return Some(culprit);
         }
     }
-    Ok(None)
+    None
 }
 
-fn in_entry(alloc: Global, index: usize, entry: &Value) -> Result<Option<Culprit<'_>>, AllocError> {
+fn in_entry(index: usize, entry: &Value) -> Option<Culprit<'_>> {
+    let index = Some(index);
     if !entry.is_object() {
-        return Ok(Some(Culprit {
-            index: Some(index),
+        return Some(Culprit {
+            index,
             inside: None,
             below: None,
             value: entry,
             wanted: Wanted::Said("a dictionary of Minute, Hour, Day, Weekday and Month"),
-        }));
+        });
     }
-    for (name, low, high) in PARTS {
+    for part in PARTS.iter() {
+        let (name, low, high) = *part;
         if let Some(found) = entry.get(name) {
             let wanted = Wanted::Number { low, high };
             if !wanted.fits(found) {
-                return Ok(Some(Culprit {
-                    index: Some(index),
-                    inside: Some(String::from_str(alloc, name)?),
+                return Some(Culprit {
+                    index,
+                    inside: Some(name),
                     below: None,
                     value: found,
                     wanted,
-                }));
+                });
             }
         }
     }
-    Ok(None)
+    None
 }
 
-fn in_conditions(alloc: Global, value: &Value) -> Result<Option<Culprit<'_>>, AllocError> {
-    for name in CONDITIONS {
-        if let Some(found) = value.get(name) {
+fn in_conditions(value: &Value) -> Option<Culprit<'_>> {
+    for name in CONDITIONS.iter() {
+        if let Some(found) = value.get(*name) {
             if !found.is_boolean() {
-                return Ok(Some(Culprit {
-                    index: None,
-                    inside: Some(String::from_str(alloc, name)?),
-                    below: None,
-                    value: found,
-                    wanted: Wanted::Flag,
-                }));
+                return Some(inner(*name, found, Wanted::Flag));
             }
         }
     }
-    match value.get(PATH_STATE) {
-        Some(found) => Ok(Some(Culprit {
-            index: None,
-            inside: Some(String::from_str(alloc, PATH_STATE)?),
-            below: None,
-            value: found,
-            wanted: Wanted::Said(
-                "a dictionary of at most 64 paths of 1 to 1024 bytes, each true or false",
-            ),
-        })),
-        None => Ok(None),
-    }
+    let wanted = Wanted::Said(
+        "a dictionary of at most 64 paths of 1 to 1024 bytes, each true or false",
+    );
+    Some(inner(PATH_STATE, value.get(PATH_STATE)?, wanted))
 }
 
-fn in_variables(alloc: Global, value: &Value) -> Result<Option<Culprit<'_>>, AllocError> {
-    let Some(members) = value.as_object() else {
-        return Ok(None);
-    };
-    for (name, found) in members.iter() {
-        let wanted = member_of(KeyName::EnvironmentVariables, 0);
+fn in_variables(value: &Value) -> Option<Culprit<'_>> {
+    let wanted = member_of(KeyName::EnvironmentVariables, 0);
+    for (name, found) in value.as_object()?.iter() {
         let is_bad_text = found.is_string() && !wanted.fits(found);
         let is_name = !name.is_empty() && name.len() <= 255;
         if !is_name || name.as_str().contains('=') || is_bad_text {
-            return Ok(Some(Culprit {
-                index: None,
-                inside: Some(String::from_str(alloc, name.as_str())?),
-                below: None,
-                value: found,
-                wanted: Wanted::Said(
-                    "a name of 1 to 255 bytes without = and a text of at most 4096 bytes, no byte of them 0",
-                ),
-            }));
+            let wanted = Wanted::Said(
+                "a name of 1 to 255 bytes without = and a text of at most 4096 bytes, no byte of them 0",
+            );
+            return Some(inner(name.as_str(), found, wanted));
         }
     }
-    Ok(None)
+    None
 }
 
-fn in_inetd(alloc: Global, value: &Value) -> Result<Option<Culprit<'_>>, AllocError> {
-    let Some(found) = value.get(WAIT) else {
-        return Ok(None);
-    };
-    Ok(Some(Culprit {
-        index: None,
-        inside: Some(String::from_str(alloc, WAIT)?),
-        below: None,
-        value: found,
-        wanted: Wanted::Said("false: each connection has a run of its own"),
-    }))
+fn in_inetd(value: &Value) -> Option<Culprit<'_>> {
+    let wanted = Wanted::Said("false: each connection has a run of its own");
+    Some(inner(WAIT, value.get(WAIT)?, wanted))
 }

@@ -2,10 +2,9 @@
 
 use crate::changes::Change;
 use crate::finding::{Grade, Remark};
-use crate::place::{Way, place_at, spot_of};
+use crate::place::{Way, place_by};
 use calendar_due::Calendar;
 use history_model::{CivilMinute, Entry, KeyName};
-use json_kinds::key_name;
 use std::alloc::{AllocError, Global};
 
 const MONTHS: [&str; 12] = [
@@ -55,16 +54,8 @@ fn add_at(
     told: String,
     remarks: &mut Vec<Remark>,
 ) -> Result<(), AllocError> {
-    let way = Way {
-        key: key_name(KeyName::StartCalendarInterval),
-        index: Some(index),
-        inside: None,
-        below: None,
-    };
-    let place = match spot_of(alloc, text, way)? {
-        Some(spot) => Some(place_at(text, spot.value)),
-        None => None,
-    };
+    let way = Way::to_member(KeyName::StartCalendarInterval, Some(index));
+    let place = place_by(alloc, text, way)?;
     remarks.push(Remark {
         place,
         grade: Grade::Warning,
@@ -90,6 +81,7 @@ fn told_never(alloc: Global, entry: &Entry) -> Result<Option<String>, AllocError
         return Ok(None);
     }
     let name = month_name(month);
+    let day = usize::from(day);
     let told = format!(in alloc;
         "StartCalendarInterval: {name} has no day {day}, so this entry never matches"
     )?;
@@ -129,12 +121,9 @@ fn told_change(
     minute: &CivilMinute,
 ) -> Result<String, AllocError> {
     let month = month_name(minute.month);
-    let CivilMinute {
-        day,
-        hour,
-        minute,
-        ..
-    } = *minute;
+    let day = usize::from(minute.day);
+    let hour = usize::from(minute.hour);
+    let minute = usize::from(minute.minute);
     if is_skipped {
         format!(in alloc;
             "StartCalendarInterval: this year the clock skips {hour:02}:{minute:02} on {month} {day}: this entry does not match then"

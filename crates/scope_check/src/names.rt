@@ -93,12 +93,12 @@ fn nearest_to(alloc: Global, name: &str) -> Result<Option<&'static str>, AllocEr
         return Ok(None);
     }
     if name.len() == last.len() {
-        for key in ALL {
-            nearest = nearer(alloc, nearest, last, key_name(key))?;
+        for key in ALL.iter() {
+            nearest = nearer(alloc, nearest, last, key_name(*key))?;
         }
     } else {
-        for key in INNER {
-            nearest = nearer(alloc, nearest, last, key)?;
+        for key in INNER.iter() {
+            nearest = nearer(alloc, nearest, last, *key)?;
         }
     }
     Ok(nearest.1)

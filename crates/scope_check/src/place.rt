@@ -16,6 +16,18 @@ pub(crate) struct Way<'a> {
     pub(crate) below: Option<(usize, &'a str)>,
 }
 
+impl Way<'_> {
+    /// The way to the key's value, or to its member with the index.
+    pub(crate) fn to_member(key: KeyName, index: Option<usize>) -> Way<'static> {
+        Way {
+            key: key_name(key),
+            index,
+            inside: None,
+            below: None,
+        }
+    }
+}
+
 /// Where a key begins, and where its value does, in bytes.
 #[derive(Clone, Copy, Drop)]
 pub(crate) struct Spot {
@@ -30,7 +42,8 @@ const DEPTH: usize = 128;
 pub(crate) fn place_at(text: &str, offset: usize) -> Place {
     let mut line: usize = 1;
     let mut column: usize = 1;
-    for byte in text.as_bytes().iter().take(offset) {
+    let bytes = text.as_bytes();
+    for byte in bytes.get(..offset).unwrap_or(bytes) {
         if *byte == b'\n' {
             line = line.saturating_add(1);
             column = 1;
@@ -52,40 +65,28 @@ pub fn place_of(
     let Ok(text) = std::str::from_utf8(bytes) else {
         return Ok(None);
     };
-    let key = if is_absent_program(alloc, text, key)? {
-        KeyName::ProgramArguments
-    } else {
-        key
+    let key = match key {
+        KeyName::Program if !has_key(alloc, text, key)? => KeyName::ProgramArguments,
+        key => key,
     };
-    let way = Way {
-        key: key_name(key),
-        index,
-        inside: None,
-        below: None,
-    };
-    Ok(match spot_of(alloc, text, way)? {
-        Some(spot) => Some(place_at(text, spot.value)),
-        None => None,
-    })
+    place_by(alloc, text, Way::to_member(key, index))
 }
 
-// Whether `Program` is asked for, and absent.
-fn is_absent_program(alloc: Global, text: &str, key: KeyName) -> Result<bool, AllocError> {
-    match key {
-        KeyName::Program => Ok(!has_key(alloc, text, key)?),
-        _ => Ok(false),
+/// Where the value begins to which the way leads, as far as it can be gone.
+pub(crate) fn place_by(
+    alloc: Global,
+    text: &str,
+    way: Way<'_>,
+) -> Result<Option<Place>, AllocError> {
+    match spot_of(alloc, text, way)? {
+        Some(spot) => Ok(Some(place_at(text, spot.value))),
+        None => Ok(None),
     }
 }
 
 /// Whether the definition has the key.
 pub(crate) fn has_key(alloc: Global, text: &str, key: KeyName) -> Result<bool, AllocError> {
-    let way = Way {
-        key: key_name(key),
-        index: None,
-        inside: None,
-        below: None,
-    };
-    Ok(spot_of(alloc, text, way)?.is_some())
+    Ok(spot_of(alloc, text, Way::to_member(key, None))?.is_some())
 }
 
 /// Where the way leads, as far as it can be gone. None if the text is no object or has no such key.
@@ -100,16 +101,22 @@ pub(crate) fn spot_of(alloc: Global, text: &str, way: Way<'_>) -> Result<Option<
 
 fn go(reader: &mut Reader<'_>, text: &str, way: Way<'_>) -> Option<Spot> {
     let top = find_key(reader, text, way.key)?;
-    match in_array(reader, text, top, way.index) {
-        Some(spot) => match inside(reader, text, way.inside) {
-            Some(inner) => match below(reader, text, inner, way.below) {
-                Some(last) => Some(last),
-                None => Some(inner),
-            },
-            None => Some(spot),
-        },
-        None => Some(top),
-    }
+    let Some(member) = in_array(reader, text, top, way.index) else {
+        return Some(top);
+    };
+    let Some(key) = way.inside else {
+        return Some(member);
+    };
+    let Some(inner) = find_key(reader, text, key) else {
+        return Some(member);
+    };
+    let Some((index, key)) = way.below else {
+        return Some(inner);
+    };
+    let Some(member) = in_array(reader, text, inner, Some(index)) else {
+        return Some(inner);
+    };
+    Some(find_key(reader, text, key).unwrap_or(member))
 }
 
 // The spot of the member with this index, the reader having passed its first token if that opens an object; the value itself if
@@ -130,24 +137,6 @@ fn in_array(reader: &mut Reader<'_>, text: &str, top: Spot, index: Option<usize>
     })
 }
 
-fn inside(reader: &mut Reader<'_>, text: &str, key: Option<&str>) -> Option<Spot> {
-    find_key(reader, text, key?)
-}
-
-fn below(
-    reader: &mut Reader<'_>,
-    text: &str,
-    inner: Spot,
-    way: Option<(usize, &str)>,
-) -> Option<Spot> {
-    let (index, key) = way?;
-    let spot = in_array(reader, text, inner, Some(index))?;
-    match find_key(reader, text, key) {
-        Some(last) => Some(last),
-        None => Some(spot),
-    }
-}
-
 // The key of the object that the reader has entered. The reader then stands before its value.
 fn find_key(reader: &mut Reader<'_>, text: &str, wanted: &str) -> Option<Spot> {
     for _k in 0..text.len() {
@@ -165,7 +154,7 @@ fn find_key(reader: &mut Reader<'_>, text: &str, wanted: &str) -> Option<Spot> {
 /// The first byte from there on that is no blank and stands between no values.
 pub(crate) fn begin_at(text: &str, offset: usize) -> usize {
     let mut at = offset;
-    for byte in text.as_bytes().iter().skip(offset) {
+    for byte in text.as_bytes().get(offset..).unwrap_or(&[]) {
         match *byte {
             b' ' | b'\t' | b'\n' | b'\r' | b',' | b':' => at = at.saturating_add(1),
             _ => return at,

@@ -3,7 +3,7 @@
 use crate::broken::broken_in;
 use crate::culprit::{Culprit, culprit_in};
 use crate::finding::Place;
-use crate::place::{Way, begin_at, place_at, place_of, spot_of};
+use crate::place::{Way, begin_at, place_at, place_by, place_of};
 use crate::wanted::Wanted;
 use history_model::{KeyName, Reason};
 use json_kinds::{json_value, key_name};
@@ -62,31 +62,21 @@ fn refusal_at(
     reason: Reason,
     key: KeyName,
 ) -> Result<(Option<Place>, String), AllocError> {
-    let culprit = culprit_in(alloc, found, key)?;
-    let place = match &culprit.inside {
-        Some(inside) => inner_place(alloc, text, key_name(key), inside.as_str(), &culprit)?,
-        None => place_of(alloc, text.as_bytes(), key, culprit.index)?,
+    let culprit = culprit_in(found, key);
+    let place = if culprit.inside.is_none() {
+        place_of(alloc, text.as_bytes(), key, culprit.index)?
+    } else {
+        // In the member of the array, or in the value itself.
+        let way = Way {
+            key: key_name(key),
+            index: Some(culprit.index.unwrap_or(0)),
+            inside: culprit.inside,
+            below: culprit.below,
+        };
+        place_by(alloc, text, way)?
     };
     let told = told_of(alloc, &culprit, reason, key)?;
     Ok((place, told))
-}
-
-// Where the value of a key inside begins: in the member of the array, or in the value itself.
-fn inner_place<'a>(
-    alloc: Global,
-    text: &str,
-    key: &'a str,
-    inside: &'a str,
-    culprit: &Culprit<'_>,
-) -> Result<Option<Place>, AllocError> {
-    let way = Way {
-        key,
-        index: Some(culprit.index.unwrap_or(0)),
-        inside: Some(inside),
-        below: culprit.below,
-    };
-    let spot = spot_of(alloc, text, way)?;
-    Ok(spot.map(|spot| place_at(text, spot.value)))
 }
 
 fn told_of(
@@ -116,7 +106,7 @@ fn told_of(
 fn told_wanted(alloc: Global, culprit: &Culprit<'_>, name: &str) -> Result<String, AllocError> {
     let is = shown(alloc, culprit.value)?;
     let wanted = wanted_text(alloc, culprit.wanted, culprit.value)?;
-    match (&culprit.inside, culprit.index, culprit.below) {
+    match (culprit.inside, culprit.index, culprit.below) {
         (Some(inside), _, Some((_, below))) if !below.is_empty() => {
             format!(in alloc; "{name}: {inside}: {below} is {is}, wanted {wanted}")
         }

@@ -7,73 +7,85 @@ use json_kinds::names::{
     FAMILY, NODE_NAME, PASSIVE, PATH_NAME, PROTOCOL, SECURE_KEY, SERVICE_NAME, SOCKET_TYPE,
 };
 use serde_json::Value;
-use std::alloc::{AllocError, Global};
 
-/// The keys of a socket in the order in which they are checked, and what the value of each is to be.
-const KEYS: [(&str, &str); 8] = [
+/// What fits under a key of a socket.
+#[derive(Clone, Copy, Drop)]
+enum Fit {
+    Nothing,
+    True,
+    /// One of these texts.
+    Text(&'static str, &'static str),
+    Path,
+    Host,
+    Port,
+}
+
+/// The keys of a socket in the order in which they are checked, what fits there, and that in words.
+const KEYS: [(&str, Fit, &str); 8] = [
     (
         SECURE_KEY,
+        Fit::Nothing,
         "no such key: sockets with a key of launchd's own are not made here",
     ),
-    (SOCKET_TYPE, "\"stream\""),
-    (PASSIVE, "true"),
-    (FAMILY, "\"IPv4\" or \"Unix\""),
-    (PROTOCOL, "\"TCP\""),
-    (PATH_NAME, "a text of 1 to 107 bytes, none of them 0"),
+    (SOCKET_TYPE, Fit::Text("stream", "stream"), "\"stream\""),
+    (PASSIVE, Fit::True, "true"),
+    (FAMILY, Fit::Text("IPv4", "Unix"), "\"IPv4\" or \"Unix\""),
+    (PROTOCOL, Fit::Text("TCP", "TCP"), "\"TCP\""),
+    (
+        PATH_NAME,
+        Fit::Path,
+        "a text of 1 to 107 bytes, none of them 0",
+    ),
     (
         NODE_NAME,
+        Fit::Host,
         "four numbers of 0 to 255 joined by dots, or \"localhost\"",
     ),
     (
         SERVICE_NAME,
+        Fit::Port,
         "1 to 65535, or a text of the digits of one: no service is looked up",
     ),
 ];
 
 /// The first value of a socket that does not fit; the socket itself if it is no dictionary, or has neither a path nor a port. None if
 /// all fit, or are too many.
-pub(crate) fn in_sockets(alloc: Global, value: &Value) -> Result<Option<Culprit<'_>>, AllocError> {
-    let Some(members) = value.as_object() else {
-        return Ok(None);
-    };
-    for (name, found) in members.iter() {
-        if let Some(culprit) = in_named(alloc, name.as_str(), found)? {
-            return Ok(Some(culprit));
+pub(crate) fn in_sockets(value: &Value) -> Option<Culprit<'_>> {
+    for (name, found) in value.as_object()?.iter() {
+        if let Some(culprit) = in_named(name.as_str(), found) {
+            return Some(culprit);
         }
     }
-    Ok(None)
+    None
 }
 
-fn in_named<'a>(
-    alloc: Global,
-    name: &str,
-    found: &'a Value,
-) -> Result<Option<Culprit<'a>>, AllocError> {
+fn in_named<'a>(name: &'a str, found: &'a Value) -> Option<Culprit<'a>> {
     let items = members_or_one_of(found);
     if items.len() > 8 {
-        return Ok(None);
+        return None;
     }
     for (index, socket) in items.iter().enumerate() {
         if let Some((key, value, wanted)) = in_socket(socket) {
-            return Ok(Some(Culprit {
+            return Some(Culprit {
                 index: None,
-                inside: Some(String::from_str(alloc, name)?),
+                inside: Some(name),
                 below: Some((index, key)),
                 value,
                 wanted: Wanted::Said(wanted),
-            }));
+            });
         }
     }
-    Ok(None)
+    None
 }
 
 fn in_socket(socket: &Value) -> Option<(&'static str, &Value, &'static str)> {
     if !socket.is_object() {
         return Some(("", socket, "a dictionary"));
     }
-    for (key, wanted) in KEYS {
+    for of in KEYS.iter() {
+        let (key, fit, wanted) = *of;
         if let Some(found) = socket.get(key) {
-            if !is_well(key, found) {
+            if !is_well(fit, found) {
                 return Some((key, found, wanted));
             }
         }
@@ -84,30 +96,15 @@ fn in_socket(socket: &Value) -> Option<(&'static str, &Value, &'static str)> {
     None
 }
 
-fn is_well(key: &str, found: &Value) -> bool {
-    if key == PASSIVE {
-        return found.as_bool() == Some(true);
-    }
-    if key == SERVICE_NAME {
-        return is_port(found);
-    }
-    match found.as_str() {
-        Some(text) => is_well_text(key, text),
-        None => false,
-    }
-}
-
-fn is_well_text(key: &str, text: &str) -> bool {
-    if key == SOCKET_TYPE {
-        text == "stream"
-    } else if key == FAMILY {
-        text == "IPv4" || text == "Unix"
-    } else if key == PROTOCOL {
-        text == "TCP"
-    } else if key == PATH_NAME {
-        !text.is_empty() && text.len() <= 107 && !text.as_bytes().contains(&0)
-    } else {
-        key == NODE_NAME && is_host(text)
+fn is_well(fit: Fit, found: &Value) -> bool {
+    let text = found.as_str().unwrap_or("");
+    match fit {
+        Fit::Nothing => false,
+        Fit::True => found.as_bool().unwrap_or(false),
+        Fit::Text(one, other) => text == one || text == other,
+        Fit::Path => !text.is_empty() && text.len() <= 107 && !text.as_bytes().contains(&0),
+        Fit::Host => is_host(text),
+        Fit::Port => is_port(found),
     }
 }
 

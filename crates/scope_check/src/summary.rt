@@ -46,6 +46,7 @@ fn limit_text(def: &Def) -> &'static str {
 
 fn add_clocks(alloc: Global, def: &Def, text: &mut String) -> Result<(), AllocError> {
     if let Some(seconds) = def.start_interval() {
+        let seconds = u64::from(seconds);
         let told = format!(in alloc; ", starts each {seconds} s")?;
         text.push_str(told.as_str())?;
     }

@@ -1,7 +1,7 @@
 //! Variables that are not set.
 
 use crate::finding::{Grade, Remark};
-use crate::place::{Way, place_at, spot_of};
+use crate::place::{Way, place_by};
 use history_model::KeyName;
 use json_kinds::{json_value, key_name};
 use serde_json::{Map, Value};
@@ -13,13 +13,18 @@ pub(crate) fn add_variables(
     text: &str,
     remarks: &mut Vec<Remark>,
 ) -> Result<(), AllocError> {
-    match json_value(alloc, text.as_bytes())? {
-        Some(value) => match variables_in(&value) {
-            Some(members) => add_unset(alloc, text, members, remarks),
-            None => Ok(()),
-        },
-        None => Ok(()),
+    let Some(value) = json_value(alloc, text.as_bytes())? else {
+        return Ok(());
+    };
+    let Some(members) = variables_in(&value) else {
+        return Ok(());
+    };
+    for (name, found) in members.iter() {
+        if !found.is_string() {
+            add_unset(alloc, text, name.as_str(), remarks)?;
+        }
     }
+    Ok(())
 }
 
 fn variables_in(value: &Value) -> Option<&Map<String, Value>> {
@@ -31,32 +36,19 @@ fn variables_in(value: &Value) -> Option<&Map<String, Value>> {
 fn add_unset(
     alloc: Global,
     text: &str,
-    members: &Map<String, Value>,
+    name: &str,
     remarks: &mut Vec<Remark>,
 ) -> Result<(), AllocError> {
-    for (name, found) in members.iter() {
-        if !found.is_string() {
-            remarks.push(unset_remark(alloc, text, name.as_str())?)?;
-        }
-    }
-    Ok(())
-}
-
-fn unset_remark(alloc: Global, text: &str, name: &str) -> Result<Remark, AllocError> {
     let way = Way {
         key: key_name(KeyName::EnvironmentVariables),
         index: Some(0),
         inside: Some(name),
         below: None,
     };
-    Ok(Remark {
-        place: match spot_of(alloc, text, way)? {
-            Some(spot) => Some(place_at(text, spot.value)),
-            None => None,
-        },
-        grade: Grade::Warning,
-        text: format!(in alloc;
-            "EnvironmentVariables: the value of {name} is no text, so it is not set"
-        )?,
-    })
+    let place = place_by(alloc, text, way)?;
+    let text = format!(in alloc;
+        "EnvironmentVariables: the value of {name} is no text, so it is not set"
+    )?;
+    let grade = Grade::Warning;
+    Ok(remarks.push(Remark { place, grade, text })?)
 }

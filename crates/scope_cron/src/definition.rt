@@ -44,17 +44,14 @@ fn quoted(alloc: Global, text: String) -> Result<String, AllocError> {
 fn name_in(alloc: Global, command: &str) -> Result<String, AllocError> {
     let mut name = String::new(alloc);
     for letter in command.chars() {
-        if letter == ' ' || letter == '\t' || name.len() >= LONGEST_NAME {
+        if name.len() >= LONGEST_NAME {
             return Ok(name);
         }
-        if letter == '/' {
-            name.clear();
-        } else if letter.is_ascii_alphanumeric()
-            || letter == '.'
-            || letter == '_'
-            || letter == '-'
-        {
-            name.push(letter)?;
+        match letter {
+            ' ' | '\t' => return Ok(name),
+            '/' => name.clear(),
+            '0'..='9' | 'A'..='Z' | 'a'..='z' | '.' | '_' | '-' => name.push(letter)?,
+            _ => {}
         }
     }
     Ok(name)
@@ -127,6 +124,7 @@ fn add_key(
     let Some(value) = value else {
         return Ok(());
     };
+    let value = usize::from(value);
     let between = if keys.is_empty() { "" } else { ", " };
     let text = format!(in alloc; "{between}\"{name}\": {value}")?;
     keys.push_str(text.as_str())

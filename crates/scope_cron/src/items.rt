@@ -38,7 +38,7 @@ fn item_of(alloc: Global, kind: &Kind, text: &str) -> Result<Item, LineFault> {
     let item = span_of(alloc, kind, span)?;
     let name = kind.name;
     if span != "*" && !span.contains('-') {
-        let high = kind.high;
+        let high = usize::from(kind.high);
         return Err(refused(format!(in alloc;
             "{name} is {text}, wanted a range before the step, as {span}-{high}/{step}"
         )));
@@ -50,7 +50,10 @@ fn item_of(alloc: Global, kind: &Kind, text: &str) -> Result<Item, LineFault> {
             last: item.last,
             step,
         }),
-        _ => Err(refused(format!(in alloc; "{name} has the step {step:?}, wanted 1 to {most}"))),
+        _ => {
+            let most = usize::from(most);
+            Err(refused(format!(in alloc; "{name} has the step {step:?}, wanted 1 to {most}")))
+        }
     }
 }
 

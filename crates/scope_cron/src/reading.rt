@@ -50,15 +50,23 @@ fn field_of(
 // The values that an item has. A value that means the same as the least one, as the weekday 7, is left out behind that.
 fn values_of(alloc: Global, kind: &Kind, items: &[Item]) -> Result<Vec<u8>, AllocError> {
     let mut values = Vec::new(alloc);
+    let mut has_least = false;
     for value in kind.low..=kind.high {
-        if !is_again(kind, values.as_slice(), value) && items.iter().any(|item| item.has(value)) {
+        let is_least_again = has_least && value.saturating_sub(kind.low) >= kind.count;
+        if !is_least_again && is_in(items, value) {
             values.push(value)?;
+            has_least = has_least || value == kind.low;
         }
     }
     Ok(values)
 }
 
-// Whether the value means the same as the least one, and that is among the values.
-fn is_again(kind: &Kind, values: &[u8], value: u8) -> bool {
-    value.saturating_sub(kind.low) >= kind.count && values.first() == Some(&kind.low)
+// Whether an item has the value.
+fn is_in(items: &[Item], value: u8) -> bool {
+    for item in items {
+        if item.has(value) {
+            return true;
+        }
+    }
+    false
 }

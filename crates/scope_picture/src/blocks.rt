@@ -19,18 +19,9 @@ const NARROWEST: u16 = 32;
 /// How many columns an axis has at least.
 const LEAST: usize = 8;
 
-/// What the blocks and the marks mean.
-const LEGEND: [&str; 9] = [
-    "█ code 0",
-    "▓ another code",
-    "▒ a signal",
-    "▚ a crash",
-    "▄ stopped",
-    "▀ lives",
-    "v demand",
-    "~ throttle",
-    "x refusal",
-];
+/// What the blocks and the marks mean, each in a line.
+const LEGEND: &str =
+    "█ code 0\n▓ another code\n▒ a signal\n▚ a crash\n▄ stopped\n▀ lives\nv demand\n~ throttle\nx refusal";
 
 // The lines, how they are laid out, and how moments are shown.
 #[derive(Drop)]
@@ -51,7 +42,11 @@ pub fn blocks_text(
     width: u16,
 ) -> Result<String, AllocError> {
     let width = usize::from(width.max(NARROWEST));
-    let column = longest_label(chart).min(width / 3);
+    let mut column: usize = 0;
+    for row in &chart.rows {
+        column = columns_of(row.label.as_str()).max(column);
+    }
+    let column = column.min(width / 3);
     let room = width.saturating_sub(column).saturating_sub(1).max(LEAST);
     let mut screen = Screen {
         text: String::new(alloc),
@@ -65,33 +60,30 @@ pub fn blocks_text(
         screen.add_row(row)?;
     }
     screen.add_axis()?;
-    screen.add_pieces(&LEGEND, width)?;
+    screen.add_pieces(LEGEND, '\n', "  ", width)?;
     let missing = missing_words(alloc, chart)?;
     for sentence in &missing {
-        screen.add_sentence(sentence.as_str(), width)?;
+        screen.add_pieces(sentence.as_str(), ' ', " ", width)?;
     }
     let Screen { text, .. } = screen;
     Ok(text)
 }
 
-fn longest_label(chart: &Chart) -> usize {
-    let mut longest = 0;
-    for row in &chart.rows {
-        longest = columns_of(row.label.as_str()).max(longest);
-    }
-    longest
-}
-
-// The character as it is shown: control characters as a question mark.
-fn shown(c: char) -> char {
-    if is_unwritable(c) { '?' } else { c }
-}
-
 impl Screen<'_> {
-    // Ends a line, with the spaces at its end left out.
-    fn add_line(&mut self, line: &[char]) -> Result<(), AllocError> {
+    // Adds a line: the label in its column, cut if it is longer and with control characters as question marks, a space, and the cells.
+    // Spaces at its end are left out.
+    fn add_line(&mut self, label: &str, cells: &[char]) -> Result<(), AllocError> {
+        let label = cut_text(self.alloc, label, self.column)?;
+        let mut line = Vec::new(self.alloc);
+        for c in label.as_str().chars() {
+            line.push(if is_unwritable(c) { '?' } else { c })?;
+        }
+        for _ in columns_of(label.as_str())..self.column.saturating_add(1) {
+            line.push(' ')?;
+        }
+        line.extend_from_slice(cells)?;
         let mut spaces: usize = 0;
-        for c in line {
+        for c in &line {
             if *c == ' ' {
                 spaces = spaces.saturating_add(1);
                 continue;
@@ -105,20 +97,6 @@ impl Screen<'_> {
         self.text.push('\n')
     }
 
-    // The label in its column, cut if it is longer, and a space.
-    fn label_cells(&self, label: &str) -> Result<Vec<char>, AllocError> {
-        let mut cells = Vec::new(self.alloc);
-        let cut = cut_text(self.alloc, label, self.column)?;
-        for c in cut.as_str().chars() {
-            cells.push(shown(c))?;
-        }
-        let used = columns_of(cut.as_str());
-        for _ in used..self.column.saturating_add(1) {
-            cells.push(' ')?;
-        }
-        Ok(cells)
-    }
-
     fn add_row(&mut self, row: &Row) -> Result<(), AllocError> {
         let mut cells = self.empty_cells()?;
         let mut graves = Vec::new(self.alloc);
@@ -129,7 +107,9 @@ impl Screen<'_> {
             let (first, past) = self.axis.filled(bar.from, bar.until);
             let grave = gravity(bar.end).saturating_add(1);
             for place in first..past {
-                raise(&mut graves, usize::from(place), grave);
+                if let Some(held) = graves.get_mut(usize::from(place)) {
+                    *held = grave.max(*held);
+                }
             }
         }
         for (place, grave) in graves.iter().enumerate() {
@@ -137,9 +117,7 @@ impl Screen<'_> {
                 put(&mut cells, place, *block);
             }
         }
-        let mut line = self.label_cells(row.label.as_str())?;
-        line.extend_from_slice(cells.as_slice())?;
-        self.add_line(line.as_slice())?;
+        self.add_line(row.label.as_str(), cells.as_slice())?;
         self.add_marks(row)
     }
 
@@ -160,9 +138,7 @@ impl Screen<'_> {
         self.put_marks(&mut cells, row.demands.as_slice(), 'v');
         self.put_marks(&mut cells, row.throttles.as_slice(), '~');
         self.put_marks(&mut cells, row.refusals.as_slice(), 'x');
-        let mut line = self.label_cells("")?;
-        line.extend_from_slice(cells.as_slice())?;
-        self.add_line(line.as_slice())
+        self.add_line("", cells.as_slice())
     }
 
     fn put_marks(&self, cells: &mut Vec<char>, marks: &[Mark], sign: char) {
@@ -193,33 +169,28 @@ impl Screen<'_> {
             put(&mut cells, place, sign);
             put_text(&mut cells, place.saturating_add(1), text);
         }
-        let mut line = self.label_cells("")?;
-        line.extend_from_slice(cells.as_slice())?;
-        self.add_line(line.as_slice())
+        self.add_line("", cells.as_slice())
     }
 
     // From when to when.
     fn add_span(&mut self, width: usize) -> Result<(), AllocError> {
         let from = time_text(self.alloc, self.zone, self.axis.from.min(MAX_WALL))?;
         let until = time_text(self.alloc, self.zone, self.axis.until.min(MAX_WALL))?;
-        let until = format!(in self.alloc; "to {until}")?;
-        self.add_pieces(&[from.as_str(), until.as_str()], width)
+        let span = format!(in self.alloc; "{from}\nto {until}")?;
+        self.add_pieces(span.as_str(), '\n', "  ", width)
     }
 
-    // The pieces with two spaces between them, in lines of the width.
-    fn add_pieces(&mut self, pieces: &[&str], width: usize) -> Result<(), AllocError> {
+    // The text's pieces with the gap between them, in lines of the width.
+    fn add_pieces(
+        &mut self,
+        text: &str,
+        between: char,
+        gap: &str,
+        width: usize,
+    ) -> Result<(), AllocError> {
         let mut used: usize = 0;
-        for piece in pieces {
-            used = self.add_piece(piece, "  ", used, width)?;
-        }
-        self.text.push('\n')
-    }
-
-    // The sentence in lines of the width, broken between its words.
-    fn add_sentence(&mut self, sentence: &str, width: usize) -> Result<(), AllocError> {
-        let mut used: usize = 0;
-        for word in sentence.split(' ') {
-            used = self.add_piece(word, " ", used, width)?;
+        for piece in text.split(between) {
+            used = self.add_piece(piece, gap, used, width)?;
         }
         self.text.push('\n')
     }
@@ -244,12 +215,6 @@ impl Screen<'_> {
         }
         self.text.push_str(piece)?;
         Ok(wide)
-    }
-}
-
-fn raise(graves: &mut Vec<u8>, place: usize, grave: u8) {
-    if let Some(held) = graves.get_mut(place) {
-        *held = grave.max(*held);
     }
 }
 

@@ -7,7 +7,7 @@ use crate::axis::Axis;
 use std::alloc::AllocError;
 
 /// How a run stands or ended.
-#[derive(Clone, Copy, PartialEq, Eq)]
+#[derive(Clone, Copy)]
 pub enum End {
     Lives,
     Code(u8),
@@ -32,7 +32,7 @@ pub struct Bar {
 }
 
 /// What a mark stands for.
-#[derive(Clone, Copy, PartialEq, Eq)]
+#[derive(Clone, Copy)]
 pub enum MarkKind {
     /// A demand came, or a start was asked for.
     Demand,

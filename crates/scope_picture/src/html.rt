@@ -54,6 +54,7 @@ td:first-child, .left td:nth-child(2) { white-space: normal; overflow-wrap: anyw
 tr:last-child td { border-bottom: 0; }
 th { background: var(--soft); font-weight: 600; }
 pre { margin: 0; padding: 0.75rem; background: var(--soft); border-radius: 6px; white-space: pre-wrap; overflow-wrap: anywhere; font: 0.85rem/1.45 ui-monospace, 'DejaVu Sans Mono', Menlo, Consolas, monospace; }
+@media (max-width: 40rem) { th, td { padding: 0.3rem 0.45rem; } td:first-child, .left td:nth-child(2) { min-width: 10rem; } .left td:first-child { white-space: normal; min-width: 8.5rem; } }
 </style>
 </head>
 <body>

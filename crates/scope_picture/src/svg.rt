@@ -1,7 +1,7 @@
 //! The chart as SVG.
 
 use crate::axis::Axis;
-use crate::chart::{Bar, Chart, End, Mark, Row};
+use crate::chart::{Bar, Chart, End, Mark, MarkKind, Row};
 use crate::escape::escaped;
 use crate::ticks::ticks;
 use crate::words::{bar_words, cut_text, end_class, missing_words};
@@ -57,7 +57,7 @@ const STYLE: &str = "<style>
 
 // What is painted, and how moments are shown.
 #[derive(Drop)]
-struct Paper<'a> {
+struct Sheet<'a> {
     text: String,
     alloc: Global,
     zone: &'a Zone,
@@ -90,7 +90,7 @@ pub(crate) fn figure_piece(
     chart: &Chart,
     index: usize,
 ) -> Result<Option<String>, AllocError> {
-    let mut paper = Paper {
+    let mut sheet = Sheet {
         text: String::new(alloc),
         alloc,
         zone,
@@ -98,15 +98,15 @@ pub(crate) fn figure_piece(
     };
     let above = index.saturating_sub(1);
     if index == 0 {
-        paper.add_head(chart)?;
+        sheet.add_head(chart)?;
     } else if let Some(row) = chart.rows.get(above) {
-        paper.add_row(row, below_rows(above))?;
+        sheet.add_row(row, below_rows(above))?;
     } else if above == chart.rows.len() {
-        paper.add_foot(chart)?;
+        sheet.add_foot(chart)?;
     } else {
         return Ok(None);
     }
-    let Paper { text, .. } = paper;
+    let Sheet { text, .. } = sheet;
     Ok(Some(text))
 }
 
@@ -115,7 +115,7 @@ fn below_rows(rows: usize) -> u64 {
     (rows as u64).saturating_mul(ROW).saturating_add(HEAD)
 }
 
-impl Paper<'_> {
+impl Sheet<'_> {
     fn add_head(&mut self, chart: &Chart) -> Result<(), AllocError> {
         let bottom = below_rows(chart.rows.len());
         let missing = missing_words(self.alloc, chart)?;
@@ -126,9 +126,17 @@ impl Paper<'_> {
 
     fn add_foot(&mut self, chart: &Chart) -> Result<(), AllocError> {
         let bottom = below_rows(chart.rows.len());
-        let missing = missing_words(self.alloc, chart)?;
         self.add_legend(bottom)?;
-        self.add_missing(missing.as_slice(), bottom)?;
+        let missing = missing_words(self.alloc, chart)?;
+        let mut line = bottom.saturating_add(64);
+        for sentence in &missing {
+            let sentence = sentence.as_str();
+            write!(
+                self.text,
+                "<text class=\"faint\" x=\"10\" y=\"{line}\">{sentence}</text>\n"
+            )?;
+            line = line.saturating_add(LINE);
+        }
         self.text.push_str("</svg>\n")
     }
 
@@ -193,9 +201,9 @@ impl Paper<'_> {
             self.add_end(bar.end, LEFT + u64::from(end), top.saturating_add(31))?;
         }
         let lane = top.saturating_add(18);
-        self.add_marks("demand", "a demand", row.demands.as_slice(), lane)?;
-        self.add_marks("throttle", "a throttle", row.throttles.as_slice(), lane)?;
-        self.add_marks("refusal", "a refusal", row.refusals.as_slice(), lane)?;
+        self.add_marks(MarkKind::Demand, row.demands.as_slice(), lane)?;
+        self.add_marks(MarkKind::Throttle, row.throttles.as_slice(), lane)?;
+        self.add_marks(MarkKind::Refusal, row.refusals.as_slice(), lane)?;
         self.text.push_str("</g>\n")
     }
 
@@ -208,7 +216,7 @@ impl Paper<'_> {
         let x = LEFT + u64::from(begin);
         let width = u64::from(end - begin).max(1);
         let class = end_class(bar.end);
-        let runs = bar.runs;
+        let runs = u64::from(bar.runs);
         write!(
             self.text,
             "<g class=\"{class}\" data-runs=\"{runs}\"><title>{told}: {from} to {until}</title><rect x=\"{x}\" y=\"{top}\" width=\"{width}\" height=\"12\"/></g>\n"
@@ -231,24 +239,17 @@ impl Paper<'_> {
         )
     }
 
-    fn add_marks(
-        &mut self,
-        class: &str,
-        name: &str,
-        marks: &[Mark],
-        top: u64,
-    ) -> Result<(), AllocError> {
+    fn add_marks(&mut self, kind: MarkKind, marks: &[Mark], top: u64) -> Result<(), AllocError> {
+        let (class, name, shape) = mark_words(kind);
         for mark in marks {
             let x = LEFT + u64::from(self.axis.place(mark.at));
             let at = self.moment(mark.at)?;
-            let count = mark.count;
+            let count = u64::from(mark.count);
             let more = count.saturating_sub(1);
             write!(
                 self.text,
-                "<path class=\"{class}\" data-count=\"{count}\" d=\"M{x} {top}"
+                "<path class=\"{class}\" data-count=\"{count}\" d=\"M{x} {top}{shape}\"><title>{name}: {at}"
             )?;
-            self.text.push_str(mark_shape(class))?;
-            write!(self.text, "\"><title>{name}: {at}")?;
             if more > 0 {
                 write!(self.text, ", and {more} more beside it")?;
             }
@@ -270,7 +271,8 @@ impl Paper<'_> {
         let top = bottom.saturating_add(10);
         let line = bottom.saturating_add(21);
         let mut x = LEFT;
-        for (end, name) in bars {
+        for bar in bars.iter() {
+            let (end, name) = *bar;
             let class = end_class(end);
             write!(
                 self.text,
@@ -284,41 +286,21 @@ impl Paper<'_> {
             )?;
             x = x.saturating_add(150);
         }
-        self.add_mark_legend(bottom)
+        self.add_sign(MarkKind::Demand, 25, bottom)?;
+        self.add_sign(MarkKind::Throttle, 175, bottom)?;
+        self.add_sign(MarkKind::Refusal, 325, bottom)
     }
 
-    fn add_mark_legend(&mut self, bottom: u64) -> Result<(), AllocError> {
-        let marks = [
-            ("demand", "a demand"),
-            ("throttle", "a throttle"),
-            ("refusal", "a refusal"),
-        ];
+    // What a mark means.
+    fn add_sign(&mut self, kind: MarkKind, x: u64, bottom: u64) -> Result<(), AllocError> {
+        let (class, name, shape) = mark_words(kind);
         let top = bottom.saturating_add(32);
         let line = bottom.saturating_add(41);
-        let mut x: u64 = 25;
-        for (class, name) in marks {
-            let shape = mark_shape(class);
-            let beside = x.saturating_add(19);
-            write!(
-                self.text,
-                "<path class=\"{class}\" d=\"M{x} {top}{shape}\"/><text class=\"faint\" x=\"{beside}\" y=\"{line}\">{name}</text>\n"
-            )?;
-            x = x.saturating_add(150);
-        }
-        Ok(())
-    }
-
-    fn add_missing(&mut self, sentences: &[String], bottom: u64) -> Result<(), AllocError> {
-        let mut line = bottom.saturating_add(64);
-        for sentence in sentences {
-            let sentence = sentence.as_str();
-            write!(
-                self.text,
-                "<text class=\"faint\" x=\"10\" y=\"{line}\">{sentence}</text>\n"
-            )?;
-            line = line.saturating_add(LINE);
-        }
-        Ok(())
+        let beside = x.saturating_add(19);
+        write!(
+            self.text,
+            "<path class=\"{class}\" d=\"M{x} {top}{shape}\"/><text class=\"faint\" x=\"{beside}\" y=\"{line}\">{name}</text>\n"
+        )
     }
 }
 
@@ -333,11 +315,11 @@ fn anchor_of(place: u64) -> &'static str {
     }
 }
 
-// The shape of a mark, from the middle of its upper edge.
-fn mark_shape(class: &str) -> &'static str {
-    match class {
-        "demand" => "m-5 0h10l-5 9z",
-        "throttle" => "m0 0l4.5 4.5l-4.5 4.5l-4.5 -4.5z",
-        _ => "m-4 0.5l8 8m0 -8l-8 8",
+// The class of a mark, its name, and its shape from the middle of its upper edge.
+fn mark_words(kind: MarkKind) -> (&'static str, &'static str, &'static str) {
+    match kind {
+        MarkKind::Demand => ("demand", "a demand", "m-5 0h10l-5 9z"),
+        MarkKind::Throttle => ("throttle", "a throttle", "m0 0l4.5 4.5l-4.5 4.5l-4.5 -4.5z"),
+        MarkKind::Refusal => ("refusal", "a refusal", "m-4 0.5l8 8m0 -8l-8 8"),
     }
 }

@@ -69,7 +69,8 @@ const STEPS: [(u64, Step); 27] = [
 
 // The least step of which not more than `most` lie in the span.
 fn step_for(span: u64, most: u64) -> Step {
-    for (length, step) in STEPS {
+    for of in STEPS.iter() {
+        let (length, step) = *of;
         if span / length.max(1) < most {
             return step;
         }

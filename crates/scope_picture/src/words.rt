@@ -50,21 +50,28 @@ pub(crate) fn end_class(end: End) -> &'static str {
 
 /// How a bar's runs ended: of one its end, of several their number and the gravest end.
 pub(crate) fn bar_words(alloc: Global, bar: &Bar) -> Result<String, AllocError> {
-    let end = end_words(alloc, bar.end)?;
+    let (words, number) = end_words(bar.end);
+    let number = match number {
+        Some(number) => format!(in alloc; " {number}")?,
+        None => String::new(alloc),
+    };
     let run = bar.run;
-    match bar.runs {
-        1 => format!(in alloc; "run {run} {end}"),
-        runs => format!(in alloc; "{runs} runs from run {run} on; the gravest {end}"),
+    let runs = u64::from(bar.runs);
+    if runs == 1 {
+        format!(in alloc; "run {run} {words}{number}")
+    } else {
+        format!(in alloc; "{runs} runs from run {run} on; the gravest {words}{number}")
     }
 }
 
-fn end_words(alloc: Global, end: End) -> Result<String, AllocError> {
+// An end in words, and the number behind them, if it has one.
+fn end_words(end: End) -> (&'static str, Option<u64>) {
     match end {
-        End::Lives => String::from_str(alloc, "lives"),
-        End::Code(code) => format!(in alloc; "ended with code {code}"),
-        End::Stopped => String::from_str(alloc, "was stopped"),
-        End::Signal(signal) => format!(in alloc; "ended by signal {signal}"),
-        End::Crash(signal) => format!(in alloc; "crashed by signal {signal}"),
+        End::Lives => ("lives", None),
+        End::Code(code) => ("ended with code", Some(u64::from(code))),
+        End::Stopped => ("was stopped", None),
+        End::Signal(signal) => ("ended by signal", Some(u64::from(signal))),
+        End::Crash(signal) => ("crashed by signal", Some(u64::from(signal))),
     }
 }
 
