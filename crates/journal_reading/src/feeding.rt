@@ -74,23 +74,8 @@ impl JournalReader {
         Ok(true)
     }
 
-    /// Reads each whole line that was taken.
-    pub fn read_on(&mut self, alloc: Global) -> Result<(), JournalFault> {
-        for _ in 0..u64::MAX {
-            if !self.next(alloc)? {
-                break;
-            }
-        }
-        Ok(())
-    }
-
     /// The journal, if its header was read.
     pub fn journal(&self) -> Option<&Journal> {
         self.journal.as_ref()
-    }
-
-    /// Whether a last line stands there that no newline ends.
-    pub fn is_cut(&self) -> bool {
-        !self.feed.rest().is_empty()
     }
 }

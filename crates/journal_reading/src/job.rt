@@ -5,7 +5,7 @@ use history_model::{DemandKind, Ended, Reading};
 use job_defs::Def;
 
 /// What was asked of a job, by a control client.
-#[derive(Clone, Copy, PartialEq, Eq)]
+#[derive(Clone, Copy)]
 pub enum Asked {
     Start,
     Stop,
@@ -107,19 +107,11 @@ impl Job {
 
     /// It is loaded again: what is kept of its earlier load goes, the totals stay.
     pub(crate) fn load(&mut self, def: Def, at: Reading) {
-        self.def = Some(def);
-        self.loaded = at;
-        self.starts = 0;
-        self.ends = 0;
-        self.current = None;
-        self.last = None;
-        self.refused = None;
-        self.ordered = None;
-        self.asked = None;
-        self.is_lost = false;
-        self.term = None;
-        self.kill = None;
-        self.idle = at;
+        let gone = self.gone;
+        let totals = self.totals;
+        *self = Job::new(self.serial, def, at);
+        self.gone = gone;
+        self.totals = totals;
     }
 
     /// A start was ordered.
@@ -225,14 +217,17 @@ impl Job {
             let loaded = at.up.saturating_sub(self.loaded.up);
             totals.loaded = totals.loaded.saturating_add(loaded);
         }
-        match &self.current {
-            Some(run) if run.end == RunEnd::Lives => {
-                totals.lived = totals.lived.saturating_add(run.lived(at));
-            }
-            _ if self.def.is_some() => {
-                totals.gap = totals.gap.max(at.up.saturating_sub(self.idle.up));
-            }
-            _ => {}
+        if let Some(
+            Run {
+                end: RunEnd::Lives,
+                begun,
+                ..
+            },
+        ) = &self.current
+        {
+            totals.lived = totals.lived.saturating_add(at.up.saturating_sub(begun.up));
+        } else if self.def.is_some() {
+            totals.gap = totals.gap.max(at.up.saturating_sub(self.idle.up));
         }
         totals
     }

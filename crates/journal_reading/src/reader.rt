@@ -8,7 +8,7 @@ use calendar_due::Zone;
 use ctl_protocol::{LineReader, ReadFault, read_header};
 use history_model::{Act, Answer, Ask, Ended, Event, JobItem, Reading, Refusal};
 use job_defs::read_def;
-use job_table::{JobTable, Step};
+use job_table::JobTable;
 use std::alloc::{AllocError, Global};
 use table_opening::{OpeningFault, table_of, zone_of};
 
@@ -154,7 +154,7 @@ impl Journal {
     // What keeps from a start, or asks for an end, is kept until the next order.
     fn note_asked(&mut self, label: &str, asked: Asked) {
         let at = self.reading();
-        if asked == Asked::Shutdown {
+        if let Asked::Shutdown = asked {
             for (_, job) in self.past.jobs.iter_mut() {
                 job.asked = Some((asked, at));
             }
@@ -186,21 +186,14 @@ impl Journal {
         label: &str,
         answer: Answer,
     ) -> Result<(), AllocError> {
-        match answer {
-            Answer::Spawned { run, pid } => self.note_begun(alloc, label, run, pid),
-            Answer::SpawnRefused { run } => self.note_refused(alloc, label, run),
-            Answer::Termed { run, ok: false } => self.tell(
-                alloc,
-                label,
-                What::Untold { run, kills: false },
-            ),
-            Answer::Killed { run, ok: false } => self.tell(
-                alloc,
-                label,
-                What::Untold { run, kills: true },
-            ),
-            Answer::Termed { .. } | Answer::Killed { .. } => Ok(()),
-        }
+        let (run, kills) = match answer {
+            Answer::Spawned { run, pid } => return self.note_begun(alloc, label, run, pid),
+            Answer::SpawnRefused { run } => return self.note_refused(alloc, label, run),
+            Answer::Termed { run, ok: false } => (run, false),
+            Answer::Killed { run, ok: false } => (run, true),
+            Answer::Termed { .. } | Answer::Killed { .. } => return Ok(()),
+        };
+        self.tell(alloc, label, What::Untold { run, kills })
     }
 
     fn note_begun(
@@ -256,28 +249,17 @@ impl Journal {
 
     // The orders of the last step.
     fn note_orders(&mut self, alloc: Global) -> Result<(), AllocError> {
+        let at = self.table.reading();
         let step = self.table.last_step();
-        order_all(alloc, &self.table, &mut self.past, &mut self.news, &step)
-    }
-}
-
-// Takes in each order of a step.
-fn order_all(
-    alloc: Global,
-    table: &JobTable,
-    past: &mut Past,
-    news: &mut Vec<News>,
-    step: &Step<'_>,
-) -> Result<(), AllocError> {
-    let at = table.reading();
-    for order in step.orders {
-        let label = step.label(order.job);
-        if let Some(what) = ordered(table, past, label, order.act, at) {
-            let label = String::from_str(alloc, label)?;
-            news.push(News { label, what })?;
+        for order in step.orders {
+            let label = step.label(order.job);
+            if let Some(what) = ordered(&self.table, &mut self.past, label, order.act, at) {
+                let label = String::from_str(alloc, label)?;
+                self.news.push(News { label, what })?;
+            }
         }
+        Ok(())
     }
-    Ok(())
 }
 
 // Takes in an order.

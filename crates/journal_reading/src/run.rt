@@ -5,7 +5,7 @@ ghost use Rattle.history_model.specs.Levels.{is_crash_end};
 use history_model::{DemandKind, Ended, Reading};
 
 /// How a run stands, or how it ended.
-#[derive(Clone, Copy, PartialEq, Eq)]
+#[derive(Clone, Copy)]
 pub enum RunEnd {
     /// The answer to its order is awaited.
     Awaited,

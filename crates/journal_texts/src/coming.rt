@@ -20,19 +20,13 @@ pub(crate) fn add_not_wanted(page: &mut Page<'_>, told: &Told<'_>) -> Result<(),
     }
     add_conditions(page, told.job, told.def)?;
     page.add(" It will be wanted")?;
+    let before = page.text.len();
     add_calendar(page, told.zone, told.def)?;
     add_interval(page, told.job, told.def)?;
     add_events(page, told.def)?;
-    page.add(if has_way(told.def) { " or by " } else { " by " })?;
+    let has_way = page.text.len() > before;
+    page.add(if has_way { " or by " } else { " by " })?;
     page.add(asking_words(&told.reasons))
-}
-
-fn has_way(def: &Def) -> bool {
-    let has_clock = !def.calendar().is_empty() || def.start_interval().is_some();
-    let has_path = !def.watch_paths().is_empty()
-        || !def.queue_directories().is_empty()
-        || !def.path_state().is_empty();
-    has_clock || has_path || def.has_sockets()
 }
 
 fn add_events(page: &mut Page<'_>, def: &Def) -> Result<(), AllocError> {

@@ -72,17 +72,15 @@ fn add_news(page: &mut Page<'_>, journal: &Journal, news: &News) -> Result<(), A
             };
             add_order(page, &order, wants)
         }
-        What::NotBegun { run, wait } => add_not_begun(page, *run, wait),
+        What::NotBegun { run, wait } => {
+            write!(page.text, "run {run} was refused")?;
+            add_wait(page, wait)
+        }
         What::Ended { run, wait } => add_ended(page, run, wait),
         what => add_what(page, what),
     };
     added?;
     page.add("\n")
-}
-
-fn add_not_begun(page: &mut Page<'_>, run: u64, wait: &Wait) -> Result<(), AllocError> {
-    write!(page.text, "run {run} was refused")?;
-    add_wait(page, wait)
 }
 
 fn add_what(page: &mut Page<'_>, what: &What) -> Result<(), AllocError> {

@@ -34,8 +34,9 @@ fn lengths(alloc: Global, journal: &Journal) -> Result<Vec<(u64, u64)>, AllocErr
     let now = journal.reading();
     let mut lengths = Vec::new(alloc);
     for run in &journal.past.runs {
-        if run.end != RunEnd::Refused {
-            lengths.push((run.job, run.lived(now)))?;
+        match run.end {
+            RunEnd::Refused => {}
+            _ => lengths.push((run.job, run.lived(now)))?,
         }
     }
     lengths.sort_unstable();
@@ -61,32 +62,32 @@ fn add_row(
     )?;
     add_lengths(text, lengths, job.serial)?;
     add_share(text, totals.lived, totals.loaded)?;
-    add_seconds(text, Some(totals.gap))?;
+    add_seconds(text, totals.gap)?;
     text.push_str("\n")
 }
 
 // The shortest, the median and the longest of the job.
 fn add_lengths(text: &mut String, lengths: &[(u64, u64)], job: u64) -> Result<(), AllocError> {
-    let from = lengths.partition_point(|of| of.0 < job);
-    let to = lengths.partition_point(|of| of.0 <= job);
+    let from = first_from(lengths, job);
+    let to = first_from(lengths, job.saturating_add(1));
     let own = lengths.get(from..to).unwrap_or(&[]);
-    let middle = own.len().saturating_sub(1) / 2;
-    add_seconds(text, length_at(own, 0))?;
-    add_seconds(text, length_at(own, middle))?;
-    add_seconds(text, length_at(own, own.len().saturating_sub(1)))
-}
-
-fn length_at(lengths: &[(u64, u64)], index: usize) -> Option<u64> {
-    match lengths.get(index) {
-        Some((_, length)) => Some(*length),
-        None => None,
+    let last = own.len().saturating_sub(1);
+    let indexes = [0, last / 2, last];
+    for index in indexes.iter() {
+        match own.get(*index) {
+            Some((_, length)) => add_seconds(text, *length)?,
+            None => text.push_str("\t-")?,
+        }
     }
+    Ok(())
 }
 
-fn add_seconds(text: &mut String, milliseconds: Option<u64>) -> Result<(), AllocError> {
-    let Some(milliseconds) = milliseconds else {
-        return text.push_str("\t-");
-    };
+// Where the lengths of the job begin, or those of the next that has some.
+fn first_from(lengths: &[(u64, u64)], job: u64) -> usize {
+    lengths.partition_point(|of| of.0 < job)
+}
+
+fn add_seconds(text: &mut String, milliseconds: u64) -> Result<(), AllocError> {
     let seconds = milliseconds / 1000;
     let rest = milliseconds % 1000;
     write!(text, "\t{seconds}.{rest:03}")

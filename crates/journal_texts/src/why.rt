@@ -97,17 +97,10 @@ fn add_job(
         add_cause(page, &told, *cause)?;
     }
     add_past(page, job)?;
-    if is_unwanted_alone(list.as_slice()) {
-        return Ok(());
-    }
-    add_start(page, &told, journal.table.spawns_from(label))
-}
-
-// Whether nothing but that it is not wanted keeps the job from a start: the ways by which it comes to start were told then.
-fn is_unwanted_alone(list: &[Cause]) -> bool {
-    match list {
-        [Cause::NotWanted] => true,
-        _ => false,
+    match list.as_slice() {
+        // Nothing else keeps it from a start: the ways by which it comes to start were told.
+        [Cause::NotWanted] => Ok(()),
+        _ => add_start(page, &told, journal.table.spawns_from(label)),
     }
 }
 

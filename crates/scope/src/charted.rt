@@ -4,7 +4,7 @@ ghost use Rattle.std.specs.Prelude.{◌≡◌, IfSome, option_map};
 ghost use Rattle.scope.specs.Bars.{bar_end};
 
 use history_model::Text;
-use journal_reading::{Asked, Journal, News, Run, RunEnd, Wait, What};
+use journal_reading::{Asked, Journal, News, Run, RunEnd, What};
 use scope_picture::{Axis, Bar, Chart, End, MarkKind, PLACES, Row};
 use std::alloc::{AllocError, Global};
 use std::collections::VecDeque;
@@ -92,7 +92,12 @@ impl<'a> Heard<'a> {
 
 // Whether the label is among those; each is if there is none.
 fn is_named(labels: &[Text], label: &str) -> bool {
-    labels.is_empty() || labels.iter().any(|named| named.as_str() == label)
+    for named in labels {
+        if named.as_str() == label {
+            return true;
+        }
+    }
+    labels.is_empty()
 }
 
 // The mark that an event of a journal makes, if it makes one.
@@ -104,13 +109,11 @@ fn mark_of(what: &What) -> Option<MarkKind> {
         What::LoadRefused(_) | What::Declined(_, _) | What::NotBegun { .. } => {
             Some(MarkKind::Refusal)
         }
-        What::Ended { wait, .. } if is_throttled(wait) => Some(MarkKind::Throttle),
+        What::Ended { wait, .. } if wait.is_wanted && wait.throttled_until.is_some() => {
+            Some(MarkKind::Throttle)
+        }
         _ => None,
     }
-}
-
-fn is_throttled(wait: &Wait) -> bool {
-    wait.is_wanted && wait.throttled_until.is_some()
 }
 
 /// The bar of a run: from its begin to its end, or to the end of the axis if it lives. None for one that did not begin: its order is

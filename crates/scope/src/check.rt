@@ -1,19 +1,18 @@
 //! What a load would say of definitions, and what may be wrong with them.
 
-use crate::next::{bytes_of, now};
-use crate::telling::tell_of;
+use crate::files::{bytes_of, is_empty_folder, now};
+use crate::telling::Outcome;
 use crate::there::add_missing;
 use crate::zone::zone_of;
 use exit_status::{BAD_CLOCK, BAD_FILE, REFUSED};
 use history_model::KeyName;
 use job_defs::Def;
-use path_files::{Found, Kind, files_at};
+use path_files::{Found, files_at};
 use scope_check::{
     Change, Checked, Grade, Remark, changes_in_year, check_def, finding_line, place_of, summary_of,
 };
 use scope_words::{Paths, ZoneWords};
 use std::alloc::{AllocError, Global};
-use std::io;
 
 /// A label, and the file that has it.
 #[derive(Drop)]
@@ -32,28 +31,23 @@ struct Findings {
     is_unread: bool,
 }
 
-/// Writes for each file of the paths a line if all is well with its definition, else a line for each finding. 0 if all would be read by
-/// a load; 1 if one would not, or if one has a warning and `is_strict`; 65 if a file can't be read, or the zone is none. In the zone
-/// the entries of calendars are looked at.
+/// For each file of the paths a line if all is well with its definition, else a line for each finding. The status is 0 if all would be
+/// read by a load; 1 if one would not, or if one has a warning and `is_strict`; 65 if a file can't be read, or the zone is none. In the
+/// zone the entries of calendars are looked at.
 pub(crate) fn check(
     host: &HostRuntime,
     alloc: Global,
     is_strict: bool,
     zone: &ZoneWords,
     paths: &Paths,
-) -> io::Result<u8> {
+) -> Result<Outcome, AllocError> {
     let Some(zone) = zone_of(host, alloc, zone)? else {
-        return Ok(BAD_FILE);
+        return Ok(Outcome::failed(alloc, BAD_FILE));
     };
-    let second = match now(host) {
-        Ok(second) => second,
-        Err(error) => {
-            tell_of(host, "clock", &error);
-            return Ok(BAD_CLOCK);
-        }
+    let Some(second) = now(host) else {
+        return Ok(Outcome::failed(alloc, BAD_CLOCK));
     };
     let changes = changes_in_year(alloc, &zone, second)?;
-    let files = files_at(host, paths.as_slice())?;
     let mut findings = Findings {
         text: String::new(alloc),
         labels: Vec::new(alloc),
@@ -61,12 +55,10 @@ pub(crate) fn check(
         has_warnings: false,
         is_unread: false,
     };
-    for file in files.iter() {
-        check_file(host, alloc, file, changes.as_slice(), &mut findings)?;
-    }
-    let text = findings.text.as_str();
-    print!(host; "{text}")?;
-    Ok(status_of(&findings, is_strict))
+    check_files(host, alloc, paths, changes.as_slice(), &mut findings)?;
+    let status = status_of(&findings, is_strict);
+    let Findings { text, .. } = findings;
+    Ok(Outcome { text, status })
 }
 
 fn status_of(findings: &Findings, is_strict: bool) -> u8 {
@@ -79,37 +71,42 @@ fn status_of(findings: &Findings, is_strict: bool) -> u8 {
     }
 }
 
-fn check_file(
+fn check_files(
+    host: &HostRuntime,
+    alloc: Global,
+    paths: &Paths,
+    changes: &[Change],
+    findings: &mut Findings,
+) -> Result<(), AllocError> {
+    let files = files_at(host, paths.as_slice())?;
+    for file in files.iter() {
+        match bytes_of(host, alloc, file)? {
+            Some(bytes) => check_bytes(host, alloc, file, bytes.as_slice(), changes, findings)?,
+            None => findings.is_unread = findings.is_unread || !is_empty_folder(file),
+        }
+    }
+    Ok(())
+}
+
+fn check_bytes(
     host: &HostRuntime,
     alloc: Global,
     file: &Found,
+    bytes: &[u8],
     changes: &[Change],
     findings: &mut Findings,
-) -> io::Result<()> {
+) -> Result<(), AllocError> {
     let path = file.path.as_str();
-    if let Kind::Empty = file.kind {
-        tell_of(
-            host,
-            path,
-            &"no definition in this folder (*.plist, *.json)",
-        );
-        return Ok(());
-    }
-    let Some(bytes) = bytes_of(host, alloc, file)? else {
-        findings.is_unread = true;
-        return Ok(());
-    };
-    match check_def(alloc, bytes.as_slice(), changes)? {
-        Checked::Loads { def, remarks } => {
-            let mut remarks = remarks;
-            add_missing(host, alloc, bytes.as_slice(), &def, &mut remarks)?;
-            add_label(alloc, bytes.as_slice(), path, &def, findings, &mut remarks)?;
-            Ok(add_loading(alloc, path, &def, remarks.as_slice(), findings)?)
+    match check_def(alloc, bytes, changes)? {
+        Checked::Loads { def, mut remarks } => {
+            add_missing(host, alloc, bytes, &def, &mut remarks)?;
+            add_label(alloc, bytes, path, &def, findings, &mut remarks)?;
+            add_loading(alloc, path, &def, remarks.as_slice(), findings)
         }
         Checked::Refused { place, text, .. } => {
             findings.has_errors = true;
             let line = finding_line(alloc, path, place, Grade::Error, text.as_str())?;
-            Ok(findings.text.push_str(line.as_str())?)
+            findings.text.push_str(line.as_str())
         }
     }
 }
@@ -165,13 +162,8 @@ fn add_loading(
         findings.text.push_str(line.as_str())?;
     }
     for remark in remarks {
-        let line = finding_line(
-            alloc,
-            path,
-            remark.place,
-            remark.grade,
-            remark.text.as_str(),
-        )?;
+        let told = remark.text.as_str();
+        let line = finding_line(alloc, path, remark.place, remark.grade, told)?;
         findings.text.push_str(line.as_str())?;
     }
     Ok(())

@@ -1,10 +1,11 @@
-//! A journal that words name: where it is, and its reading to the end of what is there.
+//! A journal that words name: where it is, and its reading.
 
+use crate::listener::Listener;
 use crate::telling::tell_of;
 use exit_status::BAD_FILE;
 use journal_reading::{JournalFault, JournalReader};
 use scope_words::JournalWords;
-use std::alloc::Global;
+use std::alloc::{AllocError, Global};
 use std::env::VarError;
 use std::fs::File;
 use std::io::{ErrorKind, IsTerminal, Read};
@@ -64,8 +65,8 @@ fn read(host: &HostRuntime, source: &mut Source, piece: &mut [u8]) -> io::Result
     }
 }
 
-/// Takes the next piece of the source, and says whether there was one.
-pub(crate) fn take_piece(
+// Takes the next piece of the source, and says whether there was one.
+fn take_piece(
     host: &HostRuntime,
     source: &mut Source,
     feed: &mut Feed,
@@ -82,15 +83,36 @@ pub(crate) fn take_piece(
     }
 }
 
+/// Takes the next piece of the source, and the listener hears each line that is whole now. It says whether there was a piece.
+pub(crate) fn take_lines(
+    host: &HostRuntime,
+    alloc: Global,
+    source: &mut Source,
+    feed: &mut Feed,
+    listener: &mut Listener<'_>,
+) -> Result<bool, JournalFault> {
+    let is_there = take_piece(host, source, feed)?;
+    for _ in 0..u64::MAX {
+        if !feed.reader.next(alloc)? {
+            break;
+        }
+        listener.hear(alloc, &feed.reader)?;
+    }
+    Ok(is_there)
+}
+
 /// The journal's path: that of the words, else that of `JOBD_JOURNAL`. None: it comes on standard input.
-pub(crate) fn journal_path(host: &HostRuntime, of: &JournalWords) -> io::Result<Option<String>> {
+pub(crate) fn journal_path(
+    host: &HostRuntime,
+    of: &JournalWords,
+) -> Result<Option<String>, AllocError> {
     if let Some(path) = &of.journal {
         return Ok(Some(String::from_str(host.alloc(), path.as_str())?));
     }
     match env::var(host, "JOBD_JOURNAL") {
         Ok(path) if path.is_empty() => Ok(None),
         Ok(path) => Ok(Some(path)),
-        Err(VarError::OutOfMemory) => Err(io::Error::from(ErrorKind::OutOfMemory)),
+        Err(VarError::OutOfMemory) => Err(AllocError),
         Err(_) => Ok(None),
     }
 }
@@ -103,13 +125,19 @@ pub(crate) fn open_journal(host: &HostRuntime, path: &str) -> io::Result<File> {
     File::open(host, path)
 }
 
-/// Tells what keeps the journal from being read. An error for want of memory.
-pub(crate) fn tell_fault(host: &HostRuntime, name: &str, fault: &JournalFault) -> io::Result<()> {
-    if let JournalFault::NoMemory = fault {
-        return Err(io::Error::from(ErrorKind::OutOfMemory));
+/// Tells what keeps the journal from being read, and answers the exit status. An error for want of memory.
+pub(crate) fn tell_fault(
+    host: &HostRuntime,
+    name: &str,
+    fault: &JournalFault,
+) -> Result<u8, AllocError> {
+    match fault {
+        JournalFault::NoMemory => Err(AllocError),
+        fault => {
+            tell_of(host, name, fault);
+            Ok(BAD_FILE)
+        }
     }
-    tell_of(host, name, fault);
-    Ok(())
 }
 
 /// Tells the lines that are no event, if there are some, and answers the exit status.
@@ -135,14 +163,14 @@ fn read_source(
     alloc: Global,
     source: &mut Source,
     feed: &mut Feed,
+    listener: &mut Listener<'_>,
 ) -> Result<(), JournalFault> {
     let is_seen = host.stderr().is_terminal();
     let mut is_told = false;
     for count in 1..u64::MAX {
-        if !take_piece(host, source, feed)? {
+        if !take_lines(host, alloc, source, feed, listener)? {
             break;
         }
-        feed.reader.read_on(alloc)?;
         if is_seen && count % STRIDE == 0 {
             let lines = feed.reader.lines;
             let _written = eprint!(host; "\r{lines} lines");
@@ -165,17 +193,18 @@ pub(crate) fn read_journal(
     alloc: Global,
     of: &JournalWords,
     feed: &mut Feed,
-) -> io::Result<Option<u8>> {
+    listener: &mut Listener<'_>,
+) -> Result<Option<u8>, AllocError> {
     let path = journal_path(host, of)?;
     let name = name_of(&path);
     let read = match source_of(host, &path) {
-        Ok(mut source) => read_source(host, alloc, &mut source, feed),
+        Ok(mut source) => read_source(host, alloc, &mut source, feed, listener),
         Err(error) => Err(JournalFault::Read(error)),
     };
     match read {
         Ok(()) => Ok(Some(tell_bad(host, name, &feed.reader))),
         Err(fault) => {
-            tell_fault(host, name, &fault)?;
+            let _status = tell_fault(host, name, &fault)?;
             Ok(None)
         }
     }

@@ -5,14 +5,16 @@ mod charted;
 mod check;
 mod coming;
 mod cron;
+mod files;
 mod journal;
+mod listener;
 mod log;
 mod next;
-mod picture;
+mod page;
 mod program;
+mod report;
 mod telling;
 mod there;
-mod why;
 mod zone;
 
 pub use program::jobscope;

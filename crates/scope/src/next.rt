@@ -1,22 +1,17 @@
 //! The coming starts of calendars and intervals, in the order of time.
 
-ghost use Rattle.std.specs.Prelude.{◌≤◌, IfOk};
-
 use crate::coming::{calendar_after, interval_after};
-use crate::telling::tell_of;
+use crate::files::{bytes_of, is_empty_folder, now};
+use crate::telling::{Outcome, tell_of};
 use crate::zone::zone_of;
 use calendar_due::Zone;
-use ctl_protocol::LINE_LIMIT;
 use exit_status::{BAD_CLOCK, BAD_FILE};
 use history_model::MAX_WALL;
 use job_defs::{Def, DefFault, read_def};
-use path_files::{Found, Kind, files_at, read_file};
+use path_files::{Found, files_at};
 use scope_times::{span_text, time_text};
 use scope_words::{Paths, ZoneWords};
 use std::alloc::{AllocError, Global};
-use std::io;
-use std::io::ErrorKind;
-use std::time::SystemTime;
 
 /// A definition, and when the clock wants it next: by an entry of its calendar, and by its interval.
 #[derive(Drop)]
@@ -26,9 +21,9 @@ struct Job {
     by_interval: Option<u64>,
 }
 
-/// Writes so many coming starts of the definitions, in the order of time, each after the second `from` of Unix time, or after now.
-/// An interval is counted from there, as if the job were loaded then. 65 if a file can't be read or is no definition, or the zone is
-/// none: the others' starts are written all the same. A job that the clock never starts is told.
+/// So many coming starts of the definitions, in the order of time, each after the second `from` of Unix time, or after now. An interval
+/// is counted from there, as if the job were loaded then. 65 if a file can't be read or is no definition, or the zone is none: the
+/// others' starts are written all the same. A job that the clock never starts is told.
 pub(crate) fn next(
     host: &HostRuntime,
     alloc: Global,
@@ -36,43 +31,40 @@ pub(crate) fn next(
     from: Option<u64>,
     zone: &ZoneWords,
     paths: &Paths,
-) -> io::Result<u8> {
+) -> Result<Outcome, AllocError> {
     let Some(zone) = zone_of(host, alloc, zone)? else {
-        return Ok(BAD_FILE);
+        return Ok(Outcome::failed(alloc, BAD_FILE));
     };
     let from = match from {
-        Some(second) => second.min(MAX_WALL),
-        None => match now(host) {
-            Ok(second) => second,
-            Err(error) => {
-                tell_of(host, "clock", &error);
-                return Ok(BAD_CLOCK);
-            }
-        },
+        Some(second) => Some(second.min(MAX_WALL)),
+        None => now(host),
+    };
+    let Some(from) = from else {
+        return Ok(Outcome::failed(alloc, BAD_CLOCK));
     };
     let mut jobs = Vec::new(alloc);
-    let mut status = 0;
-    let files = files_at(host, paths.as_slice())?;
-    for file in files.iter() {
-        if !add_job(host, alloc, file, &zone, from, &mut jobs)? {
-            status = BAD_FILE;
-        }
-    }
-    let mut text = String::new(alloc);
-    write_starts(alloc, count, from, &zone, &mut jobs, &mut text)?;
-    print!(host; "{text}")?;
-    Ok(status)
+    let is_well = add_jobs(host, alloc, paths, &zone, from, &mut jobs)?;
+    let text = starts_text(alloc, count, from, &zone, &mut jobs)?;
+    let status = if is_well { 0 } else { BAD_FILE };
+    Ok(Outcome { text, status })
 }
 
-/// The second of Unix time that the clock shows.
-pub(crate) fn now(host: &HostRuntime) -> io::Result<u64>
-    ensures { IfOk result (λ second. second ≤ MAX_WALL) }
-{
-    let since = SystemTime::now(host)?.duration_since(SystemTime::UNIX_EPOCH);
-    match since {
-        Ok(since) => Ok(since.as_secs().min(MAX_WALL)),
-        Err(_) => Ok(0),
+// Adds the jobs of the paths; false if a file has a fault.
+fn add_jobs(
+    host: &HostRuntime,
+    alloc: Global,
+    paths: &Paths,
+    zone: &Zone,
+    from: u64,
+    jobs: &mut Vec<Job>,
+) -> Result<bool, AllocError> {
+    let files = files_at(host, paths.as_slice())?;
+    let mut is_well = true;
+    for file in files.iter() {
+        let is_read = add_job(host, alloc, file, zone, from, jobs)?;
+        is_well = is_well && is_read;
     }
+    Ok(is_well)
 }
 
 // Adds the file's job; false if the file has a fault, which was told. A folder without a definition has none.
@@ -83,27 +75,26 @@ fn add_job(
     zone: &Zone,
     from: u64,
     jobs: &mut Vec<Job>,
-) -> io::Result<bool> {
+) -> Result<bool, AllocError> {
     let path = file.path.as_str();
-    if let Kind::Empty = file.kind {
-        tell_of(
-            host,
-            path,
-            &"no definition in this folder (*.plist, *.json)",
-        );
-        return Ok(true);
-    }
     let Some(bytes) = bytes_of(host, alloc, file)? else {
-        return Ok(false);
+        return Ok(is_empty_folder(file));
     };
     match read_def(alloc, bytes.as_slice()) {
         Ok(def) => {
-            let job = job_from(def, zone, from);
-            tell_never(host, path, &job);
-            jobs.push(job)?;
+            let by_calendar = calendar_after(def.calendar(), zone, from);
+            let by_interval = interval_of(&def, from);
+            if by_calendar.is_none() && by_interval.is_none() {
+                tell_of(host, path, &never_words(&def));
+            }
+            jobs.push(Job {
+                def,
+                by_calendar,
+                by_interval,
+            })?;
             Ok(true)
         }
-        Err(DefFault::NoMemory) => Err(io::Error::from(ErrorKind::OutOfMemory)),
+        Err(DefFault::NoMemory) => Err(AllocError),
         Err(fault) => {
             tell_of(host, path, &fault);
             Ok(false)
@@ -111,124 +102,77 @@ fn add_job(
     }
 }
 
-/// The file's bytes; none if it can't be read, and this was told.
-pub(crate) fn bytes_of(
-    host: &HostRuntime,
-    alloc: Global,
-    file: &Found,
-) -> io::Result<Option<Vec<u8>>> {
-    let path = file.path.as_str();
-    let read = match file.kind {
-        Kind::Unlisted(kind) => Err(io::Error::from(kind)),
-        _ => read_file(host, alloc, path, LINE_LIMIT),
-    };
-    match read {
-        Ok(Some(bytes)) => Ok(Some(bytes)),
-        Ok(None) => {
-            tell_of(host, path, &"too long for a request");
-            Ok(None)
-        }
-        Err(error) if error.kind() == ErrorKind::OutOfMemory => Err(error),
-        Err(error) => {
-            tell_of(host, path, &error);
-            Ok(None)
-        }
-    }
+// The second at which the interval is over that began then.
+fn interval_of(def: &Def, after: u64) -> Option<u64> {
+    interval_after(def.start_interval()?, after)
 }
 
-fn job_from(def: Def, zone: &Zone, from: u64) -> Job {
-    let by_calendar = calendar_after(def.calendar(), zone, from);
-    let by_interval = match def.start_interval() {
-        Some(every) => interval_after(every, from),
-        None => None,
-    };
-    Job {
-        def,
-        by_calendar,
-        by_interval,
-    }
-}
-
-fn tell_never(host: &HostRuntime, path: &str, job: &Job) {
-    if job.by_calendar.is_some() || job.by_interval.is_some() {
-        return;
-    }
-    let told = if job.def.calendar().is_empty() {
+// Why the clock never starts the job.
+fn never_words(def: &Def) -> &'static str {
+    if def.calendar().is_empty() {
         "neither StartCalendarInterval nor StartInterval starts it"
     } else {
         "no minute of the next 8 years matches StartCalendarInterval"
-    };
-    tell_of(host, path, &told);
+    }
 }
 
-fn write_starts(
+fn starts_text(
     alloc: Global,
     count: u64,
     from: u64,
     zone: &Zone,
     jobs: &mut Vec<Job>,
-    text: &mut String,
-) -> Result<(), AllocError>
-    requires { from ≤ MAX_WALL }
-{
+) -> Result<String, AllocError> {
+    let mut text = String::new(alloc);
     for _ in 0..count {
-        let Some(index) = soonest(jobs.as_slice()) else {
-            return Ok(());
-        };
+        let index = soonest(jobs.as_slice());
         match jobs.get_mut(index) {
-            Some(job) => write_start(alloc, from, zone, job, text)?,
-            None => return Ok(()),
+            Some(job) => add_start(alloc, from, zone, job, &mut text)?,
+            None => break,
         }
     }
-    Ok(())
+    Ok(text)
 }
 
-// The place of the job that the clock wants first; of several the first.
-fn soonest(jobs: &[Job]) -> Option<usize> {
-    let mut found = None;
+// The place of the job that the clock wants first, of several the first; the place behind the jobs if it wants none.
+fn soonest(jobs: &[Job]) -> usize {
+    let mut found = jobs.len();
     let mut least = u64::MAX;
-    for (index, job) in jobs.iter().enumerate() {
-        if let Some(second) = second_of(job) {
-            if second < least {
-                least = second;
-                found = Some(index);
-            }
+    let mut index: usize = 0;
+    for job in jobs {
+        let second = second_of(job);
+        if second < least {
+            least = second;
+            found = index;
         }
+        index = index.saturating_add(1);
     }
     found
 }
 
-fn second_of(job: &Job) -> Option<u64> {
-    match (job.by_calendar, job.by_interval) {
-        (Some(calendar), Some(interval)) => Some(calendar.min(interval)),
-        (Some(calendar), None) => Some(calendar),
-        (None, interval) => interval,
-    }
+// The second at which the clock wants the job next; the greatest number if it never does.
+fn second_of(job: &Job) -> u64 {
+    let by_calendar = job.by_calendar.unwrap_or(u64::MAX);
+    let by_interval = job.by_interval.unwrap_or(u64::MAX);
+    by_calendar.min(by_interval)
 }
 
-// Writes the job's next start, and goes on to the one after.
-fn write_start(
+// Adds the job's next start, and goes on to the one after.
+fn add_start(
     alloc: Global,
     from: u64,
     zone: &Zone,
     job: &mut Job,
     text: &mut String,
-) -> Result<(), AllocError>
-    requires { from ≤ MAX_WALL }
-{
-    let Some(second) = second_of(job) else {
-        return Ok(());
-    };
-    let line = line_of(alloc, from, zone, job, second.min(MAX_WALL))?;
+) -> Result<(), AllocError> {
+    let second = second_of(job);
+    let line = line_of(alloc, from, zone, job, second)?;
     text.push_str(line.as_str())?;
     if job.by_calendar == Some(second) {
         job.by_calendar = calendar_after(job.def.calendar(), zone, second);
     }
     if job.by_interval == Some(second) {
-        job.by_interval = match job.def.start_interval() {
-            Some(every) => interval_after(every, second),
-            None => None,
-        };
+        job.by_interval = interval_of(&job.def, second);
     }
     Ok(())
 }
@@ -239,16 +183,13 @@ fn line_of(
     zone: &Zone,
     job: &Job,
     second: u64,
-) -> Result<String, AllocError>
-    requires from { from ≤ MAX_WALL }
-    requires second { second ≤ MAX_WALL }
-{
-    let time = time_text(alloc, zone, second)?;
+) -> Result<String, AllocError> {
+    let time = time_text(alloc, zone, second.min(MAX_WALL))?;
     let ahead = span_text(alloc, second.saturating_sub(from))?;
     let label = job.def.label();
     match job.def.start_interval() {
         Some(every) if job.by_interval == Some(second) => {
-            let begin = time_text(alloc, zone, from)?;
+            let begin = time_text(alloc, zone, from.min(MAX_WALL))?;
             format!(in alloc;
                 "{time}  {label}  in {ahead} (each {every} s from a load at {begin})\n"
             )

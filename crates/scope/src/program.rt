@@ -4,9 +4,8 @@ use crate::check::check;
 use crate::cron::cron;
 use crate::log::log;
 use crate::next::next;
-use crate::picture::picture;
-use crate::telling::{tell_end, want_memory};
-use crate::why::{runs, why};
+use crate::report::{Subject, report};
+use crate::telling::{put, put_outcome, tell_end, want_memory};
 use exit_status::USAGE;
 use scope_words::{ScopeCommand, WordFault, explain_scope, read_scope_words};
 use std::alloc::Global;
@@ -18,13 +17,14 @@ use std::sync::Wait;
 /// 74 for the standard output, 1 for want of memory or of a check that found faults; if the standard output's reader has gone, nothing
 /// is told and the status is 141. Both `host` and `waits` are the runtime of `main`: only what takes it as `waits` may wait.
 pub fn jobscope<W: Wait>(host: &HostRuntime, waits: &W, alloc: Global, words: &[String]) -> u8 {
-    match read_scope_words(alloc, words) {
-        Ok(command) => match run(host, waits, alloc, command) {
-            Ok(status) => status,
-            Err(error) => tell_end(host, &error),
-        },
+    let ended = match read_scope_words(alloc, words) {
+        Ok(command) => run(host, waits, alloc, command),
         Err(WordFault::Usage) => explain(host, alloc, words),
-        Err(WordFault::NoMemory) => want_memory(host),
+        Err(WordFault::NoMemory) => return want_memory(host),
+    };
+    match ended {
+        Ok(status) => status,
+        Err(error) => tell_end(host, &error),
     }
 }
 
@@ -39,32 +39,36 @@ fn run<W: Wait>(
             is_strict,
             zone,
             paths,
-        } => check(host, alloc, is_strict, &zone, &paths),
+        } => put_outcome(host, check(host, alloc, is_strict, &zone, &paths)),
         ScopeCommand::Next {
             count,
             from,
             zone,
             paths,
-        } => next(host, alloc, count, from, &zone, &paths),
-        ScopeCommand::Why { of } => why(host, alloc, &of),
+        } => put_outcome(host, next(host, alloc, count, from, &zone, &paths)),
+        ScopeCommand::Why { of } => report(host, alloc, Subject::Why, &of),
         ScopeCommand::Log { follows, since, of } => log(host, waits, alloc, follows, since, &of),
-        ScopeCommand::Runs { of } => runs(host, alloc, &of),
-        ScopeCommand::Picture { is_page, of } => picture(host, alloc, is_page, &of),
-        ScopeCommand::Cron { lines } => cron(host, alloc, &lines),
+        ScopeCommand::Runs { of } => report(host, alloc, Subject::Runs, &of),
+        ScopeCommand::Picture { is_page, of } => {
+            let wanted = if is_page {
+                Subject::Page
+            } else {
+                Subject::Picture
+            };
+            report(host, alloc, wanted, &of)
+        }
+        ScopeCommand::Cron { lines } => put_outcome(host, cron(host, alloc, &lines)),
     }
 }
 
-fn explain(host: &HostRuntime, alloc: Global, words: &[String]) -> u8 {
-    let Ok(explanation) = explain_scope(alloc, words) else {
-        return want_memory(host);
-    };
+// The help goes to the standard output, and what is wrong with the words to the standard error.
+fn explain(host: &HostRuntime, alloc: Global, words: &[String]) -> io::Result<u8> {
+    let explanation = explain_scope(alloc, words)?;
     let text = explanation.text.as_str();
-    if !explanation.is_help {
-        let _written = eprint!(host; "{text}");
-        return USAGE;
+    if explanation.is_help {
+        put(host, text)?;
+        return Ok(0);
     }
-    match print!(host; "{text}") {
-        Ok(()) => 0,
-        Err(error) => tell_end(host, &error),
-    }
+    let _written = eprint!(host; "{text}");
+    Ok(USAGE)
 }

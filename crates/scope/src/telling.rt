@@ -1,13 +1,63 @@
-//! What a run tells on standard error.
+//! What a run writes and tells.
 
 use exit_status::{BAD_OUTPUT, NO_MEMORY, READER_GONE};
+use std::alloc::{AllocError, Global};
 use std::fmt::Display;
 use std::io;
 use std::io::ErrorKind;
 
+/// What a subcommand came to: what it writes, and its exit status.
+#[derive(Drop)]
+pub(crate) struct Outcome {
+    pub(crate) text: String,
+    pub(crate) status: u8,
+}
+
+impl Outcome {
+    /// Nothing is written.
+    pub(crate) fn failed(alloc: Global, status: u8) -> Outcome {
+        Outcome {
+            text: String::new(alloc),
+            status,
+        }
+    }
+}
+
+/// Writes to the standard output.
+pub(crate) fn put(host: &HostRuntime, text: &str) -> io::Result<()> {
+    if text.is_empty() {
+        return Ok(());
+    }
+    print!(host; "{text}")
+}
+
+/// Writes what a subcommand came to, and answers its exit status.
+pub(crate) fn put_outcome(host: &HostRuntime, made: Result<Outcome, AllocError>) -> io::Result<u8> {
+    match made {
+        Ok(Outcome { text, status }) => {
+            put(host, text.as_str())?;
+            Ok(status)
+        }
+        Err(_) => Err(io::Error::from(ErrorKind::OutOfMemory)),
+    }
+}
+
 /// Tells a fault, or what is to be known, of the file in one line.
 pub(crate) fn tell_of<D: Display>(host: &HostRuntime, path: &str, told: &D) {
     let _written = eprintln!(host; "jobscope: {path}: {told}");
+}
+
+/// Tells what kept a file from being read. An error for want of memory, which is not told here.
+pub(crate) fn tell_error(
+    host: &HostRuntime,
+    path: &str,
+    error: &io::Error,
+) -> Result<(), AllocError> {
+    if error.kind() == ErrorKind::OutOfMemory {
+        return Err(AllocError);
+    }
+    tell_of(host, path, error);
+    Ok(())
 }
 
 pub(crate) fn want_memory(host: &HostRuntime) -> u8 {

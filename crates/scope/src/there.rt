@@ -5,24 +5,36 @@ use job_defs::Def;
 use json_kinds::key_name;
 use path_files::read_front;
 use scope_check::{Grade, Remark, place_of};
-use std::alloc::Global;
-use std::fs::{Metadata, metadata};
-use std::io;
+use std::alloc::{AllocError, Global};
+use std::fs::metadata;
 use std::io::ErrorKind;
 use std::os::unix::fs::PermissionsExt;
 
 /// How much of a program is looked at for the name of its interpreter, in bytes.
 const FRONT: usize = 255;
 
-/// A key of a definition, and what is looked at for it.
+/// What is to stand at a path.
 #[derive(Clone, Copy, Drop)]
 enum Wanted {
+    /// A plain file that can be executed; of a script the interpreter too.
+    Program,
     /// A folder.
     Folder,
     /// A file that can be read from its beginning.
     Input,
-    /// A file to which output is added, in a folder that is there.
+    /// A file to which output is added, in a folder that is there. It need not be there itself: it is made.
     Output,
+}
+
+/// What stands at a path.
+#[derive(Drop)]
+enum Found {
+    Folder,
+    File { is_executable: bool },
+    Other,
+    Nothing,
+    /// It can't be looked at: what the system says, behind a colon.
+    Failed(String),
 }
 
 /// Adds a remark for each file or folder that the definition names by a path from the root, and that is not there, or is not what it
@@ -33,9 +45,9 @@ pub(crate) fn add_missing(
     bytes: &[u8],
     def: &Def,
     remarks: &mut Vec<Remark>,
-) -> io::Result<()> {
-    add_program(host, alloc, bytes, def, remarks)?;
+) -> Result<(), AllocError> {
     let keys = [
+        (KeyName::Program, Some(def.program()), Wanted::Program),
         (
             KeyName::WorkingDirectory,
             def.working_directory(),
@@ -57,11 +69,10 @@ pub(crate) fn add_missing(
             Wanted::Output,
         ),
     ];
-    for (key, path, wanted) in keys {
-        if let Some(told) = told_of(host, alloc, path, wanted)? {
-            let name = key_name(key);
-            let text = format!(in alloc; "{name}: {told}")?;
-            add(alloc, bytes, key, text, remarks)?;
+    for (key, path, wanted) in keys.iter() {
+        let told = told_of(host, alloc, path.unwrap_or(""), *wanted)?;
+        if !told.is_empty() {
+            add(alloc, bytes, *key, told.as_str(), remarks)?;
         }
     }
     Ok(())
@@ -71,126 +82,116 @@ fn add(
     alloc: Global,
     bytes: &[u8],
     key: KeyName,
-    text: String,
+    told: &str,
     remarks: &mut Vec<Remark>,
-) -> io::Result<()> {
-    remarks.push(Remark {
-        place: place_of(alloc, bytes, key, None)?,
-        grade: Grade::Warning,
-        text,
-    })?;
-    Ok(())
+) -> Result<(), AllocError> {
+    let (name, behind) = match key {
+        KeyName::Program => ("the program", ""),
+        key => (key_name(key), ":"),
+    };
+    let text = format!(in alloc; "{name}{behind} {told}")?;
+    let place = place_of(alloc, bytes, key, None)?;
+    let grade = Grade::Warning;
+    Ok(remarks.push(Remark { place, grade, text })?)
 }
 
-// What is wrong with the path; none if it is absent, or no path from the root.
+// What is wrong with the path; empty if nothing is, or if it is no path from the root.
 fn told_of(
     host: &HostRuntime,
     alloc: Global,
-    path: Option<&str>,
+    path: &str,
     wanted: Wanted,
-) -> io::Result<Option<String>> {
-    match path {
-        Some(path) if path.starts_with('/') => match wanted {
-            Wanted::Folder => told_folder(host, alloc, path),
-            Wanted::Input => told_input(host, alloc, path),
-            Wanted::Output => told_output(host, alloc, path),
-        },
-        _ => Ok(None),
+) -> Result<String, AllocError> {
+    if !path.starts_with('/') {
+        return Ok(String::new(alloc));
+    }
+    let found = found_at(host, alloc, path)?;
+    match (wanted, &found) {
+        (
+            Wanted::Program,
+            Found::File {
+                is_executable: true,
+            },
+        ) => told_script(host, alloc, path),
+        (Wanted::Output, Found::Nothing | Found::Failed(_)) => told_folder(host, alloc, path),
+        _ => told_found(alloc, path, wanted, &found),
     }
 }
 
-fn told_folder(host: &HostRuntime, alloc: Global, path: &str) -> io::Result<Option<String>> {
+fn found_at(host: &HostRuntime, alloc: Global, path: &str) -> Result<Found, AllocError> {
     match metadata(host, path) {
-        Ok(data) if data.is_dir() => Ok(None),
-        Ok(_) => Ok(Some(format!(in alloc; "{path} is no folder")?)),
-        Err(error) => Ok(Some(told_error(alloc, path, &error)?)),
+        Ok(data) if data.is_dir() => Ok(Found::Folder),
+        Ok(data) if data.is_file() => Ok(Found::File {
+            is_executable: data.permissions().mode() & 0o111 != 0,
+        }),
+        Ok(_) => Ok(Found::Other),
+        Err(error) if error.kind() == ErrorKind::NotFound => Ok(Found::Nothing),
+        Err(error) => Ok(Found::Failed(format!(in alloc; ": {error}")?)),
     }
 }
 
-fn told_input(host: &HostRuntime, alloc: Global, path: &str) -> io::Result<Option<String>> {
-    match metadata(host, path) {
-        Ok(data) if data.is_dir() => Ok(Some(format!(in alloc; "{path} is a folder")?)),
-        Ok(_) => Ok(None),
-        Err(error) => Ok(Some(told_error(alloc, path, &error)?)),
-    }
-}
-
-// The file itself need not be there: it is made.
-fn told_output(host: &HostRuntime, alloc: Global, path: &str) -> io::Result<Option<String>> {
-    match metadata(host, path) {
-        Ok(data) if data.is_dir() => Ok(Some(format!(in alloc; "{path} is a folder")?)),
-        Ok(_) => Ok(None),
-        Err(_) => match path.rsplit_once('/') {
-            Some((folder, _)) if !folder.is_empty() => told_folder(host, alloc, folder),
-            _ => Ok(None),
-        },
-    }
-}
-
-fn told_error(alloc: Global, path: &str, error: &io::Error) -> io::Result<String> {
-    Ok(if error.kind() == ErrorKind::NotFound {
-        format!(in alloc; "{path} is not there")?
-    } else {
-        format!(in alloc; "{path}: {error}")?
-    })
-}
-
-fn add_program(
-    host: &HostRuntime,
+fn told_found(
     alloc: Global,
-    bytes: &[u8],
-    def: &Def,
-    remarks: &mut Vec<Remark>,
-) -> io::Result<()> {
-    let program = def.program();
-    if !program.starts_with('/') {
-        return Ok(());
-    }
-    if let Some(told) = told_program(host, alloc, program)? {
-        let text = format!(in alloc; "the program {told}")?;
-        add(alloc, bytes, KeyName::Program, text, remarks)?;
-    }
-    Ok(())
+    path: &str,
+    wanted: Wanted,
+    found: &Found,
+) -> Result<String, AllocError> {
+    let wrong = match (found, wanted) {
+        (Found::Failed(error), _) => error.as_str(),
+        (Found::Nothing, _) => " is not there",
+        (
+            Found::File {
+                is_executable: false,
+            },
+            Wanted::Program,
+        ) => " is not executable",
+        (Found::Folder | Found::Other, Wanted::Program) => " is no plain file",
+        (Found::File { .. } | Found::Other, Wanted::Folder) => " is no folder",
+        (Found::Folder, Wanted::Input | Wanted::Output) => " is a folder",
+        _ => return Ok(String::new(alloc)),
+    };
+    format!(in alloc; "{path}{wrong}")
 }
 
-fn told_program(host: &HostRuntime, alloc: Global, path: &str) -> io::Result<Option<String>> {
-    match metadata(host, path) {
-        Ok(data) if !data.is_file() => Ok(Some(format!(in alloc; "{path} is no plain file")?)),
-        Ok(data) if !is_executable(&data) => {
-            Ok(Some(format!(in alloc; "{path} is not executable")?))
+// What is wrong with the folder in which the path's file is made.
+fn told_folder(host: &HostRuntime, alloc: Global, path: &str) -> Result<String, AllocError> {
+    match path.rsplit_once('/') {
+        Some((folder, _)) if !folder.is_empty() => {
+            let found = found_at(host, alloc, folder)?;
+            told_found(alloc, folder, Wanted::Folder, &found)
         }
-        Ok(_) => told_script(host, alloc, path),
-        Err(error) => Ok(Some(told_error(alloc, path, &error)?)),
+        _ => Ok(String::new(alloc)),
     }
 }
 
-fn is_executable(data: &Metadata) -> bool {
-    data.permissions().mode() & 0o111 != 0
-}
-
-// What is wrong with the interpreter that a script names behind #!; none if it is no script, or can't be read.
-fn told_script(host: &HostRuntime, alloc: Global, path: &str) -> io::Result<Option<String>> {
+// What is wrong with the interpreter that a script names behind #!; empty if it is no script, or can't be read.
+fn told_script(host: &HostRuntime, alloc: Global, path: &str) -> Result<String, AllocError> {
     let mut front = Vec::new(alloc);
     if read_front(host, path, FRONT, &mut front).is_err() {
-        return Ok(None);
+        return Ok(String::new(alloc));
     }
     let Some(interpreter) = interpreter_in(front.as_slice()) else {
-        return Ok(None);
+        return Ok(String::new(alloc));
     };
-    match metadata(host, interpreter) {
-        Ok(data) if data.is_file() && is_executable(&data) => Ok(None),
-        _ => Ok(Some(format!(in alloc;
+    match found_at(host, alloc, interpreter)? {
+        Found::File {
+            is_executable: true,
+        } => Ok(String::new(alloc)),
+        _ => format!(in alloc;
             "{path} is a script whose interpreter {interpreter} is not there, or not executable"
-        )?)),
+        ),
     }
 }
 
 fn interpreter_in(front: &[u8]) -> Option<&str> {
     let rest = front.strip_prefix(b"#!")?;
-    let end = rest
-        .iter()
-        .position(|byte| *byte == b'\n')
-        .unwrap_or(rest.len());
+    let mut end: usize = 0;
+    for byte in rest {
+        if *byte == b'\n' {
+            break;
+        }
+        end = end.saturating_add(1);
+    }
     match str::from_utf8(rest.get(..end)?) {
         Ok(line) => line.split_whitespace().next(),
         Err(_) => None,

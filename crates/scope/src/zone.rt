@@ -1,20 +1,18 @@
 //! The zone that words name.
 
-use crate::telling::tell_of;
+use crate::telling::{tell_error, tell_of};
 use calendar_due::{LONGEST_FILE, Zone, ZoneFault};
 use path_files::read_file;
 use scope_times::utc;
 use scope_words::ZoneWords;
-use std::alloc::Global;
-use std::io;
-use std::io::ErrorKind;
+use std::alloc::{AllocError, Global};
 
 /// The zone that the words name; UTC if they name none. None: the rule or the file tells no zone, and this was told.
 pub(crate) fn zone_of(
     host: &HostRuntime,
     alloc: Global,
     zone: &ZoneWords,
-) -> io::Result<Option<Zone>> {
+) -> Result<Option<Zone>, AllocError> {
     match zone {
         ZoneWords::Default => Ok(Some(utc())),
         ZoneWords::Rule(rule) => zone_made(host, rule.as_str(), Zone::posix(rule.as_str())),
@@ -22,13 +20,12 @@ pub(crate) fn zone_of(
     }
 }
 
-fn zone_in(host: &HostRuntime, alloc: Global, path: &str) -> io::Result<Option<Zone>> {
+fn zone_in(host: &HostRuntime, alloc: Global, path: &str) -> Result<Option<Zone>, AllocError> {
     match read_file(host, alloc, path, LONGEST_FILE) {
         Ok(Some(bytes)) => zone_made(host, path, Zone::tzif(alloc, bytes.as_slice())),
         Ok(None) => zone_made(host, path, Err(ZoneFault::BadZone)),
-        Err(error) if error.kind() == ErrorKind::OutOfMemory => Err(error),
         Err(error) => {
-            tell_of(host, path, &error);
+            tell_error(host, path, &error)?;
             Ok(None)
         }
     }
@@ -38,10 +35,10 @@ fn zone_made(
     host: &HostRuntime,
     named: &str,
     made: Result<Zone, ZoneFault>,
-) -> io::Result<Option<Zone>> {
+) -> Result<Option<Zone>, AllocError> {
     match made {
         Ok(zone) => Ok(Some(zone)),
-        Err(ZoneFault::NoMemory) => Err(io::Error::from(ErrorKind::OutOfMemory)),
+        Err(ZoneFault::NoMemory) => Err(AllocError),
         Err(ZoneFault::BadZone) => {
             tell_of(host, named, &"no zone");
             Ok(None)

@@ -1,0 +1,63 @@
+//! What is made of a journal's lines as they are read.
+
+use crate::charted::Heard;
+use calendar_due::Zone;
+use history_model::Text;
+use journal_reading::{Journal, JournalReader};
+use journal_texts::{begin_line, log_lines};
+use std::alloc::{AllocError, Global};
+
+/// Who hears what each line of a journal gave.
+#[derive(Drop)]
+pub(crate) enum Listener<'a> {
+    /// Nobody: the journal's end says all.
+    Nobody,
+    /// The marks of a chart.
+    Chart(Heard<'a>),
+    /// The journal for people.
+    Log(Shown<'a>),
+}
+
+/// The journal for people: what of it is shown, and the text that is not written yet.
+#[derive(Drop)]
+pub(crate) struct Shown<'a> {
+    /// The zone in which times are shown; that of the journal if there is none.
+    pub(crate) zone: Option<Zone>,
+    pub(crate) since: u64,
+    pub(crate) labels: &'a [Text],
+    pub(crate) text: String,
+}
+
+impl Listener<'_> {
+    /// Hears what the line gave that was read last.
+    pub(crate) fn hear(&mut self, alloc: Global, reader: &JournalReader) -> Result<(), AllocError> {
+        let Some(journal) = reader.journal() else {
+            return Ok(());
+        };
+        match self {
+            Listener::Nobody => Ok(()),
+            Listener::Chart(heard) => heard.hear(journal),
+            Listener::Log(shown) => shown.add_line(alloc, journal, reader.lines == 1),
+        }
+    }
+}
+
+impl Shown<'_> {
+    fn add_line(
+        &mut self,
+        alloc: Global,
+        journal: &Journal,
+        is_header: bool,
+    ) -> Result<(), AllocError> {
+        if journal.reading().wall < self.since {
+            return Ok(());
+        }
+        let zone = self.zone.as_ref().unwrap_or(&journal.zone);
+        let lines = if is_header {
+            begin_line(alloc, journal, zone)?
+        } else {
+            log_lines(alloc, journal, zone, self.labels)?
+        };
+        self.text.push_str(lines.as_str())
+    }
+}

@@ -1,0 +1,64 @@
+//! The coming starts that stand on a page.
+
+use crate::coming::calendar_after;
+use history_model::{MAX_WALL, Reading};
+use job_defs::Def;
+use journal_reading::{Job, Journal};
+use scope_picture::{Chart, Coming};
+use std::alloc::{AllocError, Global};
+
+/// The next start by the calendar and the next by the interval of each job of the chart that is loaded, in the order of time.
+pub(crate) fn coming_of(
+    alloc: Global,
+    journal: &Journal,
+    chart: &Chart,
+) -> Result<Vec<Coming>, AllocError> {
+    let mut coming = Vec::new(alloc);
+    for row in &chart.rows {
+        let label = row.label.as_str();
+        if let Some(job) = journal.past.job(label) {
+            add_coming(alloc, journal, label, job, &mut coming)?;
+        }
+    }
+    coming.sort_by_key(|start| start.at)?;
+    Ok(coming)
+}
+
+fn add_coming(
+    alloc: Global,
+    journal: &Journal,
+    label: &str,
+    job: &Job,
+    coming: &mut Vec<Coming>,
+) -> Result<(), AllocError> {
+    let Some(def) = &job.def else {
+        return Ok(());
+    };
+    let now = journal.reading();
+    let calendar = calendar_after(def.calendar(), &journal.zone, now.wall);
+    add(alloc, label, "StartCalendarInterval", calendar, coming)?;
+    let interval = interval_end(def, job.loaded, now);
+    add(alloc, label, "StartInterval", interval, coming)
+}
+
+fn add(
+    alloc: Global,
+    label: &str,
+    key: &'static str,
+    at: Option<u64>,
+    coming: &mut Vec<Coming>,
+) -> Result<(), AllocError> {
+    if let Some(at) = at {
+        let label = String::from_str(alloc, label)?;
+        coming.push(Coming { label, at, key })?;
+    }
+    Ok(())
+}
+
+// The second at which the present interval is over, if there is one.
+fn interval_end(def: &Def, loaded: Reading, now: Reading) -> Option<u64> {
+    let length = u64::from(def.start_interval()?).saturating_mul(1000).max(1);
+    let since = now.up.saturating_sub(loaded.up);
+    let ahead = (length - since % length).div_ceil(1000);
+    Some(now.wall.saturating_add(ahead).min(MAX_WALL))
+}

@@ -1,0 +1,154 @@
+//! What is told of a journal once it was read to its end: why each job stands as it does, what its runs came to, and their picture.
+
+use crate::charted::{Heard, chart_of};
+use crate::journal::{Feed, read_journal};
+use crate::listener::Listener;
+use crate::page::coming_of;
+use crate::telling::{put, tell_of};
+use calendar_due::Zone;
+use exit_status::BAD_FILE;
+use history_model::Text;
+use journal_reading::Journal;
+use journal_texts::{runs_table, why_text};
+use scope_picture::{Chart, Page, blocks_text, page_piece, svg_piece};
+use scope_times::utc;
+use scope_words::JournalWords;
+use std::alloc::Global;
+use std::io::IsTerminal;
+use std::{env, io};
+
+/// How wide a terminal is if `COLUMNS` does not say it.
+const COLUMNS: u16 = 80;
+
+/// What is told.
+#[derive(Clone, Copy)]
+pub(crate) enum Subject {
+    /// Why each job runs or not.
+    Why,
+    /// What the runs of each job came to.
+    Runs,
+    /// A chart of each job's runs: as blocks if the standard output is a terminal, else as SVG.
+    Picture,
+    /// The chart as a page of HTML.
+    Page,
+}
+
+/// Writes what is told of the jobs of the journal, or of those that are named. 65 if the journal can't be read, or if a line is no event.
+pub(crate) fn report(
+    host: &HostRuntime,
+    alloc: Global,
+    wanted: Subject,
+    of: &JournalWords,
+) -> io::Result<u8> {
+    let mut feed = Feed::new(alloc);
+    let mut listener = listener_of(alloc, wanted, of.labels.as_slice());
+    let Some(status) = read_journal(host, alloc, of, &mut feed, &mut listener)? else {
+        return Ok(BAD_FILE);
+    };
+    if let Some(journal) = feed.reader.journal() {
+        write_report(host, alloc, wanted, journal, &listener, of)?;
+    }
+    Ok(status)
+}
+
+fn listener_of(alloc: Global, wanted: Subject, labels: &[Text]) -> Listener<'_> {
+    match wanted {
+        Subject::Picture | Subject::Page => Listener::Chart(Heard::new(alloc, labels)),
+        Subject::Why | Subject::Runs => Listener::Nobody,
+    }
+}
+
+fn write_report(
+    host: &HostRuntime,
+    alloc: Global,
+    wanted: Subject,
+    journal: &Journal,
+    listener: &Listener<'_>,
+    of: &JournalWords,
+) -> io::Result<()> {
+    let utc = utc();
+    let zone = if of.is_utc { &utc } else { &journal.zone };
+    let labels = of.labels.as_slice();
+    if let Listener::Chart(heard) = listener {
+        tell_absent(host, journal, labels);
+        return paint(host, alloc, wanted, journal, zone, heard, labels);
+    }
+    let text = match wanted {
+        Subject::Why => why_text(alloc, journal, zone, labels)?,
+        _ => runs_table(alloc, journal, labels)?,
+    };
+    put(host, text.as_str())
+}
+
+// Tells each named label that the journal has no load of. This is no fault.
+fn tell_absent(host: &HostRuntime, journal: &Journal, labels: &[Text]) {
+    for label in labels {
+        let label = label.as_str();
+        if journal.past.job(label).is_none() {
+            tell_of(host, label, &"the journal has no load of it");
+        }
+    }
+}
+
+fn paint(
+    host: &HostRuntime,
+    alloc: Global,
+    wanted: Subject,
+    journal: &Journal,
+    zone: &Zone,
+    heard: &Heard<'_>,
+    labels: &[Text],
+) -> io::Result<()> {
+    let chart = chart_of(alloc, journal, heard)?;
+    if let Subject::Page = wanted {
+        return paint_page(host, alloc, journal, zone, &chart, labels);
+    }
+    if host.stdout().is_terminal() {
+        let text = blocks_text(alloc, zone, &chart, columns(host))?;
+        return put(host, text.as_str());
+    }
+    paint_svg(host, alloc, zone, &chart)
+}
+
+fn columns(host: &HostRuntime) -> u16 {
+    match env::var(host, "COLUMNS") {
+        Ok(text) => text.as_str().parse::<u16>().unwrap_or(COLUMNS),
+        Err(_) => COLUMNS,
+    }
+}
+
+// A picture is written piece by piece, so that its whole text is never held.
+fn paint_svg(host: &HostRuntime, alloc: Global, zone: &Zone, chart: &Chart) -> io::Result<()> {
+    for index in 0..usize::MAX {
+        match svg_piece(alloc, zone, chart, index)? {
+            Some(piece) => put(host, piece.as_str())?,
+            None => break,
+        }
+    }
+    Ok(())
+}
+
+fn paint_page(
+    host: &HostRuntime,
+    alloc: Global,
+    journal: &Journal,
+    zone: &Zone,
+    chart: &Chart,
+    labels: &[Text],
+) -> io::Result<()> {
+    let table = runs_table(alloc, journal, labels)?;
+    let why = why_text(alloc, journal, zone, labels)?;
+    let coming = coming_of(alloc, journal, chart)?;
+    let beside = Page {
+        table: table.as_str(),
+        why: why.as_str(),
+        coming: coming.as_slice(),
+    };
+    for index in 0..usize::MAX {
+        match page_piece(alloc, zone, chart, &beside, index)? {
+            Some(piece) => put(host, piece.as_str())?,
+            None => break,
+        }
+    }
+    Ok(())
+}
