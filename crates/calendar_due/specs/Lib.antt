@@ -1,7 +1,7 @@
 pub mod Minute
 pub mod Offsets
 pub mod Zone
-pub mod Rules
+pub mod ZoneRules
 pub mod Changes
 pub mod Days
 pub mod Next

@@ -3,7 +3,7 @@ ghost use Rattle.std.specs.Prelude.{◌≡◌, ◌≤◌, ◌+◌, ℕ, map};
 ghost use Rattle.std.specs.List.{list_any};
 ghost use Rattle.history_model.specs.Calendar.{Zone as Minutes, matches as entry_matches, allows, is_weekday, allows_day, crossed, calendar_fires};
 ghost use Rattle.history_model.specs.NextMomentByFacts.{has_come};
-ghost use Rattle.calendar_due.specs.Rules.{minute_at};
+ghost use Rattle.calendar_due.specs.ZoneRules.{minute_at};
 ghost use Rattle.calendar_due.specs.Next.{is_matched, IsFirstDue};
 ghost use Rattle.calendar_due.specs.Days.{is_on_day, is_same_day, is_of_day};
 

@@ -8,7 +8,7 @@ ghost use Rattle.jiff_tz.specs.TzifReader.{read_tzif};
 ghost use Rattle.history_model.specs.Calendar.{crossed, last_before};
 ghost use Rattle.calendar_due.specs.Minute.{shown_minute};
 ghost use Rattle.calendar_due.specs.Offsets.{always, clock_seconds};
-ghost use Rattle.calendar_due.specs.Rules.{offsets, minute_at};
+ghost use Rattle.calendar_due.specs.ZoneRules.{offsets, minute_at};
 ghost use Rattle.calendar_due.specs.Zone.{IsOfRule, IsOfTable, IsUnreadable, IsBadFile};
 ghost use Rattle.calendar_due.specs.declared.zone.TheConstants.{LONGEST_FILE};
 
@@ -116,7 +116,7 @@ impl Zone {
 
     /// What a clock in this zone shows that many seconds after 1970-01-01T00:00:00 UTC, its seconds dropped. The caller's
     /// condition: at most 250,000,000,000 seconds, in the year 9892. Takes no memory.
-    #[tactic(auto, unfolding(crate::specs::Rules::minute_at, crate::specs::Offsets::shown_by))]
+    #[tactic(auto, unfolding(crate::specs::ZoneRules::minute_at, crate::specs::Offsets::shown_by))]
     pub fn civil_minute(&self, seconds: u64) -> CivilMinute
         requires { seconds ≤ MAX_WALL }
         ensures { result ≡ minute_at self.now seconds }

@@ -1,3 +1,3 @@
 pub mod Calls
 pub mod Command
-pub mod Memory
+pub mod MemoryEdges

@@ -2,7 +2,7 @@
 //! compared.
 
 ghost use Rattle.std.specs.Prelude.{◌≡◌, IfOk, true, slice_get};
-ghost use Rattle.child_edge.specs.Memory.{answer_to, answer_of, after_call, after_done, entered, uncalled, untold, takes as is_taken, has_room as is_room_for_one};
+ghost use Rattle.child_edge.specs.MemoryEdges.{answer_to, answer_of, after_call, after_done, entered, uncalled, untold, takes_answer as is_taken, has_call_room as is_room_for_one};
 ghost use Rattle.child_edge.specs.Calls.{outcome_answer, start_answer, done_answer, poll_answer, look_answer, read_answer};
 
 use crate::{ChildEdge, ClockEdge, Edge, EdgeCall, EdgeFault, PathEdge, Scripted, SocketEdge};
@@ -29,7 +29,7 @@ pub struct MemoryEdge {
 
 impl Model for MemoryEdge {
     ghost use Rattle.std.specs.Prelude.{◌≤◌, length, vec_capacity};
-    ghost use Rattle.child_edge.specs.Memory.{Memory};
+    ghost use Rattle.child_edge.specs.MemoryEdges.{Memory};
 
     ghost Value = { Memory };
 
@@ -185,7 +185,7 @@ fn answer_in(outcome: Result<Scripted, EdgeFault>) -> Scripted
 }
 
 impl Edge for MemoryEdge {
-    ghost use Rattle.child_edge.specs.Memory.{calls_told};
+    ghost use Rattle.child_edge.specs.MemoryEdges.{calls_told};
 
     ghost told = { calls_told };
 

@@ -17,15 +17,15 @@ use Rattle.history_model.proofs.SeenLemmas.{any-seen, first-seen}
 use Rattle.history_model.proofs.WrittenLemmas.{newer}
 use Rattle.history_model.proofs.ConnectionLemmas.{seen-more}
 use Rattle.conditions.specs.ConditionFacts.{ConditionFacts, kept_of, conditions_hold, holds_by}
-use Rattle.conditions.specs.States.{wanted_of, sight_of, after_sight}
+use Rattle.conditions.specs.States.{wanted_of, last_sight, after_sight}
 use Rattle.conditions.specs.declared.levels.State.{State}
 
-pub any-holds : (ss : List State) → list_any (λ (s : State). presence_holds s.present s.last) ss ≡ any_seen (λ (state : List ℕ × Bool). presence_holds state.1) (map wanted_of ss) (map sight_of ss)
+pub any-holds : (ss : List State) → list_any (λ (s : State). presence_holds s.present s.last) ss ≡ any_seen (λ (state : List ℕ × Bool). presence_holds state.1) (map wanted_of ss) (map last_sight ss)
 any-holds [] = refl
 any-holds (s ∷ ss) = ap (λ b. presence_holds s.present s.last || b) (any-holds ss)
 
 pub seen-after : (path : List ℕ) (obs : Obs) (ss : List State) →
-    map sight_of (map (after_sight path obs) ss) ≡ seen_after (λ (state : List ℕ × Bool). state.0) (map wanted_of ss) path obs (map sight_of ss)
+    map last_sight (map (after_sight path obs) ss) ≡ seen_after (λ (state : List ℕ × Bool). state.0) (map wanted_of ss) path obs (map last_sight ss)
 seen-after path obs [] = refl
 seen-after path obs (s ∷ ss) = λ i. newer (is_same_path s.path path) obs s.last i ∷ seen-after path obs ss i
 
@@ -46,16 +46,16 @@ unseen d at [] = refl
 unseen d at (p ∷ ps) = ap (λ l. None ∷ l) (unseen d at ps)
 
 pub first-state : (ss : List State) → option_map (λ (s : State). s.path) (find (λ (s : State). presence_holds s.present s.last) ss)
-    ≡ option_map (λ (state : List ℕ × Bool). state.0) (first_seen (λ (state : List ℕ × Bool). presence_holds state.1) (map wanted_of ss) (map sight_of ss))
+    ≡ option_map (λ (state : List ℕ × Bool). state.0) (first_seen (λ (state : List ℕ × Bool). presence_holds state.1) (map wanted_of ss) (map last_sight ss))
 first-state [] = refl
 first-state (s ∷ ss) = go (presence_holds s.present s.last) (first-state ss) where
   found : Option (List ℕ)
   found = option_map (λ (s : State). s.path) (find (λ (s : State). presence_holds s.present s.last) ss)
 
   go : (b : Bool) → option_map (λ (s : State). s.path) (find (λ (s : State). presence_holds s.present s.last) ss)
-      ≡ option_map (λ (state : List ℕ × Bool). state.0) (first_seen (λ (state : List ℕ × Bool). presence_holds state.1) (map wanted_of ss) (map sight_of ss)) →
+      ≡ option_map (λ (state : List ℕ × Bool). state.0) (first_seen (λ (state : List ℕ × Bool). presence_holds state.1) (map wanted_of ss) (map last_sight ss)) →
       option_map (λ (s : State). s.path) (cond b (Some s) (find (λ (s : State). presence_holds s.present s.last) ss))
-      ≡ option_map (λ (state : List ℕ × Bool). state.0) (cond b (Some (wanted_of s)) (first_seen (λ (state : List ℕ × Bool). presence_holds state.1) (map wanted_of ss) (map sight_of ss)))
+      ≡ option_map (λ (state : List ℕ × Bool). state.0) (cond b (Some (wanted_of s)) (first_seen (λ (state : List ℕ × Bool). presence_holds state.1) (map wanted_of ss) (map last_sight ss)))
   go true rest = refl
   go false rest = rest
 

@@ -9,8 +9,8 @@ abbrev pub wanted_of : State → List ℕ × Bool
 wanted_of s = (s.path, s.present)
 
 -- what was seen there last
-abbrev pub sight_of : State → Option Obs
-sight_of s = s.last
+abbrev pub last_sight : State → Option Obs
+last_sight s = s.last
 
 -- after this was seen at this path
 abbrev pub after_sight : List ℕ → Obs → State → State

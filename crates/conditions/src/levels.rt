@@ -9,7 +9,7 @@ ghost use Rattle.history_model.specs.Levels.{is_success, is_crash_end, agrees, p
 ghost use Rattle.history_model.specs.ByFacts.{seen_after};
 ghost use Rattle.history_model.specs.Reasons.{exit_wants, crash_wants, state_that_holds};
 ghost use Rattle.history_model.specs.DueByFacts.{any_seen, first_seen};
-ghost use Rattle.conditions.specs.States.{wanted_of, sight_of, after_sight};
+ghost use Rattle.conditions.specs.States.{wanted_of, last_sight, after_sight};
 ghost use Rattle.job_defs.specs.Definitions.{definition, path_wish};
 
 use history_model::{Ended, Obs, Reading, Text};
@@ -42,14 +42,14 @@ impl Model for Conditions {
     ghost Value = { ConditionFacts };
 
     ghost use Rattle.std.specs.Prelude.{map};
-    ghost use Rattle.conditions.specs.States.{wanted_of, sight_of};
+    ghost use Rattle.conditions.specs.States.{wanted_of, last_sight};
 
     ghost view = { λ c. record {
       keep_alive = c.keep_alive;
       successful_exit = c.successful_exit;
       crashed = c.crashed;
       path_state = map wanted_of c.states.items;
-      seen = map sight_of c.states.items;
+      seen = map last_sight c.states.items;
       ended = c.last_end;
       has_crashed = c.has_crashed;
     } };
@@ -57,7 +57,7 @@ impl Model for Conditions {
 
 impl Conditions {
     ghost use Rattle.conditions.specs.ConditionFacts.{ConditionFacts, kept_of, conditions_hold, holds_by};
-    ghost use Rattle.conditions.specs.States.{wanted_of, sight_of, after_sight};
+    ghost use Rattle.conditions.specs.States.{wanted_of, last_sight, after_sight};
 
     /// The conditions of a definition, before any end and any sight. The one refusal is of memory.
     pub fn new(alloc: Global, def: &Def) -> Result<Conditions, AllocError>
@@ -172,7 +172,7 @@ impl Conditions {
 
 fn states_of(alloc: Global, listed: &[PathState]) -> Result<Vec<State>, AllocError>
     ensures wanted { IfOk result (λ v. map wanted_of v.items ≡ map path_wish listed.now) }
-    ensures unseen { IfOk result (λ v. map sight_of v.items ≡ map (λ _. None) listed.now) }
+    ensures unseen { IfOk result (λ v. map last_sight v.items ≡ map (λ _. None) listed.now) }
 {
     let mut states = Vec::new(alloc);
     for state in listed {

@@ -14,7 +14,7 @@ use Rattle.event_reader.specs.Members.{tag_of, has_answers}
 use Rattle.ctl_protocol.specs.EventWriter.{line_object}
 use Rattle.ctl_protocol.specs.declared.header.Header.{Header}
 use Rattle.ctl_protocol.specs.HeaderLines.{header_object, plain_members, setting_members}
-use Rattle.ctl_protocol.specs.Outcomes.{order_members, orders_data, outcome_object, reply_object}
+use Rattle.ctl_protocol.specs.OutcomeLines.{order_members, orders_data, outcome_object, reply_object}
 use Rattle.history_model.proofs.BooleanLemmas.{false-or, or-false-first, or-false-second}
 
 put_at : (o : Ordering) (k l : List ℕ) (d e : Data) (ms : Members) → has_float d ≡ false → has_float e ≡ false → members_have_float ms ≡ false

@@ -6,7 +6,7 @@ use Rattle.serde_json.proofs.OnLiterals.{serde_json_on_literals}
 use Rattle.history_model.specs.declared.Act.{Act}
 use Rattle.history_model.specs.declared.Act.TheVariants.{Spawn, Term, Kill, Close, Gone}
 use Rattle.ctl_protocol.specs.Objects.{plain_object}
-use Rattle.ctl_protocol.specs.Outcomes.{order_members}
+use Rattle.ctl_protocol.specs.OutcomeLines.{order_members}
 
 abbrev pub order_text : List ℕ → Act → List ℕ
 order_text job act = compact_text (plain_object (order_members (job, act)))

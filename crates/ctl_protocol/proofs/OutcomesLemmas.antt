@@ -8,20 +8,20 @@ use Rattle.serde_json.specs.Written.{compact_text}
 use Rattle.serde_json.proofs.OnLiterals.{serde_json_on_literals}
 use Rattle.history_model.specs.declared.Act.{Act}
 use Rattle.ctl_protocol.specs.Objects.{line_of}
-use Rattle.ctl_protocol.specs.Outcomes.{orders_data, orders_of, parts, outcome_object}
+use Rattle.ctl_protocol.specs.OutcomeLines.{orders_data, plain_orders, line_parts, outcome_object}
 
 regroup : (code orders said : List ℕ)
-    → codes "{\"code\":" ++ (code ++ (codes ",\"orders\":" ++ (orders ++ (codes ",\"text\":" ++ (said ++ codes "}"))))) ++ codes "\n" ≡ parts code orders said
+    → codes "{\"code\":" ++ (code ++ (codes ",\"orders\":" ++ (orders ++ (codes ",\"text\":" ++ (said ++ codes "}"))))) ++ codes "\n" ≡ line_parts code orders said
 regroup code orders said = simp append_assoc
 
 pub in_parts : (code : ℕ) (said : List ℕ) (items : Items)
     → line_of (object (member (codes "code") (number (unsigned code)) (member (codes "orders") (array items) (member (codes "text") (string said) no_members))))
-    ≡ parts (compact_text (number (unsigned code))) (compact_text (array items)) (compact_text (string said))
+    ≡ line_parts (compact_text (number (unsigned code))) (compact_text (array items)) (compact_text (string said))
 unfolding serde_json_on_literals
 in_parts code said items = regroup (compact_text (number (unsigned code))) (compact_text (array items)) (compact_text (string said))
 
 pub from_parts : (code : ℕ) (said : List ℕ) (orders : List (List ℕ × Act)) (line number_text list_text said_text : List ℕ)
-    → line ≡ parts number_text list_text said_text → number_text ≡ compact_text (number (unsigned code)) → list_text ≡ compact_text (array (orders_data orders)) → said_text ≡ compact_text (string said)
+    → line ≡ line_parts number_text list_text said_text → number_text ≡ compact_text (number (unsigned code)) → list_text ≡ compact_text (array (orders_data orders)) → said_text ≡ compact_text (string said)
     → line ≡ line_of (outcome_object code said orders)
 from_parts code said orders line number_text list_text said_text whole n l t = whole ∙ rw (n, l, t) (sym (in_parts code said (orders_data orders)))
 
@@ -42,9 +42,9 @@ empty xs is = nil_from_length xs (eqb-true (length xs) 0 (sym is))
 
 -- the line of an outcome with no order and no text
 pub bare_parts : (code : ℕ) (said : List ℕ) (orders : List (Bor (List ℕ) × Act)) (line digits : List ℕ)
-    → true ≡ (length orders == 0) → true ≡ (length said == 0) → digits ≡ decimal code → line ≡ parts digits (codes "[]") (codes "\"\"")
-    → line ≡ line_of (outcome_object code said (orders_of orders))
+    → true ≡ (length orders == 0) → true ≡ (length said == 0) → digits ≡ decimal code → line ≡ line_parts digits (codes "[]") (codes "\"\"")
+    → line ≡ line_of (outcome_object code said (plain_orders orders))
 bare_parts code said orders line digits no_orders no_text d whole =
-    from_parts code said (orders_of orders) line digits (codes "[]") (codes "\"\"") whole (d ∙ number_written code)
-    (no_orders_written ∙ ap (λ os. compact_text (array (orders_data (orders_of os)))) (sym (empty orders no_orders)))
+    from_parts code said (plain_orders orders) line digits (codes "[]") (codes "\"\"") whole (d ∙ number_written code)
+    (no_orders_written ∙ ap (λ os. compact_text (array (orders_data (plain_orders os)))) (sym (empty orders no_orders)))
     (no_text_written ∙ ap (λ t. compact_text (string t)) (sym (empty said no_text)))

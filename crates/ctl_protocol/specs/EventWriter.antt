@@ -85,19 +85,19 @@ ask_members job (asks.Kickstart kills_first) = of_job job ∷ (codes "k", flag k
 ask_members job _ = of_job job ∷ []
 
 -- the keys of an answer to an order
-abbrev pub order_members : List ℕ → Answer → List (List ℕ × Plain)
-order_members job (answers.Spawned run pid) =
+abbrev pub answered_members : List ℕ → Answer → List (List ℕ × Plain)
+answered_members job (answers.Spawned run pid) =
     of_job job ∷ (codes "pid", count pid) ∷ (codes "run", count run) ∷ []
-order_members job (answers.SpawnRefused run) = of_run job run
-order_members job (answers.Termed run ok) = of_answer job run ok
-order_members job (answers.Killed run ok) = of_answer job run ok
+answered_members job (answers.SpawnRefused run) = of_run job run
+answered_members job (answers.Termed run ok) = of_answer job run ok
+answered_members job (answers.Killed run ok) = of_answer job run ok
 
 -- the keys of what happens to a job
 abbrev pub item_members : List ℕ → JobItem → List (List ℕ × Plain)
 item_members job (happens.Asked ask) = ask_members job ask
 item_members job (happens.Came conn) = of_connection job conn
 item_members job (happens.Left conn) = of_connection job conn
-item_members job (happens.Answered answer) = order_members job answer
+item_members job (happens.Answered answer) = answered_members job answer
 item_members job (happens.Ended run how) =
     end_member how ∷ of_job job ∷ (codes "run", count run) ∷ []
 item_members job (happens.WaitRefused run) = of_run job run

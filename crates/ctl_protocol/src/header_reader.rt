@@ -5,8 +5,8 @@ ghost use Rattle.json_kinds.specs.Json.{json_in};
 ghost use Rattle.serde_json.specs.View.{view, members_view};
 ghost use Rattle.ctl_protocol.specs.Headers as headers;
 ghost use Rattle.ctl_protocol.specs.Headers.{are_among, bytes_of_hex, digit_of, file_of, header_at, header_keys, header_shape, offset_of, overrides_key, posix_of, reading_keys, setting_of, settings_of, up_to, zone_key};
-ghost use Rattle.event_reader.specs.Members.{Gives, Reads, number_key};
-ghost use Rattle.json_kinds.specs.Kinds.{texts_in};
+ghost use Rattle.event_reader.specs.Members.{IsReadAs, Reads, number_key};
+ghost use Rattle.json_kinds.specs.JsonKinds.{texts_in};
 
 use crate::header::{Header, Settings, ZoneFile, ZoneText};
 use event_reader::ReadFault;
@@ -18,7 +18,7 @@ use std::alloc::Global;
 
 /// The JSON value that the bytes are.
 fn json_line(alloc: Global, bytes: &[u8]) -> Result<Value, ReadFault>
-    ensures { Gives view result (json_in bytes.now) }
+    ensures { IsReadAs view result (json_in bytes.now) }
 {
     match json_value(alloc, bytes)? {
         Some(value) => Ok(value),
@@ -81,7 +81,7 @@ fn byte_in(high: u8, low: u8) -> Option<u8>
 /// The bytes of a text of lower case hexadecimal.
 #[tactic(auto, using(crate::proofs::HexadecimalLemmas::byte_ends, crate::proofs::HexadecimalLemmas::all_read, crate::proofs::HexadecimalLemmas::one_left))]
 fn bytes_in(alloc: Global, text: &[u8]) -> Result<Vec<u8>, ReadFault>
-    ensures { Gives (λ b. b.items) result (bytes_of_hex text.now) }
+    ensures { IsReadAs (λ b. b.items) result (bytes_of_hex text.now) }
 {
     let mut bytes = Vec::new(alloc);
     let mut rest = text;
@@ -158,7 +158,7 @@ fn setting_in(alloc: Global, label: &str, disabled: &Value) -> Result<Setting, R
 }
 
 fn settings_in(alloc: Global, members: &Map<String, Value>) -> Result<Vec<Setting>, ReadFault>
-    ensures { Gives (λ s. s.items) result (settings_of (members_view members.now.entries)) }
+    ensures { IsReadAs (λ s. s.items) result (settings_of (members_view members.now.entries)) }
 {
     let mut settings = Vec::new(alloc);
     for (label, disabled) in members.iter() {

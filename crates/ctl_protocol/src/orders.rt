@@ -5,7 +5,7 @@ ghost use Rattle.std.specs.List.{flat_map};
 ghost use Rattle.serde_json.specs.Data.{array, string};
 ghost use Rattle.serde_json.specs.Written.{comma_if, compact_text};
 ghost use Rattle.ctl_protocol.specs.Objects.{plain_object};
-ghost use Rattle.ctl_protocol.specs.Outcomes.{order_members, orders_data, orders_of};
+ghost use Rattle.ctl_protocol.specs.OutcomeLines.{order_members, orders_data, plain_orders};
 
 use history_model::Act;
 use itoa::Buffer;
@@ -124,7 +124,7 @@ fn add_order(alloc: Global, text: &mut Vec<u8>, job: &str, act: Act) -> Result<(
 /// The text of a list of orders.
 pub(crate) fn orders_text(alloc: Global, orders: &[(&str, Act)]) -> Result<Vec<u8>, AllocError>
     ensures { IfOk result (λ text. text.items
-        ≡ compact_text (array (orders_data (orders_of orders.now)))) }
+        ≡ compact_text (array (orders_data (plain_orders orders.now)))) }
 {
     let mut text = Vec::with_capacity(alloc, 64)?;
     text.push(b'[')?;

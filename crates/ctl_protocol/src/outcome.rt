@@ -1,10 +1,10 @@
 //! Writes the lines of outcomes and of replies.
 
 ghost use Rattle.std.specs.Prelude.{◌≡◌, IfOk};
-ghost use Rattle.ctl_protocol.specs.Outcomes as outcomes;
-ghost use Rattle.ctl_protocol.specs.Outcomes.{parts};
+ghost use Rattle.ctl_protocol.specs.OutcomeLines as outcomes;
+ghost use Rattle.ctl_protocol.specs.OutcomeLines.{line_parts};
 ghost use Rattle.ctl_protocol.specs.Objects.{line_of};
-ghost use Rattle.ctl_protocol.specs.Outcomes.{replied, orders_of, outcome_object, reply_object};
+ghost use Rattle.ctl_protocol.specs.OutcomeLines.{replied, plain_orders, outcome_object, reply_object};
 
 use crate::object::{Cell, line_from, object_of};
 use crate::orders::{orders_text, string_text};
@@ -15,7 +15,7 @@ use std::alloc::{AllocError, Global};
 
 /// The line of an outcome of these parts.
 fn joined(alloc: Global, code: &[u8], orders: &[u8], said: &[u8]) -> Result<Vec<u8>, AllocError>
-    ensures { IfOk result (λ line. line.items ≡ parts code.now orders.now said.now) }
+    ensures { IfOk result (λ line. line.items ≡ line_parts code.now orders.now said.now) }
 {
     let mut line = Vec::with_capacity(alloc, 64)?;
     line.extend_from_slice(b"{\"code\":")?;
@@ -35,7 +35,7 @@ fn outcome_from(
     orders: &[(&str, Act)],
 ) -> Result<Vec<u8>, AllocError>
     ensures { IfOk result (λ line. line.items
-        ≡ line_of (outcome_object code text.now (orders_of orders.now))) }
+        ≡ line_of (outcome_object code text.now (plain_orders orders.now))) }
 {
     let mut buffer = Buffer::new();
     let number = buffer.format(code).as_bytes();
@@ -55,7 +55,7 @@ pub fn outcome_line(
     orders: &[(&str, Act)],
 ) -> Result<Vec<u8>, AllocError>
     ensures { IfOk result (λ line. line.items
-        ≡ outcomes.outcome_line (replied reply.now (orders_of orders.now))) }
+        ≡ outcomes.outcome_line (replied reply.now (plain_orders orders.now))) }
 {
     match reply.refusal {
         None => outcome_from(alloc, 0, reply.text.as_str(), orders),

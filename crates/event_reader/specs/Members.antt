@@ -3,7 +3,7 @@ use Rattle.std.specs.Prelude.{◌≡◌, ℕ, List, Bool, true, false, ◌&&◌,
 use Rattle.std.specs.Str.{bytes_eq}
 use Rattle.serde_json.specs.Data.{Data, Members, no_members, member}
 use Rattle.serde_json.specs.Find.{get, as_str, as_bool, as_number, as_u64, as_object}
-use Rattle.json_kinds.specs.Kinds.{is_among}
+use Rattle.json_kinds.specs.JsonKinds.{is_among}
 use Rattle.event_reader.specs.declared.members.ReadFault.{ReadFault}
 use Rattle.event_reader.specs.declared.members.ReadFault.TheVariants.{NoMemory, BadRequest}
 use Rattle.event_reader.specs.declared.members.Form.{Form}
@@ -17,18 +17,18 @@ abbrev pub ◌>>=◌ : {A B : Type 0} → Option A → (A → Option B) → Opti
 None >>= f = None
 
 -- the line is a bad request, or memory ran out
-abbrev pub Fails : {Y : Type 0} → ReadFault → Option Y → Type 0
-Fails NoMemory wanted = Unit {0}
-Fails BadRequest wanted = wanted ≡ None
+abbrev pub IsBadLine : {Y : Type 0} → ReadFault → Option Y → Type 0
+IsBadLine NoMemory wanted = Unit {0}
+IsBadLine BadRequest wanted = wanted ≡ None
 
 -- a reader's answer is what the definition gives, but for want of memory
-abbrev pub Gives : {X Y : Type 0} → (X → Y) → Result X ReadFault → Option Y → Type 0
-Gives view (Ok x) wanted = wanted ≡ Some (view x)
-Gives view (Err e) wanted = Fails e wanted
+abbrev pub IsReadAs : {X Y : Type 0} → (X → Y) → Result X ReadFault → Option Y → Type 0
+IsReadAs view (Ok x) wanted = wanted ≡ Some (view x)
+IsReadAs view (Err e) wanted = IsBadLine e wanted
 
 -- the same of an answer that is the value itself
 abbrev pub Reads : {X : Type 0} → Result X ReadFault → Option X → Type 0
-Reads result wanted = Gives (λ x. x) result wanted
+Reads result wanted = IsReadAs (λ x. x) result wanted
 
 -- the text under a key
 unfoldable pub text_key : List ℕ → Data → Option (List ℕ)

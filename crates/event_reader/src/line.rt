@@ -34,7 +34,7 @@ impl<'a> Line<'a> {
     ghost use Rattle.std.specs.Prelude.{option_map, option_and_then, is_some};
     ghost use Rattle.json_kinds.specs.Json.{json_in};
     ghost use Rattle.serde_json.specs.Find.{get, as_bool, as_number, as_str, as_u64};
-    ghost use Rattle.event_reader.specs.Members.{Gives, flag_or};
+    ghost use Rattle.event_reader.specs.Members.{IsReadAs, flag_or};
     ghost use Rattle.json.specs.Find.{as_object};
     ghost use Rattle.json.specs.Value.{members_view};
     ghost use Rattle.event_reader.specs.Line.{seen};
@@ -46,7 +46,7 @@ impl<'a> Line<'a> {
         bytes: &'a [u8],
         scratch: &'a mut Scratch,
     ) -> Result<Line<'a>, ReadFault>
-        ensures { Gives seen result (json_in bytes.now) }
+        ensures { IsReadAs seen result (json_in bytes.now) }
     {
         let Some(tree) = tree_in(alloc, bytes, scratch)? else {
             return Err(ReadFault::BadRequest);

@@ -2,8 +2,8 @@
 
 ghost use Rattle.std.specs.Prelude.{◌≡◌};
 ghost use Rattle.json.specs.Value.{members_view};
-ghost use Rattle.event_reader.specs.Members.{Gives, Reads, text_key, number_key, flag_key, flag_or, label_key, target_key, has_only, tag_of, is_key};
-ghost use Rattle.json_kinds.specs.Kinds.{texts_in};
+ghost use Rattle.event_reader.specs.Members.{IsReadAs, Reads, text_key, number_key, flag_key, flag_or, label_key, target_key, has_only, tag_of, is_key};
+ghost use Rattle.json_kinds.specs.JsonKinds.{texts_in};
 ghost use Rattle.event_reader.specs.Line.{seen};
 ghost use Rattle.event_reader.specs.Trees.{keys_pass};
 ghost use Rattle.event_reader.specs.declared.members.ReadFault.TheVariants.{NoMemory};
@@ -66,7 +66,7 @@ impl Form {
 /// The text under a key.
 #[tactic(auto, unfolding(crate::specs::Members::text_key))]
 pub(crate) fn text_in<'a>(line: &Line<'a>, key: &str) -> Result<&'a str, ReadFault>
-    ensures { Gives (λ s. s.now) result (text_key key.now (seen line.now)) }
+    ensures { IsReadAs (λ s. s.now) result (text_key key.now (seen line.now)) }
 {
     match line.text(key) {
         Some(text) => Ok(text),

@@ -11,7 +11,7 @@ use Rattle.history_model.specs.DueByFacts.{any_seen, first_seen}
 use Rattle.history_model.proofs.WrittenLemmas.{newer}
 use Rattle.job_core.specs.declared.paths.Watched.{Watched}
 use Rattle.job_core.specs.declared.paths.QueueDirectory.{QueueDirectory}
-use Rattle.job_core.specs.Listed.{watched_path, watched_sight, after_sight, queue_path, queue_sight, queue_after}
+use Rattle.job_core.specs.ListedPaths.{watched_path, watched_sight, watched_after_sight, queue_path, queue_sight, queue_after}
 use Rattle.history_model.proofs.BooleanLemmas.{or-false-right, or-assoc}
 
 -- the watched path makes a demand
@@ -24,11 +24,11 @@ any-fires path obs [] = refl
 any-fires path obs (w ∷ ws) = ap (λ b. fires_at path obs w || b) (any-fires path obs ws)
 
 pub watched-after : (path : List ℕ) (obs : Obs) (ws : List Watched) →
-    map watched_sight (map (after_sight path obs) ws) ≡ seen_after (λ p. p) (map watched_path ws) path obs (map watched_sight ws)
+    map watched_sight (map (watched_after_sight path obs) ws) ≡ seen_after (λ p. p) (map watched_path ws) path obs (map watched_sight ws)
 watched-after path obs [] = refl
 watched-after path obs (w ∷ ws) = λ i. newer (is_same_path w.path path) obs w.watch i ∷ watched-after path obs ws i
 
-pub watched-paths : (path : List ℕ) (obs : Obs) (ws : List Watched) → map watched_path (map (after_sight path obs) ws) ≡ map watched_path ws
+pub watched-paths : (path : List ℕ) (obs : Obs) (ws : List Watched) → map watched_path (map (watched_after_sight path obs) ws) ≡ map watched_path ws
 watched-paths path obs [] = refl
 watched-paths path obs (w ∷ ws) = ap (λ l. watched_path w ∷ l) (watched-paths path obs ws)
 

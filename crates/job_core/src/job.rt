@@ -52,10 +52,10 @@ pub struct Job {
 
 impl Job {
     ghost use Rattle.history_model.specs.JobItems.{item_of};
-    ghost use Rattle.job_core.specs.Events.{item_of_event};
+    ghost use Rattle.job_core.specs.JobEvents.{item_of_event};
     ghost use Rattle.job_defs.specs.Definitions.{definition};
     ghost use Rattle.history_model.specs.Shown.{shown_by, state_by};
-    ghost use Rattle.job_core.specs.Fields.{facts};
+    ghost use Rattle.job_core.specs.JobFields.{facts};
     ghost use Rattle.history_model.specs.Facts.{facts_of};
 
     /// A job that was loaded at this reading.

@@ -48,13 +48,13 @@ impl Model for JobCore {
 
     ghost Value = { CoreState };
 
-    ghost use Rattle.job_core.specs.Fields.{facts};
+    ghost use Rattle.job_core.specs.JobFields.{facts};
 
     ghost view = { λ c. record { facts = facts c.job; decided = c.decided } };
 }
 
 impl JobCore {
-    ghost use Rattle.job_core.specs.Events.{item_of_event};
+    ghost use Rattle.job_core.specs.JobEvents.{item_of_event};
     ghost use Rattle.history_model.specs.Shown.{shown_of};
     ghost use Rattle.job_core.specs.Memory.{NeedsNoMemory};
     ghost use Rattle.job_defs.specs.Definitions.{definition};

@@ -7,7 +7,7 @@ ghost use Rattle.history_model.specs.Demands.{is_same_path, differs};
 ghost use Rattle.history_model.specs.Levels.{queue_holds};
 ghost use Rattle.history_model.specs.ByFacts.{seen_after};
 ghost use Rattle.history_model.specs.DueByFacts.{any_seen, first_seen};
-ghost use Rattle.job_core.specs.Listed.{watched_path, watched_sight, after_sight, queue_path, queue_sight, queue_after};
+ghost use Rattle.job_core.specs.ListedPaths.{watched_path, watched_sight, watched_after_sight, queue_path, queue_sight, queue_after};
 
 use conditions::{Queue, Watch};
 use history_model::{Obs, Text};
@@ -32,7 +32,7 @@ impl Model for Watches {
     ghost Value = { Sights };
 
     ghost use Rattle.std.specs.Prelude.{map};
-    ghost use Rattle.job_core.specs.Listed.{watched_path, watched_sight};
+    ghost use Rattle.job_core.specs.ListedPaths.{watched_path, watched_sight};
 
     ghost view = { λ w. record
         { paths = map watched_path w.listed.items; seen = map watched_sight w.listed.items } };
@@ -78,7 +78,7 @@ fn watches_of(alloc: Global, paths: &[Text]) -> Result<Vec<Watched>, AllocError>
 fn watch(listed: &mut Vec<Watched>, path: &str, obs: Obs) -> bool
     ensures fires { result ≡ list_any
         (λ w. is_same_path w.path path.now && differs obs w.watch) listed.old.items }
-    ensures seen { listed.new.items ≡ map (after_sight path.now obs) listed.old.items }
+    ensures seen { listed.new.items ≡ map (watched_after_sight path.now obs) listed.old.items }
 {
     let mut fires = false;
     for watched in listed.iter_mut() {
@@ -108,7 +108,7 @@ impl Model for Queues {
     ghost Value = { Sights };
 
     ghost use Rattle.std.specs.Prelude.{map};
-    ghost use Rattle.job_core.specs.Listed.{queue_path, queue_sight};
+    ghost use Rattle.job_core.specs.ListedPaths.{queue_path, queue_sight};
 
     ghost view = { λ q. record
         { paths = map queue_path q.listed.items; seen = map queue_sight q.listed.items } };

@@ -8,8 +8,8 @@ use Rattle.history_model.specs.declared.KeyName.TheVariants as keys
 use Rattle.history_model.specs.Labels.{is_label}
 use Rattle.history_model.specs.Machine.{Fault}
 use Rattle.job_defs.specs.Described.{Described}
-use Rattle.json_kinds.specs.Faults.{bad, or_fault, ◌>>=◌}
-use Rattle.json_kinds.specs.Kinds.{bool_key, optional_text, required, text_at}
+use Rattle.json_kinds.specs.DefFaults.{bad, or_fault, ◌>>=◌}
+use Rattle.json_kinds.specs.JsonKinds.{bool_key, optional_text, required, text_at}
 use Rattle.job_defs.specs.Commands.{command_key, label_key}
 use Rattle.job_defs.specs.Sockets.{sockets_and_inetd}
 use Rattle.job_defs.specs.Keys.{json_at, Launch, launch_at, demand_at, pace_at, surroundings_at, refusals_at, def_at, def_of}

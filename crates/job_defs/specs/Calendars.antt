@@ -10,9 +10,9 @@ use Rattle.history_model.specs.declared.Reason.TheVariants.{TooLong}
 use Rattle.history_model.specs.declared.KeyName.TheVariants.{StartCalendarInterval}
 use Rattle.history_model.specs.Machine.{Fault}
 use Rattle.history_model.specs.RefusalTexts.{key_text}
-use Rattle.json_kinds.specs.Faults.{bad, ◌>>=◌}
+use Rattle.json_kinds.specs.DefFaults.{bad, ◌>>=◌}
 use Rattle.json_kinds.specs.Names.{Key, day, hour, minute, month, weekday}
-use Rattle.json_kinds.specs.Kinds.{object_at, integer_at, each_item, members_or_one, where_there, optional}
+use Rattle.json_kinds.specs.JsonKinds.{object_at, integer_at, each_item, members_or_one, where_there, optional}
 use Rattle.job_defs.specs.declared.parts.TheConstants.{LIST_LIMIT}
 
 -- one key of an entry

@@ -8,8 +8,8 @@ use Rattle.history_model.specs.declared.KeyName.TheVariants.{Label, ProgramArgum
 use Rattle.history_model.specs.Machine.{Fault}
 use Rattle.history_model.specs.RefusalTexts.{key_text}
 use Rattle.history_model.specs.Labels.{is_label}
-use Rattle.json_kinds.specs.Faults.{bad, ◌>>=◌}
-use Rattle.json_kinds.specs.Kinds.{text_at, array_at, plain_at, filled_at, each_item, required}
+use Rattle.json_kinds.specs.DefFaults.{bad, ◌>>=◌}
+use Rattle.json_kinds.specs.JsonKinds.{text_at, array_at, plain_at, filled_at, each_item, required}
 
 -- the label
 unfoldable pub label_key : Data → Result (List ℕ) Fault

@@ -10,9 +10,9 @@ use Rattle.history_model.specs.Machine.{Fault}
 use Rattle.history_model.specs.RefusalTexts.{key_text}
 use Rattle.job_defs.specs.declared.parts.PathState.{PathState}
 use Rattle.job_defs.specs.declared.parts.TheConstants.{LIST_LIMIT}
-use Rattle.json_kinds.specs.Faults.{bad, ◌>>=◌}
+use Rattle.json_kinds.specs.DefFaults.{bad, ◌>>=◌}
 use Rattle.json_kinds.specs.Names.{Key, crashed, path_state, successful_exit}
-use Rattle.json_kinds.specs.Kinds.{bool_at, object_at, filled, each_member, where_there, optional}
+use Rattle.json_kinds.specs.JsonKinds.{bool_at, object_at, filled, each_member, where_there, optional}
 use Rattle.json_kinds.specs.declared.keys.TheConstants.{PATH_LIMIT}
 
 -- what `KeepAlive` says

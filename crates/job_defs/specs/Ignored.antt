@@ -11,7 +11,7 @@ use Rattle.history_model.specs.declared.KeyName.{KeyName}
 use Rattle.history_model.specs.declared.KeyName.TheVariants.{Label, Program, ProgramArguments, RunAtLoad, LaunchOnlyOnce, DisabledKey, OnDemand, KeepAlive, WatchPaths, QueueDirectories, StartInterval, StartCalendarInterval, ThrottleInterval, ExitTimeOut, EnvironmentVariables, WorkingDirectory, StandardInPath, StandardOutPath, StandardErrorPath, Sockets, InetdCompatibility, UserName, GroupName, RootDirectory}
 use Rattle.history_model.specs.RefusalTexts.{key_text}
 use Rattle.json_kinds.specs.Names.{Key, crashed, path_state, successful_exit, day, hour, minute, month, weekday, secure_key, socket_type, passive, family, protocol, path_name, node_name, service_name, wait}
-use Rattle.json_kinds.specs.Kinds.{is_among, members_or_one}
+use Rattle.json_kinds.specs.JsonKinds.{is_among, members_or_one}
 
 -- ---- the keys that are read
 
@@ -89,8 +89,8 @@ where_found names None = []
 where_found names (Some d) = names d
 
 -- the key stands
-abbrev pub has : KeyName → Data → Bool
-has key d = is_some (get (key_text key) d)
+abbrev pub has_key : KeyName → Data → Bool
+has_key key d = is_some (get (key_text key) d)
 
 -- the key's name, if this holds
 abbrev pub named_if : Bool → KeyName → List Key
@@ -99,8 +99,8 @@ named_if holds key = if holds then key_text key ∷ [] else []
 -- `KeepAlive` decides over `OnDemand`, and `inetdCompatibility` is for sockets alone
 unfoldable pub overruled : Bool → Data → List Key
 overruled has_sockets d =
-    named_if (has OnDemand d && has KeepAlive d) OnDemand
-    ++ named_if (has InetdCompatibility d && not has_sockets) InetdCompatibility
+    named_if (has_key OnDemand d && has_key KeepAlive d) OnDemand
+    ++ named_if (has_key InetdCompatibility d && not has_sockets) InetdCompatibility
 
 -- the keys of the dictionaries inside a definition
 unfoldable pub inside : Data → List Key

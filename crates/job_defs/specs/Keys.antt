@@ -10,10 +10,10 @@ use Rattle.history_model.specs.Machine.{Fault}
 use Rattle.job_defs.specs.declared.parts.Variable.{Variable}
 use Rattle.job_defs.specs.declared.parts.Socket.{Socket}
 use Rattle.job_defs.specs.Described.{Described}
-use Rattle.json_kinds.specs.Faults.{bad, or_fault, ◌>>=◌}
+use Rattle.json_kinds.specs.DefFaults.{bad, or_fault, ◌>>=◌}
 use Rattle.json_kinds.specs.Json.{json_in}
 use Rattle.json_kinds.specs.Names.{Key}
-use Rattle.json_kinds.specs.Kinds.{bool_key, integer_key, optional_integer, optional_text, optional_path, refused_key}
+use Rattle.json_kinds.specs.JsonKinds.{bool_key, integer_key, optional_integer, optional_text, optional_path, refused_key}
 use Rattle.job_defs.specs.Commands.{Command, label_key, command_key}
 use Rattle.job_defs.specs.Conditions.{Keep, keep_key}
 use Rattle.job_defs.specs.Paths.{paths_key}

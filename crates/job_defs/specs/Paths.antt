@@ -7,8 +7,8 @@ use Rattle.history_model.specs.declared.Reason.TheVariants.{TooLong}
 use Rattle.history_model.specs.declared.KeyName.{KeyName}
 use Rattle.history_model.specs.Machine.{Fault}
 use Rattle.history_model.specs.RefusalTexts.{key_text}
-use Rattle.json_kinds.specs.Faults.{bad, ◌>>=◌}
-use Rattle.json_kinds.specs.Kinds.{array_at, path_at, each_item, where_there}
+use Rattle.json_kinds.specs.DefFaults.{bad, ◌>>=◌}
+use Rattle.json_kinds.specs.JsonKinds.{array_at, path_at, each_item, where_there}
 use Rattle.job_defs.specs.declared.parts.TheConstants.{LIST_LIMIT}
 
 -- at most so many paths in a definition, of which some were counted before

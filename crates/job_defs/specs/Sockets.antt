@@ -16,9 +16,9 @@ use Rattle.job_defs.specs.declared.parts.Socket.{Socket}
 use Rattle.job_defs.specs.declared.parts.Address.{Address}
 use Rattle.job_defs.specs.declared.parts.Address.TheVariants.{Unix, Inet}
 use Rattle.json_kinds.specs.Digits.{is_digit}
-use Rattle.json_kinds.specs.Faults.{bad, or_fault, ◌>>=◌}
+use Rattle.json_kinds.specs.DefFaults.{bad, or_fault, ◌>>=◌}
 use Rattle.json_kinds.specs.Names.{Key, secure_key, socket_type, passive, family, protocol, path_name, node_name, service_name, wait}
-use Rattle.json_kinds.specs.Kinds.{text_at, bool_at, object_at, in_range, is_among, filled_at, each_item, each_member, members_or_one, where_there, optional, refused}
+use Rattle.json_kinds.specs.JsonKinds.{text_at, bool_at, object_at, in_range, is_among, filled_at, each_item, each_member, members_or_one, where_there, optional, unsupported_key}
 
 -- ---- the keys of a socket
 
@@ -108,7 +108,7 @@ address_of None host None = Err (bad Missing keys.Sockets)
 unfoldable pub socket_at : Data → Result Socket Fault
 socket_at d = do
   socket ← object_at keys.Sockets d
-  insecure ← refused keys.Sockets (get secure_key d)
+  insecure ← unsupported_key keys.Sockets (get secure_key d)
   stream ← where_there (one_of (codes "stream" ∷ [])) tt (get socket_type d)
   listens ← where_there passive_at tt (get passive d)
   known ← where_there (one_of (codes "IPv4" ∷ codes "Unix" ∷ [])) tt (get family d)

@@ -9,9 +9,9 @@ use Rattle.history_model.specs.declared.KeyName.TheVariants.{EnvironmentVariable
 use Rattle.history_model.specs.Machine.{Fault}
 use Rattle.history_model.specs.RefusalTexts.{key_text}
 use Rattle.job_defs.specs.declared.parts.Variable.{Variable}
-use Rattle.json_kinds.specs.Faults.{bad, ◌>>=◌}
+use Rattle.json_kinds.specs.DefFaults.{bad, ◌>>=◌}
 use Rattle.json_kinds.specs.Names.{Key}
-use Rattle.json_kinds.specs.Kinds.{object_at, plain, filled, each_member, where_there}
+use Rattle.json_kinds.specs.JsonKinds.{object_at, plain, filled, each_member, where_there}
 
 -- the byte `=`
 abbrev pub is_equals : ℕ → Bool

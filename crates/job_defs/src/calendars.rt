@@ -2,8 +2,8 @@
 
 ghost use Rattle.std.specs.Prelude.{◌≡◌};
 ghost use Rattle.serde_json.specs.View.{view, items_view};
-ghost use Rattle.json_kinds.specs.Faults.{Gives};
-ghost use Rattle.json_kinds.specs.Kinds.{each_item};
+ghost use Rattle.json_kinds.specs.DefFaults.{Gives};
+ghost use Rattle.json_kinds.specs.JsonKinds.{each_item};
 ghost use Rattle.job_defs.specs.Calendars.{part, entry_at, calendar_at, calendar_key};
 
 use crate::parts::LIST_LIMIT;

@@ -2,8 +2,8 @@
 
 ghost use Rattle.std.specs.Prelude.{◌≡◌, ◌≤◌, [], ◌∷◌, length, vec_len, IfOk};
 ghost use Rattle.serde_json.specs.View.{view, members_view};
-ghost use Rattle.json_kinds.specs.Faults.{Gives};
-ghost use Rattle.json_kinds.specs.Kinds.{each_member};
+ghost use Rattle.json_kinds.specs.DefFaults.{Gives};
+ghost use Rattle.json_kinds.specs.JsonKinds.{each_member};
 ghost use Rattle.job_defs.specs.Conditions.{path_state_in, path_state_at, conditions_at, keep_at, keep_key};
 ghost use Rattle.job_defs.specs.Parts.{keep_of};
 ghost use Rattle.job_defs.specs.declared.parts.TheConstants.{LIST_LIMIT};

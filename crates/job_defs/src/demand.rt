@@ -2,8 +2,8 @@
 
 ghost use Rattle.std.specs.Prelude.{◌≡◌, ◌≤◌, ◌+◌, length, vec_len, IfOk, IfSome};
 ghost use Rattle.serde_json.specs.View.{view, items_view};
-ghost use Rattle.json_kinds.specs.Faults.{Gives};
-ghost use Rattle.json_kinds.specs.Kinds.{each_item, path_at};
+ghost use Rattle.json_kinds.specs.DefFaults.{Gives};
+ghost use Rattle.json_kinds.specs.JsonKinds.{each_item, path_at};
 ghost use Rattle.job_defs.specs.Paths.{paths_at, paths_key};
 ghost use Rattle.job_defs.specs.Keys.{demand_at, pace_at};
 ghost use Rattle.job_defs.specs.Parts.{demand_of, pace_of};

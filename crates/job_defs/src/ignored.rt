@@ -6,7 +6,7 @@ ghost use Rattle.serde_json.specs.Find.{as_object};
 ghost use Rattle.job_defs.specs.Ignored as ignored;
 ghost use Rattle.job_defs.specs.Ignored.{members_in};
 ghost use Rattle.job_defs.specs.Parts.{Gains, names_of};
-ghost use Rattle.json_kinds.specs.Kinds.{texts_in};
+ghost use Rattle.json_kinds.specs.JsonKinds.{texts_in};
 
 use history_model::{KeyName, Text};
 use json_kinds::kinds::{is_among, members_or_one_of};
@@ -117,7 +117,7 @@ fn add_overruled(
 }
 
 fn has(def: &Value, key: KeyName) -> bool
-    ensures { result ≡ ignored.has key (view def.now) }
+    ensures { result ≡ ignored.has_key key (view def.now) }
 {
     def.get(key_name(key)).is_some()
 }

@@ -2,8 +2,8 @@
 
 ghost use Rattle.std.specs.Prelude.{◌≡◌, None, Some};
 ghost use Rattle.serde_json.specs.View.{view, items_view};
-ghost use Rattle.json_kinds.specs.Faults.{Gives};
-ghost use Rattle.json_kinds.specs.Kinds.{each_item};
+ghost use Rattle.json_kinds.specs.DefFaults.{Gives};
+ghost use Rattle.json_kinds.specs.JsonKinds.{each_item};
 ghost use Rattle.job_defs.specs.Commands.{label_key, word_at, command_in, command_at, command_key};
 ghost use Rattle.job_defs.specs.Keys.{launch_at};
 ghost use Rattle.job_defs.specs.Parts.{command_of, launch_of};

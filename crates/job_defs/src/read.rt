@@ -2,7 +2,7 @@
 
 ghost use Rattle.std.specs.Prelude.{◌≡◌};
 ghost use Rattle.serde_json.specs.View.{view};
-ghost use Rattle.json_kinds.specs.Faults.{Gives};
+ghost use Rattle.json_kinds.specs.DefFaults.{Gives};
 ghost use Rattle.job_defs.specs.Keys.{refusals_at, def_at, def_of};
 
 use crate::def::Def;

@@ -4,10 +4,10 @@ ghost use Rattle.std.specs.Prelude.{◌≡◌, ⊤};
 ghost use Rattle.serde_json.specs.View.{view};
 ghost use Rattle.serde_json.specs.Find.{get};
 ghost use Rattle.history_model.specs.declared.KeyName.TheVariants as keys;
-ghost use Rattle.json_kinds.specs.Faults.{Gives};
+ghost use Rattle.json_kinds.specs.DefFaults.{Gives};
 ghost use Rattle.json_kinds.specs.Names as names;
 ghost use Rattle.job_defs.specs.Sockets as sockets;
-ghost use Rattle.json_kinds.specs.Kinds.{where_there, optional, filled_at, texts_in};
+ghost use Rattle.json_kinds.specs.JsonKinds.{where_there, optional, filled_at, texts_in};
 ghost use Rattle.job_defs.specs.Sockets.{one_of, passive_at, host_at, any_host, port_in, port_at, port_by, address_of, socket_at};
 
 use crate::host::{host_in, number_in};

@@ -2,8 +2,8 @@
 
 ghost use Rattle.std.specs.Prelude.{◌≡◌, ◌+◌, nat_lt};
 ghost use Rattle.serde_json.specs.View.{view, items_view, members_view};
-ghost use Rattle.json_kinds.specs.Faults.{Gives};
-ghost use Rattle.json_kinds.specs.Kinds.{each_item, each_member};
+ghost use Rattle.json_kinds.specs.DefFaults.{Gives};
+ghost use Rattle.json_kinds.specs.JsonKinds.{each_item, each_member};
 ghost use Rattle.job_defs.specs.Sockets.{socket_at, socket_count, sockets_in, sockets_at, sockets_key, inetd_at, inetd_key, sockets_and_inetd};
 
 use crate::parts::Socket;

@@ -10,9 +10,9 @@ use Rattle.history_model.specs.Acceptance.{refusal_in}
 use Rattle.history_model.specs.Step.{Outcome, with_orders, step, step_by, outcome, outcome_by, orders_of}
 use Rattle.job_table.specs.Tables.{Table}
 use Rattle.job_table.specs.StandsFor.{KeepsState, labelled, acts_in}
-use Rattle.job_table.specs.Changes.{withdrawn, set_of}
+use Rattle.job_table.specs.SettingChanges.{withdrawn, set_of}
 use Rattle.job_table.specs.Seats.{rows, name}
-use Rattle.job_table.specs.Outcomes.{plain_outcome}
+use Rattle.job_table.specs.TableOutcomes.{plain_outcome}
 use Rattle.job_table.specs.Alike.{IsAlike}
 use Rattle.job_table.specs.Sound.{seen_table}
 use Rattle.job_table.specs.declared.jobs.Jobs.{Jobs}

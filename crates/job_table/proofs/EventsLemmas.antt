@@ -21,7 +21,7 @@ use Rattle.history_model.specs.Calendar.{Zone, crossed, matches, calendar_fires}
 use Rattle.history_model.specs.Machine.{State, Job, sets}
 use Rattle.history_model.specs.Step.{stays, orders_of, lists, sight_of}
 use Rattle.job_defs.specs.Definitions.{definition}
-use Rattle.calendar_due.specs.Rules.{minute_at}
+use Rattle.calendar_due.specs.ZoneRules.{minute_at}
 use Rattle.job_table.specs.Tables.{Row}
 use Rattle.job_table.specs.StandsFor.{KeepsJobs, KeepsSettings, KeepsState, labelled}
 use Rattle.job_table.specs.Seats.{row, name, rows, AllStay}
@@ -36,7 +36,7 @@ use Rattle.job_table.specs.declared.seat.Touch.TheVariants as touch
 use Rattle.job_table.proofs.ListLemmas.{any-map}
 use Rattle.job_table.proofs.PlacesLemmas.{rows-all}
 use Rattle.job_table.specs.declared.seat.Seat.{Seat}
-use Rattle.job_table.specs.Outcomes.{IsOrderedFrom}
+use Rattle.job_table.specs.TableOutcomes.{IsOrderedFrom}
 use Rattle.history_model.proofs.BooleanLemmas.{or-true}
 
 pub alike-both : {a b c : Jobs} → IsAlike a b → IsAlike b c → IsAlike a c

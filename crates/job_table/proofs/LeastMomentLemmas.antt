@@ -15,7 +15,7 @@ use Rattle.job_table.specs.StandsFor.{KeepsJob, KeepsJobs}
 use Rattle.job_table.specs.Seats.{row, rows, name}
 use Rattle.job_table.specs.Index.{AreTimed, AreAlone, moment_for}
 use Rattle.job_table.specs.Minutes.{is_some_entry, has_calendars}
-use Rattle.job_table.specs.Moments.{is_moment, IsNextUp, have_calendars}
+use Rattle.job_table.specs.NextMoments.{is_moment, IsNextUp, have_calendars}
 use Rattle.job_table.specs.declared.seat.Seat.{Seat}
 use Rattle.job_table.proofs.AdvanceLemmas.{holder}
 use Rattle.history_model.proofs.LawfulLemmas.{eqb-self}

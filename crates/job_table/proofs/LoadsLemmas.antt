@@ -21,7 +21,7 @@ use Rattle.job_table.specs.Triggers.{AreListed}
 use Rattle.job_table.specs.Leaving.{StayBut}
 use Rattle.job_table.specs.Seats.{row, name, AllStay, has_label}
 use Rattle.job_table.specs.Loads.{IsAbsent, enabled_if}
-use Rattle.job_table.specs.Outcomes.{Means}
+use Rattle.job_table.specs.TableOutcomes.{Means}
 use Rattle.job_table.specs.Sound.{seen_table, AreHeld, IsSound, IsWhole}
 use Rattle.job_table.specs.Index.{IsNamed, IsIndexOf, IsIndexed}
 use Rattle.job_table.specs.Minutes.{some_calendar}

@@ -12,10 +12,10 @@ use Rattle.history_model.specs.Acceptance.{refusal_in}
 use Rattle.history_model.specs.Step.{Outcome, taken, with_orders, step_by, step, outcome_by, outcome, refused}
 use Rattle.history_model.specs.Texts.{text_after}
 use Rattle.history_model.proofs.StepLemmas.{Rests, IsGood, good-step, all-implied}
-use Rattle.calendar_due.specs.Rules.{minute_at}
+use Rattle.calendar_due.specs.ZoneRules.{minute_at}
 use Rattle.job_table.specs.Tables.{Row, Table}
 use Rattle.job_table.specs.StandsFor.{KeepsJobs, KeepsState, IsAtRest, acts_in}
-use Rattle.job_table.specs.Outcomes.{plain_outcome, IsOrderedFrom, IsSameFor}
+use Rattle.job_table.specs.TableOutcomes.{plain_outcome, IsOrderedFrom, IsSameFor}
 
 pub resting : (at : Reading) (rows : List Row) (jobs : List Job) → KeepsJobs at rows jobs → AllByRecursion IsAtRest jobs → AllByRecursion (Rests at) jobs
 resting at [] [] keeps rests = tt

@@ -12,7 +12,7 @@ use Rattle.history_model.specs.Labels.{Label, is_before}
 use Rattle.history_model.specs.Machine.{sets}
 use Rattle.history_model.specs.MachineLaws.{AreInOrder}
 use Rattle.job_table.specs.StandsFor.{KeepsSettings}
-use Rattle.job_table.specs.Settings.{AreSet, IsPlaceFor}
+use Rattle.job_table.specs.TableSettings.{AreSet, IsPlaceFor}
 use Rattle.job_table.proofs.FirstLemmas.{IsFirstWhere, where-none, none-where, first-filter}
 use Rattle.job_table.proofs.HalvesLemmas.{AreRising, apart-before, apart-behind, low, high}
 use Rattle.job_table.proofs.SettingLemmas.{is-label, set-placed, set-last}

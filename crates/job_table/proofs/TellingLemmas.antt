@@ -21,7 +21,7 @@ use Rattle.job_table.specs.Alike.{IsAlike}
 use Rattle.job_table.specs.Counts.{counts, Counts, IsCounted}
 use Rattle.job_table.specs.Loads.{refused_with}
 use Rattle.job_table.specs.Numbers.{row_names, KeepsNames}
-use Rattle.job_table.specs.Outcomes.{plain_outcome, IsOrderedFrom}
+use Rattle.job_table.specs.TableOutcomes.{plain_outcome, IsOrderedFrom}
 use Rattle.job_table.specs.Sound.{seen_table}
 use Rattle.job_table.specs.StandsFor.{KeepsState}
 use Rattle.job_table.specs.Telling.{IsTold}

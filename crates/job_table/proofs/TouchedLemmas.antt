@@ -36,7 +36,7 @@ use Rattle.job_table.proofs.MomentsLemmas.{set-same, set-other}
 use Rattle.job_table.proofs.FirstLemmas.{IsFirstWhere, first-where, within-where}
 use Rattle.job_table.proofs.PlacesLemmas.{IsFirstAt, rows-all}
 use Rattle.job_table.proofs.AdvanceLemmas.{name-get}
-use Rattle.job_table.specs.Outcomes.{IsOrderedFrom}
+use Rattle.job_table.specs.TableOutcomes.{IsOrderedFrom}
 use Rattle.job_table.proofs.EventsLemmas.{IsHead, own-jobs, with_orders-so}
 use Rattle.job_table.proofs.SettingLemmas.{is-label}
 use Rattle.history_model.proofs.BooleanLemmas.{or-false}

@@ -1,7 +1,7 @@
 pub mod Tables
 pub mod StandsFor
-pub mod Settings
-pub mod Outcomes
+pub mod TableSettings
+pub mod TableOutcomes
 pub mod Counts
 pub mod Minutes
 pub mod Periods
@@ -15,14 +15,14 @@ pub mod Room
 pub mod Hearing
 pub mod Opening
 pub mod Loads
-pub mod Changes
+pub mod SettingChanges
 pub mod Leaving
 pub mod Listed
 pub mod Nearest
-pub mod Moments
+pub mod NextMoments
 pub mod Visiting
 pub mod Visits
-pub mod Asking
+pub mod AskedJobs
 pub mod Marking
 pub mod Index
 pub mod Touching

@@ -14,7 +14,7 @@ ghost use Rattle.history_model.specs.Moments as moments;
 ghost use Rattle.history_model.specs.NextMomentByFacts.{next_by};
 ghost use Rattle.history_model.specs.Reasons.{reasons_of, spawns_from, path_that_holds};
 ghost use Rattle.history_model.specs.Shown.{shown_of};
-ghost use Rattle.job_core.specs.Events.{item_of_event};
+ghost use Rattle.job_core.specs.JobEvents.{item_of_event};
 
 use history_model::{Act, DemandKind, Entry, Reading, Reasons, Refusal, ShownJob};
 use job_core::{JobCore, JobEvent};

@@ -17,7 +17,7 @@ ghost use Rattle.job_core.specs.Memory.{NeedsNoMemory};
 ghost use Rattle.job_table.specs.Loads.{refused_with};
 ghost use Rattle.job_table.specs.Touched.{IsChangedAt, IsHandedAt};
 ghost use Rattle.job_table.specs.Telling.{IsTold};
-ghost use Rattle.job_table.specs.Asking.{CanAsk, AsksTouched};
+ghost use Rattle.job_table.specs.AskedJobs.{CanAsk, AsksTouched};
 ghost use Rattle.std.specs.Option.{ForSome};
 
 use crate::gone_jobs::Gone;

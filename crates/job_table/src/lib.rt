@@ -7,7 +7,7 @@ ghost use Rattle.std.specs.String.{string_bytes};
 ghost use Rattle.std.specs.Option.{option_map};
 ghost use Rattle.history_model.specs.Reasons.{reasons_of};
 ghost use Rattle.history_model.specs.declared.TheConstants.{MAX_UP, MAX_WALL};
-ghost use Rattle.calendar_due.specs.Rules.{minute_at};
+ghost use Rattle.calendar_due.specs.ZoneRules.{minute_at};
 ghost use Rattle.history_model.specs.Acceptance.{refusal_in};
 ghost use Rattle.history_model.specs.declared.Refusal.TheVariants.{NoMemory};
 ghost use Rattle.history_model.specs.Machine.{State, opened, past_of, ListJobs, PrintJob, OfJob, UnloadJob, ShutDown, Tick, Sight};
@@ -103,7 +103,7 @@ impl<'a> Step<'a> {
 
 impl JobTable {
     ghost use Rattle.job_table.specs.Ends.{IsAnswer, TableGoesOn, TableGoesOnUnless, AreKnown, lent_acts, names_in};
-    ghost use Rattle.job_table.specs.Outcomes.{UnlessMemory, IsReplyText, Means};
+    ghost use Rattle.job_table.specs.TableOutcomes.{UnlessMemory, IsReplyText, Means};
     ghost use Rattle.job_core.specs.Memory.{NeedsNoMemory};
     ghost use Rattle.job_table.specs.StandsFor.{acts_in, is_none, KeepsState};
     ghost use Rattle.job_table.specs.Opening.{opening_refusal};

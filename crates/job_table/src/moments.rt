@@ -5,7 +5,7 @@ ghost use Rattle.std.specs.List.{list_any};
 ghost use Rattle.history_model.specs.Machine.{State};
 ghost use Rattle.job_table.specs.StandsFor.{KeepsState};
 ghost use Rattle.job_table.specs.Minutes.{is_some_entry, has_calendars};
-ghost use Rattle.job_table.specs.Moments.{IsNextUp, have_calendars};
+ghost use Rattle.job_table.specs.NextMoments.{IsNextUp, have_calendars};
 
 use crate::JobTable;
 use crate::gone_jobs::Gone;

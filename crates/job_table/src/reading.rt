@@ -3,7 +3,7 @@
 ghost use Rattle.std.specs.Prelude.{◌≡◌, ◌≤◌, [], Ok, true, false};
 ghost use Rattle.history_model.specs.Machine.{Tick};
 ghost use Rattle.history_model.specs.Refusals.{is_clock_refused};
-ghost use Rattle.job_table.specs.Outcomes.{IsOutcome, IsNextTable};
+ghost use Rattle.job_table.specs.TableOutcomes.{IsOutcome, IsNextTable};
 ghost use Rattle.job_table.specs.Touching.{SparesUntouched};
 ghost use Rattle.job_table.specs.Minutes.{AreMinutes};
 ghost use Rattle.job_table.specs.Seats.{AllStay};

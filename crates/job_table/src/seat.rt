@@ -13,7 +13,7 @@ ghost use Rattle.history_model.specs.FactsOfPast.{Keeps, ordered};
 ghost use Rattle.history_model.specs.Step.{acts_of, lists};
 ghost use Rattle.history_model.specs.Clock as clock;
 ghost use Rattle.job_defs.specs.Definitions.{definition};
-ghost use Rattle.job_core.specs.Events.{item_of_event};
+ghost use Rattle.job_core.specs.JobEvents.{item_of_event};
 ghost use Rattle.job_table.specs.StandsFor.{numbered_orders};
 ghost use Rattle.job_table.specs.Touch.{item_for};
 ghost use Rattle.job_table.specs.Hearing.{IsHeard};

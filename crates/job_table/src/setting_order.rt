@@ -6,7 +6,7 @@ ghost use Rattle.std.specs.Vec.{vec_capacity, vec_len};
 ghost use Rattle.history_model.specs.Labels.{is_before};
 ghost use Rattle.history_model.specs.Machine.{sets};
 ghost use Rattle.job_table.specs.StandsFor.{KeepsSettings};
-ghost use Rattle.job_table.specs.Settings.{AreSet, IsPlaceFor};
+ghost use Rattle.job_table.specs.TableSettings.{AreSet, IsPlaceFor};
 ghost use Rattle.job_table.specs.Room.{held_with};
 
 use crate::byte_order::is_before;

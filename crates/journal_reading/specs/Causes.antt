@@ -17,18 +17,18 @@ abbrev pub child_in : Option StandingChild → List Cause
 child_in None = []
 child_in (Some child) = Child child ∷ []
 
-abbrev pub order_in : Option Act → List Cause
-order_in None = []
-order_in (Some act) = Awaited act ∷ []
+abbrev pub awaited_in : Option Act → List Cause
+awaited_in None = []
+awaited_in (Some act) = Awaited act ∷ []
 
 abbrev pub throttle_in : Option ℕ → List Cause
 throttle_in None = []
 throttle_in (Some up) = Throttled up ∷ []
 
 -- what keeps it from a start
-abbrev pub holding : Reasons → List Cause
-holding r =
-    when r.is_removing Removing ++ child_in r.child ++ order_in r.awaited
+abbrev pub causes_holding : Reasons → List Cause
+causes_holding r =
+    when r.is_removing Removing ++ child_in r.child ++ awaited_in r.awaited
     ++ when r.is_launch_spent LaunchSpent ++ when r.are_runs_spent RunsSpent
     ++ throttle_in r.throttled_until
 
@@ -41,13 +41,13 @@ wishes w =
     ++ when w.queue_directories QueueDirectories
 
 -- the list, or that nothing wants the job
-abbrev pub or_none : List Cause → List Cause
-or_none [] = NotWanted ∷ []
-or_none (cause ∷ causes) = cause ∷ causes
+abbrev pub or_not_wanted : List Cause → List Cause
+or_not_wanted [] = NotWanted ∷ []
+or_not_wanted (cause ∷ causes) = cause ∷ causes
 
-abbrev pub wanting : Wants → List Cause
-wanting w = or_none (wishes w)
+abbrev pub causes_wanting : Wants → List Cause
+causes_wanting w = or_not_wanted (wishes w)
 
 -- all that the reasons say
 abbrev pub causes_of : Reasons → List Cause
-causes_of r = holding r ++ wanting r.wants
+causes_of r = causes_holding r ++ causes_wanting r.wants

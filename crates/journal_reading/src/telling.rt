@@ -1,6 +1,6 @@
 //! What keeps a job from a start, and what wants it, as a list in the order in which it is told.
 ghost use Rattle.std.specs.Prelude.{◌≡◌, ◌++◌, OnOk, IfOk};
-ghost use Rattle.journal_reading.specs.Causes.{causes_of, when, holding, wanting};
+ghost use Rattle.journal_reading.specs.Causes.{causes_of, when, causes_holding, causes_wanting};
 
 use history_model::{Act, Reasons, StandingChild, Wants};
 use std::alloc::{AllocError, Global};
@@ -43,7 +43,7 @@ fn add_if(causes: &mut Vec<Cause>, holds: bool, cause: Cause) -> Result<(), Allo
 
 // What keeps it from a start but that nothing wants it.
 fn holding(alloc: Global, reasons: &Reasons) -> Result<Vec<Cause>, AllocError>
-    ensures { IfOk result (λ causes. causes.items ≡ holding reasons.now) }
+    ensures { IfOk result (λ causes. causes.items ≡ causes_holding reasons.now) }
 {
     let mut causes = Vec::new(alloc);
     add_if(&mut causes, reasons.is_removing, Cause::Removing)?;
@@ -63,7 +63,7 @@ fn holding(alloc: Global, reasons: &Reasons) -> Result<Vec<Cause>, AllocError>
 
 // What wants it, or that nothing does.
 fn wanting(alloc: Global, wants: &Wants) -> Result<Vec<Cause>, AllocError>
-    ensures { IfOk result (λ causes. causes.items ≡ wanting wants.now) }
+    ensures { IfOk result (λ causes. causes.items ≡ causes_wanting wants.now) }
 {
     let mut causes = Vec::new(alloc);
     add_if(&mut causes, wants.demand, Cause::Demand)?;

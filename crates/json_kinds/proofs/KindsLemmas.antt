@@ -2,8 +2,8 @@
 use Rattle.std.proofs.Common.{◌≡◌, ℕ, List, ◌++◌, Result, Ok, Err, refl, sym, ap, ◌∙◌, append_assoc}
 use Rattle.serde_json.specs.Data.{Data, Members, member}
 use Rattle.history_model.specs.Machine.{Fault}
-use Rattle.json_kinds.specs.Faults.{◌>>=◌}
-use Rattle.json_kinds.specs.Kinds.{each_member}
+use Rattle.json_kinds.specs.DefFaults.{◌>>=◌}
+use Rattle.json_kinds.specs.JsonKinds.{each_member}
 
 -- what was read before, and what is still read
 abbrev pub with_front : {A : Type 0} → List A → Result (List A) Fault → Result (List A) Fault

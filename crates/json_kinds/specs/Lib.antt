@@ -1,5 +1,5 @@
-pub mod Faults
+pub mod DefFaults
 pub mod Json
 pub mod Names
-pub mod Kinds
+pub mod JsonKinds
 pub mod Digits

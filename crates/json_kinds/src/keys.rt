@@ -3,8 +3,8 @@
 ghost use Rattle.std.specs.Prelude.{◌≡◌, ◌≤◌, IfOk, IfSome, ⊤};
 ghost use Rattle.serde_json.specs.View.{view};
 ghost use Rattle.serde_json.specs.Find.{get};
-ghost use Rattle.json_kinds.specs.Faults.{Gives};
-ghost use Rattle.json_kinds.specs.Kinds.{required, bool_at, bool_key, integer_key, optional, optional_integer, optional_text, optional_path, refused, refused_key};
+ghost use Rattle.json_kinds.specs.DefFaults.{Gives};
+ghost use Rattle.json_kinds.specs.JsonKinds.{required, bool_at, bool_key, integer_key, optional, optional_integer, optional_text, optional_path, unsupported_key, refused_key};
 
 use crate::fault::DefFault;
 use crate::kinds::{bool_of, filled_of, integer_of};
@@ -17,7 +17,7 @@ use std::alloc::Global;
 pub const PATH_LIMIT: usize = 1024;
 
 /// What stands under a key of a definition. Missing if nothing does.
-#[tactic(auto, unfolding(crate::specs::Kinds::required))]
+#[tactic(auto, unfolding(crate::specs::JsonKinds::required))]
 pub fn required_of(def: &Value, key: KeyName) -> Result<&Value, DefFault>
     ensures { Gives (λ found. view found.now) result (required key (view def.now)) }
 {
@@ -31,7 +31,7 @@ pub fn required_of(def: &Value, key: KeyName) -> Result<&Value, DefFault>
 }
 
 /// The boolean under a key of a definition, or `absent` if there is none. WrongKind as [`bool_of`].
-#[tactic(auto, unfolding(crate::specs::Kinds::bool_key))]
+#[tactic(auto, unfolding(crate::specs::JsonKinds::bool_key))]
 pub fn bool_key_of(def: &Value, key: KeyName, absent: bool) -> Result<bool, DefFault>
     ensures { Gives (λ holds. holds) result (bool_key absent key (view def.now)) }
 {
@@ -53,7 +53,7 @@ pub fn optional_bool_of(part: &Value, name: &str, key: KeyName) -> Result<Option
 }
 
 /// The integer under a key of a definition, or `absent` if there is none. Faults as [`integer_of`].
-#[tactic(auto, unfolding(crate::specs::Kinds::integer_key))]
+#[tactic(auto, unfolding(crate::specs::JsonKinds::integer_key))]
 pub fn integer_key_of(
     def: &Value,
     key: KeyName,
@@ -72,7 +72,7 @@ pub fn integer_key_of(
 }
 
 /// The integer under a key of a definition, if it stands. Faults as [`integer_of`].
-#[tactic(auto, unfolding(crate::specs::Kinds::optional_integer))]
+#[tactic(auto, unfolding(crate::specs::JsonKinds::optional_integer))]
 pub fn optional_integer_of(
     def: &Value,
     key: KeyName,
@@ -89,7 +89,7 @@ pub fn optional_integer_of(
 }
 
 /// The text of 1 to `limit` bytes under a key of a definition, if it stands. Faults as [`filled_of`].
-#[tactic(auto, unfolding(crate::specs::Kinds::optional_text))]
+#[tactic(auto, unfolding(crate::specs::JsonKinds::optional_text))]
 pub fn optional_text_of(
     alloc: Global,
     def: &Value,
@@ -105,7 +105,7 @@ pub fn optional_text_of(
 }
 
 /// The path under a key of a definition, if it stands. Faults as [`filled_of`].
-#[tactic(auto, unfolding(crate::specs::Kinds::optional_path))]
+#[tactic(auto, unfolding(crate::specs::JsonKinds::optional_path))]
 pub fn optional_path_of(alloc: Global, def: &Value, key: KeyName) -> Result<Option<Text>, DefFault>
     ensures { Gives (λ path. path) result (optional_path key (view def.now)) }
 {
@@ -117,7 +117,7 @@ pub fn optional_path_of(alloc: Global, def: &Value, key: KeyName) -> Result<Opti
 
 /// Unsupported if the key of a dictionary stands, whatever its value.
 pub fn refused_of(part: &Value, name: &str, key: KeyName) -> Result<(), DefFault>
-    ensures { Gives (λ done. done) result (refused key (get name.now (view part.now))) }
+    ensures { Gives (λ done. done) result (unsupported_key key (get name.now (view part.now))) }
 {
     match part.get(name) {
         Some(_) => Err(DefFault::Bad {
@@ -129,7 +129,7 @@ pub fn refused_of(part: &Value, name: &str, key: KeyName) -> Result<(), DefFault
 }
 
 /// The same of a key of a definition.
-#[tactic(auto, unfolding(crate::specs::Kinds::refused_key))]
+#[tactic(auto, unfolding(crate::specs::JsonKinds::refused_key))]
 pub fn refused_key_of(def: &Value, key: KeyName) -> Result<(), DefFault>
     ensures { Gives (λ done. done) result (refused_key key (view def.now)) }
 {

@@ -3,9 +3,9 @@
 ghost use Rattle.std.specs.Prelude.{◌≡◌, ◌≤◌, IfOk};
 ghost use Rattle.std.specs.List.{list_any};
 ghost use Rattle.serde_json.specs.View.{view, number_view, items_view, members_view};
-ghost use Rattle.json_kinds.specs.Faults.{Gives};
-ghost use Rattle.json_kinds.specs.Kinds as kinds;
-ghost use Rattle.json_kinds.specs.Kinds.{text_at, bool_at, array_at, object_at, in_range, integer_at, is_zero, plain, filled, plain_at, filled_at, members_or_one, texts_in};
+ghost use Rattle.json_kinds.specs.DefFaults.{Gives};
+ghost use Rattle.json_kinds.specs.JsonKinds as kinds;
+ghost use Rattle.json_kinds.specs.JsonKinds.{text_at, bool_at, array_at, object_at, in_range, integer_at, is_zero, plain, filled, plain_at, filled_at, members_or_one, texts_in};
 
 use crate::fault::DefFault;
 use history_model::{KeyName, Reason};
@@ -113,7 +113,7 @@ fn has_zero(text: &str) -> bool
 }
 
 /// A text of at most `limit` bytes, none of them 0. TooLong, and then OutOfRange for others.
-#[tactic(auto, unfolding(crate::specs::Kinds::plain))]
+#[tactic(auto, unfolding(crate::specs::JsonKinds::plain))]
 pub fn plain_text(text: &str, key: KeyName, limit: usize) -> Result<&str, DefFault>
     ensures { Gives (λ same. same.now) result (plain limit key text.now) }
 {
@@ -133,7 +133,7 @@ pub fn plain_text(text: &str, key: KeyName, limit: usize) -> Result<&str, DefFau
 }
 
 /// A text of 1 to `limit` bytes, none of them 0. TooLong, and then OutOfRange for others.
-#[tactic(auto, unfolding(crate::specs::Kinds::filled))]
+#[tactic(auto, unfolding(crate::specs::JsonKinds::filled))]
 pub fn filled_text(text: &str, key: KeyName, limit: usize) -> Result<&str, DefFault>
     ensures { Gives (λ same. same.now) result (filled limit key text.now) }
 {
@@ -148,7 +148,7 @@ pub fn filled_text(text: &str, key: KeyName, limit: usize) -> Result<&str, DefFa
 }
 
 /// The text that a value is, as [`plain_text`] takes it. WrongKind for what is no text.
-#[tactic(auto, unfolding(crate::specs::Kinds::plain_at))]
+#[tactic(auto, unfolding(crate::specs::JsonKinds::plain_at))]
 pub fn plain_of(found: &Value, key: KeyName, limit: usize) -> Result<&str, DefFault>
     ensures { Gives (λ text. text.now) result (plain_at limit key (view found.now)) }
 {
@@ -156,7 +156,7 @@ pub fn plain_of(found: &Value, key: KeyName, limit: usize) -> Result<&str, DefFa
 }
 
 /// The text that a value is, as [`filled_text`] takes it. WrongKind for what is no text.
-#[tactic(auto, unfolding(crate::specs::Kinds::filled_at))]
+#[tactic(auto, unfolding(crate::specs::JsonKinds::filled_at))]
 pub fn filled_of(found: &Value, key: KeyName, limit: usize) -> Result<&str, DefFault>
     ensures { Gives (λ text. text.now) result (filled_at limit key (view found.now)) }
 {

@@ -13,9 +13,9 @@ use Rattle.history_model.specs.Step.{Outcome, outcome, step, step_by}
 use Rattle.job_table.specs.Tables.{Table}
 use Rattle.job_table.specs.StandsFor.{KeepsState}
 use Rattle.job_table.specs.Loads.{load_of_bytes, refused_with}
-use Rattle.job_table.specs.Changes.{set_of}
+use Rattle.job_table.specs.SettingChanges.{set_of}
 use Rattle.job_table.specs.Numbers.{IsNumbered}
-use Rattle.job_table.specs.Outcomes.{UnlessMemory, IsReplyText, Means}
+use Rattle.job_table.specs.TableOutcomes.{UnlessMemory, IsReplyText, Means}
 use Rattle.outside.specs.declared.asking.Outside.{Outside}
 use Rattle.outside.specs.Asking.{told_of}
 use Rattle.outside.specs.Stores.{StoreCall}
@@ -23,9 +23,9 @@ use Rattle.outside.proofs.AskLemmas.{told_nothing}
 use Rattle.launcher.specs.Journals.{JournalState, Grows}
 use Rattle.launcher.proofs.JournalsLemmas.{grows_nothing}
 use Rattle.ctl_protocol.specs.EventWriter.{event_line}
-use Rattle.launcher.specs.Turns.{IsLed, TurnsOf, trace}
+use Rattle.launcher.specs.HostTurns.{IsLed, TurnsOf, trace}
 use Rattle.launcher.proofs.NumbersLemmas.{same-numbers}
-use Rattle.launcher.specs.Lines.{journaled_set}
+use Rattle.launcher.specs.JournaledLines.{journaled_set}
 use Rattle.launcher.specs.LoadTurns.{LoadTurnOf, SetTurnOf, IsUntouched, Standing, is_memory, load_request, set_request, settings_after, standing}
 use Rattle.launcher.proofs.LoadTurnsLemmas.{nothing_done}
 use Rattle.launcher.specs.Hosts.{HostTurnOf, IsSpared, Hears}

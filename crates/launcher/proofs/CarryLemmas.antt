@@ -8,7 +8,7 @@ use Rattle.child_edge.specs.Calls.{Tells, ToldCall}
 use Rattle.child_edge.proofs.CallsLemmas.{tells_nothing, tells_append}
 use Rattle.outside.specs.declared.unheard.Unheard.{Unheard}
 use Rattle.outside.specs.Orders.{call_of, calls_in, answer_in, answers_in, Carries}
-use Rattle.launcher.specs.Turns.{Carried}
+use Rattle.launcher.specs.HostTurns.{Carried}
 use Rattle.history_model.proofs.BooleanLemmas.{and-both}
 use Rattle.history_model.specs.declared.TheConstants.{MAX_JOBS}
 

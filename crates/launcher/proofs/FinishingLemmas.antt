@@ -9,7 +9,7 @@ use Rattle.job_table.specs.Numbers.{IsNumbered}
 use Rattle.job_table.specs.declared.Step.{Step}
 use Rattle.outside.specs.declared.unheard.Unheard.{Unheard}
 use Rattle.launcher.specs.Journals.{JournalState, Grows}
-use Rattle.launcher.specs.Turns.{Begins, Carried, IsLed, NamesLabel, trace}
+use Rattle.launcher.specs.HostTurns.{Begins, Carried, IsLed, NamesLabel, trace}
 use Rattle.launcher.proofs.TurnsLemmas.{Settles, turned-at}
 use Rattle.launcher.specs.LoadTurns.{Finishes, HasTaken}
 use Rattle.child_edge.specs.Calls.{ToldCall}

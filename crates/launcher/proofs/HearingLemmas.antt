@@ -10,7 +10,7 @@ use Rattle.history_model.specs.Acceptance.{refusal_in}
 use Rattle.history_model.specs.Step.{outcome, step, step_by}
 use Rattle.history_model.specs.Texts.{text_after}
 use Rattle.job_table.specs.Tables.{Table, Name}
-use Rattle.job_table.specs.Outcomes.{UnlessMemory}
+use Rattle.job_table.specs.TableOutcomes.{UnlessMemory}
 use Rattle.outside.specs.declared.asking.Outside.{Outside}
 use Rattle.outside.specs.Stores.{StoreCall}
 use Rattle.outside.proofs.AskLemmas.{told_nothing}
@@ -20,12 +20,12 @@ use Rattle.launcher.proofs.JournalsLemmas.{grows_nothing}
 use Rattle.ctl_protocol.specs.EventWriter.{event_line}
 use Rattle.launcher.specs.declared.event_ref.EventRef.{EventRef}
 use Rattle.launcher.specs.declared.event_ref.EventRef.TheVariants as happenings
-use Rattle.launcher.specs.Events.{event_of_ref, is_clock}
-use Rattle.launcher.specs.Lines.{journaled_by}
-use Rattle.launcher.specs.Turns.{AreNumbered, TurnsOf, Turns, IsUncalled, Trace, trace}
+use Rattle.launcher.specs.EventRefs.{event_of_ref, is_clock}
+use Rattle.launcher.specs.JournaledLines.{journaled_by}
+use Rattle.launcher.specs.HostTurns.{AreNumbered, TurnsOf, Turns, IsUncalled, Trace, trace}
 use Rattle.job_table.specs.Loads.{refused_with}
 use Rattle.launcher.specs.LoadTurns.{is_memory, standing}
-use Rattle.table_opening.specs.Events.{machine_event}
+use Rattle.table_opening.specs.JournalEvents.{machine_event}
 use Rattle.launcher.specs.Inputs.{answered}
 use Rattle.launcher.specs.Hosts.{AsksOutside, IsOwn, Hears}
 use Rattle.launcher.proofs.HostsLemmas.{hears, wordless, is_want}

@@ -20,9 +20,9 @@ use Rattle.outside.proofs.AskLemmas.{told_nothing}
 use Rattle.ctl_protocol.specs.EventWriter.{event_line}
 use Rattle.launcher.specs.Journals.{JournalState, Grows}
 use Rattle.launcher.proofs.JournalsLemmas.{grows_append, grows_nothing}
-use Rattle.launcher.specs.Turns.{IsLed}
+use Rattle.launcher.specs.HostTurns.{IsLed}
 use Rattle.job_table.specs.Loads.{refused_with}
-use Rattle.launcher.specs.Lines.{answer_texts}
+use Rattle.launcher.specs.JournaledLines.{answer_texts}
 use Rattle.launcher.specs.LoadTurns.{is_memory, settings_after, Standing, standing}
 use Rattle.launcher.specs.Inputs.{answered}
 use Rattle.launcher.specs.Hosts.{HostTurnOf, IsSpared, HearsBy, Hears}

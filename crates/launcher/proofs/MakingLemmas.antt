@@ -20,11 +20,11 @@ use Rattle.outside.specs.declared.store.StoreFault.{StoreFault}
 use Rattle.outside.specs.declared.store.StoreFault.TheVariants as answers
 use Rattle.outside.specs.Stores.{StoreCall, AreTold}
 use Rattle.launcher.specs.Journals.{JournalState, Grows}
-use Rattle.launcher.specs.Turns.{IsLed}
+use Rattle.launcher.specs.HostTurns.{IsLed}
 use Rattle.table_opening.specs.Openings.{OpensBy, StandsOpened}
 use Rattle.launcher.specs.declared.host.HostFault.{HostFault}
 use Rattle.launcher.specs.declared.host.HostFault.TheVariants as faults
-use Rattle.launcher.specs.Faults.{IsFaultOf, fault_of_store}
+use Rattle.launcher.specs.TurnFaults.{IsFaultOf, fault_of_store}
 use Rattle.launcher.specs.Hosts.{with_overrides, IsNewWith}
 use Rattle.launcher.specs.Writable.{IsWritableHeader}
 use Rattle.child_edge.specs.Calls.{ToldCall}

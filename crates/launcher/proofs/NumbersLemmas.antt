@@ -24,7 +24,7 @@ use Rattle.outside.specs.declared.unheard.Unheard.{Unheard}
 use Rattle.outside.specs.Orders.{call_by, call_of, calls_in, answers_in, spawn_answer}
 use Rattle.history_model.specs.Turns.{JobOrder, wanting}
 use Rattle.history_model.proofs.LabelOrderLemmas.{same_self}
-use Rattle.launcher.specs.Turns.{AreNumbered, AreTheirs, IsLabel, KeepsNumbers, number_of}
+use Rattle.launcher.specs.HostTurns.{AreNumbered, AreTheirs, IsLabel, KeepsNumbers, number_of}
 use Rattle.history_model.proofs.BooleanLemmas.{and-both}
 use Rattle.history_model.proofs.LawfulLemmas.{eqb-self}
 

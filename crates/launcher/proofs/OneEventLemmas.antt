@@ -18,7 +18,7 @@ use Rattle.history_model.proofs.StepLemmas.{IsGood}
 use Rattle.job_table.specs.Tables.{Table, Row, Name, IsOnce, is_known, label_of, definition_of_number}
 use Rattle.job_table.specs.StandsFor.{KeepsJobs, KeepsState, labelled}
 use Rattle.job_defs.specs.Described.{Described}
-use Rattle.job_table.specs.Outcomes.{IsNextTable, IsNextTableUnless, UnlessMemory}
+use Rattle.job_table.specs.TableOutcomes.{IsNextTable, IsNextTableUnless, UnlessMemory}
 use Rattle.history_model.specs.declared.Refusal.TheVariants.{NoMemory}
 use Rattle.job_table.specs.Ends.{AreKnown, IsAnswer, Visits, Numbers, names_in}
 use Rattle.job_table.specs.Numbers.{row_names, IsNumbered}
@@ -28,12 +28,12 @@ use Rattle.outside.specs.Orders.{answers_in}
 use Rattle.history_model.specs.Turns.{JobOrder, wanting, is_answer}
 use Rattle.history_model.proofs.TurnsLemmas.{IsTurning, turning-step}
 use Rattle.history_model.proofs.LabelOrderLemmas.{heard_one-labels, same_self, order-run, all-stays}
-use Rattle.launcher.specs.Turns.{AreNumbered, Carried, orders_lent, IsUncalled, answer_event, AreTheirs, IsLabel, IsOrderly, IsWaiting, HappensTo, Happens, Handled, trace}
+use Rattle.launcher.specs.HostTurns.{AreNumbered, Carried, orders_lent, IsUncalled, answer_event, AreTheirs, IsLabel, IsOrderly, IsWaiting, HappensTo, Happens, Handled, trace}
 use Rattle.job_table.specs.Loads.{refused_with}
 use Rattle.job_core.specs.Memory.{NeedsNoMemory}
 use Rattle.ctl_protocol.specs.EventWriter.{event_line}
 use Rattle.launcher.specs.Journals.{JournalState, Grows}
-use Rattle.launcher.specs.Lines.{journaled_answer}
+use Rattle.launcher.specs.JournaledLines.{journaled_answer}
 use Rattle.launcher.proofs.CarryLemmas.{none-called}
 use Rattle.launcher.proofs.NumbersLemmas.{AreNamed, rows-named, label-is, named-next, orders-known, once-number, loaded, keeps-numbers, same-numbers, theirs-append, made-theirs}
 use Rattle.child_edge.specs.Calls.{ToldCall}

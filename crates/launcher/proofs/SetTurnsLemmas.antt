@@ -8,15 +8,15 @@ use Rattle.history_model.specs.Search.{or_else}
 use Rattle.history_model.specs.Labels.{Label, is_label}
 use Rattle.history_model.specs.Machine.{State, past_of}
 use Rattle.history_model.specs.Acceptance.{refusal_in, refusal_at, refusal_stored, refused_if}
-use Rattle.job_table.specs.Changes.{set_of}
+use Rattle.job_table.specs.SettingChanges.{set_of}
 use Rattle.job_table.specs.Tables.{Table}
 use Rattle.job_table.specs.StandsFor.{KeepsState}
 use Rattle.outside.specs.Stores.{StoreCall, AreTold, set_call}
 use Rattle.outside.proofs.AskLemmas.{told_nothing}
 use Rattle.launcher.specs.Journals.{JournalState, Grows}
-use Rattle.launcher.specs.Turns.{IsLed, NamesLabel}
+use Rattle.launcher.specs.HostTurns.{IsLed, NamesLabel}
 use Rattle.launcher.proofs.NumbersLemmas.{same-numbers}
-use Rattle.launcher.specs.Lines.{set_line}
+use Rattle.launcher.specs.JournaledLines.{set_line}
 use Rattle.launcher.specs.LoadTurns.{AsksStore, SetTurnOf, set_request, standing}
 use Rattle.launcher.proofs.LoadTurnsLemmas.{nothing_done}
 use Rattle.child_edge.specs.Calls.{ToldCall}

@@ -17,10 +17,10 @@ use Rattle.history_model.specs.Turns.{JobOrder, wanting}
 use Rattle.history_model.specs.AwaitedOrders.{weigh_orders}
 use Rattle.history_model.proofs.TurnsLemmas.{weigh-append}
 use Rattle.history_model.proofs.TurnBoundLemmas.{length-heavy}
-use Rattle.launcher.specs.Turns.{IsNamedIn, answer_event, AreTheirs, IsWaiting, Handled, Settled, trace}
+use Rattle.launcher.specs.HostTurns.{IsNamedIn, answer_event, AreTheirs, IsWaiting, Handled, Settled, trace}
 use Rattle.launcher.specs.Journals.{JournalState, Grows}
 use Rattle.launcher.proofs.JournalsLemmas.{grows_nothing, grows_append}
-use Rattle.launcher.specs.Lines.{answer_text, answer_texts}
+use Rattle.launcher.specs.JournaledLines.{answer_text, answer_texts}
 use Rattle.history_model.specs.declared.TheConstants.{MAX_JOBS}
 
 -- ---- one more event of the machine

@@ -8,7 +8,7 @@ use Rattle.job_table.specs.StandsFor.{KeepsState}
 use Rattle.outside.specs.Stores.{HoldsAfter, Stamp}
 use Rattle.launcher.specs.declared.event_ref.EventRef.{EventRef}
 use Rattle.launcher.specs.declared.event_ref.EventRef.TheVariants as happenings
-use Rattle.launcher.specs.Lines.{journaled_by, journaled_set}
+use Rattle.launcher.specs.JournaledLines.{journaled_by, journaled_set}
 use Rattle.launcher.specs.LoadTurns.{stamps_after}
 use Rattle.launcher.proofs.LoadTurnsLemmas.{unstamped}
 use Rattle.launcher.specs.Hosts.{label_asked}

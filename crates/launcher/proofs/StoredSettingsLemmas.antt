@@ -14,7 +14,7 @@ use Rattle.job_table.specs.Tables.{Name}
 use Rattle.job_table.specs.Loads.{load_of_bytes, given_in, refusal_outside}
 use Rattle.outside.specs.declared.unheard.Unheard.{Unheard}
 use Rattle.outside.specs.Orders.{answers_in}
-use Rattle.launcher.specs.Turns.{answer_event, answer_events}
+use Rattle.launcher.specs.HostTurns.{answer_event, answer_events}
 use Rattle.child_edge.specs.Calls.{ToldCall}
 
 answer-settings : (names : List Name) (p : Unheard) (s : State) → (step s (answer_event names p)).settings ≡ s.settings

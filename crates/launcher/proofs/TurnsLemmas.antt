@@ -17,7 +17,7 @@ use Rattle.history_model.specs.MachineLaws.{labels_of}
 use Rattle.history_model.proofs.StepLemmas.{good-step}
 use Rattle.job_table.specs.Tables.{Table, Name, label_of}
 use Rattle.job_table.specs.StandsFor.{KeepsState, labelled}
-use Rattle.job_table.specs.Outcomes.{UnlessMemory}
+use Rattle.job_table.specs.TableOutcomes.{UnlessMemory}
 use Rattle.history_model.specs.declared.Refusal.TheVariants.{NoMemory}
 use Rattle.outside.specs.declared.unheard.Unheard.{Unheard}
 use Rattle.outside.specs.Orders.{call_of, answer_in, answers_in, IsTellablePending}
@@ -25,13 +25,13 @@ use Rattle.history_model.specs.Turns.{JobOrder, wanting}
 use Rattle.history_model.specs.AwaitedOrders.{weigh_orders}
 use Rattle.history_model.proofs.LabelOrderLemmas.{heard-labels, heard_one-labels, order-run, all-stays, all-with}
 use Rattle.history_model.proofs.TurnBoundLemmas.{turning-start, within-step, length-heavy}
-use Rattle.launcher.specs.Turns.{answer_event, answer_events, AreTheirs, IsWaiting, Begins, Happens, Settled, NamesLabel, IsLabel, IsNamedIn, IsLed, TurnsOf, Turns, trace}
+use Rattle.launcher.specs.HostTurns.{answer_event, answer_events, AreTheirs, IsWaiting, Begins, Happens, Settled, NamesLabel, IsLabel, IsNamedIn, IsLed, TurnsOf, Turns, trace}
 use Rattle.job_table.specs.Loads.{refused_with}
-use Rattle.launcher.specs.Events.{event_of_ref}
+use Rattle.launcher.specs.EventRefs.{event_of_ref}
 use Rattle.ctl_protocol.specs.EventWriter.{event_line}
 use Rattle.launcher.specs.Journals.{JournalState, Grows}
 use Rattle.launcher.proofs.JournalsLemmas.{grows_append}
-use Rattle.launcher.specs.Lines.{journaled_by, answer_texts}
+use Rattle.launcher.specs.JournaledLines.{journaled_by, answer_texts}
 use Rattle.launcher.specs.declared.event_ref.EventRef.{EventRef}
 use Rattle.launcher.specs.declared.event_ref.EventRef.TheVariants as happenings
 use Rattle.launcher.proofs.CarryLemmas.{none-called}

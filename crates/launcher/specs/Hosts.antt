@@ -22,9 +22,9 @@ use Rattle.outside.specs.declared.asking.Outside.{Outside}
 use Rattle.outside.specs.Asking.{Told, told_of}
 use Rattle.outside.specs.Stores.{HoldsAfter, Stamp, StoreCall, AreTold, set_call}
 use Rattle.launcher.specs.Journals.{JournalState, Grows}
-use Rattle.launcher.specs.Turns.{AreNumbered, IsLed, KeepsNumbers, TurnsOf, trace}
+use Rattle.launcher.specs.HostTurns.{AreNumbered, IsLed, KeepsNumbers, TurnsOf, trace}
 use Rattle.launcher.specs.LoadTurns.{AsksFor, AsksNothing, AsksStore, IsUntouched, SetRequest, Standing, event_of_set, is_memory, label_written, load_request, set_request, stamps_after, standing}
-use Rattle.table_opening.specs.Events.{machine_event}
+use Rattle.table_opening.specs.JournalEvents.{machine_event}
 use Rattle.table_opening.specs.Openings.{OpensBy}
 use Rattle.launcher.specs.Inputs.{answered}
 use Rattle.launcher.specs.Writable.{IsWritableHeader}

@@ -1,11 +1,11 @@
 pub mod Accepting
-pub mod Events
-pub mod Faults
+pub mod EventRefs
+pub mod TurnFaults
 pub mod Hosts
 pub mod Inputs
 pub mod Journals
 pub mod Lends
-pub mod Lines
+pub mod JournaledLines
 pub mod LoadTurns
-pub mod Turns
+pub mod HostTurns
 pub mod Writable

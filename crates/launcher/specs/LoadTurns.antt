@@ -14,15 +14,15 @@ use Rattle.job_table.specs.Tables.{Table, Name, definition_of_number}
 use Rattle.job_table.specs.StandsFor.{KeepsState, acts_in}
 use Rattle.job_table.specs.Loads.{load_of_bytes, refusal_outside, described_in, number_in, new_setting_in}
 use Rattle.job_table.specs.declared.loading.Ready.{Ready}
-use Rattle.job_table.specs.Changes.{set_of}
-use Rattle.job_table.specs.Outcomes.{IsSameFor}
+use Rattle.job_table.specs.SettingChanges.{set_of}
+use Rattle.job_table.specs.TableOutcomes.{IsSameFor}
 use Rattle.child_edge.specs.Calls.{Tells, ToldCall}
 use Rattle.outside.specs.declared.asking.Outside.{Outside}
 use Rattle.outside.specs.Asking.{Asks, Told, told_of}
 use Rattle.outside.specs.Stores.{Stamp, StoreCall, AreTold, set_call}
 use Rattle.launcher.specs.Journals.{JournalState, Grows}
-use Rattle.launcher.specs.Turns.{AreNumbered, IsLed, KeepsNumbers, TurnsOf, Trace, trace}
-use Rattle.launcher.specs.Lines.{load_line, set_line}
+use Rattle.launcher.specs.HostTurns.{AreNumbered, IsLed, KeepsNumbers, TurnsOf, Trace, trace}
+use Rattle.launcher.specs.JournaledLines.{load_line, set_line}
 
 -- want of memory is the answer
 abbrev pub is_memory : Option Refusal → Bool

@@ -7,7 +7,7 @@ ghost use Rattle.history_model.specs.Turns.{JobOrder};
 ghost use Rattle.history_model.specs.AwaitedOrders.{weigh_orders};
 ghost use Rattle.job_table.specs.Tables.{Name};
 ghost use Rattle.outside.specs.declared.unheard.Unheard.{Unheard as Answered};
-ghost use Rattle.launcher.specs.Turns.{IsWaiting, Handled, Settled, trace};
+ghost use Rattle.launcher.specs.HostTurns.{IsWaiting, Handled, Settled, trace};
 
 use crate::event_ref::EventRef;
 use crate::events::hear_answer;

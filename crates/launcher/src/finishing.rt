@@ -5,7 +5,7 @@ ghost use Rattle.history_model.specs.Machine.{State, Event};
 ghost use Rattle.job_table.specs.Tables.{Table};
 ghost use Rattle.job_table.specs.StandsFor.{KeepsState};
 ghost use Rattle.launcher.specs.Journals.{JournalState, Grows};
-ghost use Rattle.launcher.specs.Turns.{IsLed, NamesLabel, trace};
+ghost use Rattle.launcher.specs.HostTurns.{IsLed, NamesLabel, trace};
 ghost use Rattle.launcher.specs.LoadTurns.{Finishes, HasTaken};
 
 use crate::host::Host;

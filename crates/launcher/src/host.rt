@@ -7,7 +7,7 @@ ghost use Rattle.outside.specs.declared.store.StoreFault.{StoreFault};
 ghost use Rattle.outside.specs.Stores.{HoldsAfter};
 ghost use Rattle.launcher.specs.Journals.{fresh, held, reported, is_writing};
 ghost use Rattle.launcher.specs.Hosts.{IsNewWith, stands};
-ghost use Rattle.launcher.specs.Faults.{ComesOf, FaultOf};
+ghost use Rattle.launcher.specs.TurnFaults.{ComesOf, FaultOf};
 ghost use Rattle.launcher.specs.Lends.{lends_edge};
 
 use crate::answer_queue::AnswerQueue;

@@ -5,7 +5,7 @@ ghost use Rattle.ctl_protocol.specs.HeaderLines.{header_line};
 ghost use Rattle.launcher.specs.Journals.{Grows, fresh, held};
 ghost use Rattle.table_opening.specs.Openings.{StandsOpened};
 ghost use Rattle.launcher.specs.Hosts.{with_overrides};
-ghost use Rattle.launcher.specs.Faults.{FaultOf, IsFaultWith, fault_of_store};
+ghost use Rattle.launcher.specs.TurnFaults.{FaultOf, IsFaultWith, fault_of_store};
 ghost use Rattle.launcher.specs.Writable.{IsWritableHeader};
 
 use crate::answer_queue::AnswerQueue;

@@ -10,7 +10,7 @@ ghost use Rattle.job_defs.specs.Definitions.{has_sockets};
 ghost use Rattle.job_defs.specs.Keys.{def_of};
 ghost use Rattle.job_table.specs.Tables.{Name};
 ghost use Rattle.job_table.specs.Loads.{load_of_bytes, refusal_outside};
-ghost use Rattle.launcher.specs.Turns.{answer_events};
+ghost use Rattle.launcher.specs.HostTurns.{answer_events};
 ghost use Rattle.child_edge.specs.Calls.{ToldCall};
 
 /// Only the first event of a turn sets anything.

@@ -3,7 +3,7 @@
 ghost use Rattle.std.specs.Prelude.{◌≡◌, IfOk};
 ghost use Rattle.ctl_protocol.specs.EventWriter.{event_line};
 ghost use Rattle.launcher.specs.Journals.{Grows};
-ghost use Rattle.launcher.specs.Lines.{journaled_by};
+ghost use Rattle.launcher.specs.JournaledLines.{journaled_by};
 
 use crate::event_ref::EventRef;
 use crate::journal::Journal;

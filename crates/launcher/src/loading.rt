@@ -13,8 +13,8 @@ ghost use Rattle.launcher.specs.Journals.{JournalState, Grows};
 ghost use Rattle.outside.specs.Asking.{told_of};
 ghost use Rattle.outside.specs.Stores.{HoldsAfter, stamp_if};
 ghost use Rattle.launcher.specs.Hosts.{stands};
-ghost use Rattle.launcher.specs.Turns.{IsLed, trace};
-ghost use Rattle.launcher.specs.Lines.{load_line};
+ghost use Rattle.launcher.specs.HostTurns.{IsLed, trace};
+ghost use Rattle.launcher.specs.JournaledLines.{load_line};
 ghost use Rattle.launcher.specs.LoadTurns.{LoadTurnOf, IsUntouched, Makes, EndsLoad, event_of_load, is_memory, label_written, load_request, ready_load, settings_after, stamps_after};
 
 use crate::host::Host;

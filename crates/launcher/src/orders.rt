@@ -2,7 +2,7 @@
 
 ghost use Rattle.std.specs.Prelude.{◌≡◌};
 ghost use Rattle.job_table.specs.Ends.{AreKnown};
-ghost use Rattle.launcher.specs.Turns.{Carried, orders_lent, AreKnownIn};
+ghost use Rattle.launcher.specs.HostTurns.{Carried, orders_lent, AreKnownIn};
 ghost use Rattle.job_table.specs.Loads.{refused_with};
 
 use crate::answer_queue::AnswerQueue;

@@ -4,7 +4,7 @@ ghost use Rattle.std.specs.Prelude.{◌≡◌, IfOk, Some, true, false};
 ghost use Rattle.history_model.specs.declared.event.Event.TheVariants as journaled;
 ghost use Rattle.ctl_protocol.specs.EventWriter.{event_line};
 ghost use Rattle.launcher.specs.Journals.{Grows};
-ghost use Rattle.launcher.specs.Lines.{journaled_load, journaled_set, load_line, set_line};
+ghost use Rattle.launcher.specs.JournaledLines.{journaled_load, journaled_set, load_line, set_line};
 ghost use Rattle.launcher.specs.LoadTurns.{is_memory};
 
 use crate::journal::Journal;

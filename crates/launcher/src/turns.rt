@@ -5,14 +5,14 @@ ghost use Rattle.history_model.specs.declared.Refusal.TheVariants.{NoMemory};
 ghost use Rattle.history_model.specs.declared.event.Event.TheVariants as journaled;
 ghost use Rattle.ctl_protocol.specs.EventWriter.{event_line};
 ghost use Rattle.job_table.specs.Loads.{refused_with};
-ghost use Rattle.job_table.specs.Outcomes.{UnlessMemory};
-ghost use Rattle.launcher.specs.Events.{event_of_ref, is_clock};
+ghost use Rattle.job_table.specs.TableOutcomes.{UnlessMemory};
+ghost use Rattle.launcher.specs.EventRefs.{event_of_ref, is_clock};
 ghost use Rattle.launcher.specs.Hosts.{HostHears, HostStamps};
 ghost use Rattle.launcher.specs.Accepting.{is_accepted_load};
 ghost use Rattle.launcher.specs.Inputs.{input_event, event_if_label, wants_memory};
-ghost use Rattle.launcher.specs.Lines.{journaled_by};
+ghost use Rattle.launcher.specs.JournaledLines.{journaled_by};
 ghost use Rattle.launcher.specs.LoadTurns.{is_memory};
-ghost use Rattle.launcher.specs.Turns.{Turns, IsUncalled, trace};
+ghost use Rattle.launcher.specs.HostTurns.{Turns, IsUncalled, trace};
 ghost use Rattle.launcher.specs.Writable.{WritesWhat};
 
 use crate::event_ref::EventRef;

@@ -5,7 +5,7 @@ use Rattle.ctl_protocol.specs.declared.header.Header.{Header}
 use Rattle.outside.specs.Stores.{StoreCall}
 use Rattle.launcher.specs.Journals.{JournalState}
 use Rattle.launcher.specs.Hosts.{IsNew}
-use Rattle.launcher_laws.specs.Runs.{Snapshot, Turn, AreTurns}
+use Rattle.launcher_laws.specs.TurnRuns.{Snapshot, Turn, AreTurns}
 use Rattle.launcher_laws.specs.Lasting.{Lasts}
 use Rattle.launcher_laws.proofs.RunsLemmas.{went}
 use Rattle.child_edge.specs.Calls.{ToldCall}

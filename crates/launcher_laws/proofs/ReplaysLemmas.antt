@@ -10,17 +10,17 @@ use Rattle.history_model.specs.Step.{outcomes}
 use Rattle.ctl_protocol.specs.declared.header.Header.{Header}
 use Rattle.ctl_protocol.specs.EventWriter.{event_line}
 use Rattle.ctl_protocol.specs.HeaderLines.{header_line}
-use Rattle.ctl_protocol.specs.Outcomes.{outcome_line}
-use Rattle.replay_loop.specs.Outcomes.{input_lines}
+use Rattle.ctl_protocol.specs.OutcomeLines.{outcome_line}
+use Rattle.replay_loop.specs.ReplayOutcomes.{input_lines}
 use Rattle.replay.proofs.OneOutputLemmas.{one_output}
 use Rattle.outside.specs.Stores.{StoreCall}
 use Rattle.launcher.specs.declared.journal.Phase.TheVariants.{Open}
 use Rattle.launcher.specs.Journals.{fresh}
-use Rattle.table_opening.specs.Events.{machine_event, read_as, event_in}
+use Rattle.table_opening.specs.JournalEvents.{machine_event, read_as, event_in}
 use Rattle.table_opening.specs.Openings.{OpensBy}
 use Rattle.table_opening.specs.Output.{IsOutput}
 use Rattle.launcher.specs.Hosts.{IsNew, with_overrides}
-use Rattle.launcher_laws.specs.Runs.{Snapshot, Turn, AreTurns, events_in as parts_events}
+use Rattle.launcher_laws.specs.TurnRuns.{Snapshot, Turn, AreTurns, events_in as parts_events}
 use Rattle.launcher.specs.Writable.{IsWritable, IsWritableHeader}
 use Rattle.launcher_laws.specs.Replays.{outcome_texts, IsReplayed}
 use Rattle.launcher_laws.proofs.EventsLemmas.{event_read}

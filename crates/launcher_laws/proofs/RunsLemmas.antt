@@ -21,15 +21,15 @@ use Rattle.launcher.specs.declared.journal.Phase.{Phase}
 use Rattle.launcher.specs.declared.journal_writer.Cause.{Cause}
 use Rattle.launcher.specs.declared.journal.Phase.TheVariants.{Open, Closed, Reported}
 use Rattle.launcher.specs.Journals.{JournalState, Grows, GrowsIn, reported}
-use Rattle.launcher.specs.Lines.{journaled_answer, answer_texts}
-use Rattle.launcher.specs.Turns.{IsLed, answer_event, answer_events}
+use Rattle.launcher.specs.JournaledLines.{journaled_answer, answer_texts}
+use Rattle.launcher.specs.HostTurns.{IsLed, answer_event, answer_events}
 use Rattle.launcher.proofs.StoredSettingsLemmas.{turn_settings}
 use Rattle.launcher.specs.LoadTurns.{is_memory}
-use Rattle.table_opening.specs.Events.{machine_event}
+use Rattle.table_opening.specs.JournalEvents.{machine_event}
 use Rattle.launcher.specs.Inputs.{answered}
 use Rattle.launcher.specs.Hosts.{HostTurnOf, IsSpared, HearsBy}
 use Rattle.launcher.specs.Writable.{IsWritable, IsWritableIf}
-use Rattle.launcher_laws.specs.Runs.{answer_told, Snapshot, Turn, IsBetween, WasHeard, AreTurns, IsPartOf, AreParts, Part, outcomes_in, events_in as parts_events}
+use Rattle.launcher_laws.specs.TurnRuns.{answer_told, Snapshot, Turn, IsBetween, WasHeard, AreTurns, IsPartOf, AreParts, Part, outcomes_in, events_in as parts_events}
 
 -- ---- runs in two parts
 

@@ -11,9 +11,9 @@ use Rattle.history_model.specs.Labels.{Label, is_label}
 use Rattle.job_table.specs.Tables.{Name, label_of}
 use Rattle.outside.specs.declared.unheard.Unheard.{Unheard}
 use Rattle.outside.specs.Orders.{answers_in, IsTellable, IsTellablePending}
-use Rattle.launcher.specs.Lines.{journaled_answer}
-use Rattle.launcher.specs.Turns.{IsNamedIn, IsTextLabel}
-use Rattle.launcher_laws.specs.Runs.{Turn, Part, IsPartOf, AreParts, answer_told, events_in}
+use Rattle.launcher.specs.JournaledLines.{journaled_answer}
+use Rattle.launcher.specs.HostTurns.{IsNamedIn, IsTextLabel}
+use Rattle.launcher_laws.specs.TurnRuns.{Turn, Part, IsPartOf, AreParts, answer_told, events_in}
 use Rattle.outside.specs.declared.asking.Outside.{Outside}
 use Rattle.launcher.specs.Inputs.{answered}
 use Rattle.launcher.specs.Writable.{IsWritable}

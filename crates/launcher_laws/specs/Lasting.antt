@@ -4,8 +4,8 @@ use Rattle.history_model.specs.declared.event.Setting.{Setting}
 use Rattle.history_model.specs.Machine.{State}
 use Rattle.history_model.specs.Step.{run, outcomes}
 use Rattle.job_table.specs.StandsFor.{KeepsState}
-use Rattle.table_opening.specs.Events.{machine_event}
-use Rattle.launcher_laws.specs.Runs.{Snapshot, Turn, Part, AreParts, events_in, outcomes_in}
+use Rattle.table_opening.specs.JournalEvents.{machine_event}
+use Rattle.launcher_laws.specs.TurnRuns.{Snapshot, Turn, Part, AreParts, events_in, outcomes_in}
 
 -- From the machine s the turns led to the last moment, by the events of their parts. The replies
 -- and the calls are the machine's, the table stands for the machine that the events lead to, and
@@ -19,7 +19,7 @@ pub record Lasts {T : Type 0} (holds : T → List Setting → Type 0) (s : State
   pub held : holds last.store (run (map machine_event (events_in parts)) s).settings
 
 -- the settings of that machine
-abbrev pub settings_of :
+abbrev pub settings_at_last :
     {T : Type 0} {holds : T → List Setting → Type 0} {s : State} {turns : List (Turn T)}
     {last : Snapshot T} → Lasts holds s turns last → List Setting
-settings_of {s = s} lasts = (run (map machine_event (events_in lasts.parts)) s).settings
+settings_at_last {s = s} lasts = (run (map machine_event (events_in lasts.parts)) s).settings

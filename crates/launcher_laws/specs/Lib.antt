@@ -1,3 +1,3 @@
-pub mod Runs
+pub mod TurnRuns
 pub mod Lasting
 pub mod Replays

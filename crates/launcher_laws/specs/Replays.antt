@@ -5,11 +5,11 @@ use Rattle.std.specs.Io.KnownBytes.{Appends}
 use Rattle.ctl_protocol.specs.declared.header.Header.{Header}
 use Rattle.ctl_protocol.specs.EventWriter.{event_line}
 use Rattle.ctl_protocol.specs.HeaderLines.{header_line}
-use Rattle.ctl_protocol.specs.Outcomes.{outcome_line}
-use Rattle.replay_loop.specs.Outcomes.{input_lines}
+use Rattle.ctl_protocol.specs.OutcomeLines.{outcome_line}
+use Rattle.replay_loop.specs.ReplayOutcomes.{input_lines}
 use Rattle.replay_loop.specs.Reading.{Finished}
 use Rattle.table_opening.specs.Output.{IsOutput}
-use Rattle.launcher_laws.specs.Runs.{Turn, Part, AreParts, events_in, outcomes_in}
+use Rattle.launcher_laws.specs.TurnRuns.{Turn, Part, AreParts, events_in, outcomes_in}
 
 -- the lines of all outcomes, turn by turn
 abbrev pub outcome_texts : List Part → List ℕ

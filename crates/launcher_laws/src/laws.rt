@@ -7,15 +7,15 @@ ghost use Rattle.sqlite.specs.Held.{state};
 ghost use Rattle.sqlite.specs.State.{HasCleanDisk};
 ghost use Rattle.history_model.specs.declared.event.Setting.{Setting};
 ghost use Rattle.ctl_protocol.specs.declared.header.Header.{Header};
-ghost use Rattle.override_store.specs.OverrideStores.{HoldsSettings, IsOpenedOn, rows_in};
+ghost use Rattle.override_store.specs.OverrideStores.{HoldsSettings, IsOpenedOn, setting_rows};
 ghost use Rattle.override_store.specs.Settings.{HoldsEach, ListAlike};
 ghost use Rattle.outside.specs.Stores.{StoreCall};
 ghost use Rattle.override_store.specs.declared.stored_settings.StoredSettings.{StoredSettings as Stored};
 ghost use Rattle.launcher.specs.declared.journal.Phase.TheVariants.{Open};
 ghost use Rattle.launcher.specs.Journals.{JournalState, fresh};
 ghost use Rattle.launcher.specs.Hosts.{IsNew, with_overrides};
-ghost use Rattle.launcher_laws.specs.Runs.{Snapshot, Turn, AreTurns};
-ghost use Rattle.launcher_laws.specs.Lasting.{Lasts, settings_of};
+ghost use Rattle.launcher_laws.specs.TurnRuns.{Snapshot, Turn, AreTurns};
+ghost use Rattle.launcher_laws.specs.Lasting.{Lasts, settings_at_last};
 ghost use Rattle.launcher_laws.specs.Replays.{IsReplayed};
 ghost use Rattle.child_edge.specs.Calls.{ToldCall};
 
@@ -52,10 +52,10 @@ pub fn a_store_opened_again_has_the_last_settings<S: Alter, R: Alter>(
         IsOpenedOn (state S.Store last.store.store) (state R.Store again.now) →
         HasCleanDisk (state R.Store again.now) →
         (listed : List Setting) →
-        HoldsEach (rows_in (state R.Store again.now).now.trees) (reverse listed) →
+        HoldsEach (setting_rows (state R.Store again.now).now.trees) (reverse listed) →
         (lasts : Lasts (λ (s : Stored S). HoldsSettings (state S.Store s.store))
         new.machine turns last)
-        × ListAlike (reverse listed) (settings_of lasts) }
+        × ListAlike (reverse listed) (settings_at_last lasts) }
 {
     let _ = store;
     let _ = again;

@@ -9,16 +9,16 @@ use Rattle.history_model.specs.Moments.{next_moment}
 use Rattle.history_model.specs.Machine.{Job}
 use Rattle.history_model.specs.Calendar.{minutes_above, last_before, crossed}
 use Rattle.history_model.proofs.BooleanLemmas.{or-second}
-use Rattle.job_table.specs.Moments.{is_moment, IsNextUp}
-use Rattle.live_loop.specs.News.{is_reached, is_minute_crossed}
+use Rattle.job_table.specs.NextMoments.{is_moment, IsNextUp}
+use Rattle.live_loop.specs.News.{is_moment_reached, is_any_minute_crossed}
 
 module _ (up : ℕ) where
   abbrev are_reached : List Job → Bool
-  are_reached jobs = list_any (λ job. is_reached up (next_moment job.past)) jobs
+  are_reached jobs = list_any (λ job. is_moment_reached up (next_moment job.past)) jobs
 
   none : (jobs : List Job) → AllByRecursion (λ job. next_moment job.past ≡ None) jobs → are_reached jobs ≡ false
   none [] all = refl
-  none (job ∷ jobs) (is, all) = ap (λ o. is_reached up o || are_reached jobs) is ∙ none jobs all
+  none (job ∷ jobs) (is, all) = ap (λ o. is_moment_reached up o || are_reached jobs) is ∙ none jobs all
 
   some : (m : ℕ) (jobs : List Job) → nat_le m up ≡ true → list_any (λ job. is_moment m (next_moment job.past)) jobs ≡ true → are_reached jobs ≡ true
   some m [] less e = cc
@@ -29,21 +29,21 @@ module _ (up : ℕ) where
     at n false is later e = or-second (nat_le n up) (are_reached jobs) (later e)
 
     go : (o : Option ℕ) → (list_any (λ j. is_moment m (next_moment j.past)) jobs ≡ true → are_reached jobs ≡ true) →
-        (is_moment m o || list_any (λ j. is_moment m (next_moment j.past)) jobs) ≡ true → (is_reached up o || are_reached jobs) ≡ true
+        (is_moment m o || list_any (λ j. is_moment m (next_moment j.past)) jobs) ≡ true → (is_moment_reached up o || are_reached jobs) ≡ true
     go None later e = later e
     go (Some n) later e = at n (n == m) refl later e
 
   late : (m : ℕ) (jobs : List Job) → nat_le m up ≡ false → AllByRecursion (λ job. ForSome (next_moment job.past) (λ n. m ≤ n)) jobs → are_reached jobs ≡ false
   late m [] less all = refl
   late m (job ∷ jobs) less (far, all) = go (late m jobs less all) (next_moment job.past) far where
-    go : are_reached jobs ≡ false → (o : Option ℕ) → ForSome o (λ n. m ≤ n) → (is_reached up o || are_reached jobs) ≡ false
+    go : are_reached jobs ≡ false → (o : Option ℕ) → ForSome o (λ n. m ≤ n) → (is_moment_reached up o || are_reached jobs) ≡ false
     go rest None far = rest
     go rest (Some n) far =
         let above : m ≤ n = far n refl in
         let apart : nat_le n up ≡ false = grind (arith, nat_tests, less, above) in
         ap (λ b. b || are_reached jobs) apart ∙ rest
 
-  pub reached : (moment : Option ℕ) (jobs : List Job) → IsNextUp jobs moment → is_reached up moment ≡ list_any (λ job. is_reached up (next_moment job.past)) jobs
+  pub reached : (moment : Option ℕ) (jobs : List Job) → IsNextUp jobs moment → is_moment_reached up moment ≡ list_any (λ job. is_moment_reached up (next_moment job.past)) jobs
   reached None jobs all = sym (none jobs all)
   reached (Some m) jobs (there, all) = go (nat_le m up) refl where
     go : (b : Bool) → nat_le m up ≡ b → nat_le m up ≡ are_reached jobs
@@ -54,7 +54,7 @@ some-above : (k n : ℕ) → nat_lt 0 n ≡ list_any (λ minute. true) (minutes_
 some-above k zero = refl
 some-above k (suc n) = grind (arith, nat_tests)
 
-pub minute-crossed : (before wall : ℕ) → nat_lt (before / 60) (wall / 60) ≡ is_minute_crossed before wall
+pub minute-crossed : (before wall : ℕ) → nat_lt (before / 60) (wall / 60) ≡ is_any_minute_crossed before wall
 minute-crossed before wall =
     let same : nat_lt (before / 60) (wall / 60) ≡ nat_lt 0 (wall / 60 - last_before before wall) = grind (arith, nat_tests) in
     same ∙ some-above (last_before before wall) (wall / 60 - last_before before wall)

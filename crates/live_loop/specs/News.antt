@@ -5,20 +5,20 @@ use Rattle.history_model.specs.declared.Reading.{Reading}
 use Rattle.history_model.specs.Calendar.{crossed}
 use Rattle.history_model.specs.Moments.{next_moment}
 use Rattle.history_model.specs.Machine.{Job}
-use Rattle.job_table.specs.Moments.{have_calendars}
+use Rattle.job_table.specs.NextMoments.{have_calendars}
 
 -- the moment, if there is one, is reached
-abbrev pub is_reached : ℕ → Option ℕ → Bool
-is_reached up None = false
-is_reached up (Some moment) = nat_le moment up
+abbrev pub is_moment_reached : ℕ → Option ℕ → Bool
+is_moment_reached up None = false
+is_moment_reached up (Some moment) = nat_le moment up
 
 -- some civil minute is crossed between the two readings of the wall clock
-abbrev pub is_minute_crossed : ℕ → ℕ → Bool
-is_minute_crossed before wall = list_any (λ minute. true) (crossed before wall)
+abbrev pub is_any_minute_crossed : ℕ → ℕ → Bool
+is_any_minute_crossed before wall = list_any (λ minute. true) (crossed before wall)
 
 -- A reading may change something since the last one: some job's next moment is reached, or some job
 -- has calendar entries and a civil minute is crossed, or the wall clock was set back.
 abbrev pub may_change : List Job → Reading → Reading → Bool
 may_change jobs last at =
-    list_any (λ job. is_reached at.up (next_moment job.past)) jobs
-    || (have_calendars jobs && is_minute_crossed last.wall at.wall || nat_lt at.wall last.wall)
+    list_any (λ job. is_moment_reached at.up (next_moment job.past)) jobs
+    || (have_calendars jobs && is_any_minute_crossed last.wall at.wall || nat_lt at.wall last.wall)

@@ -8,7 +8,7 @@ ghost use Rattle.history_model.specs.Calendar.{calendar_fires};
 ghost use Rattle.history_model.specs.NextMomentByFacts.{has_come, sooner};
 ghost use Rattle.history_model.specs.Reasons.{needs_event};
 ghost use Rattle.history_model.specs.NextRun.{spawns_after, looked_ahead, IsNextRun};
-ghost use Rattle.calendar_due.specs.Rules.{minute_at};
+ghost use Rattle.calendar_due.specs.ZoneRules.{minute_at};
 ghost use Rattle.next_run.specs.Told.{IsTold};
 
 use calendar_due::{Calendar, Zone};

@@ -23,7 +23,7 @@ use Rattle.sqlite.specs.Tree.{Trees}
 use Rattle.sqlite.specs.Effect.{Database}
 use Rattle.sqlite.specs.State.{State, mode_of}
 use Rattle.sqlite.proofs.Callers.{one_step}
-use Rattle.override_store.specs.Tables.{both_schema, overrides}
+use Rattle.override_store.specs.StoreTables.{both_schema, overrides}
 use Rattle.override_store.proofs.TextLemmas.{cleared, clear_command}
 use Rattle.override_store.proofs.RowLemmas.{goes, own_rowid}
 use Rattle.override_store.proofs.PutLemmas.{went, same_value, apart}

@@ -9,7 +9,7 @@ use Rattle.sqlite.specs.Table.{Table}
 use Rattle.sqlite.specs.Compile.{table_defined_by}
 use Rattle.sqlite.specs.State.{State, mode_of}
 use Rattle.sqlite_catalog.specs.Change.{KeepsRows}
-use Rattle.override_store.specs.Tables.{overrides, settings, both_schema, first_schema, no_schema}
+use Rattle.override_store.specs.StoreTables.{overrides, settings, both_schema, first_schema, no_schema}
 use Rattle.override_store.proofs.TextLemmas.{first_statement, second_statement, first_defines, second_defines}
 use Rattle.override_store.proofs.PutLemmas.{went, same_value}
 

@@ -4,15 +4,15 @@ use Rattle.sqlite.specs.Tree.{Trees}
 use Rattle.sqlite_disk.specs.Disk.{MoreFaults}
 use Rattle.sqlite.specs.Effect.{Database}
 use Rattle.sqlite.specs.State.{State, HasCleanDisk, Survives}
-use Rattle.override_store.specs.OverrideStores.{IsOurs, rows_in}
+use Rattle.override_store.specs.OverrideStores.{IsOurs, setting_rows}
 use Rattle.sqlite.specs.Order.{Row}
 
 module _ {A : Type 0} (Keeps : List Row → A → Type 0) {old new : State} {Commits : Trees → Type 0} (survives : Survives old new Commits) (was_open : HasCleanDisk new → IsTrue new.is_open → IsTrue old.is_open) where
   -- a store keeps this, as long as it is open over an honest disk
   abbrev Has : State → A → Type 0
-  Has s it = HasCleanDisk s → IsTrue s.is_open → IsOurs s × Keeps (rows_in s.now.trees) it
+  Has s it = HasCleanDisk s → IsTrue s.is_open → IsOurs s × Keeps (setting_rows s.now.trees) it
 
-  before : (it : A) → Has old it → HasCleanDisk new → IsTrue new.is_open → IsOurs old × Keeps (rows_in old.now.trees) it
+  before : (it : A) → Has old it → HasCleanDisk new → IsTrue new.is_open → IsOurs old × Keeps (setting_rows old.now.trees) it
   before it holds clean up =
       let early : HasCleanDisk old = omega (arith, clean, survives.clean) in
       holds early (was_open clean up)
@@ -22,10 +22,10 @@ module _ {A : Type 0} (Keeps : List Row → A → Type 0) {old new : State} {Com
   kept same it holds clean up =
       let was = before it holds clean up in
       let both = same clean was.0 up in
-      (both.0, subst (λ (d : Database). Keeps (rows_in d.trees) it) (sym both.1) was.1)
+      (both.0, subst (λ (d : Database). Keeps (setting_rows d.trees) it) (sym both.1) was.1)
 
   -- the call that sets answers
-  pub answered : {U E : Type 0} (r : Result U E) (more : A → A) → (HasCleanDisk new → IsOurs old → OnOk r (IsOurs new)) → (HasCleanDisk new → IsOurs old → OnOk r ((it : A) → Keeps (rows_in old.now.trees) it → Keeps (rows_in new.now.trees) (more it)))
+  pub answered : {U E : Type 0} (r : Result U E) (more : A → A) → (HasCleanDisk new → IsOurs old → OnOk r (IsOurs new)) → (HasCleanDisk new → IsOurs old → OnOk r ((it : A) → Keeps (setting_rows old.now.trees) it → Keeps (setting_rows new.now.trees) (more it)))
       → (HasCleanDisk new → IsOurs old → IsTrue new.is_open → OnErr r (IsOurs new × (new.now ≡ old.now))) → (it : A) → Has old it → OnOk r (Has new (more it)) × OnErr r (Has new it)
   answered (Ok u) more ours newest same it holds =
       (λ clean up. let was = before it holds clean up in (ours clean was.0, newest clean was.0 it was.1), tt)

@@ -20,7 +20,7 @@ use Rattle.sqlite.specs.Tree.{Trees}
 use Rattle.sqlite.specs.Effect.{Database}
 use Rattle.sqlite.specs.State.{State, mode_of}
 use Rattle.sqlite_catalog.specs.Listing.{IsSound}
-use Rattle.override_store.specs.Tables.{both_schema}
+use Rattle.override_store.specs.StoreTables.{both_schema}
 use Rattle.override_store.specs.SettingRows.{HasRow, IsFlag, Moves}
 use Rattle.override_store.proofs.TextLemmas.{moved, move_command}
 use Rattle.override_store.proofs.PutLemmas.{went, same_value}

@@ -17,7 +17,7 @@ use Rattle.sqlite.specs.Effect.{Database}
 use Rattle.sqlite.specs.Schema.{Schema}
 use Rattle.sqlite_catalog.specs.Listing.{IsSound}
 use Rattle.history_model.specs.Labels.{is_same}
-use Rattle.override_store.specs.OverrideStores.{AreOurs, rows_in}
+use Rattle.override_store.specs.OverrideStores.{AreOurs, setting_rows}
 use Rattle.override_store.specs.Settings.{shown, Lists}
 use Rattle.override_store.proofs.RowLemmas.{equal_is, text_is}
 use Rattle.override_store.proofs.TypedLemmas.{seconds_alone, seconds_labelled}
@@ -78,8 +78,8 @@ module _ {A : Type 0} (label_of : A → List ℕ) (Reads : Row → A → Type 0)
   labels_once (x ∷ xs) [] all apart = absurd all
   labels_once (x ∷ xs) (e ∷ es) all apart = (apart_from x (label_of e) (labelled x e all.0) xs es all.1 apart.0, labels_once xs es all.1 apart.1)
 
-  pub once : (db : Database) (all : List A) → AreOurs db → Lists label_of Reads (rows_in db.trees) all → IsDistinct is_same (map label_of all)
+  pub once : (db : Database) (all : List A) → AreOurs db → Lists label_of Reads (setting_rows db.trees) all → IsDistinct is_same (map label_of all)
   once db all ours it =
       let sound = subst (λ (c : Schema). IsSound c db.trees) ours.schema ours.sound in
-      let rows = rows_once (rows_in db.trees) ours.shaped.0 (λ r h. seconds_labelled db.trees sound r h) (λ r s l p q. seconds_alone db.trees sound ours.shaped r s l p q) in
-      labels_once it.answer all it.each (IsDistinct-IsPermutation ties flips (map shown (rows_in db.trees)) it.answer it.same rows)
+      let rows = rows_once (setting_rows db.trees) ours.shaped.0 (λ r h. seconds_labelled db.trees sound r h) (λ r s l p q. seconds_alone db.trees sound ours.shaped r s l p q) in
+      labels_once it.answer all it.each (IsDistinct-IsPermutation ties flips (map shown (setting_rows db.trees)) it.answer it.same rows)

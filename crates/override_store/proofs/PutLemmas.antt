@@ -21,7 +21,7 @@ use Rattle.sqlite_rules.specs.Edit.{are_fresh, without_all, put_all, with_rowid}
 use Rattle.sqlite.specs.Rows.{Written, Task, Puts, Clears, Tries, TriesEach, mended, joined}
 use Rattle.sqlite.specs.Tree.{Trees, put_row}
 use Rattle.sqlite.proofs.Callers.{one_step}
-use Rattle.override_store.specs.Tables.{settings, both_schema}
+use Rattle.override_store.specs.StoreTables.{settings, both_schema}
 use Rattle.override_store.specs.SettingRows.{HasRow}
 use Rattle.override_store.proofs.RowLemmas.{kept, next_id, puts}
 

@@ -6,7 +6,7 @@ use Rattle.sqlite.specs.Effect.{Database}
 use Rattle.sqlite.specs.State.{State, HasCleanDisk, IsUnchanged, IsRolledBack, IsNotRun, Survives}
 use Rattle.sqlite.proofs.StateLemmas.{survives_then, survives_weaker}
 use Rattle.sqlite.specs.declared.error.Error.{Error}
-use Rattle.override_store.specs.OverrideStores.{AreOurs, CommitsOpen, HoldsSetting, IsOurs, SetsOne, StaysOurs, rows_in, rows_now}
+use Rattle.override_store.specs.OverrideStores.{AreOurs, CommitsOpen, HoldsSetting, IsOurs, SetsOne, StaysOurs, setting_rows, rows_now}
 use Rattle.override_store.specs.SettingRows.{Sets, Stamps}
 use Rattle.override_store.proofs.CallLemmas.{still_open}
 
@@ -22,7 +22,7 @@ ours_then old mid same ours = (still_open old mid ours same.0.is_open (inl same)
 module _ (old mid new : State) (same : IsUnchanged old mid) where
   pub sets_then : {U E : Type 0} (r : Result U E) (label : List ℕ) (disabled : Bool) (changed : ℕ) → OnOk r (SetsOne mid new label disabled changed) → OnOk r (SetsOne old new label disabled changed)
   sets_then r label disabled changed h =
-      subst (λ (d : Database). OnOk r (IsOurs new × Sets (rows_in d.trees) (rows_now new) label disabled × Stamps (rows_in d.trees) (rows_now new) label changed)) same.0.now_is h
+      subst (λ (d : Database). OnOk r (IsOurs new × Sets (setting_rows d.trees) (rows_now new) label disabled × Stamps (setting_rows d.trees) (rows_now new) label changed)) same.0.now_is h
 
   pub stays_then : StaysOurs mid new → StaysOurs old new
   stays_then h = subst (λ (d : Database). IsOurs new × (new.now ≡ d)) same.0.now_is h
@@ -32,7 +32,7 @@ module _ (old mid new : State) (same : IsUnchanged old mid) where
 
   pub holds_then : (db : Trees) (label : List ℕ) (disabled : Bool) (changed : ℕ) → HoldsSetting mid db label disabled changed → HoldsSetting old db label disabled changed
   holds_then db label disabled changed h =
-      subst (λ (d : Database). (it : Database) × (db ≡ it.trees) × AreOurs it × Sets (rows_in d.trees) (rows_in db) label disabled × Stamps (rows_in d.trees) (rows_in db) label changed) same.0.now_is h
+      subst (λ (d : Database). (it : Database) × (db ≡ it.trees) × AreOurs it × Sets (setting_rows d.trees) (setting_rows db) label disabled × Stamps (setting_rows d.trees) (setting_rows db) label changed) same.0.now_is h
 
 -- what is committed once the text was compiled was committed on an open connection
 pub commits_then : (old mid new : State) (Early Late : Trees → Type 0) → (HasCleanDisk mid → IsUnchanged old mid) → (IsUnchanged old mid → (db : Trees) → Early db → Late db) →

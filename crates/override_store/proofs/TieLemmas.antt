@@ -12,7 +12,7 @@ use Rattle.history_model.specs.declared.event.Setting.{Setting}
 use Rattle.history_model.specs.Labels.{Label, is_same}
 use Rattle.history_model.specs.Machine.{sets}
 use Rattle.history_model.specs.Search.{first}
-use Rattle.override_store.specs.SettingRows.{Says, Sets, Stamps, AreSame, IsFlag}
+use Rattle.override_store.specs.SettingRows.{HasSetting, Sets, Stamps, AreSame, IsFlag}
 use Rattle.override_store.specs.Settings.{Change, HoldsEach, StampsEach, second_in, setting_in, ListsSettings, IsEntry, shown}
 use Rattle.override_store.proofs.RowLemmas.{same_text as text_inside}
 use Rattle.override_store.proofs.PermutationLemmas.{has_permuted}
@@ -107,21 +107,21 @@ in_found (t ∷ settings) l d one s h is = elim (cases_Bool (is_same l t.label))
 ]
 
 -- what `all` lists is what the rows hold
-pub holds_listed : (rows : List Row) (all : List Setting) → ((l : List ℕ) (d e : Bool) → Says rows l d → Says rows l e → d ≡ e) → ListsSettings rows all → HoldsEach rows (reverse all)
+pub holds_listed : (rows : List Row) (all : List Setting) → ((l : List ℕ) (d e : Bool) → HasSetting rows l d → HasSetting rows l e → d ≡ e) → ListsSettings rows all → HoldsEach rows (reverse all)
 holds_listed rows all one it l d = (
   λ e.
       let found = found_in (reverse all) l d e in
       let says = says_of found.0 (has_permuted all (reverse all) found.0 (IsPermutation-reverse all) found.1) in
-      subst (Says rows l) found.3 (subst (λ k. Says rows k found.0.disabled) found.2 says),
+      subst (HasSetting rows l) found.3 (subst (λ k. HasSetting rows k found.0.disabled) found.2 says),
   λ says.
       let there = has_permuted it.answer (map shown rows) (shown says.row) (IsPermutation-sym (map shown rows) it.answer it.same) (mapped_has shown rows says.row says.there) in
       let s = zip_left IsEntry it.answer all (shown says.row) it.each there in
       let label : s.0.label ≡ l = text_inside s.0.label l (sym s.2.0.0 ∙ says.label_is) in
-      in_found (reverse all) l d (λ t h is. one l t.disabled d (subst (λ k. Says rows k t.disabled) is (says_of t (has_permuted all (reverse all) t (IsPermutation-reverse all) h))) says) s.0
+      in_found (reverse all) l d (λ t h is. one l t.disabled d (subst (λ k. HasSetting rows k t.disabled) is (says_of t (has_permuted all (reverse all) t (IsPermutation-reverse all) h))) says) s.0
       (has_permuted (reverse all) all s.0 (IsPermutation-sym all (reverse all) (IsPermutation-reverse all)) s.1) label,
 )
   where
-    says_of : (s : Setting) → Has all s → Says rows s.label s.disabled
+    says_of : (s : Setting) → Has all s → HasSetting rows s.label s.disabled
     says_of s h =
         let row = zip_right IsEntry it.answer all s it.each h in
         let r = has_mapped shown rows row.0 (has_permuted (map shown rows) it.answer row.0 it.same row.1) in

@@ -20,10 +20,10 @@ use Rattle.sqlite_rules.proofs.ListLemmas.{all_has, some_from}
 use Rattle.sqlite_rules.proofs.PlaceLemmas.{tied_same}
 use Rattle.sqlite_trees.specs.declared.store.Shape.TheVariants as shape
 use Rattle.sqlite_trees.specs.View.{is_int, IsShaped}
-use Rattle.override_store.specs.Tables.{overrides, settings, both_schema}
+use Rattle.override_store.specs.StoreTables.{overrides, settings, both_schema}
 use Rattle.sqlite.specs.Effect.{Database}
-use Rattle.override_store.specs.SettingRows.{Says, IsFlag}
-use Rattle.override_store.specs.OverrideStores.{AreOurs, rows_in}
+use Rattle.override_store.specs.SettingRows.{HasSetting, IsFlag}
+use Rattle.override_store.specs.OverrideStores.{AreOurs, setting_rows}
 use Rattle.override_store.proofs.RowLemmas.{equal_texts}
 use Rattle.history_model.proofs.BooleanLemmas.{and-left, and-right, not-true}
 
@@ -116,10 +116,10 @@ same_flag a b d e same p q = let i = sym p.1 ∙ same ∙ q.1 in p.2 ∙ ap (λ 
     value_flag _ = false
 
 -- a label has one setting
-pub one_setting : (db : Trees) → IsSound both_schema db → IsShaped shape.Table (db 2) → (label : List ℕ) (d e : Bool) → Says (db 2) label d → Says (db 2) label e → d ≡ e
+pub one_setting : (db : Trees) → IsSound both_schema db → IsShaped shape.Table (db 2) → (label : List ℕ) (d e : Bool) → HasSetting (db 2) label d → HasSetting (db 2) label e → d ≡ e
 one_setting db sound shaped label d e a b =
     let same = seconds_alone db sound shaped a.row b.row label a.there b.there a.label_is b.label_is in
     same_flag _ _ d e (ap (λ r. column r 2) same) a.holds b.holds
 
-pub ours_one_setting : (db : Database) → AreOurs db → (label : List ℕ) (d e : Bool) → Says (rows_in db.trees) label d → Says (rows_in db.trees) label e → d ≡ e
+pub ours_one_setting : (db : Database) → AreOurs db → (label : List ℕ) (d e : Bool) → HasSetting (setting_rows db.trees) label d → HasSetting (setting_rows db.trees) label e → d ≡ e
 ours_one_setting db ours = one_setting db.trees (subst (λ (c : Schema). IsSound c db.trees) ours.schema ours.sound) ours.shaped

@@ -23,12 +23,12 @@ abbrev pub IsNamed : List Row → List ℕ → Type 0
 IsNamed rows label = HasRow rows label (λ _. ⊤)
 
 -- the label has this setting
-abbrev pub Says : List Row → List ℕ → Bool → Type 0
-Says rows label disabled = HasRow rows label (λ row. IsFlag (column row 2) disabled)
+abbrev pub HasSetting : List Row → List ℕ → Bool → Type 0
+HasSetting rows label disabled = HasRow rows label (λ row. IsFlag (column row 2) disabled)
 
 -- no label has two settings
 abbrev pub HasOneSetting : List Row → Type 0
-HasOneSetting rows = (label : List ℕ) (a b : Bool) → Says rows label a → Says rows label b → a ≡ b
+HasOneSetting rows = (label : List ℕ) (a b : Bool) → HasSetting rows label a → HasSetting rows label b → a ≡ b
 
 -- the label's setting was changed in this second of Unix time
 abbrev pub IsStamped : List Row → List ℕ → ℕ → Type 0
@@ -38,7 +38,7 @@ IsStamped rows label second = HasRow rows label (λ row. column row 3 ≡ Int (p
 abbrev pub Sets : List Row → List Row → List ℕ → Bool → Type 0
 Sets old new label disabled =
     (l : List ℕ) (d : Bool) →
-    Says new l d ↔ (((l ≡ label) × (d ≡ disabled)) ⊎ ((l ≢ label) × Says old l d))
+    HasSetting new l d ↔ (((l ≡ label) × (d ≡ disabled)) ⊎ ((l ≢ label) × HasSetting old l d))
 
 -- the label gets this second, and each other label keeps its own
 abbrev pub Stamps : List Row → List Row → List ℕ → ℕ → Type 0
@@ -49,12 +49,12 @@ Stamps old new label second =
 -- a label's setting is its row of the first table, with second 0, or else that of the second table
 pub record Moves (firsts seconds news : List Row) : Type 0 where
   pub says : (l : List ℕ) (d : Bool) →
-      Says news l d ↔ (Says firsts l d ⊎ (¬ IsNamed firsts l × Says seconds l d))
+      HasSetting news l d ↔ (HasSetting firsts l d ⊎ (¬ IsNamed firsts l × HasSetting seconds l d))
   pub stamped : (l : List ℕ) (s : ℕ) →
       IsStamped news l s
       ↔ ((IsNamed firsts l × (s ≡ 0)) ⊎ (¬ IsNamed firsts l × IsStamped seconds l s))
 
 -- the same settings, of the same seconds
 pub record AreSame (old new : List Row) : Type 0 where
-  pub says : (l : List ℕ) (d : Bool) → Says new l d ↔ Says old l d
+  pub says : (l : List ℕ) (d : Bool) → HasSetting new l d ↔ HasSetting old l d
   pub stamped : (l : List ℕ) (s : ℕ) → IsStamped new l s ↔ IsStamped old l s

@@ -12,7 +12,7 @@ use Rattle.history_model.specs.declared.event.Setting.{Setting}
 use Rattle.history_model.specs.Search.{first}
 use Rattle.history_model.specs.Labels.{Label, is_label, is_same}
 use Rattle.history_model.specs.Machine.{sets}
-use Rattle.override_store.specs.SettingRows.{IsFlag, IsStamped, Says}
+use Rattle.override_store.specs.SettingRows.{IsFlag, IsStamped, HasSetting}
 
 -- what the query shows of a row
 abbrev pub shown : Row → Row
@@ -88,7 +88,7 @@ setting_in settings label =
 abbrev pub HoldsEach : List Row → List Setting → Type 0
 HoldsEach rows settings =
     (label : Label) (disabled : Bool) →
-    (setting_in settings label ≡ Some disabled) ↔ Says rows label disabled
+    (setting_in settings label ≡ Some disabled) ↔ HasSetting rows label disabled
 
 -- the label's last second in a list that has the newest first
 abbrev pub second_in : List Change → Label → Option ℕ

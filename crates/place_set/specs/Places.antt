@@ -43,9 +43,9 @@ pub record Pops (old new : Places) (place : ℕ) : Type 0 where
   pub room : place_room new ≡ place_room old
 
 -- the least place was taken out, or there was none and all is as it was
-abbrev pub IsPopped : Places → Option ℕ → Places → Type 0
-IsPopped old None new = (new ≡ old) × ((place : ℕ) → has_place old place ≡ false)
-IsPopped old (Some place) new = Pops old new place
+abbrev pub IsLeastTaken : Places → Option ℕ → Places → Type 0
+IsLeastTaken old None new = (new ≡ old) × ((place : ℕ) → has_place old place ≡ false)
+IsLeastTaken old (Some place) new = Pops old new place
 
 -- the word is the first that has a bit, or none has one
 abbrev pub IsFirstWord : List ℕ → Option ℕ → Type 0

@@ -27,7 +27,7 @@ impl Model for PlaceSet {
 }
 
 impl PlaceSet {
-    ghost use Rattle.place_set.specs.Places.{place_room, KeepsPlaces, Inserts, IsPopped};
+    ghost use Rattle.place_set.specs.Places.{place_room, KeepsPlaces, Inserts, IsLeastTaken};
 
     /// No place, and no room. It takes no memory yet.
     pub fn new(alloc: Global) -> PlaceSet
@@ -62,7 +62,7 @@ impl PlaceSet {
 
     /// Takes the least place out, and gives it. None if the set is empty.
     pub fn pop_least(&mut self) -> Option<u32>
-        ensures { IsPopped self.old result self.new }
+        ensures { IsLeastTaken self.old result self.new }
     {
         let Some(at) = first_word(&self.words) else {
             return None;

@@ -6,9 +6,9 @@ use Rattle.job_table.specs.Tables.{Table}
 use Rattle.job_table.specs.StandsFor.{KeepsState}
 use Rattle.ctl_protocol.specs.declared.header.Header.{Header}
 use Rattle.ctl_protocol.specs.Headers.{header_at}
-use Rattle.replay_loop.specs.Machine.{Future}
+use Rattle.replay_loop.specs.LineMachine.{Future}
 use Rattle.replay.specs.Answers.{IsReplied, IsOpened, WillWrite}
-use Rattle.table_opening.specs.Events.{event_in}
+use Rattle.table_opening.specs.JournalEvents.{event_in}
 use Rattle.table_opening.specs.Openings.{StandsOpened}
 use Rattle.table_opening.specs.Output.{Opens, IsOutput, output_from}
 

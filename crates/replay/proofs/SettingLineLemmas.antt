@@ -8,10 +8,10 @@ use Rattle.history_model.specs.Machine.{State}
 use Rattle.history_model.specs.Acceptance.{refusal_in, refusal_stored}
 use Rattle.job_table.specs.Tables.{Table}
 use Rattle.job_table.specs.StandsFor.{KeepsState, acts_in}
-use Rattle.job_table.specs.Outcomes.{IsSameFor}
-use Rattle.job_table.specs.Changes.{set_of, IsChanged, Changes}
+use Rattle.job_table.specs.TableOutcomes.{IsSameFor}
+use Rattle.job_table.specs.SettingChanges.{set_of, IsChanged, Changes}
 use Rattle.job_table.specs.declared.settings_change.NewSetting.{NewSetting}
-use Rattle.ctl_protocol.specs.Outcomes.{outcome_line}
+use Rattle.ctl_protocol.specs.OutcomeLines.{outcome_line}
 use Rattle.replay.specs.Answers.{IsReplied}
 use Rattle.job_table.proofs.ChangesLemmas.{set_same}
 

@@ -4,7 +4,7 @@ use Rattle.history_model.specs.Machine.{State, Event}
 use Rattle.history_model.specs.Step.{outcome, step}
 use Rattle.job_table.specs.Tables.{Table}
 use Rattle.job_table.specs.StandsFor.{KeepsState}
-use Rattle.ctl_protocol.specs.Outcomes.{outcome_line}
+use Rattle.ctl_protocol.specs.OutcomeLines.{outcome_line}
 use Rattle.ctl_protocol.specs.Headers.{header_at}
 use Rattle.ctl_protocol.specs.declared.header.Header.{Header}
 use Rattle.table_opening.specs.Output.{Opens, IsNoHeader, output_from}

@@ -1,7 +1,7 @@
 //! The launcher as a machine that reads lines: a header opens the table of jobs, and each later line is an event.
 ghost use Rattle.std.specs.Prelude.{IfOk};
 ghost use Rattle.replay.specs.Answers.{IsReplied, WillWrite};
-ghost use Rattle.table_opening.specs.Events.{machine_event, event_in};
+ghost use Rattle.table_opening.specs.JournalEvents.{machine_event, event_in};
 ghost use Rattle.table_opening.specs.Output.{IsOutput};
 
 use crate::events::happened;

@@ -2,8 +2,8 @@
 
 ghost use Rattle.std.specs.Prelude.{◌≡◌, IfOk, Some, None, [], string_bytes};
 ghost use Rattle.history_model.specs.RefusalTexts.{refusal_text};
-ghost use Rattle.ctl_protocol.specs.Outcomes as outcomes;
-ghost use Rattle.ctl_protocol.specs.Outcomes.{orders_of};
+ghost use Rattle.ctl_protocol.specs.OutcomeLines as outcomes;
+ghost use Rattle.ctl_protocol.specs.OutcomeLines.{plain_orders};
 ghost use Rattle.job_table.specs.Ends.{lent_acts, step_outcome};
 
 use ctl_protocol::outcome_line;
@@ -13,7 +13,7 @@ use std::alloc::{AllocError, Global};
 
 /// The orders of a step, by the labels of their jobs.
 fn labelled_orders<'a>(alloc: Global, step: &Step<'a>) -> Result<Vec<(&'a str, Act)>, AllocError>
-    ensures { IfOk result (λ orders. orders_of orders.items ≡ lent_acts step.now) }
+    ensures { IfOk result (λ orders. plain_orders orders.items ≡ lent_acts step.now) }
 {
     let mut orders = Vec::new(alloc);
     for order in step.orders {

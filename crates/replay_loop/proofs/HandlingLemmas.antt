@@ -4,8 +4,8 @@ use Rattle.std.specs.Io.KnownBytes.{Appends}
 use Rattle.std.proofs.KnownBytes.{Appends-nil, Appends-trans}
 use Rattle.replay_loop.specs.declared.fault.ReplayFault.{ReplayFault}
 use Rattle.replay_loop.specs.declared.fault.ReplayFault.TheVariants.{NoMemory, Header, Read, Write, TooLong, ReadCount}
-use Rattle.replay_loop.specs.Machine.{Output, Future, Opens, GoesOn}
-use Rattle.replay_loop.specs.Outcomes.{Answers, OpensNone, last_line}
+use Rattle.replay_loop.specs.LineMachine.{Output, Future, Opens, GoesOn}
+use Rattle.replay_loop.specs.ReplayOutcomes.{Answers, OpensNone, last_line}
 use Rattle.replay_loop.specs.Handling.{Stands, IsQuiet, Handles, Leads, Ends, Stops, PieceStops, LastStops}
 use Rattle.replay_loop.specs.Writing.{AppendsFront}
 use Rattle.line_feed.specs.Lines.{Feed, takes, fed, stopped}

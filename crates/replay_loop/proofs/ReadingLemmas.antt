@@ -6,9 +6,9 @@ use Rattle.std.specs.List.{list_all, take_while}
 use Rattle.std.proofs.KnownBytes.{Appends-trans, Consumes-trans, Consumes-kept, Consumes-nil}
 use Rattle.line_feed.specs.Lines.{Feed, lines_of, rest_of, fits, takes, fed, stopped, is_short, line_limit}
 use Rattle.line_feed.proofs.CutLemmas.{lines_none, rest_none, lines_joined, rest_joined, while_append}
-use Rattle.replay_loop.specs.Machine.{Output, Future}
+use Rattle.replay_loop.specs.LineMachine.{Output, Future}
 use Rattle.replay_loop.specs.Handling.{Handles, Stops, drained, come, LastStops, PieceStops}
-use Rattle.replay_loop.specs.Outcomes.{Answers, OpensNone, last_line, input_lines, counted}
+use Rattle.replay_loop.specs.ReplayOutcomes.{Answers, OpensNone, last_line, input_lines, counted_lines}
 use Rattle.replay_loop.specs.Reading.{Finished, Wrote, Failed, RanOut, CutOff, HasNoMachine}
 use Rattle.replay_loop.specs.declared.fault.ReplayFault.{ReplayFault}
 use Rattle.replay_loop.specs.declared.fault.ReplayFault.TheVariants.{NoMemory, Header, Read, Write, TooLong, ReadCount}
@@ -94,7 +94,7 @@ cut_off output held holds lines stop = let (all, is, front) = stop [] in (all, s
 -- the lines that count after a piece
 record Counts (x piece : List ℕ) (f : Feed) : Type 0 where
   others : List (List ℕ)
-  split : counted (x ++ piece) ≡ lines_of x ++ (come f piece ++ others)
+  split : counted_lines (x ++ piece) ≡ lines_of x ++ (come f piece ++ others)
   alone : fits line_limit (rest_of x ++ piece) ≡ false → others ≡ []
 
 counts_at : (t : Bool) (x piece : List ℕ) (f : Feed) → f ≡ record { lines = []; rest = rest_of x; limit = line_limit; refusing = false } → fits line_limit x ≡ true → fits line_limit (rest_of x ++ piece) ≡ t → Counts x piece f
@@ -115,23 +115,23 @@ all_failed : (output : Output) → output [] None → (reads count : ℕ) (unrea
 all_failed output empty reads count unread rest after held holds has f stage piece going came stop =
     let x = going.consumed in
     let n = counts output count unread rest held holds f stage piece going in
-    (x ++ piece, Consumes-trans unread rest after x piece going.taken came, run_out output empty held has (counted (x ++ piece)) (stops_later output NoMemory None stage held holds has (lines_of x) (come f piece) n.others (counted (x ++ piece)) n.split going.handled stop))
+    (x ++ piece, Consumes-trans unread rest after x piece going.taken came, run_out output empty held has (counted_lines (x ++ piece)) (stops_later output NoMemory None stage held holds has (lines_of x) (come f piece) n.others (counted_lines (x ++ piece)) n.split going.handled stop))
 
 all_write : (output : Output) (reads count : ℕ) (unread rest after held holds has : Option (List ℕ)) (f : Feed) (stage : Option Future) (piece : List ℕ) → Going output count unread rest held holds f stage → Consumes rest after piece
     → Stops output (record { lines = come f piece; held = holds; holds = has }) Write stage → Failed output reads (record { unread = unread; rest = after; held = held; holds = has }) Write
 all_write output reads count unread rest after held holds has f stage piece going came stop =
     let x = going.consumed in
     let n = counts output count unread rest held holds f stage piece going in
-    (x ++ piece, Consumes-trans unread rest after x piece going.taken came, cut_off output held has (counted (x ++ piece)) (stops_later output Write None stage held holds has (lines_of x) (come f piece) n.others (counted (x ++ piece)) n.split going.handled stop))
+    (x ++ piece, Consumes-trans unread rest after x piece going.taken came, cut_off output held has (counted_lines (x ++ piece)) (stops_later output Write None stage held holds has (lines_of x) (come f piece) n.others (counted_lines (x ++ piece)) n.split going.handled stop))
 
 ended : (output : Output) (count : ℕ) (unread rest after held holds : Option (List ℕ)) (f : Feed) (stage : Option Future) (going : Going output count unread rest held holds f stage) → Consumes rest after [] → Consumes unread after going.consumed
 ended output count unread rest after held holds f stage going came = subst (Consumes unread after) (append-nil going.consumed) (Consumes-trans unread rest after going.consumed [] going.taken came)
 
-last_stop : (output : Output) (e : ReplayFault) (count : ℕ) (unread rest held holds has : Option (List ℕ)) (f : Feed) (stage : Option Future) (going : Going output count unread rest held holds f stage) → Stops output (record { lines = last_line f.rest; held = holds; holds = has }) e stage → Stops output (record { lines = counted going.consumed; held = held; holds = has }) e None
+last_stop : (output : Output) (e : ReplayFault) (count : ℕ) (unread rest held holds has : Option (List ℕ)) (f : Feed) (stage : Option Future) (going : Going output count unread rest held holds f stage) → Stops output (record { lines = last_line f.rest; held = holds; holds = has }) e stage → Stops output (record { lines = counted_lines going.consumed; held = held; holds = has }) e None
 last_stop output e count unread rest held holds has f stage going stop =
     let x = going.consumed in
-    let all : counted x ≡ lines_of x ++ (last_line (rest_of x) ++ []) = rw going.fits_is (ap (λ ls. lines_of x ++ ls) (sym (append-nil (last_line (rest_of x))))) in
-    stops_later output e None stage held holds has (lines_of x) (last_line (rest_of x)) [] (counted x) all going.handled (subst (λ h. Stops output (record { lines = last_line h.rest; held = holds; holds = has }) e stage) going.feed_is stop)
+    let all : counted_lines x ≡ lines_of x ++ (last_line (rest_of x) ++ []) = rw going.fits_is (ap (λ ls. lines_of x ++ ls) (sym (append-nil (last_line (rest_of x))))) in
+    stops_later output e None stage held holds has (lines_of x) (last_line (rest_of x)) [] (counted_lines x) all going.handled (subst (λ h. Stops output (record { lines = last_line h.rest; held = holds; holds = has }) e stage) going.feed_is stop)
 
 no_header : (output : Output) (held holds has : Option (List ℕ)) (stage : Option Future) (lines : List (List ℕ)) → Handles output None stage held holds lines → stage ≡ None → Appends holds has [] → Appends held has []
 no_header output held holds has stage lines h none kept = subst (Appends held has) (rw (h.silent none) refl) (Appends-trans held holds has h.text [] h.wrote kept)
@@ -194,7 +194,7 @@ last_fails output empty Header reads count unread rest after held holds has f st
       no_header output held holds has stage (lines_of x) going.handled none kept,
     )
 last_fails output empty TooLong reads count unread rest after held holds has f stage going came at_end stop = absurd stop
-last_fails output empty NoMemory reads count unread rest after held holds has f stage going came at_end stop = (going.consumed, ended output count unread rest after held holds f stage going came, run_out output empty held has (counted going.consumed) (last_stop output NoMemory count unread rest held holds has f stage going stop))
-last_fails output empty Write reads count unread rest after held holds has f stage going came at_end stop = (going.consumed, ended output count unread rest after held holds f stage going came, cut_off output held has (counted going.consumed) (last_stop output Write count unread rest held holds has f stage going stop))
+last_fails output empty NoMemory reads count unread rest after held holds has f stage going came at_end stop = (going.consumed, ended output count unread rest after held holds f stage going came, run_out output empty held has (counted_lines going.consumed) (last_stop output NoMemory count unread rest held holds has f stage going stop))
+last_fails output empty Write reads count unread rest after held holds has f stage going came at_end stop = (going.consumed, ended output count unread rest after held holds f stage going came, cut_off output held has (counted_lines going.consumed) (last_stop output Write count unread rest held holds has f stage going stop))
 last_fails output empty Read reads count unread rest after held holds has f stage going came at_end stop = absurd stop
 last_fails output empty ReadCount reads count unread rest after held holds has f stage going came at_end stop = absurd stop

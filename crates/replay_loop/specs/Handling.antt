@@ -18,9 +18,9 @@ use Rattle.std.specs.Io.KnownBytes.{Appends}
 use Rattle.replay_loop.specs.declared.fault.ReplayFault.{ReplayFault}
 use Rattle.replay_loop.specs.declared.fault.ReplayFault.TheVariants.{NoMemory, Header, Read, Write, TooLong, ReadCount}
 use Rattle.line_feed.specs.Lines.{Feed, takes, fed, stopped}
-use Rattle.replay_loop.specs.Machine.{Bytes, Lines, Held, Output, Future, Will}
+use Rattle.replay_loop.specs.LineMachine.{Bytes, Lines, Held, Output, Future, Will}
 use Rattle.replay_loop.specs.Writing.{AppendsFront}
-use Rattle.replay_loop.specs.Outcomes.{Answers, OpensNone}
+use Rattle.replay_loop.specs.ReplayOutcomes.{Answers, OpensNone}
 
 -- the machine, if the header has come, will write this
 abbrev pub Stands : {M : Type 0} → (M → Future → Type 0) → Option M → Option Future → Type 0

@@ -5,9 +5,9 @@ use Rattle.std.specs.List.{take_while}
 use Rattle.line_feed.specs.Lines.{lines_of, is_short, fits, line_limit}
 use Rattle.replay_loop.specs.declared.fault.ReplayFault.{ReplayFault}
 use Rattle.replay_loop.specs.declared.fault.ReplayFault.TheVariants.{NoMemory, Header, Read, Write, TooLong, ReadCount}
-use Rattle.replay_loop.specs.Machine.{Bytes, Lines, Held, Output}
+use Rattle.replay_loop.specs.LineMachine.{Bytes, Lines, Held, Output}
 use Rattle.replay_loop.specs.Writing.{AppendsFront}
-use Rattle.replay_loop.specs.Outcomes.{OpensNone, input_lines, counted}
+use Rattle.replay_loop.specs.ReplayOutcomes.{OpensNone, input_lines, counted_lines}
 
 -- what a reader had left before and has left after, and what a writer held before and holds after
 pub record Streams : Type 0 where
@@ -83,7 +83,7 @@ Failed output reads s TooLong =
     × WroteAll output s.held s.holds (short_lines input)
 Failed output reads s NoMemory =
     (input : Bytes) × Consumes s.unread s.rest input
-    × RanOut output s.held s.holds (counted input)
+    × RanOut output s.held s.holds (counted_lines input)
 Failed output reads s Write =
     (input : Bytes) × Consumes s.unread s.rest input
-    × CutOff output s.held s.holds (counted input)
+    × CutOff output s.held s.holds (counted_lines input)

@@ -1,7 +1,7 @@
 -- What a writer holds after a text was written to it, all of it or a front.
 use Rattle.std.specs.Prelude.{◌≡◌, ◌++◌, Bool, true, false}
 use Rattle.std.specs.Io.KnownBytes.{Appends}
-use Rattle.replay_loop.specs.Machine.{Bytes, Held}
+use Rattle.replay_loop.specs.LineMachine.{Bytes, Held}
 
 -- a front of the text was written
 pub record AppendsFront (held holds : Held) (all : Bytes) : Type 0 where

@@ -1,6 +1,6 @@
 //! The machine that a run drives: a header line opens it, and it answers each line after that by a text.
 ghost use Rattle.std.specs.Prelude.{ℕ, List, [], Option, None, IfOk};
-ghost use Rattle.replay_loop.specs.Machine.{Opens, GoesOn};
+ghost use Rattle.replay_loop.specs.LineMachine.{Opens, GoesOn};
 
 use std::alloc::{AllocError, Global};
 

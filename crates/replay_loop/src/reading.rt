@@ -2,7 +2,7 @@
 ghost use Rattle.std.specs.Prelude.{◌≡◌, ◌≢◌, IfErr, OnOk, None, true};
 ghost use Rattle.line_feed.specs.Lines.{fed, takes};
 ghost use Rattle.replay_loop.specs.Handling.{Leads, LeadsPast, Ends, Stops, LastStops, PieceStops, drained};
-ghost use Rattle.replay_loop.specs.Outcomes.{last_line};
+ghost use Rattle.replay_loop.specs.ReplayOutcomes.{last_line};
 ghost use Rattle.replay_loop.specs.Reading.{Finished, Failed};
 
 use crate::fault::ReplayFault;

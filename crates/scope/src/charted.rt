@@ -1,7 +1,7 @@
 //! What a chart shows of a journal: the runs that its reader keeps, and the marks that are kept while it is read.
 
 ghost use Rattle.std.specs.Prelude.{◌≡◌, IfSome, option_map};
-ghost use Rattle.scope.specs.Bars.{bar_end};
+ghost use Rattle.scope.specs.RunBars.{run_bar_end};
 
 use history_model::Text;
 use journal_reading::{Asked, Journal, News, Run, RunEnd, What};
@@ -120,7 +120,7 @@ fn mark_of(what: &What) -> Option<MarkKind> {
 /// not answered, or was refused.
 pub(crate) fn bar_of(axis: &Axis, run: &Run) -> Option<Bar>
     ensures begin { IfSome result (λ bar. bar.from ≡ run.now.begun.wall) }
-    ensures end { option_map (λ bar. bar.until) result ≡ bar_end run.now.end axis.now.until run.now.ended.wall }
+    ensures end { option_map (λ bar. bar.until) result ≡ run_bar_end run.now.end axis.now.until run.now.ended.wall }
     ensures one { IfSome result (λ bar. (bar.run ≡ run.now.run) × (bar.runs ≡ 1)) }
 {
     let end = match run.end {

@@ -2,7 +2,7 @@
 
 ghost use Rattle.std.specs.Prelude.{◌≡◌, ◌≤◌, ◌+◌, ◌<◌, IfSome, IfNone};
 ghost use Rattle.calendar_due.specs.Next.{IsFirstDue};
-ghost use Rattle.calendar_due.specs.Rules.{minute_at};
+ghost use Rattle.calendar_due.specs.ZoneRules.{minute_at};
 ghost use Rattle.scope.specs.Coming.{last_looked_at};
 
 use calendar_due::{Calendar, Zone};

@@ -1,6 +1,6 @@
 -- The verdict of a check is that of a load.
 use Rattle.std.specs.Prelude.{◌≡◌, ℕ, List, Ok, Err}
-use Rattle.json_kinds.specs.Faults.{bad}
+use Rattle.json_kinds.specs.DefFaults.{bad}
 use Rattle.job_defs.specs.Keys.{def_of}
 use Rattle.scope_check.specs.declared.checked.Checked.{Checked}
 use Rattle.scope_check.specs.declared.checked.Checked.TheVariants.{Loads, Refused}

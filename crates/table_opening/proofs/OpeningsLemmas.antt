@@ -12,7 +12,7 @@ use Rattle.history_model.specs.Refusals.{is_clock_refused}
 use Rattle.history_model.specs.Acceptance.{refused_if}
 use Rattle.calendar_due.specs.declared.zone.Zone.{Zone}
 use Rattle.calendar_due.specs.Offsets.{Offsets}
-use Rattle.calendar_due.specs.Rules.{offsets, minute_at}
+use Rattle.calendar_due.specs.ZoneRules.{offsets, minute_at}
 use Rattle.calendar_due.specs.Zone.{IsBadFile, IsOfTable}
 use Rattle.calendar_due.proofs.RuleLemmas.{agrees-not-bad}
 use Rattle.calendar_due.specs.declared.zone.TheConstants.{LONGEST_FILE}

@@ -1,3 +1,3 @@
-pub mod Events
+pub mod JournalEvents
 pub mod Openings
 pub mod Output

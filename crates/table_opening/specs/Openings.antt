@@ -8,7 +8,7 @@ use Rattle.history_model.specs.Machine.{State, opened}
 use Rattle.history_model.specs.Refusals.{is_clock_refused}
 use Rattle.calendar_due.specs.declared.zone.Zone.{Zone}
 use Rattle.calendar_due.specs.Offsets.{Offsets, always, shown_by}
-use Rattle.calendar_due.specs.Rules.{offsets}
+use Rattle.calendar_due.specs.ZoneRules.{offsets}
 use Rattle.calendar_due.specs.Zone.{IsOfRule, IsOfTable, IsBadFile}
 use Rattle.calendar_due.specs.declared.zone.TheConstants.{LONGEST_FILE}
 use Rattle.job_table.specs.Tables.{Table}

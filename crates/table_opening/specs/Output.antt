@@ -6,9 +6,9 @@ use Rattle.history_model.specs.Step.{outcomes}
 use Rattle.calendar_due.specs.Offsets.{Offsets}
 use Rattle.ctl_protocol.specs.declared.header.Header.{Header}
 use Rattle.ctl_protocol.specs.Headers.{header_at}
-use Rattle.ctl_protocol.specs.Outcomes.{outcome_line}
+use Rattle.ctl_protocol.specs.OutcomeLines.{outcome_line}
 use Rattle.table_opening.specs.Openings.{Describes, IsNoZone, opened_by}
-use Rattle.table_opening.specs.Events.{event_in}
+use Rattle.table_opening.specs.JournalEvents.{event_in}
 
 -- the machine that a header's line opens
 pub record Opens (line : List ℕ) (s : State) : Type 0 where

@@ -1,7 +1,7 @@
 //! The zone of a header, and its table.
 ghost use Rattle.std.specs.Prelude.{IfOk};
 ghost use Rattle.table_opening.specs.Openings.{IsPosixZone, IsFixedZone, IsFileZone, IsZoneOf, Describes, OpensAs};
-ghost use Rattle.calendar_due.specs.Rules.{offsets};
+ghost use Rattle.calendar_due.specs.ZoneRules.{offsets};
 
 use calendar_due::{Zone, ZoneFault};
 use ctl_protocol::{Header, ZoneText};

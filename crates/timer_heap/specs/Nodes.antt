@@ -7,16 +7,16 @@ use Rattle.timer_heap.specs.declared.tree.Timer.{Timer}
 use Rattle.timer_heap.specs.declared.tree.Tree.{Tree}
 
 -- the timer is before the other: by moments, and equal ones by job numbers
-abbrev pub is_before : Timer → Timer → Bool
-is_before timer other =
+abbrev pub is_timer_before : Timer → Timer → Bool
+is_timer_before timer other =
     nat_lt timer.moment other.moment
     || ((timer.moment == other.moment) && nat_lt timer.job other.job)
 
 -- the winner of a match
-abbrev pub sooner : Option Timer → Option Timer → Option Timer
-sooner None right = right
-sooner (Some one) None = Some one
-sooner (Some one) (Some other) = if is_before other one then Some other else Some one
+abbrev pub sooner_timer : Option Timer → Option Timer → Option Timer
+sooner_timer None right = right
+sooner_timer (Some one) None = Some one
+sooner_timer (Some one) (Some other) = if is_timer_before other one then Some other else Some one
 
 -- the timer of the node at a place
 abbrev pub node : List (Option Timer) → ℕ → Option Timer
@@ -39,7 +39,7 @@ timers_of tree = record { moments = map moment_of (drop tree.leaves tree.nodes.i
 pub record IsTreeBut (nodes : List (Option Timer)) (leaves gap : ℕ) : Type 0 where
   pub size : length nodes ≡ leaves + leaves
   pub played : (place : ℕ) → 1 ≤ place → place < leaves → place ≢ gap →
-      node nodes place ≡ sooner (node nodes (2 * place)) (node nodes (2 * place + 1))
+      node nodes place ≡ sooner_timer (node nodes (2 * place)) (node nodes (2 * place + 1))
   pub own : (job : ℕ) → job < leaves →
       ForSome (node nodes (leaves + job)) (λ timer. timer.job ≡ job)
 

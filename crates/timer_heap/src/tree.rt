@@ -3,7 +3,7 @@
 ghost use Rattle.std.specs.Prelude.{◌≡◌, ◌<◌, ◌≤◌, ◌+◌, ◌*◌, ◌^◌, true, Some, None, IsOk, IfOk, OnOk, OnErr};
 ghost use Rattle.std.specs.Option.{ForSome};
 ghost use Rattle.timer_heap.specs.Timers.{moment_in, room, Updates, KeepsMoments, IsLeast};
-ghost use Rattle.timer_heap.specs.Nodes.{sooner, is_before, timers_of, IsTree, HasNoTimer, IsPut};
+ghost use Rattle.timer_heap.specs.Nodes.{sooner_timer, is_timer_before, timers_of, IsTree, HasNoTimer, IsPut};
 
 use history_model::JobNo;
 use std::alloc::{AllocError, Global};
@@ -157,7 +157,7 @@ impl Tree {
 
 /// The timer whose moment comes first; of equal moments that of the lesser job number.
 fn sooner(left: Option<Timer>, right: Option<Timer>) -> Option<Timer>
-    ensures { result ≡ sooner left right }
+    ensures { result ≡ sooner_timer left right }
 {
     match (left, right) {
         (None, other) => other,
@@ -185,7 +185,7 @@ fn is_same(one: Option<u64>, other: Option<u64>) -> bool
 
 /// Whether the timer comes before the other.
 fn is_before(timer: Timer, other: Timer) -> bool
-    ensures { result ≡ is_before timer other }
+    ensures { result ≡ is_timer_before timer other }
 {
     timer.moment < other.moment || (timer.moment == other.moment && timer.job < other.job)
 }

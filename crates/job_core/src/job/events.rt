@@ -14,7 +14,7 @@ use pace::Signal;
 use socket_demand::Waiting;
 
 impl Job {
-    ghost use Rattle.job_core.specs.Fields.{facts, is_spawn_awaited};
+    ghost use Rattle.job_core.specs.JobFields.{facts, is_spawn_awaited};
 
     pub(super) fn read(&mut self, at: Reading, calendar: bool, now: Reading) -> Result<(), Refusal>
         ensures follows { Follows (facts self.old) (Read at calendar) now result (facts self.new) }

@@ -14,7 +14,7 @@ use pace::sooner;
 pub const MAX_RUNS: u64 = 1 << 63;
 
 impl Job {
-    ghost use Rattle.job_core.specs.Fields.{facts};
+    ghost use Rattle.job_core.specs.JobFields.{facts};
 
     /// Whether a level holds.
     fn level_holds(&self) -> bool

@@ -10,7 +10,7 @@ use super::orders::MAX_RUNS;
 use history_model::{DemandKind, MAX_UP, Reasons, StandingChild, Wants};
 
 impl Job {
-    ghost use Rattle.job_core.specs.Fields.{facts};
+    ghost use Rattle.job_core.specs.JobFields.{facts};
 
     /// What wants the job.
     fn wants(&self) -> Wants

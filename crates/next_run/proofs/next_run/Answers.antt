@@ -6,7 +6,7 @@ use Rattle.history_model.specs.Calendar.{calendar_fires}
 use Rattle.history_model.specs.NextMomentByFacts.{has_come}
 use Rattle.history_model.specs.Reasons.{needs_event}
 use Rattle.history_model.specs.NextRun.{looked_ahead}
-use Rattle.calendar_due.specs.Rules.{minute_at}
+use Rattle.calendar_due.specs.ZoneRules.{minute_at}
 use Rattle.next_run.proofs.NextRunLemmas.{spawns-after, least-run}
 use Rattle.next_run.proofs.next_run.Goals as goal
 

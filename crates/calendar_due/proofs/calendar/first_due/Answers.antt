@@ -1,6 +1,6 @@
 -- The goals of `first_due` that the prover leaves open.
 use Rattle.std.proofs.Common.{◌/◌, ◌≤◌, sym, ◌∙◌, arith}
-use Rattle.calendar_due.specs.Rules.{minute_at}
+use Rattle.calendar_due.specs.ZoneRules.{minute_at}
 use Rattle.calendar_due.proofs.NextLemmas.{behind-start, behind-next, behind-all, first-found}
 use Rattle.calendar_due.proofs.calendar.first_due.Goals as goal
 

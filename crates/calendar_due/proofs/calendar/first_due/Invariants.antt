@@ -1,5 +1,5 @@
 -- What holds at each turn of the loop of `first_due`, and why it ends.
-use Rattle.calendar_due.specs.Rules.{minute_at}
+use Rattle.calendar_due.specs.ZoneRules.{minute_at}
 use Rattle.calendar_due.proofs.NextLemmas.{AreBehind}
 use Rattle.calendar_due.proofs.calendar.first_due.Given as goal
 

@@ -1,7 +1,7 @@
 -- What stays true in the loop of `header_reader::all_are_among`.
 use Rattle.std.proofs.Common.{◌≡◌}
 use Rattle.serde_json.specs.View.{members_view}
-use Rattle.json_kinds.specs.Kinds.{texts_in}
+use Rattle.json_kinds.specs.JsonKinds.{texts_in}
 use Rattle.ctl_protocol.specs.Headers.{are_among}
 use Rattle.ctl_protocol.proofs.header_reader.all_are_among.Given as goal
 

@@ -1,7 +1,7 @@
 -- What the check of `outcome::outcome_from` does not find by itself.
 use Rattle.std.proofs.Common.{◌∙◌}
 use Rattle.std.proofs.lemmas.Result.{IfOk-weaker}
-use Rattle.ctl_protocol.specs.Outcomes.{orders_of}
+use Rattle.ctl_protocol.specs.OutcomeLines.{plain_orders}
 use Rattle.ctl_protocol.proofs.OutcomesLemmas.{bare_parts, from_parts, number_written}
 use Rattle.ctl_protocol.proofs.outcome.outcome_from.Goals as goal
 
@@ -13,5 +13,5 @@ returns-then-is_empty-2 c =
 pub returns : goal.returns
 returns c =
     let digits = c.as_bytes-number.ensures.value ∙ c.format.ensures.text ∙ number_written c.args.code in
-    IfOk-weaker c.joined-2.result _ _ (λ line whole. from_parts c.args.code c.args.text.now (orders_of c.args.orders.now) line.items _ _ _ whole
+    IfOk-weaker c.joined-2.result _ _ (λ line whole. from_parts c.args.code c.args.text.now (plain_orders c.args.orders.now) line.items _ _ _ whole
     digits (c.as_slice.ensures.value ∙ c.in_ok-list.ensures) (c.as_slice-2.ensures.value ∙ c.in_ok-said.ensures)) c.joined-2.ensures

@@ -2,7 +2,7 @@
 use Rattle.std.proofs.Common.{◌≡◌, drop}
 use Rattle.json.specs.Value.{members_view}
 use Rattle.event_reader.specs.Members.{is_key}
-use Rattle.json_kinds.specs.Kinds.{texts_in}
+use Rattle.json_kinds.specs.JsonKinds.{texts_in}
 use Rattle.event_reader.specs.Trees.{keys_pass}
 use Rattle.event_reader.proofs.members.all_are_keys.Given as goal
 

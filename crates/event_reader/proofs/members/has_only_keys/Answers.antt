@@ -2,7 +2,7 @@
 use Rattle.std.proofs.Common.{◌∙◌, sym, ap}
 use Rattle.json.specs.Value.{value_view}
 use Rattle.event_reader.specs.Members.{is_key}
-use Rattle.json_kinds.specs.Kinds.{texts_in}
+use Rattle.json_kinds.specs.JsonKinds.{texts_in}
 use Rattle.event_reader.specs.Trees.{keys_are}
 use Rattle.event_reader.proofs.TreesLemmas.{data_keys}
 use Rattle.event_reader.proofs.members.has_only_keys.Goals as goal

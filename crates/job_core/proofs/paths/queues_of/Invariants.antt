@@ -1,6 +1,6 @@
 -- What holds at each turn of the loops of `paths::queues_of`, and why each ends.
 use Rattle.std.proofs.Common.{◌≡◌, map, take, None}
-use Rattle.job_core.specs.Listed.{queue_path, queue_sight}
+use Rattle.job_core.specs.ListedPaths.{queue_path, queue_sight}
 use Rattle.job_core.proofs.paths.queues_of.Given as goal
 
 abbrev pub invariant-loop-path : goal.invariant-loop-path

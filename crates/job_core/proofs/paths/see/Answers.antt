@@ -1,7 +1,7 @@
 -- The goals of `paths::see` that the prover leaves open.
 use Rattle.std.proofs.Common.{◌≡◌, ◌<◌, length, true, false, cond, Some, get_or, ap, ◌∙◌, arith}
 use Rattle.history_model.specs.Demands.{is_same_path}
-use Rattle.job_core.specs.Listed.{queue_after}
+use Rattle.job_core.specs.ListedPaths.{queue_after}
 use Rattle.history_model.proofs.WrittenLemmas.{write_step}
 use Rattle.job_core.proofs.paths.see.Goals as goal
 use Rattle.job_core.proofs.paths.see.Goals.{then-eq, else-eq}

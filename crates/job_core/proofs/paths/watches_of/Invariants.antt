@@ -1,6 +1,6 @@
 -- What holds at each turn of the loops of `paths::watches_of`, and why each ends.
 use Rattle.std.proofs.Common.{◌≡◌, map, take, None}
-use Rattle.job_core.specs.Listed.{watched_path, watched_sight}
+use Rattle.job_core.specs.ListedPaths.{watched_path, watched_sight}
 use Rattle.job_core.proofs.paths.watches_of.Given as goal
 
 abbrev pub invariant-loop-path : goal.invariant-loop-path

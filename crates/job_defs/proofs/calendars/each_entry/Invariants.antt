@@ -1,7 +1,7 @@
 -- What stays true in the loop of `calendars::each_entry`.
 use Rattle.std.proofs.Common.{◌≡◌, drop}
 use Rattle.serde_json.specs.View.{items_view}
-use Rattle.json_kinds.specs.Kinds.{each_item}
+use Rattle.json_kinds.specs.JsonKinds.{each_item}
 use Rattle.job_defs.specs.Calendars.{entry_at}
 use Rattle.json_kinds.proofs.KindsLemmas.{with_front}
 use Rattle.job_defs.proofs.calendars.each_entry.Given as goal

@@ -1,7 +1,7 @@
 -- What stays true in the loop of `conditions::each_path_state`.
 use Rattle.std.proofs.Common.{◌≡◌, ◌+◌, length, vec_len}
 use Rattle.serde_json.specs.View.{members_view}
-use Rattle.json_kinds.specs.Kinds.{each_member}
+use Rattle.json_kinds.specs.JsonKinds.{each_member}
 use Rattle.job_defs.specs.Conditions.{path_state_in}
 use Rattle.json_kinds.proofs.KindsLemmas.{with_front}
 use Rattle.job_defs.proofs.conditions.each_path_state.Given as goal

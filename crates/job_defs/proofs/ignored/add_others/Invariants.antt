@@ -1,7 +1,7 @@
 -- What stays true in the loop of `ignored::add_others`.
 use Rattle.std.proofs.Common.{◌≡◌}
 use Rattle.serde_json.specs.View.{members_view}
-use Rattle.json_kinds.specs.Kinds.{texts_in}
+use Rattle.json_kinds.specs.JsonKinds.{texts_in}
 use Rattle.job_defs.specs.Ignored.{with_names, others}
 use Rattle.job_defs.specs.Parts.{names_of}
 use Rattle.job_defs.proofs.ignored.add_others.Given as goal

@@ -1,7 +1,7 @@
 -- What stays true in the loop of `launch::words_of`.
 use Rattle.std.proofs.Common.{◌≡◌, drop}
 use Rattle.serde_json.specs.View.{items_view}
-use Rattle.json_kinds.specs.Kinds.{each_item}
+use Rattle.json_kinds.specs.JsonKinds.{each_item}
 use Rattle.job_defs.specs.Commands.{word_at}
 use Rattle.json_kinds.proofs.KindsLemmas.{with_front}
 use Rattle.job_defs.proofs.launch.words_of.Given as goal

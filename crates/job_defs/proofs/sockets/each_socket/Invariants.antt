@@ -1,7 +1,7 @@
 -- What stays true in the loop of `sockets::each_socket`.
 use Rattle.std.proofs.Common.{◌≡◌, drop}
 use Rattle.serde_json.specs.View.{items_view}
-use Rattle.json_kinds.specs.Kinds.{each_item}
+use Rattle.json_kinds.specs.JsonKinds.{each_item}
 use Rattle.job_defs.specs.Sockets.{socket_at}
 use Rattle.json_kinds.proofs.KindsLemmas.{with_front}
 use Rattle.job_defs.proofs.sockets.each_socket.Given as goal

@@ -4,7 +4,7 @@ use Rattle.history_model.specs.Machine.{State}
 use Rattle.job_table.specs.StandsFor.{KeepsJobs, KeepsState}
 use Rattle.job_table.specs.Seats.{rows}
 use Rattle.job_table.specs.Index.{AreTimed}
-use Rattle.job_table.specs.Moments.{IsNextUp}
+use Rattle.job_table.specs.NextMoments.{IsNextUp}
 use Rattle.job_table.specs.Tables.{Table}
 use Rattle.job_table.specs.Sound.{seen_table}
 use Rattle.job_table.specs.declared.jobs.Jobs.{Jobs}

@@ -1,7 +1,7 @@
 -- Those behind the place are in order, and decide as the overrides from there on.
 use Rattle.std.proofs.Common.{◌≡◌, ◌≤◌, length, take, drop, reverse}
 use Rattle.job_table.specs.StandsFor.{KeepsSettings}
-use Rattle.job_table.specs.Settings.{AreSet}
+use Rattle.job_table.specs.TableSettings.{AreSet}
 use Rattle.job_table.proofs.setting_order.in_order.Given as goal
 
 abbrev pub invariant-loop-left : goal.invariant-loop-left

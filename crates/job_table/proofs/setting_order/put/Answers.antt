@@ -5,7 +5,7 @@ use Rattle.std.proofs.lemmas.List.Edits.{length-insert}
 use Rattle.history_model.specs.Search.{first}
 use Rattle.history_model.specs.Machine.{sets}
 use Rattle.job_table.specs.Room.{one_setting_more}
-use Rattle.job_table.specs.Settings.{AreSet, IsPlaceFor}
+use Rattle.job_table.specs.TableSettings.{AreSet, IsPlaceFor}
 use Rattle.job_table.proofs.FirstLemmas.{first-where}
 use Rattle.job_table.proofs.SettingLemmas.{set-at}
 use Rattle.job_table.proofs.SettingOrderLemmas.{order-set, order-put, keeps-put, none-set}

@@ -4,7 +4,7 @@ use Rattle.std.specs.List.{filter, position}
 use Rattle.std.proofs.lemmas.Slice.{between_to_end}
 use Rattle.history_model.specs.Search.{first}
 use Rattle.history_model.specs.Machine.{sets}
-use Rattle.job_table.specs.Settings.{AreSet, IsPlaceFor}
+use Rattle.job_table.specs.TableSettings.{AreSet, IsPlaceFor}
 use Rattle.job_table.proofs.FirstLemmas.{first-where}
 use Rattle.job_table.proofs.SettingOrderLemmas.{keeps-found, keeps-behind, order-put, one-there, removed}
 use Rattle.job_table.proofs.setting_order.settle.Goals as goal

@@ -3,7 +3,7 @@ use Rattle.std.proofs.Common.{false, sym, ap}
 use Rattle.history_model.specs.JobItems.{item_of}
 use Rattle.history_model.specs.Machine.{OfJob, UnloadJob, ShutDown, Tick, Sight}
 use Rattle.std.specs.Prelude.{true}
-use Rattle.launcher.specs.Events.{event_of_ref, is_clock}
+use Rattle.launcher.specs.EventRefs.{event_of_ref, is_clock}
 use Rattle.launcher.proofs.OneEventLemmas.{handed-on, read-on, needs-none, not-read, ok-needs-none}
 use Rattle.launcher.proofs.events.hear.Goals as goal
 

@@ -1,5 +1,5 @@
 -- The line of what happens.
-use Rattle.launcher.specs.Lines.{journaled_by}
+use Rattle.launcher.specs.JournaledLines.{journaled_by}
 use Rattle.launcher.proofs.NotingLemmas.{made-line}
 use Rattle.launcher.proofs.lines.note.Goals as goal
 

@@ -1,6 +1,6 @@
 -- The invariants of the loop of `carrying::carry_all`.
 use Rattle.std.proofs.Common.{take}
-use Rattle.launcher.specs.Turns.{Carried}
+use Rattle.launcher.specs.HostTurns.{Carried}
 use Rattle.launcher.proofs.orders.carry_all.Given as goal
 
 abbrev pub invariant-loop-order : goal.invariant-loop-order

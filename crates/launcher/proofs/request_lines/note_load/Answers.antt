@@ -1,6 +1,6 @@
 -- The line of a load.
 use Rattle.launcher.proofs.NotingLemmas.{made-line}
-use Rattle.launcher.specs.Lines.{journaled_load}
+use Rattle.launcher.specs.JournaledLines.{journaled_load}
 use Rattle.launcher.proofs.request_lines.note_load.Goals as goal
 
 pub returns : goal.returns

@@ -1,6 +1,6 @@
 -- The line of a setting.
 use Rattle.launcher.proofs.NotingLemmas.{made-line}
-use Rattle.launcher.specs.Lines.{journaled_set}
+use Rattle.launcher.specs.JournaledLines.{journaled_set}
 use Rattle.launcher.proofs.request_lines.note_set.Goals as goal
 
 pub returns : goal.returns

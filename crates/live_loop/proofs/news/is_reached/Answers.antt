@@ -1,6 +1,6 @@
 -- The answers to the goals of `news::is_reached`.
 use Rattle.std.proofs.Common.{sym, ap, ◌∙◌}
-use Rattle.live_loop.specs.News.{is_reached as has_reached}
+use Rattle.live_loop.specs.News.{is_moment_reached as has_reached}
 use Rattle.live_loop.proofs.NewsLemmas.{reached}
 use Rattle.live_loop.proofs.news.is_reached.Goals as goal
 

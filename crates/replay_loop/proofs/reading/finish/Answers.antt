@@ -1,5 +1,5 @@
 -- What the check of `reading::finish` does not find by itself.
-use Rattle.replay_loop.specs.Outcomes.{last_line}
+use Rattle.replay_loop.specs.ReplayOutcomes.{last_line}
 use Rattle.replay_loop.proofs.HandlingLemmas.{last_stops, no_header_yet, stands_none}
 use Rattle.replay_loop.proofs.reading.finish.Goals as goal
 

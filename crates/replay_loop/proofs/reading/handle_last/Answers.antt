@@ -1,7 +1,7 @@
 -- What the check of `reading::handle_last` does not find by itself.
 use Rattle.std.proofs.Common.{◌≡◌, [], ◌∷◌, subst, sym}
 use Rattle.replay_loop.specs.Handling.{Stops}
-use Rattle.replay_loop.specs.Outcomes.{last_line}
+use Rattle.replay_loop.specs.ReplayOutcomes.{last_line}
 use Rattle.replay_loop.proofs.HandlingLemmas.{one_line}
 use Rattle.replay_loop.proofs.reading.handle_last.Goals as goal
 

@@ -1,7 +1,7 @@
 -- What the check of `reading::run_within` does not find by itself.
 use Rattle.std.proofs.Common.{◌<◌, ◌≤◌, None, length, take, subst, arith}
 use Rattle.replay_loop.specs.Handling.{Handles, LastStops}
-use Rattle.replay_loop.specs.Outcomes.{last_line}
+use Rattle.replay_loop.specs.ReplayOutcomes.{last_line}
 use Rattle.std.proofs.lemmas.List.{length-take-le}
 use Rattle.std.proofs.KnownBytes.{Keeps-refl}
 use Rattle.replay_loop.proofs.ReadingLemmas.{start, more, no_more, all, fails, last_fails}

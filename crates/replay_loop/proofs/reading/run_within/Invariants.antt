@@ -1,6 +1,6 @@
 -- What stays true in the loop of `reading::run_within`.
 use Rattle.std.proofs.Common.{Option}
-use Rattle.replay_loop.specs.Machine.{Future}
+use Rattle.replay_loop.specs.LineMachine.{Future}
 use Rattle.replay_loop.specs.Handling.{Stands}
 use Rattle.replay_loop.proofs.ReadingLemmas.{Going}
 use Rattle.replay_loop.proofs.reading.run_within.Given as goal

@@ -1,5 +1,5 @@
 -- The goals of `Calendar::next` that the prover leaves open.
-use Rattle.calendar_due.specs.Rules.{minute_at}
+use Rattle.calendar_due.specs.ZoneRules.{minute_at}
 use Rattle.calendar_due.proofs.NextLemmas.{first-fires}
 use Rattle.calendar_due.proofs.calendar.Calendar.next.Goals as goal
 

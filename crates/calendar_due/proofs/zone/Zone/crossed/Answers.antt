@@ -1,7 +1,7 @@
 -- The goals of `Zone::crossed` that the prover leaves open.
 use Rattle.std.proofs.Common.{arith, ◌≡◌, ◌∙◌, ◌+◌, ◌-◌, ◌*◌, ap, map, ◌/◌}
 use Rattle.history_model.specs.Calendar.{minutes_above, last_before}
-use Rattle.calendar_due.specs.Rules.{minute_at}
+use Rattle.calendar_due.specs.ZoneRules.{minute_at}
 use Rattle.calendar_due.proofs.CrossedLemmas.{map-minutes_above-suc}
 use Rattle.calendar_due.proofs.zone.Zone.crossed.Goals as goal
 

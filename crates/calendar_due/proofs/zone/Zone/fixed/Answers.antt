@@ -9,7 +9,7 @@ use Rattle.jiff.specs.Placed.{fixed_zone}
 use Rattle.jiff_tz.specs.Zone.{offset_at}
 use Rattle.jiff_core.specs.declared.Offset.{Offset}
 use Rattle.calendar_due.specs.Offsets.{nanos_at}
-use Rattle.calendar_due.specs.Rules.{offsets}
+use Rattle.calendar_due.specs.ZoneRules.{offsets}
 use Rattle.calendar_due.proofs.zone.Zone.fixed.Goals as goal
 
 -- the zone of an offset is ahead by it at each instant

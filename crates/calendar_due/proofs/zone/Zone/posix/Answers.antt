@@ -6,7 +6,7 @@ use Rattle.jiff_tz.specs.declared.timezone.TimeZone.TheVariants.{UTC, Unknown, F
 use Rattle.jiff_tz.specs.Zone.{offset_at}
 use Rattle.jiff.specs.ZoneView.{plain_zone}
 use Rattle.calendar_due.specs.Offsets.{nanos_at}
-use Rattle.calendar_due.specs.Rules.{offsets}
+use Rattle.calendar_due.specs.ZoneRules.{offsets}
 use Rattle.calendar_due.specs.Zone.{IsOfRule}
 use Rattle.calendar_due.proofs.zone.Zone.posix.Goals as goal
 

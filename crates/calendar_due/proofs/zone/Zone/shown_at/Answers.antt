@@ -9,7 +9,7 @@ use Rattle.jiff.proofs.SpanFacts.{signed_arith}
 use Rattle.jiff_tz.specs.Zone.{offset_at}
 use Rattle.jiff.specs.ZoneView.{plain_zone}
 use Rattle.calendar_due.specs.Offsets.{nanos_at, clock_seconds}
-use Rattle.calendar_due.specs.Rules.{offsets, offsets_by}
+use Rattle.calendar_due.specs.ZoneRules.{offsets, offsets_by}
 use Rattle.calendar_due.specs.Zone.{offsets_of_table}
 use Rattle.jiff_tz.specs.Tzif.{offset_at as table_offset}
 use Rattle.calendar_due.proofs.zone.Zone.shown_at.Goals as goal

@@ -1,6 +1,6 @@
 -- The goals of `Zone::tzif` that the prover leaves open.
 use Rattle.std.proofs.Common.{refl}
-use Rattle.calendar_due.specs.Rules.{offsets}
+use Rattle.calendar_due.specs.ZoneRules.{offsets}
 use Rattle.calendar_due.proofs.RuleLemmas.{agrees-not-bad}
 use Rattle.calendar_due.proofs.zone.Zone.tzif.Goals as goal
 

@@ -4,7 +4,7 @@ use Rattle.history_model.specs.Items.{Loaded}
 use Rattle.history_model.specs.Facts.{facts_of}
 use Rattle.job_defs.specs.Definitions.{definition}
 use Rattle.job_core.specs.Sights.{unseen}
-use Rattle.job_core.specs.Fields.{facts}
+use Rattle.job_core.specs.JobFields.{facts}
 use Rattle.history_model.specs.declared.reasons.DemandKind.TheVariants as kinds
 use Rattle.pace.specs.Paces.{no_ends}
 use Rattle.job_core.proofs.job.Job.new.Goals as goal

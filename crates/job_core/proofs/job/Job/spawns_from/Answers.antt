@@ -6,7 +6,7 @@ use Rattle.history_model.specs.Reasons.{not_before}
 use Rattle.history_model.specs.ReasonsByFacts.{free_by, needs_by, spawns_from_by}
 use Rattle.history_model.specs.Facts.{Facts}
 use Rattle.history_model.proofs.ReasonsLemmas.{free-unique}
-use Rattle.job_core.specs.Fields.{facts}
+use Rattle.job_core.specs.JobFields.{facts}
 use Rattle.job_core.proofs.job.Job.spawns_from.Goals as goal
 
 -- the facts give the moment, once no event is needed

@@ -4,7 +4,7 @@ use Rattle.std.proofs.lemmas.Bool.Decides.{nat_tests}
 use Rattle.history_model.specs.DueByFacts.{is_throttled_by}
 use Rattle.history_model.specs.ReasonsByFacts.{free_by}
 use Rattle.history_model.proofs.ReasonsLemmas.{free-unique}
-use Rattle.job_core.specs.Fields.{facts}
+use Rattle.job_core.specs.JobFields.{facts}
 use Rattle.job_core.proofs.job.Job.throttled_until.Goals as goal
 
 pub returns-then-up-free : goal.returns-then-up-free

@@ -5,7 +5,7 @@ use Rattle.std.specs.Option.{option_map}
 use Rattle.history_model.specs.Levels.{queue_holds}
 use Rattle.history_model.specs.DueByFacts.{first_seen}
 use Rattle.job_core.specs.Sights.{Sights}
-use Rattle.job_core.specs.Listed.{queue_path}
+use Rattle.job_core.specs.ListedPaths.{queue_path}
 use Rattle.job_core.specs.declared.paths.QueueDirectory.{QueueDirectory}
 use Rattle.job_core.proofs.PathsLemmas.{first-queue}
 use Rattle.job_core.proofs.paths.Queues.path_that_holds.Goals as goal

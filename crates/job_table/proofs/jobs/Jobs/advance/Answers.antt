@@ -25,7 +25,7 @@ use Rattle.job_table.specs.Leaving.{StayBut}
 use Rattle.job_table.specs.Index.{AreTimed, AreAlone, ArePlaced, HaveRoom, place_in}
 use Rattle.job_table.specs.Marking.{HavePlaces}
 use Rattle.job_table.specs.Minutes.{has_calendars, some_calendar}
-use Rattle.job_table.specs.Outcomes.{plain_outcome}
+use Rattle.job_table.specs.TableOutcomes.{plain_outcome}
 use Rattle.job_table.specs.Sound.{seen_table, AreFree}
 use Rattle.job_table.specs.Hearing.{AreFor, IsAccepted}
 use Rattle.job_table.specs.Visiting.{is_spared, AreSpared, AreAtRest, AreVisitedOnce}

@@ -9,7 +9,7 @@ use Rattle.history_model.specs.JobItems.{item_of}
 use Rattle.job_table.specs.StandsFor.{KeepsState}
 use Rattle.job_table.specs.Counts.{counts, count_in}
 use Rattle.job_table.specs.Seats.{has_label}
-use Rattle.job_table.specs.Outcomes.{plain_outcome}
+use Rattle.job_table.specs.TableOutcomes.{plain_outcome}
 use Rattle.job_table.specs.Sound.{seen_table}
 use Rattle.job_table.specs.Telling.{IsTold}
 use Rattle.job_table.proofs.EventsLemmas.{past-refused}

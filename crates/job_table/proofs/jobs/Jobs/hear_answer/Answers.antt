@@ -11,7 +11,7 @@ use Rattle.job_table.specs.StandsFor.{KeepsState}
 use Rattle.job_table.specs.Counts.{counts, count_in}
 use Rattle.job_table.specs.Seats.{name, has_number}
 use Rattle.job_table.specs.Index.{ArePlaced}
-use Rattle.job_table.specs.Outcomes.{plain_outcome}
+use Rattle.job_table.specs.TableOutcomes.{plain_outcome}
 use Rattle.job_table.specs.Sound.{seen_table}
 use Rattle.job_table.specs.Telling.{IsTold}
 use Rattle.job_table.proofs.EventsLemmas.{past-refused}

@@ -2,7 +2,7 @@
 use Rattle.std.proofs.Common.{true, sym, ◌∙◌}
 use Rattle.history_model.specs.Machine.{State}
 use Rattle.job_table.specs.StandsFor.{KeepsState}
-use Rattle.job_table.specs.Changes.{withdrawn}
+use Rattle.job_table.specs.SettingChanges.{withdrawn}
 use Rattle.job_table.specs.Sound.{seen_table}
 use Rattle.job_table.proofs.ChangesLemmas.{IsWithdrawn, none-withdrawn, one-withdrawn, never-refused}
 use Rattle.job_table.proofs.jobs.Jobs.withdraw.Goals as goal

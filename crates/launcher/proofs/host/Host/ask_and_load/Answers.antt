@@ -4,7 +4,7 @@ use Rattle.history_model.specs.Step.{set_if}
 use Rattle.job_table.specs.Loads.{refusal_outside, described_in}
 use Rattle.outside.specs.Asking.{Asks, told_of}
 use Rattle.outside.specs.Stores.{HoldsAfter, stamp_if}
-use Rattle.launcher.specs.Lines.{load_line}
+use Rattle.launcher.specs.JournaledLines.{load_line}
 use Rattle.launcher.proofs.LoadTurnsLemmas.{clash}
 use Rattle.launcher.proofs.host.Host.ask_and_load.Goals as goal
 

@@ -1,7 +1,7 @@
 -- The step's orders, and then the answers.
 use Rattle.std.proofs.Common.{List, subst}
 use Rattle.outside.specs.declared.unheard.Unheard.{Unheard}
-use Rattle.launcher.specs.Turns.{Carried}
+use Rattle.launcher.specs.HostTurns.{Carried}
 use Rattle.launcher.proofs.FinishingLemmas.{finished}
 use Rattle.launcher.proofs.host.Host.finish.Goals as goal
 

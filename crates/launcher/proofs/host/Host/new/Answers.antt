@@ -5,7 +5,7 @@ use Rattle.ctl_protocol.specs.declared.header.Header.{Header}
 use Rattle.ctl_protocol.specs.HeaderLines.{header_line}
 use Rattle.launcher.specs.Journals.{Grows, fresh, held}
 use Rattle.table_opening.specs.Openings.{StandsOpened}
-use Rattle.launcher.specs.Faults.{IsFaultOf, IsFaultWith, IsBadHeader}
+use Rattle.launcher.specs.TurnFaults.{IsFaultOf, IsFaultWith, IsBadHeader}
 use Rattle.launcher.specs.Writable.{IsWritableHeader}
 use Rattle.launcher.proofs.MakingLemmas.{made_new, stores_fault, same_fault}
 use Rattle.launcher.proofs.host.Host.new.Goals as goal

@@ -4,12 +4,12 @@ use Rattle.history_model.specs.declared.Refusal.TheVariants.{BadRequest, StoreRe
 use Rattle.history_model.specs.Machine.{State}
 use Rattle.history_model.specs.Acceptance.{refusal_in, refusal_stored}
 use Rattle.job_table.specs.StandsFor.{KeepsState}
-use Rattle.job_table.specs.Changes.{set_of}
-use Rattle.launcher.specs.Turns.{AreNumbered, trace}
+use Rattle.job_table.specs.SettingChanges.{set_of}
+use Rattle.launcher.specs.HostTurns.{AreNumbered, trace}
 use Rattle.launcher.proofs.NumbersLemmas.{keeps-numbers, same-numbers}
 use Rattle.outside.specs.Stores.{HoldsAfter, set_call}
 use Rattle.launcher.specs.LoadTurns.{AsksStore, Sets, stamps_after}
-use Rattle.launcher.specs.Lines.{set_line}
+use Rattle.launcher.specs.JournaledLines.{set_line}
 use Rattle.launcher.proofs.LoadTurnsLemmas.{named-alike, nothing_done, told_unless}
 use Rattle.launcher.proofs.SetTurnsLemmas.{bad_label, event_set, never_set, set_calls}
 use Rattle.launcher.proofs.host.Host.set.Goals as goal

@@ -4,7 +4,7 @@ use Rattle.history_model.specs.Machine.{State}
 use Rattle.history_model.specs.Turns.{JobOrder}
 use Rattle.history_model.specs.AwaitedOrders.{weigh_orders}
 use Rattle.job_table.specs.Tables.{Name}
-use Rattle.launcher.specs.Turns.{IsWaiting}
+use Rattle.launcher.specs.HostTurns.{IsWaiting}
 use Rattle.launcher.proofs.SettlingLemmas.{IsSoFar}
 use Rattle.launcher.proofs.host.Host.settle.Given as goal
 use Rattle.history_model.specs.declared.TheConstants.{MAX_JOBS}

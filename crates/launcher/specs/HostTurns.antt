@@ -14,13 +14,13 @@ use Rattle.history_model.specs.MachineLaws.{AreInOrder, labels_of}
 use Rattle.job_defs.specs.Described.{Described}
 use Rattle.job_table.specs.Tables.{Table, Row, Name, IsOnce, is_known, label_of, definition_of_number}
 use Rattle.job_table.specs.StandsFor.{KeepsState, labelled}
-use Rattle.job_table.specs.Outcomes.{IsSameFor}
+use Rattle.job_table.specs.TableOutcomes.{IsSameFor}
 use Rattle.job_table.specs.Ends.{AreKnown}
 use Rattle.job_table.specs.declared.Step.{Step}
 use Rattle.child_edge.specs.Calls.{Tells, ToldCall}
 use Rattle.outside.specs.declared.unheard.Unheard.{Unheard}
 use Rattle.launcher.specs.Journals.{JournalState, Grows}
-use Rattle.launcher.specs.Lines.{answer_text, answer_texts}
+use Rattle.launcher.specs.JournaledLines.{answer_text, answer_texts}
 use Rattle.outside.specs.Orders.{call_of, calls_in, answers_in, IsTellablePending}
 use Rattle.history_model.specs.Turns.{JobOrder, wanting}
 use Rattle.history_model.specs.AwaitedOrders.{AreFresh, weight, weigh_orders}

@@ -2,7 +2,7 @@
 use Rattle.std.specs.Prelude.{◌≡◌, [], ◌∷◌, ◌++◌, Option, Some, None, if◌then◌else◌}
 use Rattle.std.specs.List.{take_while}
 use Rattle.line_feed.specs.Lines.{lines_of, rest_of, is_short, fits, line_limit}
-use Rattle.replay_loop.specs.Machine.{Bytes, Lines, Output, Future}
+use Rattle.replay_loop.specs.LineMachine.{Bytes, Lines, Output, Future}
 
 -- this is written for the lines that still come: without a machine the header comes first
 abbrev pub Answers : Output → Option Future → Lines → Option Bytes → Type 0
@@ -19,8 +19,8 @@ abbrev pub input_lines : Bytes → Lines
 input_lines input = lines_of input ++ last_line (rest_of input)
 
 -- the lines of an input, up to one that is too long
-abbrev pub counted : Bytes → Lines
-counted input =
+abbrev pub counted_lines : Bytes → Lines
+counted_lines input =
     if fits line_limit input then input_lines input
     else take_while (is_short line_limit) (lines_of input)
 

@@ -7,8 +7,8 @@ use Rattle.history_model.specs.Items.{Definition}
 use Rattle.job_core.specs.declared.job.Job.{Job}
 
 -- the definition that the fields keep
-abbrev pub definition_of : Job → Definition
-definition_of c = record {
+abbrev pub definition_kept : Job → Definition
+definition_kept c = record {
   run_at_load = c.run_at_load;
   launch_only_once = c.launch_only_once;
   keep_alive = c.conditions.keep_alive;
@@ -28,7 +28,7 @@ definition_of c = record {
 -- the facts that the fields keep
 abbrev pub facts : Job → Facts
 facts c = record {
-  definition = definition_of c;
+  definition = definition_kept c;
   load_up = c.interval.load_up;
   run_count = c.runs;
   living_child = c.child;

@@ -45,8 +45,8 @@ abbrev pub orders_data : List (Label × Act) → Items
 orders_data orders = items_of (map (λ o. plain_object (order_members o)) orders)
 
 -- the orders without where the labels lie in memory
-abbrev pub orders_of : List (Bor (List ℕ) × Act) → List (Label × Act)
-orders_of orders = map (λ o. (o.0.now, o.1)) orders
+abbrev pub plain_orders : List (Bor (List ℕ) × Act) → List (Label × Act)
+plain_orders orders = map (λ o. (o.0.now, o.1)) orders
 
 -- ---- outcomes and replies
 
@@ -90,7 +90,7 @@ abbrev pub reply_line : Reply → List ℕ
 reply_line reply = line_of (reply_object (code_of reply.refusal) (text_of reply))
 
 -- the line as the texts of its values
-abbrev pub parts : List ℕ → List ℕ → List ℕ → List ℕ
-parts code orders said =
+abbrev pub line_parts : List ℕ → List ℕ → List ℕ → List ℕ
+line_parts code orders said =
     (((((codes "{\"code\":" ++ code) ++ codes ",\"orders\":") ++ orders) ++ codes ",\"text\":")
     ++ said) ++ codes "}\n"

@@ -15,8 +15,8 @@ abbrev pub watched_sight : Watched → Option Obs
 watched_sight w = w.watch
 
 -- the watched path after this was seen at this path
-abbrev pub after_sight : List ℕ → Obs → Watched → Watched
-after_sight path obs w = record w { watch = cond (is_same_path w.path path) (Some obs) w.watch }
+abbrev pub watched_after_sight : List ℕ → Obs → Watched → Watched
+watched_after_sight path obs w = record w { watch = cond (is_same_path w.path path) (Some obs) w.watch }
 
 -- a queue directory's path
 abbrev pub queue_path : QueueDirectory → List ℕ

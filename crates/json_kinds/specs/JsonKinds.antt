@@ -10,7 +10,7 @@ use Rattle.history_model.specs.declared.Reason.TheVariants.{Missing, WrongKind, 
 use Rattle.history_model.specs.declared.KeyName.{KeyName}
 use Rattle.history_model.specs.Machine.{Fault}
 use Rattle.history_model.specs.RefusalTexts.{key_text}
-use Rattle.json_kinds.specs.Faults.{bad, or_fault, ◌>>=◌}
+use Rattle.json_kinds.specs.DefFaults.{bad, or_fault, ◌>>=◌}
 use Rattle.json_kinds.specs.Names.{Key}
 use Rattle.json_kinds.specs.declared.keys.TheConstants.{PATH_LIMIT}
 
@@ -128,9 +128,9 @@ optional read (Some d) = do
   Ok (Some x)
 
 -- the key is not supported, whatever its value
-abbrev pub refused : KeyName → Option Data → Result ⊤ Fault
-refused key None = Ok tt
-refused key (Some d) = Err (bad Unsupported key)
+abbrev pub unsupported_key : KeyName → Option Data → Result ⊤ Fault
+unsupported_key key None = Ok tt
+unsupported_key key (Some d) = Err (bad Unsupported key)
 
 -- ---- keys of a definition
 
@@ -161,4 +161,4 @@ optional_path key d = optional (path_at key) (get (key_text key) d)
 
 -- a key that is not supported
 unfoldable pub refused_key : KeyName → Data → Result ⊤ Fault
-refused_key key d = refused key (get (key_text key) d)
+refused_key key d = unsupported_key key (get (key_text key) d)

@@ -32,8 +32,8 @@ abbrev pub calls_told : Memory → Option (List ToldCall)
 calls_told m = if m.is_telling then Some m.calls else None
 
 -- a further call can be listed
-abbrev pub has_room : Memory → Bool
-has_room m = m.is_telling && nat_lt (length m.calls) m.room
+abbrev pub has_call_room : Memory → Bool
+has_call_room m = m.is_telling && nat_lt (length m.calls) m.room
 
 -- the answer is one to a poll
 abbrev pub is_poll : Scripted → Bool
@@ -80,37 +80,37 @@ is_reading Refused = false
 is_reading NoMemory = false
 
 -- the answer is of the call's kind
-abbrev pub takes : EdgeCall → Scripted → Bool
-takes (Start job run conn) a = is_start a
-takes (Term job run) a = is_done a
-takes (Kill job run) a = is_done a
-takes (Poll job run) a = is_poll a
-takes (Bind job) a = is_done a
-takes (Close job conn) a = is_done a
-takes (Release job) a = is_done a
-takes Look a = is_seen a
-takes Clock a = is_reading a
+abbrev pub takes_answer : EdgeCall → Scripted → Bool
+takes_answer (Start job run conn) a = is_start a
+takes_answer (Term job run) a = is_done a
+takes_answer (Kill job run) a = is_done a
+takes_answer (Poll job run) a = is_poll a
+takes_answer (Bind job) a = is_done a
+takes_answer (Close job conn) a = is_done a
+takes_answer (Release job) a = is_done a
+takes_answer Look a = is_seen a
+takes_answer Clock a = is_reading a
 
 -- an answer that the call does not take is a refusal, but for want of memory
-abbrev pub refusal_of : Scripted → Scripted
-refusal_of NoMemory = NoMemory
-refusal_of (Started pid) = Refused
-refusal_of Done = Refused
-refusal_of Running = Refused
-refusal_of (Over ended) = Refused
-refusal_of (Seen seen) = Refused
-refusal_of (At reading) = Refused
-refusal_of Refused = Refused
+abbrev pub refusal_in_place : Scripted → Scripted
+refusal_in_place NoMemory = NoMemory
+refusal_in_place (Started pid) = Refused
+refusal_in_place Done = Refused
+refusal_in_place Running = Refused
+refusal_in_place (Over ended) = Refused
+refusal_in_place (Seen seen) = Refused
+refusal_in_place (At reading) = Refused
+refusal_in_place Refused = Refused
 
 -- what the script's next answer is to the call
 abbrev pub answer_to : EdgeCall → Option Scripted → Scripted
 answer_to call None = Refused
-answer_to call (Some a) = if takes call a then a else refusal_of a
+answer_to call (Some a) = if takes_answer call a then a else refusal_in_place a
 
 -- The call is answered by the script's next answer. If there is none, or no room to list the call,
 -- it is refused.
 abbrev pub answer_of : EdgeCall → Memory → Scripted
-answer_of call m = if has_room m then answer_to call (slice_get m.script m.used) else Refused
+answer_of call m = if has_call_room m then answer_to call (slice_get m.script m.used) else Refused
 
 -- the count of failures after the answer
 abbrev pub counted : Scripted → ℕ → ℕ
@@ -139,10 +139,10 @@ untold m = record m { is_telling = false; failures = one_more m.failures }
 -- the edge after a call that takes an answer of the script: it is listed with its answer, if there
 -- is room
 abbrev pub after_call : EdgeCall → Memory → Memory
-after_call call m = if has_room m then entered call (answer_of call m) m else untold m
+after_call call m = if has_call_room m then entered call (answer_of call m) m else untold m
 
 -- the edge after a call that takes none, and is done
 abbrev pub after_done : EdgeCall → Memory → Memory
 after_done call m =
-    if has_room m then record m { calls = m.calls ++ (call, Done) ∷ [] }
+    if has_call_room m then record m { calls = m.calls ++ (call, Done) ∷ [] }
     else record m { is_telling = false }

@@ -4,8 +4,8 @@ use Rattle.journal_reading.specs.declared.run.RunEnd.{RunEnd}
 use Rattle.journal_reading.specs.declared.run.RunEnd.TheVariants.{Awaited, Lives, Refused}
 
 -- the second at which the bar of a run ends: that of its end, or of the axis's end if it lives; none if the run did not begin
-abbrev pub bar_end : RunEnd → ℕ → ℕ → Option ℕ
-bar_end Awaited last ended = None
-bar_end Refused last ended = None
-bar_end Lives last ended = Some last
-bar_end _ last ended = Some ended
+abbrev pub run_bar_end : RunEnd → ℕ → ℕ → Option ℕ
+run_bar_end Awaited last ended = None
+run_bar_end Refused last ended = None
+run_bar_end Lives last ended = Some last
+run_bar_end _ last ended = Some ended

@@ -13,8 +13,8 @@ use Rattle.child_edge.specs.Calls.{Tells, ToldCall}
 use Rattle.outside.specs.declared.unheard.Unheard.{Unheard}
 use Rattle.outside.specs.Orders.{call_of, calls_in, answers_in, IsTellablePending}
 use Rattle.launcher.specs.Journals.{reported}
-use Rattle.launcher.specs.Lines.{journaled_answer}
-use Rattle.launcher.specs.Turns.{IsNamedIn}
+use Rattle.launcher.specs.JournaledLines.{journaled_answer}
+use Rattle.launcher.specs.HostTurns.{IsNamedIn}
 use Rattle.outside.specs.declared.asking.Outside.{Outside}
 use Rattle.launcher.specs.LoadTurns.{is_memory, Standing}
 use Rattle.launcher.specs.Inputs.{answered}
