@@ -206,7 +206,7 @@ module _ (before at : Moment) (minutes : Bor (List CivilMinute)) (order : before
 
   module _ (ready : Places) where
     pub spared-all : (place : ℕ) (es : List Seat) → ((k : ℕ) (e : Seat) → slice_get es k ≡ Some e → is_spared ready (place + k) ≡ true → IsSpare before at minutes.now e) →
-        AreSpared ready before (touch.Reading at minutes) place es
+        AreSpared (is_spared ready) before (touch.Reading at minutes) place es
     spared-all place [] spares = tt
     spared-all place (e ∷ es) spares = (
       λ none. heard-spare e (spares 0 e refl (subst (λ p. is_spared ready p ≡ true) (omega arith) none)),
@@ -215,7 +215,7 @@ module _ (before at : Moment) (minutes : Bor (List CivilMinute)) (order : before
 
     pub rest-all : (item : Job → Option Item) → IsAccepted before item → (place : ℕ) (es : List Seat) (jobs : List Job) →
         ((k : ℕ) (e : Seat) → slice_get es k ≡ Some e → is_spared ready (place + k) ≡ true → IsSpare before at minutes.now e) →
-        AreFor (touch.Reading at minutes) item (map row es) jobs → KeepsJobs before (map row es) jobs → AllByRecursion IsAtRest jobs → AreAtRest ready place (heard item jobs)
+        AreFor (touch.Reading at minutes) item (map row es) jobs → KeepsJobs before (map row es) jobs → AllByRecursion IsAtRest jobs → AreAtRest (is_spared ready) place (heard item jobs)
     rest-all item accepted place [] [] spares for keeps rests = tt
     rest-all item accepted place [] (job ∷ jobs) spares for keeps rests = absurd keeps
     rest-all item accepted place (e ∷ es) [] spares for keeps rests = tt
@@ -246,7 +246,7 @@ heard-labelled before item names es orders jobs same stay once keeps wanted =
 
 -- ---- counts
 
-module _ (ready : Places) where
+module _ (is_passed : ℕ → Bool) where
   stays-put : (all : List (Label × ℕ)) (e new : Seat) → name new ≡ name e → count_in all e.def.label ≡ e.core.decided → new.core.decided ≡ e.core.decided →
       (went_up all (row new) ≡ false) × (is_near all (row new) ≡ true)
   stays-put all e new named before still =
@@ -254,17 +254,17 @@ module _ (ready : Places) where
       let same : (new.core.decided == count_in all new.def.label) ≡ true = (λ i. still i == at i) ∙ eqb-self e.core.decided in
       (ap not same, λ i. not (not (same i)) || (new.core.decided == next_count (count_in all new.def.label)))
 
-  visits : (all : List (Label × ℕ)) (place : ℕ) (es later : List Seat) → HaveCounts all es → AreVisitedOnce ready place es later →
-      (list_all (is_near all) (rows later) ≡ true) × (count_visited ready place later ≡ length (filter (went_up all) (rows later))) × (list_any (went_up all) (gone later) ≡ false)
+  visits : (all : List (Label × ℕ)) (place : ℕ) (es later : List Seat) → HaveCounts all es → AreVisitedOnce is_passed place es later →
+      (list_all (is_near all) (rows later) ≡ true) × (count_visited is_passed place later ≡ length (filter (went_up all) (rows later))) × (list_any (went_up all) (gone later) ≡ false)
   visits all place [] [] is visited_once = (refl, refl, refl)
   visits all place [] (n ∷ ns) is visited_once = absurd visited_once
   visits all place (e ∷ es) [] is visited_once = absurd visited_once
-  visits all place (e ∷ es) (n ∷ ns) is visited_once = go n.has_gone (is_spared ready place) visited_once.1 (visits all (suc place) es ns is.1 visited_once.3)
+  visits all place (e ∷ es) (n ∷ ns) is visited_once = go n.has_gone (is_passed place) visited_once.1 (visits all (suc place) es ns is.1 visited_once.3)
     where
       go : (b s : Bool) → n.core.decided ≡ cond (b || s) e.core.decided (next_count e.core.decided) →
-          (list_all (is_near all) (rows ns) ≡ true) × (count_visited ready (suc place) ns ≡ length (filter (went_up all) (rows ns))) × (list_any (went_up all) (gone ns) ≡ false) →
+          (list_all (is_near all) (rows ns) ≡ true) × (count_visited is_passed (suc place) ns ≡ length (filter (went_up all) (rows ns))) × (list_any (went_up all) (gone ns) ≡ false) →
           (list_all (is_near all) (cond b (rows ns) (row n ∷ rows ns)) ≡ true)
-          × (cond (b || s) (count_visited ready (suc place) ns) (suc (count_visited ready (suc place) ns)) ≡ length (filter (went_up all) (cond b (rows ns) (row n ∷ rows ns))))
+          × (cond (b || s) (count_visited is_passed (suc place) ns) (suc (count_visited is_passed (suc place) ns)) ≡ length (filter (went_up all) (cond b (rows ns) (row n ∷ rows ns))))
           × (list_any (went_up all) (cond b (row n ∷ gone ns) (gone ns)) ≡ false)
       go true s up later =
           let one = stays-put all e n visited_once.0 is.0 up in (later.0, later.1, λ i. one.0 i || later.2 i)
@@ -281,7 +281,7 @@ module _ (ready : Places) where
             later.2,
           )
 
-  pub visits-counted : (es later : List Seat) (visited : ℕ) → AllStay es → IsOnce (map name es) → AreVisitedOnce ready 0 es later → visited ≡ count_visited ready 0 later → IsCounted (counts (rows es)) (rows later) (gone later) visited
+  pub visits-counted : (es later : List Seat) (visited : ℕ) → AllStay es → IsOnce (map name es) → AreVisitedOnce is_passed 0 es later → visited ≡ count_visited is_passed 0 later → IsCounted (counts (rows es)) (rows later) (gone later) visited
   visits-counted es later visited stay once visited_once many =
       let done = visits (counts (map row es)) 0 es later (for-all es once) visited_once in
       subst (λ rs. IsCounted (counts rs) (rows later) (gone later) visited) (sym (rows-all es stay)) (record { each = done.0; visited = many ∙ done.1; unasked = done.2 })

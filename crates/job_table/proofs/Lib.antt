@@ -27,12 +27,14 @@ pub mod SkippingLemmas
 pub mod VisitingLemmas
 pub mod MarkingLemmas
 pub mod MomentsLemmas
+pub mod VisitAtLemmas
 pub mod IndexLemmas
 pub mod AdvanceLemmas
 pub mod IndexGrowthLemmas
 pub mod TouchingLemmas
 pub mod TellingLemmas
 pub mod TouchedLemmas
+pub mod AskedLemmas
 pub mod MinutesLemmas
 pub mod ChangesLemmas
 pub mod NewJobLemmas

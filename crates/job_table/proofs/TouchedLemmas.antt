@@ -4,7 +4,6 @@ use Rattle.std.specs.Prelude.{slice_get, slice_set, if◌then◌else◌}
 use Rattle.std.specs.List.{position, filter, filter_map, flat_map, AllByRecursion}
 use Rattle.std.proofs.lemmas.Bool.Decides.{nat_tests}
 use Rattle.std.proofs.lemmas.Option.{slice_get_within}
-use Rattle.place_set.specs.Places.{Places}
 use Rattle.timer_heap.specs.Timers.{moment_in}
 use Rattle.history_model.specs.declared.Reading.{Reading as Moment}
 use Rattle.history_model.specs.Items.{Item, Saw, History}
@@ -26,7 +25,7 @@ use Rattle.job_table.specs.Seats.{row, name, rows, AllStay, has_label}
 use Rattle.job_table.specs.Touch.{item_for, is_touch_for, heard_at, is_at, is_touched}
 use Rattle.job_table.specs.Hearing.{AreFor, IsAccepted}
 use Rattle.job_table.specs.Touched.{IsChangedAt, IsHandedAt, AreTimedBut, RestBut, SparesBut}
-use Rattle.job_table.specs.Visiting.{is_spared, AreSpared, AreAtRest, AreVisitedOnce}
+use Rattle.job_table.specs.Visiting.{AreSpared, AreAtRest, AreVisitedOnce}
 use Rattle.job_table.specs.declared.seat.Touch.{Touch}
 use Rattle.job_table.specs.declared.seat.Touch.TheVariants.{Heard, Shutdown, Reading, Sight}
 use Rattle.job_table.proofs.HearingLemmas.{heard-as, heard-nothing}
@@ -58,25 +57,25 @@ pub not-true : (s b : Bool) → s ≡ not b → s ≡ true → b ≡ false
 not-true s true is held = let clash : true ≡ false = sym held ∙ is in absurd (cc clash)
 not-true s false is held = refl
 
-module _ (touch : Touch) (ready : Places) where
+module _ (touch : Touch) (is_passed : ℕ → Bool) where
   -- from this place on: the jobs that the touch reaches have a mark, and no other
   abbrev pub AreMarked : ℕ → List Seat → Type 0
-  AreMarked place es = (k : ℕ) (e : Seat) → slice_get es k ≡ Some e → is_spared ready (place + k) ≡ not (is_touched touch (place + k) e.def)
+  AreMarked place es = (k : ℕ) (e : Seat) → slice_get es k ≡ Some e → is_passed (place + k) ≡ not (is_touched touch (place + k) e.def)
 
-  at-head : (place : ℕ) (e : Seat) (es : List Seat) → AreMarked place (e ∷ es) → is_spared ready place ≡ true → is_touched touch place e.def ≡ false
+  at-head : (place : ℕ) (e : Seat) (es : List Seat) → AreMarked place (e ∷ es) → is_passed place ≡ true → is_touched touch place e.def ≡ false
   at-head place e es marked none =
-      not-true (is_spared ready place) (is_touched touch place e.def) (subst (λ p. is_spared ready p ≡ not (is_touched touch p e.def)) (omega arith) (marked 0 e refl)) none
+      not-true (is_passed place) (is_touched touch place e.def) (subst (λ p. is_passed p ≡ not (is_touched touch p e.def)) (omega arith) (marked 0 e refl)) none
 
   at-tail : (place : ℕ) (e : Seat) (es : List Seat) → AreMarked place (e ∷ es) → AreMarked (suc place) es
-  at-tail place e es marked = λ k x there. subst (λ p. is_spared ready p ≡ not (is_touched touch p x.def)) (omega arith) (marked (suc k) x there)
+  at-tail place e es marked = λ k x there. subst (λ p. is_passed p ≡ not (is_touched touch p x.def)) (omega arith) (marked (suc k) x there)
 
-  pub spared-all : (at : Moment) (place : ℕ) (es : List Seat) → AreMarked place es → AreSpared ready at touch place es
+  pub spared-all : (at : Moment) (place : ℕ) (es : List Seat) → AreMarked place es → AreSpared is_passed at touch place es
   spared-all at place [] marked = tt
   spared-all at place (e ∷ es) marked =
       (λ none. heard-as (sym (none-for touch place e.def (at-head place e es marked none))) heard-nothing, spared-all at (suc place) es (at-tail place e es marked))
 
   pub rest-all : (at : Moment) (item : Job → Option Item) (place : ℕ) (es : List Seat) (jobs : List Job) → AreMarked place es → AreFor touch item (map row es) jobs → KeepsJobs at (map row es) jobs →
-      RestBut touch place (map row es) jobs → AreAtRest ready place (heard item jobs)
+      RestBut touch place (map row es) jobs → AreAtRest is_passed place (heard item jobs)
   rest-all at item place [] [] marked for keeps rests = tt
   rest-all at item place [] (job ∷ jobs) marked for keeps rests = absurd keeps
   rest-all at item place (e ∷ es) [] marked for keeps rests = tt
@@ -85,26 +84,26 @@ module _ (touch : Touch) (ready : Places) where
     rest-all at item (suc place) es jobs (at-tail place e es marked) for.1 keeps.1 rests.1,
   )
 
-pub marked-at : (touch : Touch) (ready : Places) (lent es : List Seat) → lent ≡ es →
-    ((k : ℕ) (e : Seat) → slice_get lent k ≡ Some e → is_spared ready k ≡ not (is_touched touch k e.def)) → AreMarked touch ready 0 es
-marked-at touch ready lent es same marked k e there =
-    subst (λ p. is_spared ready p ≡ not (is_touched touch p e.def)) (omega arith) (marked k e (ap (λ xs. slice_get xs k) same ∙ there))
+pub marked-at : (touch : Touch) (is_passed : ℕ → Bool) (lent es : List Seat) → lent ≡ es →
+    ((k : ℕ) (e : Seat) → slice_get lent k ≡ Some e → is_passed k ≡ not (is_touched touch k e.def)) → AreMarked touch is_passed 0 es
+marked-at touch is_passed lent es same marked k e there =
+    subst (λ p. is_passed p ≡ not (is_touched touch p e.def)) (omega arith) (marked k e (ap (λ xs. slice_get xs k) same ∙ there))
 
 -- ---- the count of a label that no job at a mark has
 
-pub spared-count : (ready : Places) (place : ℕ) (es later : List Seat) (label : Label) → AllStay es → AreVisitedOnce ready place es later →
-    ((k : ℕ) (e : Seat) → slice_get es k ≡ Some e → has_label label e ≡ true → is_spared ready (place + k) ≡ true) →
+pub spared-count : (is_passed : ℕ → Bool) (place : ℕ) (es later : List Seat) (label : Label) → AllStay es → AreVisitedOnce is_passed place es later →
+    ((k : ℕ) (e : Seat) → slice_get es k ≡ Some e → has_label label e ≡ true → is_passed (place + k) ≡ true) →
     count_in (counts (rows later)) label ≡ count_in (counts (map row es)) label
-spared-count ready place [] [] label stay visits spared = refl
-spared-count ready place [] (n ∷ ns) label stay visits spared = absurd visits
-spared-count ready place (e ∷ es) [] label stay visits spared = absurd visits
-spared-count ready place (e ∷ es) (n ∷ ns) label stay visits spared =
+spared-count is_passed place [] [] label stay visits spared = refl
+spared-count is_passed place [] (n ∷ ns) label stay visits spared = absurd visits
+spared-count is_passed place (e ∷ es) [] label stay visits spared = absurd visits
+spared-count is_passed place (e ∷ es) (n ∷ ns) label stay visits spared =
     go (is_same label e.def.label) refl
-    (spared-count ready (suc place) es ns label stay.1 visits.3 (λ k x there has. subst (λ p. is_spared ready p ≡ true) (omega arith) (spared (suc k) x there has))) where
+    (spared-count is_passed (suc place) es ns label stay.1 visits.3 (λ k x there has. subst (λ p. is_passed p ≡ true) (omega arith) (spared (suc k) x there has))) where
       go : (b : Bool) → is_same label e.def.label ≡ b → count_in (counts (rows ns)) label ≡ count_in (counts (map row es)) label →
           count_in (counts (cond n.has_gone (rows ns) (row n ∷ rows ns))) label ≡ (if is_same label e.def.label then e.core.decided else count_in (counts (map row es)) label)
       go true is rest =
-          let kept : n ≡ e = visits.2 (subst (λ p. is_spared ready p ≡ true) (omega arith) (spared 0 e refl is)) in
+          let kept : n ≡ e = visits.2 (subst (λ p. is_passed p ≡ true) (omega arith) (spared 0 e refl is)) in
           let staying : n.has_gone ≡ false = ap (λ x. x.has_gone) kept ∙ stay.0 in
           ap (λ b. count_in (counts (cond b (rows ns) (row n ∷ rows ns))) label) staying
           ∙ ap (λ x. if is_same label x.def.label then x.core.decided else count_in (counts (rows ns)) label) kept

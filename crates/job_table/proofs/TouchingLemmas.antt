@@ -125,7 +125,7 @@ MarksTouch zone at ready place (e ∷ es) (job ∷ jobs) =
     (is_spared ready place ≡ false → touches zone at job.past ≡ true) × MarksTouch zone at ready (suc place) es jobs
 
 pub spared-count : (zone : Zone) (before at : Moment) (ready : Places) (place : ℕ) (es later : List Seat) (jobs : List Job) (label : Label) (past : History) →
-    AllStay es → AreVisitedOnce ready place es later → KeepsJobs before (map row es) jobs → MarksTouch zone at ready place es jobs →
+    AllStay es → AreVisitedOnce (is_spared ready) place es later → KeepsJobs before (map row es) jobs → MarksTouch zone at ready place es jobs →
     past_in (first (filter (is_of label) jobs)) ≡ Some past → touches zone at past ≡ false →
     count_in (counts (rows later)) label ≡ count_in (counts (map row es)) label
 spared-count zone before at ready place [] later [] label past stay visited_once keeps marks found none = cc

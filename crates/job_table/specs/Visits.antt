@@ -1,5 +1,5 @@
--- What a walk over the marked places is given, and what it leaves.
-use Rattle.std.specs.Prelude.{◌≡◌, ◌≤◌, ◌<◌, ◌++◌, ℕ, true, false, List, Option, Some, map, length, slice_get}
+-- What a walk over the jobs that an event touches is given, and what it leaves.
+use Rattle.std.specs.Prelude.{◌≡◌, ◌≤◌, ◌<◌, ◌++◌, ℕ, Bool, true, false, List, Option, Some, map, length, slice_get}
 use Rattle.std.specs.List.{filter_map, list_all}
 use Rattle.place_set.specs.Places.{Places, has_place, place_room}
 use Rattle.timer_heap.specs.Timers.{Timers, moment_in, room}
@@ -15,45 +15,45 @@ use Rattle.job_table.specs.Seats.{is_named, rows, name, AllStay}
 use Rattle.job_table.specs.Index.{moment_for, AreTimed, AreAlone, HaveRoom}
 use Rattle.job_table.specs.Leaving.{StayBut}
 use Rattle.job_table.specs.Hearing.{AreFor, IsAccepted, present_with}
-use Rattle.job_table.specs.Visiting.{is_spared, AreSpared, AreAtRest, AreVisitedOnce, count_visited}
+use Rattle.job_table.specs.Visiting.{AreSpared, AreAtRest, AreVisitedOnce, count_visited}
 use Rattle.job_table.specs.declared.gone_jobs.Gone.{Gone}
 use Rattle.job_table.specs.declared.seat.Seat.{Seat}
 use Rattle.job_table.specs.declared.seat.Touch.{Touch}
 
--- no job is gone, each number and label stands once, and the marked places are of jobs; a job without
--- a mark has its item though it did not hear it, and its next moment
-pub record CanVisit (touch : Touch) (before at : Reading) (seats : List Seat) (ready : Places)
+-- no job is gone, each number and label stands once, and each place that is not passed by is that of a
+-- job; a job that is passed by has its item though it did not hear it, and its next moment
+pub record CanVisit (touch : Touch) (before at : Reading) (is_passed : ℕ → Bool) (seats : List Seat)
     (timers : Timers) : Type 0 where
   pub before_in_range : before.up ≤ MAX_UP
   pub in_range : at.up ≤ MAX_UP
   pub now : at ≡ present_with touch before
   pub stay : AllStay seats
   pub few : length seats ≤ MAX_JOBS
-  pub inside : (place : ℕ) → has_place ready place ≡ true → place < length seats
-  pub spared : AreSpared ready before touch 0 seats
+  pub inside : (place : ℕ) → is_passed place ≡ false → place < length seats
+  pub spared : AreSpared is_passed before touch 0 seats
   pub once : IsOnce (map name seats)
   pub numbers : HaveRoom timers (map name seats)
   pub timed : (place : ℕ) (seat : Seat) → slice_get seats place ≡ Some seat →
-      is_spared ready place ≡ true → moment_in timers seat.number ≡ moment_for seat at.up
+      is_passed place ≡ true → moment_in timers seat.number ≡ moment_for seat at.up
   pub alone : AreAlone timers (map name seats)
 
--- every job has its item, the orders are those of all jobs, and the marked jobs alone were visited,
--- each once; so many stayed, and those that went are known. Each order is of a job whose number is
--- known, the names stay, and each number has its next moment
-pub record VisitsMarked (touch : Touch) (before at : Reading) (ready : Places)
+-- every job has its item, the orders are those of all jobs, and the jobs that are not passed by were
+-- visited alone, each once; so many stayed, and those that went are known. Each order is of a job
+-- whose number is known, the names stay, and each number has its next moment
+pub record VisitsTouched (touch : Touch) (before at : Reading) (is_passed : ℕ → Bool)
     (seats later : List Seat) (earlier all : List Order) (timers : Timers) (count : ℕ)
     (gone : Gone) : Type 0 where
   pub kept : (jobs : List Job) (item : Job → Option Item) → AreFor touch item (rows seats) jobs →
-      IsAccepted before item → AreAtRest ready 0 (heard item jobs) →
+      IsAccepted before item → AreAtRest is_passed 0 (heard item jobs) →
       KeepsJobs before (rows seats) jobs →
       KeepsJobs at (rows later) (filter_map stays (heard item jobs))
   pub orders : (jobs : List Job) (item : Job → Option Item) → AreFor touch item (rows seats) jobs →
-      IsAccepted before item → AreAtRest ready 0 (heard item jobs) →
+      IsAccepted before item → AreAtRest is_passed 0 (heard item jobs) →
       KeepsJobs before (rows seats) jobs →
       all ≡ earlier ++ numbered_all (rows seats) (heard item jobs)
-  pub visited : count ≡ count_visited ready 0 later
+  pub visited : count ≡ count_visited is_passed 0 later
   pub stay : StayBut gone later
-  pub visits : AreVisitedOnce ready 0 seats later
+  pub visits : AreVisitedOnce is_passed 0 seats later
   pub known : (names : List Name) → list_all (is_named names) seats ≡ true →
       list_all (is_known names) earlier ≡ true → list_all (is_known names) all ≡ true
   pub names : map name later ≡ map name seats

@@ -18,6 +18,7 @@ ghost use Rattle.job_table.specs.Loads.{refused_with};
 ghost use Rattle.job_table.specs.Touched.{IsChangedAt, IsHandedAt};
 ghost use Rattle.job_table.specs.Telling.{IsTold};
 ghost use Rattle.job_table.specs.AskedJobs.{CanAsk, AsksTouched};
+ghost use Rattle.job_table.specs.declared.seat.Touch.TheVariants.{Heard};
 ghost use Rattle.std.specs.Option.{ForSome};
 
 use crate::gone_jobs::Gone;
@@ -25,7 +26,7 @@ use crate::marks::mark_touched;
 use crate::seat::{Seat, Touch};
 use crate::settings::Settings;
 use crate::trigger::Listed;
-use crate::visits::visit_ready;
+use crate::visits::{visit_at, visit_ready};
 use calendar_due::Zone;
 use history_model::{JobItem, Order, Reading, Refusal};
 use job_core::JobEvent;
@@ -150,6 +151,10 @@ impl Jobs {
         requires { CanAsk touch self.old }
         ensures { AsksTouched touch.entry self.old self.new }
     {
+        if let Touch::Heard(place) = touch {
+            self.ask_at(place);
+            return;
+        }
         mark_touched(
             &self.seats,
             touch,
@@ -168,5 +173,21 @@ impl Jobs {
         );
         self.visited = visited;
         self.gone = gone;
+    }
+
+    /// Asks the job at this place, which heard already what happened to it, and no other. No mark is set for it.
+    fn ask_at(&mut self, place: usize)
+        requires { CanAsk (Heard place) self.old }
+        ensures { AsksTouched (Heard place) self.old self.new }
+    {
+        let (asked, left) = visit_at(
+            &mut self.seats,
+            &mut self.index.timers,
+            place,
+            self.reading,
+            &mut self.orders,
+        );
+        self.visited = asked;
+        self.gone = left;
     }
 }

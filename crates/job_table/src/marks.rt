@@ -11,8 +11,7 @@ ghost use Rattle.job_table.specs.Seats.{name};
 ghost use Rattle.job_table.specs.declared.seat.Seat.{Seat};
 ghost use Rattle.job_table.specs.Triggers.{rank_of, AreOrdered, AreListed};
 ghost use Rattle.job_table.specs.Marking.{HavePlaces, IsMarked, IsReachedAt, IsMinuteAt, HaveMarks, Marks, stands_at};
-ghost use Rattle.job_table.specs.Touch.{heard_at, is_touched};
-ghost use Rattle.std.specs.Option.{ForSome};
+ghost use Rattle.job_table.specs.Touch.{is_touch_for};
 
 use crate::seat::{Seat, Touch};
 use crate::trigger::{Listed, Sought};
@@ -104,7 +103,7 @@ fn mark_of(listed: &[Listed], sought: Sought<'_>, places: &[u32], ready: &mut Pl
     }
 }
 
-/// Marks the places of the jobs that the touch reaches.
+/// Marks the places of the jobs that hear something of the touch.
 pub fn mark_touched(
     seats: &[Seat],
     touch: Touch<'_>,
@@ -115,16 +114,15 @@ pub fn mark_touched(
     requires room { length seats.now ≤ place_room ready.old }
     requires few { length seats.now ≤ MAX_JOBS }
     requires empty { (place : ℕ) → has_place ready.old place ≡ false }
-    requires inside { ForSome (heard_at touch) (λ place. place < length seats.now) }
     requires listed { AreListed listed.now (map name seats.now) }
     requires placed { ArePlaced places.now seats.now }
     ensures touched { (place : ℕ) (seat : Seat) → slice_get seats.now place ≡ Some seat →
-        is_spared ready.new place ≡ not (is_touched touch.entry place seat.def) }
+        is_spared ready.new place ≡ not (is_touch_for touch.entry seat.def) }
     ensures marks { (place : ℕ) → has_place ready.new place ≡ true → place < length seats.now }
     ensures room { place_room ready.new ≡ place_room ready.old }
 {
     match touch {
-        Touch::Heard(place) => ready.insert(place as u32),
+        Touch::Heard(_) => {}
         Touch::Sight(path, _) => mark_of(listed, Sought::Path(path), places, ready),
         Touch::Shutdown | Touch::Reading(_, _) => mark_each(seats.len() as u32, ready),
     }

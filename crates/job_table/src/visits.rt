@@ -6,7 +6,9 @@ ghost use Rattle.timer_heap.specs.Timers.{room, Updates};
 ghost use Rattle.history_model.specs.declared.TheConstants.{MAX_UP};
 ghost use Rattle.job_table.specs.declared.seat.TheConstants.{ORDERS};
 ghost use Rattle.job_table.specs.Index.{moment_for};
-ghost use Rattle.job_table.specs.Visits.{CanVisit, VisitsMarked, IsUnmarked};
+ghost use Rattle.job_table.specs.Visiting.{is_spared, is_other};
+ghost use Rattle.job_table.specs.Visits.{CanVisit, VisitsTouched, IsUnmarked};
+ghost use Rattle.job_table.specs.declared.seat.Touch.TheVariants.{Heard};
 
 use crate::gone_jobs::Gone;
 use crate::seat::{Seat, Touch};
@@ -25,9 +27,9 @@ pub fn visit_ready(
     now: Reading,
     orders: &mut Vec<Order>,
 ) -> (u32, Gone)
-    requires can { CanVisit touch before now seats.old ready.old timers.old }
+    requires can { CanVisit touch before now (is_spared ready.old) seats.old timers.old }
     requires room { vec_len orders.old + ORDERS * length seats.old ≤ vec_capacity orders.old }
-    ensures visits { VisitsMarked touch.entry before now ready.old seats.old seats.new
+    ensures visits { VisitsTouched touch.entry before now (is_spared ready.old) seats.old seats.new
         orders.old.items orders.new.items timers.new result.0 result.1 }
     ensures unmarked { IsUnmarked ready.old ready.new timers.old timers.new }
     ensures capacity { vec_capacity orders.new ≡ vec_capacity orders.old }
@@ -48,6 +50,31 @@ pub fn visit_ready(
         front = place + 1; // for the proof
     }
     (visited, gone)
+}
+
+/// Asks the job at this place, which heard already what happened to it, and no other. It counts it, unless it has gone.
+pub fn visit_at(
+    seats: &mut [Seat],
+    timers: &mut TimerHeap,
+    place: usize,
+    now: Reading,
+    orders: &mut Vec<Order>,
+) -> (u32, Gone)
+    requires inside { place < length seats.old }
+    requires can { CanVisit (Heard place) now now (is_other place) seats.old timers.old }
+    requires room { vec_len orders.old + ORDERS ≤ vec_capacity orders.old }
+    ensures visits { VisitsTouched (Heard place) now now (is_other place) seats.old seats.new
+        orders.old.items orders.new.items timers.new result.0 result.1 }
+    ensures space { room timers.new ≡ room timers.old }
+    ensures capacity { vec_capacity orders.new ≡ vec_capacity orders.old }
+{
+    let seat = &mut seats[place];
+    seat.ask(now, orders);
+    retime(timers, seat, now);
+    if !seat.has_gone {
+        return (1, Gone::Nobody);
+    }
+    (0, Gone::One(place))
 }
 
 /// Gives the job's number its next moment; none, if the job is gone or has none. One that stays costs nothing.

@@ -66,7 +66,7 @@ retime-requires-clause-room c =
     let number = c.in-Some.number in
     let popped = c.in-Some.ensures in
     let here = going-marks c.loop-number.ready c.args.ready.now c.loop-number.front inv.taken inv.behind number popped.there in
-    let within : number < length c.args.seats.now = c.requires.can.inside number here.1 in
+    let within : number < length c.args.seats.now = c.requires.can.inside number (ap not here.1) in
     let long : length es ≡ length c.args.seats.now = omega arith in
     let inside : number < length es = omega (arith, within, long) in
     let e : Seat = get_or es number c.index-seats-place.result in
@@ -89,16 +89,16 @@ loop-number-preserved c =
     let new = c.visit.new.self in
     let here = going-marks ready ready0 front inv.taken inv.behind number popped.there in
     let after : front ≤ number = here.0 in
-    let within : number < length es0 = c.requires.can.inside number here.1 in
+    let within : number < length es0 = c.requires.can.inside number (ap not here.1) in
     let long : length es ≡ length es0 = omega arith in
     let inside : number < length es = omega (arith, within, long) in
     let e : Seat = get_or es number c.index-seats-place.result in
     let is : e ≡ get_or es number e = ap (get_or es number) c.index-seats-place.is in
     let between : (k : ℕ) → front ≤ k → k < front + (number - front) → is_spared ready0 k ≡ true =
     λ k low high. ap not (sym (inv.behind k low) ∙ popped.least k (omega (arith, high, after))) in
-    let passed : IsWalked c.args.before c.args.now c.args.touch ready0 es0 c.args.orders.now.items es number c.loop-number.orders.items c.loop-number.visited =
-    subst (λ k. IsWalked c.args.before c.args.now c.args.touch ready0 es0 c.args.orders.now.items es k c.loop-number.orders.items c.loop-number.visited) (omega (arith, after))
-    (skip-to c.args.before c.args.now c.args.touch ready0 c.requires.can.now es0 c.args.orders.now.items es (number - front) front c.loop-number.orders.items c.loop-number.visited
+    let passed : IsWalked c.args.before c.args.now c.args.touch (is_spared ready0) es0 c.args.orders.now.items es number c.loop-number.orders.items c.loop-number.visited =
+    subst (λ k. IsWalked c.args.before c.args.now c.args.touch (is_spared ready0) es0 c.args.orders.now.items es k c.loop-number.orders.items c.loop-number.visited) (omega (arith, after))
+    (skip-to c.args.before c.args.now c.args.touch (is_spared ready0) c.requires.can.now es0 c.args.orders.now.items es (number - front) front c.loop-number.orders.items c.loop-number.visited
     c.requires.can.stay (omega (arith, within, after)) between inv.walked) in
     let counts : c.if-not-seat.visited ≡ cond new.has_gone c.loop-number.visited (suc c.loop-number.visited) = elim c.if-not-seat.branch [
       | then-not-seat w ↦ w.visited-is ∙ add-one c.loop-number.visited ∙ ap (λ b. cond b c.loop-number.visited (suc c.loop-number.visited)) (sym w.if-not-seat.true)
@@ -123,8 +123,8 @@ loop-number-preserved c =
         | then-not-seat w ↦ subst (λ g. StayBut g (slice_set es number new)) (sym w.gone-is) (stayed-more c.loop-number.gone number es new inv.stays w.if-not-seat.true)
         | else-not-seat w ↦ subst (λ g. StayBut g (slice_set es number new)) (sym (w.gone-is ∙ w.and-gone.ensures)) (went-more c.loop-number.gone number es new inv.stays)
       ];
-      walked = subst (λ k. IsWalked c.args.before c.args.now c.args.touch ready0 es0 c.args.orders.now.items (slice_set es number new) k c.visit.new.orders.items c.if-not-seat.visited) (sym (add-one number))
-          (visit-one c.args.before c.args.now c.args.touch ready0 c.requires.can.now es0 c.args.orders.now.items es number e new c.loop-number.orders.items c.visit.new.orders.items c.loop-number.visited c.if-not-seat.visited
+      walked = subst (λ k. IsWalked c.args.before c.args.now c.args.touch (is_spared ready0) es0 c.args.orders.now.items (slice_set es number new) k c.visit.new.orders.items c.if-not-seat.visited) (sym (add-one number))
+          (visit-one c.args.before c.args.now c.args.touch (is_spared ready0) c.requires.can.now es0 c.args.orders.now.items es number e new c.loop-number.orders.items c.visit.new.orders.items c.loop-number.visited c.if-not-seat.visited
           c.requires.can.stay within inside is (ap not here.1) c.visit.ensures.visit c.visit.ensures.decided counts passed);
     }
 
@@ -137,7 +137,7 @@ pub returns-clause-visits : goal.returns-clause-visits
 returns-clause-visits c =
     let inv = c.loop-number.invariant in
     let rest = none-marked c.loop-number.ready c.args.ready.now c.loop-number.front inv.behind c.in_default.ensures.1 in
-    let whole = walk-over c.args.before c.args.now c.args.touch c.args.ready.now c.requires.can.now c.args.seats.now c.args.orders.now.items c.loop-number.seats c.loop-number.front c.loop-number.orders.items c.loop-number.visited
+    let whole = walk-over c.args.before c.args.now c.args.touch (is_spared c.args.ready.now) c.requires.can.now c.args.seats.now c.args.orders.now.items c.loop-number.seats c.loop-number.front c.loop-number.orders.items c.loop-number.visited
     c.requires.can.stay (omega arith) inv.front rest inv.walked in
     record {
       kept = whole.kept;

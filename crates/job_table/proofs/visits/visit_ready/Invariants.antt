@@ -29,7 +29,7 @@ invariant-loop-number l = record {
   marks : place_room l.ready ≡ place_room l.fn.ready;
   space : room l.timers ≡ room l.fn.timers;
   stays : StayBut l.gone l.seats;
-  walked : IsWalked l.before l.now l.touch l.fn.ready l.fn.seats l.fn.orders.items l.seats l.front l.orders.items l.visited;
+  walked : IsWalked l.before l.now l.touch (is_spared l.fn.ready) l.fn.seats l.fn.orders.items l.seats l.front l.orders.items l.visited;
 }
 
 abbrev pub decreases-loop-number : goal.decreases-loop-number

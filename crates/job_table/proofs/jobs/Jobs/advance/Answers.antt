@@ -23,6 +23,7 @@ use Rattle.job_table.proofs.MinutesLemmas.{have-marks}
 use Rattle.job_table.specs.Seats.{name, rows, gone, is_named, AllStay}
 use Rattle.job_table.specs.Leaving.{StayBut}
 use Rattle.job_table.specs.Index.{AreTimed, AreAlone, ArePlaced, HaveRoom, place_in}
+use Rattle.place_set.specs.Places.{has_place}
 use Rattle.job_table.specs.Marking.{HavePlaces}
 use Rattle.job_table.specs.Minutes.{has_calendars, some_calendar}
 use Rattle.job_table.specs.TableOutcomes.{plain_outcome}
@@ -42,7 +43,7 @@ use Rattle.job_table.proofs.NumbersLemmas.{names-begun}
 use Rattle.job_table.proofs.IndexGrowthLemmas.{named-of}
 use Rattle.job_table.proofs.TouchingLemmas.{spared-count, marks-touch}
 use Rattle.history_model.specs.MachineLaws.{AreInOrder}
-use Rattle.history_model.proofs.BooleanLemmas.{or-false-first, or-false-second}
+use Rattle.history_model.proofs.BooleanLemmas.{or-false-first, or-false-second, not-false}
 use Rattle.job_table.proofs.jobs.Jobs.advance.Goals as goal
 
 -- an accepted reading does not fall, and keeps its bounds
@@ -89,9 +90,9 @@ visit_ready-visited-requires-clause-can c =
       inside =
           λ place there. subst (λ xs. place < length xs) (sym c.deref_mut.ensures.value)
           (mark-at old.seats.items c.requires.stay old.reading c.args.at c.args.minutes.now old.index.timers c.mark_due.new.timers old.index.places.items c.mark_due.new.ready c.mark_minutes.new.ready
-          indexed.timed indexed.alone indexed.placed m.marked m.reached m.spared m.minute place there);
+          indexed.timed indexed.alone indexed.placed m.marked m.reached m.spared m.minute place (not-false (has_place c.mark_minutes.new.ready place) there));
       spared =
-          subst (AreSpared c.mark_minutes.new.ready old.reading (touch.Reading c.args.at c.args.minutes) 0) (sym c.deref_mut.ensures.value)
+          subst (AreSpared (is_spared c.mark_minutes.new.ready) old.reading (touch.Reading c.args.at c.args.minutes) 0) (sym c.deref_mut.ensures.value)
           (spared-all old.reading c.args.at c.args.minutes (later old.reading c.args.at c.requires.accepted).0 c.mark_minutes.new.ready 0 old.seats.items
           (λ k e there none. is-spare old.seats.items c.requires.stay old.reading c.args.at c.args.minutes.now old.index.timers c.mark_due.new.timers old.index.places.items c.mark_due.new.ready c.mark_minutes.new.ready
           indexed.timed indexed.alone indexed.placed m.marked m.reached m.spared m.minute k e there (subst (λ p. is_spared c.mark_minutes.new.ready p ≡ true) (omega arith) none)));
@@ -110,8 +111,8 @@ returns-clause-counted c =
     let after = c.visit_ready-visited.new.seats in
     let whole = lent-back after (drop (length after) es) c.args.self.now.seats.len (omega arith) in
     subst (λ all. IsCounted (counts (rows es)) (rows all) (gone all) c.visit_ready-visited.result.0) (sym whole)
-    (visits-counted c.mark_minutes.new.ready es after c.visit_ready-visited.result.0 c.requires.stay c.requires.sound.once
-    (subst (λ all. AreVisitedOnce c.mark_minutes.new.ready 0 all after) c.deref_mut.ensures.value c.visit_ready-visited.ensures.visits.visits) c.visit_ready-visited.ensures.visits.visited)
+    (visits-counted (is_spared c.mark_minutes.new.ready) es after c.visit_ready-visited.result.0 c.requires.stay c.requires.sound.once
+    (subst (λ all. AreVisitedOnce (is_spared c.mark_minutes.new.ready) 0 all after) c.deref_mut.ensures.value c.visit_ready-visited.ensures.visits.visits) c.visit_ready-visited.ensures.visits.visited)
 
 pub returns-clause-indexed : goal.returns-clause-indexed
 returns-clause-indexed c =
@@ -199,7 +200,7 @@ done c s keeps =
     let for : AreFor (touch.Reading at c.args.minutes) item (rows es) s.jobs = readings s.zone s.reading at c.args.minutes (rows es) s.jobs crosses keeps.jobs in
     let fine : IsAccepted old.reading item =
     readings-fine old.reading at (λ job. calendar_fires s.zone (definition_of job.past).calendar s.reading.wall at.wall) c.requires.accepted in
-    let rests : AreAtRest ready 0 (heard item s.jobs) =
+    let rests : AreAtRest (is_spared ready) 0 (heard item s.jobs) =
     rest-all old.reading at c.args.minutes (later old.reading at c.requires.accepted).0 ready item fine 0 es s.jobs
     (λ k e there none. is-spare es c.requires.stay old.reading at c.args.minutes.now old.index.timers c.mark_due.new.timers old.index.places.items c.mark_due.new.ready ready
     indexed.timed indexed.alone indexed.placed m.marked m.reached m.spared m.minute k e there (subst (λ p. is_spared ready p ≡ true) (omega arith) none))
@@ -239,7 +240,7 @@ returns-clause-untouched c = λ s keeps label past found none.
     c.deref.ensures.value refl c.mark_due.ensures.marked c.mark_due.ensures.marks (c.mark_minutes.ensures.spared c.args.self.now.seats.items (subst (λ ls. AreListed ls (map name c.args.self.now.seats.items)) (sym c.deref-2.ensures.value) c.requires.sound.listed) (subst (λ ps. ArePlaced ps c.args.self.now.seats.items) (sym c.deref-3.ensures.value) c.requires.indexed.placed)) (c.mark_minutes.ensures.marks c.args.self.now.seats.items (subst (λ ls. AreListed ls (map name c.args.self.now.seats.items)) (sym c.deref-2.ensures.value) c.requires.sound.listed) (subst (λ ps. ArePlaced ps c.args.self.now.seats.items) (sym c.deref-3.ensures.value) c.requires.indexed.placed)) in
     let crosses : has_calendars (rows es) ≡ true → c.args.minutes.now ≡ map s.zone (crossed old.reading.wall c.args.at.wall) =
     λ some. c.requires.minutes some ∙ (λ i. map (keeps.zone i) (crossed old.reading.wall c.args.at.wall)) in
-    let visits = subst (λ all. AreVisitedOnce c.mark_minutes.new.ready 0 all after) c.deref_mut.ensures.value c.visit_ready-visited.ensures.visits.visits in
+    let visits = subst (λ all. AreVisitedOnce (is_spared c.mark_minutes.new.ready) 0 all after) c.deref_mut.ensures.value c.visit_ready-visited.ensures.visits.visits in
     ap (λ xs. count_in (counts (rows xs)) label) whole
     ∙ spared-count s.zone old.reading c.args.at c.mark_minutes.new.ready 0 es after s.jobs label past c.requires.stay visits
     (subst (λ rs. KeepsJobs old.reading rs s.jobs) (rows-all es c.requires.stay) own)
