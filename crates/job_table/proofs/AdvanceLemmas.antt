@@ -206,7 +206,7 @@ module _ (before at : Moment) (minutes : Bor (List CivilMinute)) (order : before
 
   module _ (ready : Places) where
     pub spared-all : (place : ℕ) (es : List Seat) → ((k : ℕ) (e : Seat) → slice_get es k ≡ Some e → is_spared ready (place + k) ≡ true → IsSpare before at minutes.now e) →
-        AreSpared (is_spared ready) before (touch.Reading at minutes) place es
+        AreSpared (is_spared ready) before (item_for (touch.Reading at minutes)) place es
     spared-all place [] spares = tt
     spared-all place (e ∷ es) spares = (
       λ none. heard-spare e (spares 0 e refl (subst (λ p. is_spared ready p ≡ true) (omega arith) none)),
@@ -215,7 +215,7 @@ module _ (before at : Moment) (minutes : Bor (List CivilMinute)) (order : before
 
     pub rest-all : (item : Job → Option Item) → IsAccepted before item → (place : ℕ) (es : List Seat) (jobs : List Job) →
         ((k : ℕ) (e : Seat) → slice_get es k ≡ Some e → is_spared ready (place + k) ≡ true → IsSpare before at minutes.now e) →
-        AreFor (touch.Reading at minutes) item (map row es) jobs → KeepsJobs before (map row es) jobs → AllByRecursion IsAtRest jobs → AreAtRest (is_spared ready) place (heard item jobs)
+        AreFor (item_for (touch.Reading at minutes)) item (map row es) jobs → KeepsJobs before (map row es) jobs → AllByRecursion IsAtRest jobs → AreAtRest (is_spared ready) place (heard item jobs)
     rest-all item accepted place [] [] spares for keeps rests = tt
     rest-all item accepted place [] (job ∷ jobs) spares for keeps rests = absurd keeps
     rest-all item accepted place (e ∷ es) [] spares for keeps rests = tt

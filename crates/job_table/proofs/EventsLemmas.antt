@@ -92,14 +92,14 @@ with_orders-so begun new t is same kept orders = record {
 
 sight-for : (at : Moment) (path : List ℕ) (obs : Obs) (touch : Touch) (rs : List Row) (jobs : List Job) →
     ((row : Row) → item_for touch row.described ≡ (if lists (definition row.described) path then Some (Saw path obs) else None)) →
-    KeepsJobs at rs jobs → AreFor touch (sight_of path (Saw path obs)) rs jobs
+    KeepsJobs at rs jobs → AreFor (item_for touch) (sight_of path (Saw path obs)) rs jobs
 sight-for at path obs touch [] jobs is keeps = tt
 sight-for at path obs touch (row ∷ rs) [] is keeps = tt
 sight-for at path obs touch (row ∷ rs) (job ∷ jobs) is keeps =
     (is row ∙ ap (λ d. if lists d path then Some (Saw path obs) else None) keeps.0.definition, sight-for at path obs touch rs jobs is keeps.1)
 
 pub sights : (at : Moment) (path : Bor (List ℕ)) (obs : Obs) (rs : List Row) (jobs : List Job) → KeepsJobs at rs jobs →
-    AreFor (touch.Sight path obs) (sight_of path.now (Saw path.now obs)) rs jobs
+    AreFor (item_for (touch.Sight path obs)) (sight_of path.now (Saw path.now obs)) rs jobs
 sights at path obs rs jobs keeps = sight-for at path.now obs (touch.Sight path obs) rs jobs (λ row. refl) keeps
 
 pub sights-fine : (at : Moment) (path : List ℕ) (obs : Obs) → IsAccepted at (sight_of path (Saw path obs))
@@ -127,7 +127,7 @@ fires-same zone (entry ∷ entries) minutes previous wall is =
 reading-for : (zone : Zone) (before at : Moment) (touch : Touch) (minutes : List CivilMinute) (rs : List Row) (jobs : List Job) →
     ((row : Row) → item_for touch row.described ≡ Some (Read at (list_any (λ minute. list_any (λ entry. matches entry minute) row.described.calendar) minutes))) →
     (has_calendars rs ≡ true → minutes ≡ map zone (crossed before.wall at.wall)) → KeepsJobs before rs jobs →
-    AreFor touch (λ job. Some (Read at (calendar_fires zone (definition_of job.past).calendar before.wall at.wall))) rs jobs
+    AreFor (item_for touch) (λ job. Some (Read at (calendar_fires zone (definition_of job.past).calendar before.wall at.wall))) rs jobs
 reading-for zone before at touch minutes [] jobs is crosses keeps = tt
 reading-for zone before at touch minutes (row ∷ rs) [] is crosses keeps = tt
 reading-for zone before at touch minutes (row ∷ rs) (job ∷ jobs) is crosses keeps =
@@ -138,10 +138,10 @@ reading-for zone before at touch minutes (row ∷ rs) (job ∷ jobs) is crosses 
 
 pub readings : (zone : Zone) (before at : Moment) (minutes : Bor (List CivilMinute)) (rs : List Row) (jobs : List Job) →
     (has_calendars rs ≡ true → minutes.now ≡ map zone (crossed before.wall at.wall)) → KeepsJobs before rs jobs →
-    AreFor (touch.Reading at minutes) (λ job. Some (Read at (calendar_fires zone (definition_of job.past).calendar before.wall at.wall))) rs jobs
+    AreFor (item_for (touch.Reading at minutes)) (λ job. Some (Read at (calendar_fires zone (definition_of job.past).calendar before.wall at.wall))) rs jobs
 readings zone before at minutes rs jobs crosses keeps = reading-for zone before at (touch.Reading at minutes) minutes.now rs jobs (λ row. refl) crosses keeps
 
-pub shutdowns : (rs : List Row) (jobs : List Job) → AreFor touch.Shutdown (λ job. Some (Asked asks.Shutdown)) rs jobs
+pub shutdowns : (rs : List Row) (jobs : List Job) → AreFor (item_for touch.Shutdown) (λ job. Some (Asked asks.Shutdown)) rs jobs
 shutdowns [] jobs = tt
 shutdowns (row ∷ rs) [] = tt
 shutdowns (row ∷ rs) (job ∷ jobs) = (refl, shutdowns rs jobs)

@@ -23,11 +23,10 @@ use Rattle.job_table.specs.Loads.{IsReady}
 use Rattle.job_table.specs.Minutes.{is_some_entry, some_calendar}
 use Rattle.job_table.specs.Triggers.{under, listed_in, AreOrdered}
 use Rattle.job_table.specs.declared.trigger.Listed.{Listed}
-use Rattle.job_table.specs.Touch.{is_touched}
+use Rattle.job_table.specs.Touch.{is_at}
 use Rattle.job_table.specs.Sound.{seen_table, AreHeld, AreFree, IsSound}
 use Rattle.job_table.specs.Touched.{AreTimedBut, RestBut}
 use Rattle.job_table.specs.declared.seat.Seat.{Seat}
-use Rattle.job_table.specs.declared.seat.Touch.TheVariants.{Heard}
 use Rattle.job_table.specs.declared.jobs.Jobs.{Jobs}
 use Rattle.job_table.specs.declared.loading.Ready.{Ready}
 use Rattle.job_table.proofs.FirstLemmas.{IsFirstWhere, NonePasses, first-where, none-where, within-where}
@@ -64,7 +63,7 @@ more-seats new (e ∷ es) (suc k) = ap suc (more-seats new es k)
 
 -- a job with another label is not at the place of the new one
 pub new-apart : (new : Seat) (es later : List Seat) (k heard : ℕ) (label : Label) → later ≡ take k es ++ new ∷ drop k es → heard ≡ k → k ≤ length es → is_same label new.def.label ≡ false →
-    (j : ℕ) (e : Seat) → slice_get later j ≡ Some e → has_label label e ≡ true → is_touched (Heard heard) j e.def ≡ false
+    (j : ℕ) (e : Seat) → slice_get later j ≡ Some e → has_label label e ≡ true → is_at heard j e.def ≡ false
 new-apart new es later k heard label is at low differ j e there has = go (heard == j) refl where
   go : (b : Bool) → (heard == j) ≡ b → (heard == j) ≡ false
   go false apart = apart
@@ -77,31 +76,31 @@ new-apart new es later k heard label is at low differ j e there has = go (heard 
 
 module _ (at : Reading) (new : Seat) (job : Job) (this : KeepsJob at (row new) job) (heard : ℕ) where
   rest-at : (rs : List Row) (es : List Seat) (k place : ℕ) (jobs : List Job) → KeepsJobs at (map row es) jobs → IsFirstWhere (is_above new.def.label) es k → heard ≡ place + k →
-      AllByRecursion IsAtRest jobs → RestBut (Heard heard) place rs (with_job job jobs)
+      AllByRecursion IsAtRest jobs → RestBut (is_at heard) place rs (with_job job jobs)
   rest-at [] es k place jobs keeps first is rests = tt
   rest-at (row ∷ rs) [] k place jobs keeps first is rests = absurd first
   rest-at (row ∷ rs) (e ∷ es) k place [] keeps first is rests = absurd keeps
   rest-at (row ∷ rs) (e ∷ es) zero place (j ∷ js) keeps first is rests =
-      subst (RestBut (Heard heard) place (row ∷ rs)) (ap (λ b. cond b (job ∷ j ∷ js) (j ∷ with_job job js)) (sym (before-job at new job this e j true keeps.0 first)))
-      ((λ apart. (let clash : ⊥ = grind (arith, nat_tests, apart, is) in absurd clash)), rest-each (Heard heard) (suc place) rs (j ∷ js) rests)
+      subst (RestBut (is_at heard) place (row ∷ rs)) (ap (λ b. cond b (job ∷ j ∷ js) (j ∷ with_job job js)) (sym (before-job at new job this e j true keeps.0 first)))
+      ((λ apart. (let clash : ⊥ = grind (arith, nat_tests, apart, is) in absurd clash)), rest-each (is_at heard) (suc place) rs (j ∷ js) rests)
   rest-at (row ∷ rs) (e ∷ es) (suc k) place (j ∷ js) keeps first is rests =
-      subst (RestBut (Heard heard) place (row ∷ rs)) (ap (λ b. cond b (job ∷ j ∷ js) (j ∷ with_job job js)) (sym (before-job at new job this e j false keeps.0 first.0)))
+      subst (RestBut (is_at heard) place (row ∷ rs)) (ap (λ b. cond b (job ∷ j ∷ js) (j ∷ with_job job js)) (sym (before-job at new job this e j false keeps.0 first.0)))
       ((λ apart. rests.0), rest-at rs es k (suc place) js keeps.1 first.1 (omega (arith, is)) rests.1)
 
   rest-last : (rs : List Row) (es : List Seat) (place : ℕ) (jobs : List Job) → KeepsJobs at (map row es) jobs → NonePasses (is_above new.def.label) es → heard ≡ place + length es →
-      AllByRecursion IsAtRest jobs → RestBut (Heard heard) place rs (with_job job jobs)
+      AllByRecursion IsAtRest jobs → RestBut (is_at heard) place rs (with_job job jobs)
   rest-last [] es place jobs keeps none is rests = tt
   rest-last (row ∷ rs) [] place [] keeps none is rests =
-      ((λ apart. (let clash : ⊥ = grind (arith, nat_tests, apart, is) in absurd clash)), rest-each (Heard heard) (suc place) rs [] tt)
+      ((λ apart. (let clash : ⊥ = grind (arith, nat_tests, apart, is) in absurd clash)), rest-each (is_at heard) (suc place) rs [] tt)
   rest-last (row ∷ rs) [] place (j ∷ js) keeps none is rests = absurd keeps
   rest-last (row ∷ rs) (e ∷ es) place [] keeps none is rests = absurd keeps
   rest-last (row ∷ rs) (e ∷ es) place (j ∷ js) keeps none is rests =
-      subst (RestBut (Heard heard) place (row ∷ rs)) (ap (λ b. cond b (job ∷ j ∷ js) (j ∷ with_job job js)) (sym (before-job at new job this e j false keeps.0 none.0)))
+      subst (RestBut (is_at heard) place (row ∷ rs)) (ap (λ b. cond b (job ∷ j ∷ js) (j ∷ with_job job js)) (sym (before-job at new job this e j false keeps.0 none.0)))
       ((λ apart. rests.0), rest-last rs es (suc place) js keeps.1 none.1 (omega (arith, is)) rests.1)
 
 -- the others rest as they did
 pub rest-entered : (at : Reading) (new : Seat) (job : Job) (this : KeepsJob at (row new) job) (rs : List Row) (es : List Seat) (jobs : List Job) (o : Option ℕ) → KeepsJobs at (map row es) jobs →
-    o ≡ position (is_above new.def.label) es → AllByRecursion IsAtRest jobs → RestBut (Heard (unwrap_or o (length es))) 0 rs (with_job job jobs)
+    o ≡ position (is_above new.def.label) es → AllByRecursion IsAtRest jobs → RestBut (is_at (unwrap_or o (length es))) 0 rs (with_job job jobs)
 rest-entered at new job this rs es jobs None keeps is rests =
     rest-last at new job this (length es) rs es 0 jobs keeps (none-where (is_above new.def.label) es is) (omega arith) rests
 rest-entered at new job this rs es jobs (Some k) keeps is rests =
@@ -171,7 +170,7 @@ replaced-sound t places long sound = record {
 
 -- each other job has its moment
 pub timed-entered : (old t : Jobs) (new : Seat) (k heard : ℕ) → t.seats.items ≡ take k old.seats.items ++ new ∷ drop k old.seats.items → heard ≡ k → k ≤ length old.seats.items → IsIndexed old →
-    t.index.timers ≡ old.index.timers → t.reading ≡ old.reading → AreTimedBut (Heard heard) t
+    t.index.timers ≡ old.index.timers → t.reading ≡ old.reading → AreTimedBut (is_at heard) t
 timed-entered old t new k heard seats at low indexed timers reading j e there apart =
     let found = stood new old.seats.items k j e low (ap (λ xs. slice_get xs j) (sym seats) ∙ there) (subst (λ p. p ≢ j) at (differs heard j apart)) in
     ap (λ heap. moment_in heap e.number) timers ∙ indexed.timed found.0 e found.1 ∙ ap (λ r. moment_for e r.up) (sym reading)

@@ -1,5 +1,5 @@
--- The jobs that the touch does not reach have nothing to do, and are left as they are.
-use Rattle.std.proofs.Common.{◌≡◌, ◌≢◌, ℕ, zero, suc, ◌+◌, ◌==◌, ◌<◌, Bool, true, false, not, ◌||◌, cond, List, [], ◌∷◌, map, length, get_or, Option, Some, None, refl, sym, ap, ◌∙◌, subst, arith, Bor}
+-- The jobs that an event does not reach have nothing to do, and are left as they are.
+use Rattle.std.proofs.Common.{◌≡◌, ◌≢◌, ℕ, zero, suc, ◌+◌, ◌==◌, ◌<◌, Bool, true, false, not, cond, List, [], ◌∷◌, map, length, get_or, Option, Some, None, refl, sym, ap, ◌∙◌, subst, arith, Bor}
 use Rattle.std.specs.Prelude.{slice_get, slice_set, if◌then◌else◌}
 use Rattle.std.specs.List.{position, filter, filter_map, flat_map, AllByRecursion}
 use Rattle.std.proofs.lemmas.Bool.Decides.{nat_tests}
@@ -22,12 +22,12 @@ use Rattle.job_table.specs.Alike.{IsAlike}
 use Rattle.job_table.specs.Index.{moment_for, place_in, ArePlaced, IsIndexed}
 use Rattle.job_table.specs.Counts.{counts, count_in}
 use Rattle.job_table.specs.Seats.{row, name, rows, AllStay, has_label}
-use Rattle.job_table.specs.Touch.{item_for, is_touch_for, heard_at, is_at, is_touched}
+use Rattle.job_table.specs.Touch.{item_for, reaches, nothing_for, is_at}
 use Rattle.job_table.specs.Hearing.{AreFor, IsAccepted}
 use Rattle.job_table.specs.Touched.{IsChangedAt, IsHandedAt, AreTimedBut, RestBut, SparesBut}
 use Rattle.job_table.specs.Visiting.{AreSpared, AreAtRest, AreVisitedOnce}
 use Rattle.job_table.specs.declared.seat.Touch.{Touch}
-use Rattle.job_table.specs.declared.seat.Touch.TheVariants.{Heard, Shutdown, Reading, Sight}
+use Rattle.job_table.specs.declared.seat.Touch.TheVariants.{Shutdown, Reading, Sight}
 use Rattle.job_table.proofs.HearingLemmas.{heard-as, heard-nothing}
 use Rattle.job_table.specs.declared.seat.Seat.{Seat}
 use Rattle.job_table.specs.declared.jobs.Jobs.{Jobs}
@@ -38,58 +38,54 @@ use Rattle.job_table.proofs.AdvanceLemmas.{name-get}
 use Rattle.job_table.specs.TableOutcomes.{IsOrderedFrom}
 use Rattle.job_table.proofs.EventsLemmas.{IsHead, own-jobs, with_orders-so}
 use Rattle.job_table.proofs.SettingLemmas.{is-label}
-use Rattle.history_model.proofs.BooleanLemmas.{or-false}
 use Rattle.history_model.proofs.LabelOrderLemmas.{same_self}
 use Rattle.history_model.proofs.FreshOrdersLemmas.{differ-sym}
 
--- ---- a job that the touch does not reach
+-- ---- a job that the event does not reach
 
-none-of : (touch : Touch) (d : Described) → is_touch_for touch d ≡ false → item_for touch d ≡ None
-none-of (Heard place) d apart = refl
-none-of Shutdown d apart = cc
-none-of (Reading at minutes) d apart = cc
-none-of (Sight path obs) d apart = ap (λ b. if b then Some (Saw path.now obs) else None) apart
-
-none-for : (touch : Touch) (place : ℕ) (d : Described) → is_touched touch place d ≡ false → item_for touch d ≡ None
-none-for touch place d apart = none-of touch d (or-false (is_touch_for touch d) (is_at (heard_at touch) place) apart).0
+pub none-for : (touch : Touch) (place : ℕ) (d : Described) → reaches touch place d ≡ false → item_for touch d ≡ None
+none-for Shutdown place d apart = cc
+none-for (Reading at minutes) place d apart = cc
+none-for (Sight path obs) place d apart = ap (λ b. if b then Some (Saw path.now obs) else None) apart
 
 pub not-true : (s b : Bool) → s ≡ not b → s ≡ true → b ≡ false
 not-true s true is held = let clash : true ≡ false = sym held ∙ is in absurd (cc clash)
 not-true s false is held = refl
 
-module _ (touch : Touch) (is_passed : ℕ → Bool) where
-  -- from this place on: the jobs that the touch reaches have a mark, and no other
+module _ (reached : ℕ → Described → Bool) (is_passed : ℕ → Bool) where
+  -- from this place on: the jobs that are reached are visited, and no other
   abbrev pub AreMarked : ℕ → List Seat → Type 0
-  AreMarked place es = (k : ℕ) (e : Seat) → slice_get es k ≡ Some e → is_passed (place + k) ≡ not (is_touched touch (place + k) e.def)
+  AreMarked place es = (k : ℕ) (e : Seat) → slice_get es k ≡ Some e → is_passed (place + k) ≡ not (reached (place + k) e.def)
 
-  at-head : (place : ℕ) (e : Seat) (es : List Seat) → AreMarked place (e ∷ es) → is_passed place ≡ true → is_touched touch place e.def ≡ false
+  at-head : (place : ℕ) (e : Seat) (es : List Seat) → AreMarked place (e ∷ es) → is_passed place ≡ true → reached place e.def ≡ false
   at-head place e es marked none =
-      not-true (is_passed place) (is_touched touch place e.def) (subst (λ p. is_passed p ≡ not (is_touched touch p e.def)) (omega arith) (marked 0 e refl)) none
+      not-true (is_passed place) (reached place e.def) (subst (λ p. is_passed p ≡ not (reached p e.def)) (omega arith) (marked 0 e refl)) none
 
   at-tail : (place : ℕ) (e : Seat) (es : List Seat) → AreMarked place (e ∷ es) → AreMarked (suc place) es
-  at-tail place e es marked = λ k x there. subst (λ p. is_passed p ≡ not (is_touched touch p x.def)) (omega arith) (marked (suc k) x there)
+  at-tail place e es marked = λ k x there. subst (λ p. is_passed p ≡ not (reached p x.def)) (omega arith) (marked (suc k) x there)
 
-  pub spared-all : (at : Moment) (place : ℕ) (es : List Seat) → AreMarked place es → AreSpared is_passed at touch place es
-  spared-all at place [] marked = tt
-  spared-all at place (e ∷ es) marked =
-      (λ none. heard-as (sym (none-for touch place e.def (at-head place e es marked none))) heard-nothing, spared-all at (suc place) es (at-tail place e es marked))
+  module _ (hears : Described → Option Item) (none : (place : ℕ) (d : Described) → reached place d ≡ false → hears d ≡ None) where
+    pub spared-all : (at : Moment) (place : ℕ) (es : List Seat) → AreMarked place es → AreSpared is_passed at hears place es
+    spared-all at place [] marked = tt
+    spared-all at place (e ∷ es) marked =
+        (λ passed. heard-as (sym (none place e.def (at-head place e es marked passed))) heard-nothing, spared-all at (suc place) es (at-tail place e es marked))
 
-  pub rest-all : (at : Moment) (item : Job → Option Item) (place : ℕ) (es : List Seat) (jobs : List Job) → AreMarked place es → AreFor touch item (map row es) jobs → KeepsJobs at (map row es) jobs →
-      RestBut touch place (map row es) jobs → AreAtRest is_passed place (heard item jobs)
-  rest-all at item place [] [] marked for keeps rests = tt
-  rest-all at item place [] (job ∷ jobs) marked for keeps rests = absurd keeps
-  rest-all at item place (e ∷ es) [] marked for keeps rests = tt
-  rest-all at item place (e ∷ es) (job ∷ jobs) marked for keeps rests = (
-    λ none. (let apart = at-head place e es marked none in subst (λ o. IsAtRest (with_item job o)) (sym (none-for touch place e.def apart) ∙ for.0) (rests.0 apart)),
-    rest-all at item (suc place) es jobs (at-tail place e es marked) for.1 keeps.1 rests.1,
-  )
+    pub rest-all : (at : Moment) (item : Job → Option Item) (place : ℕ) (es : List Seat) (jobs : List Job) → AreMarked place es → AreFor hears item (map row es) jobs → KeepsJobs at (map row es) jobs →
+        RestBut reached place (map row es) jobs → AreAtRest is_passed place (heard item jobs)
+    rest-all at item place [] [] marked for keeps rests = tt
+    rest-all at item place [] (job ∷ jobs) marked for keeps rests = absurd keeps
+    rest-all at item place (e ∷ es) [] marked for keeps rests = tt
+    rest-all at item place (e ∷ es) (job ∷ jobs) marked for keeps rests = (
+      λ passed. (let apart = at-head place e es marked passed in subst (λ o. IsAtRest (with_item job o)) (sym (none place e.def apart) ∙ for.0) (rests.0 apart)),
+      rest-all at item (suc place) es jobs (at-tail place e es marked) for.1 keeps.1 rests.1,
+    )
 
-pub marked-at : (touch : Touch) (is_passed : ℕ → Bool) (lent es : List Seat) → lent ≡ es →
-    ((k : ℕ) (e : Seat) → slice_get lent k ≡ Some e → is_passed k ≡ not (is_touched touch k e.def)) → AreMarked touch is_passed 0 es
-marked-at touch is_passed lent es same marked k e there =
-    subst (λ p. is_passed p ≡ not (is_touched touch p e.def)) (omega arith) (marked k e (ap (λ xs. slice_get xs k) same ∙ there))
+pub marked-at : (reached : ℕ → Described → Bool) (is_passed : ℕ → Bool) (lent es : List Seat) → lent ≡ es →
+    ((k : ℕ) (e : Seat) → slice_get lent k ≡ Some e → is_passed k ≡ not (reached k e.def)) → AreMarked reached is_passed 0 es
+marked-at reached is_passed lent es same marked k e there =
+    subst (λ p. is_passed p ≡ not (reached p e.def)) (omega arith) (marked k e (ap (λ xs. slice_get xs k) same ∙ there))
 
--- ---- the count of a label that no job at a mark has
+-- ---- the count of a label that no visited job has
 
 pub spared-count : (is_passed : ℕ → Bool) (place : ℕ) (es later : List Seat) (label : Label) → AllStay es → AreVisitedOnce is_passed place es later →
     ((k : ℕ) (e : Seat) → slice_get es k ≡ Some e → has_label label e ≡ true → is_passed (place + k) ≡ true) →
@@ -152,7 +148,7 @@ pub differs : (place k : ℕ) → (place == k) ≡ false → place ≢ k
 differs place k other same = let clash : ⊥ = grind (arith, nat_tests, other, same) in clash
 
 pub timed-but : (begun heard : Jobs) (place : ℕ) → IsChangedAt place begun.seats.items heard.seats.items → IsIndexed begun → heard.index ≡ begun.index → heard.reading ≡ begun.reading →
-    AreTimedBut (Heard place) heard
+    AreTimedBut (is_at place) heard
 timed-but begun heard place changed indexed index reading k e there apart =
     ap (λ i. moment_in i.timers e.number) index ∙ indexed.timed k e (changed.others k e there (differs place k apart)) ∙ ap (λ r. moment_for e r.up) (sym reading)
 
@@ -161,71 +157,71 @@ pub heard-none : (jobs : List Job) → heard (λ job. None) jobs ≡ jobs
 heard-none [] = refl
 heard-none (job ∷ jobs) = ap (λ rest. job ∷ rest) (heard-none jobs)
 
-pub for-none : (place : ℕ) (rs : List Row) (jobs : List Job) → AreFor (Heard place) (λ job. None) rs jobs
-for-none place [] jobs = tt
-for-none place (row ∷ rs) [] = tt
-for-none place (row ∷ rs) (job ∷ jobs) = (refl, for-none place rs jobs)
+pub for-none : (rs : List Row) (jobs : List Job) → AreFor nothing_for (λ job. None) rs jobs
+for-none [] jobs = tt
+for-none (row ∷ rs) [] = tt
+for-none (row ∷ rs) (job ∷ jobs) = (refl, for-none rs jobs)
 
-pub rest-each : (touch : Touch) (place : ℕ) (rs : List Row) (jobs : List Job) → AllByRecursion IsAtRest jobs → RestBut touch place rs jobs
-rest-each touch place [] jobs rests = tt
-rest-each touch place (row ∷ rs) [] rests = tt
-rest-each touch place (row ∷ rs) (job ∷ jobs) rests = ((λ apart. rests.0), rest-each touch (suc place) rs jobs rests.1)
+pub rest-each : (reached : ℕ → Described → Bool) (place : ℕ) (rs : List Row) (jobs : List Job) → AllByRecursion IsAtRest jobs → RestBut reached place rs jobs
+rest-each reached place [] jobs rests = tt
+rest-each reached place (row ∷ rs) [] rests = tt
+rest-each reached place (row ∷ rs) (job ∷ jobs) rests = ((λ apart. rests.0), rest-each reached (suc place) rs jobs rests.1)
 
 -- the others rest as they did
 pub rest-handed : (at : Moment) (label : Label) (item : Item) (heard : ℕ) (rs : List Row) (es : List Seat) (k place : ℕ) (jobs : List Job) → KeepsJobs at (map row es) jobs → IsFirstAt label es k →
-    heard ≡ place + k → AllByRecursion IsAtRest jobs → RestBut (Heard heard) place rs (heard_one label item jobs)
+    heard ≡ place + k → AllByRecursion IsAtRest jobs → RestBut (is_at heard) place rs (heard_one label item jobs)
 rest-handed at label item heard [] es k place jobs keeps here is rests = tt
 rest-handed at label item heard (row ∷ rs) [] k place jobs keeps here is rests = absurd here
 rest-handed at label item heard (row ∷ rs) (e ∷ es) k place [] keeps here is rests = absurd keeps
 rest-handed at label item heard (row ∷ rs) (e ∷ es) zero place (job ∷ jobs) keeps here is rests =
     let of : is_of label job ≡ true = ap (is_same label) (sym keeps.0.label) ∙ here in
-    subst (RestBut (Heard heard) place (row ∷ rs)) (ap (λ b. cond b (with_item job (Some item) ∷ jobs) (job ∷ heard_one label item jobs)) (sym of))
-    ((λ apart. (let clash : ⊥ = grind (arith, nat_tests, apart, is) in absurd clash)), rest-each (Heard heard) (suc place) rs jobs rests.1)
+    subst (RestBut (is_at heard) place (row ∷ rs)) (ap (λ b. cond b (with_item job (Some item) ∷ jobs) (job ∷ heard_one label item jobs)) (sym of))
+    ((λ apart. (let clash : ⊥ = grind (arith, nat_tests, apart, is) in absurd clash)), rest-each (is_at heard) (suc place) rs jobs rests.1)
 rest-handed at label item heard (row ∷ rs) (e ∷ es) (suc k) place (job ∷ jobs) keeps here is rests =
     let of : is_of label job ≡ false = ap (is_same label) (sym keeps.0.label) ∙ here.0 in
-    subst (RestBut (Heard heard) place (row ∷ rs)) (ap (λ b. cond b (with_item job (Some item) ∷ jobs) (job ∷ heard_one label item jobs)) (sym of))
+    subst (RestBut (is_at heard) place (row ∷ rs)) (ap (λ b. cond b (with_item job (Some item) ∷ jobs) (job ∷ heard_one label item jobs)) (sym of))
     ((λ apart. rests.0), rest-handed at label item heard rs es k (suc place) jobs keeps.1 here.1 (omega (arith, is)) rests.1)
 
--- the table once the jobs that the touch reaches are visited, which heard already
+-- the table once the one job is visited, which heard already
 pub heard-already : (heard new : Jobs) (t : State) (place : ℕ) → IsAlike heard new → IsHead heard t → KeepsJobs heard.reading (rows heard.seats.items) t.jobs →
-    RestBut (Heard place) 0 (rows heard.seats.items) t.jobs →
-    ((jobs : List Job) (what : Job → Option Item) → AreFor (Heard place) what (rows heard.seats.items) jobs → IsAccepted heard.reading what → RestBut (Heard place) 0 (rows heard.seats.items) jobs →
+    RestBut (is_at place) 0 (rows heard.seats.items) t.jobs →
+    ((jobs : List Job) (what : Job → Option Item) → AreFor nothing_for what (rows heard.seats.items) jobs → IsAccepted heard.reading what → RestBut (is_at place) 0 (rows heard.seats.items) jobs →
     KeepsJobs heard.reading (rows heard.seats.items) jobs → KeepsJobs heard.reading (rows new.seats.items) (filter_map stays (heard_of what jobs))) →
-    ((jobs : List Job) (what : Job → Option Item) → AreFor (Heard place) what (rows heard.seats.items) jobs → IsAccepted heard.reading what → RestBut (Heard place) 0 (rows heard.seats.items) jobs →
+    ((jobs : List Job) (what : Job → Option Item) → AreFor nothing_for what (rows heard.seats.items) jobs → IsAccepted heard.reading what → RestBut (is_at place) 0 (rows heard.seats.items) jobs →
     KeepsJobs heard.reading (rows heard.seats.items) jobs → labelled (map name new.seats.items) new.orders.items ≡ flat_map orders_of (heard_of what jobs)) →
     IsOrderedFrom (seen_table new) t
 heard-already heard new t place asks is keeps rests kept orders =
     let none = heard-none t.jobs in
     with_orders-so heard new t asks is
-    (subst (λ js. KeepsJobs heard.reading (rows new.seats.items) (filter_map stays js)) none (kept t.jobs (λ job. None) (for-none place (rows heard.seats.items) t.jobs) (λ job present. refl) rests keeps))
-    (orders t.jobs (λ job. None) (for-none place (rows heard.seats.items) t.jobs) (λ job present. refl) rests keeps ∙ ap (flat_map orders_of) none)
+    (subst (λ js. KeepsJobs heard.reading (rows new.seats.items) (filter_map stays js)) none (kept t.jobs (λ job. None) (for-none (rows heard.seats.items) t.jobs) (λ job present. refl) rests keeps))
+    (orders t.jobs (λ job. None) (for-none (rows heard.seats.items) t.jobs) (λ job present. refl) rests keeps ∙ ap (flat_map orders_of) none)
 
 -- the table once the one job has the item and is asked
 pub handed-on : (begun heard new : Jobs) (s t : State) (label : Label) (item : Item) (place : ℕ) → KeepsState (seen_table begun) s →
     AllStay begun.seats.items → IsAlike begun heard → IsAlike heard new → IsHead heard t → heard_one label item s.jobs ≡ t.jobs →
     IsHandedAt label place begun.seats.items heard.seats.items →
     ((jobs : List Job) → KeepsJobs begun.reading (rows begun.seats.items) jobs → KeepsJobs begun.reading (rows heard.seats.items) (heard_one label item jobs)) →
-    ((jobs : List Job) (what : Job → Option Item) → AreFor (Heard place) what (rows heard.seats.items) jobs → IsAccepted heard.reading what → RestBut (Heard place) 0 (rows heard.seats.items) jobs →
+    ((jobs : List Job) (what : Job → Option Item) → AreFor nothing_for what (rows heard.seats.items) jobs → IsAccepted heard.reading what → RestBut (is_at place) 0 (rows heard.seats.items) jobs →
     KeepsJobs heard.reading (rows heard.seats.items) jobs → KeepsJobs heard.reading (rows new.seats.items) (filter_map stays (heard_of what jobs))) →
-    ((jobs : List Job) (what : Job → Option Item) → AreFor (Heard place) what (rows heard.seats.items) jobs → IsAccepted heard.reading what → RestBut (Heard place) 0 (rows heard.seats.items) jobs →
+    ((jobs : List Job) (what : Job → Option Item) → AreFor nothing_for what (rows heard.seats.items) jobs → IsAccepted heard.reading what → RestBut (is_at place) 0 (rows heard.seats.items) jobs →
     KeepsJobs heard.reading (rows heard.seats.items) jobs → labelled (map name new.seats.items) new.orders.items ≡ flat_map orders_of (heard_of what jobs)) →
     IsOrderedFrom (seen_table new) t
 handed-on begun heard new s t label item place keeps stay hands asks is jobs handed heard_kept kept orders =
     let start = own-jobs begun s keeps in
     let with_it : KeepsJobs heard.reading (rows heard.seats.items) t.jobs =
     subst (λ at. KeepsJobs at (rows heard.seats.items) t.jobs) (sym hands.reading) (subst (KeepsJobs begun.reading (rows heard.seats.items)) jobs (heard_kept s.jobs start)) in
-    let rests : RestBut (Heard place) 0 (rows heard.seats.items) t.jobs =
-    subst (RestBut (Heard place) 0 (rows heard.seats.items)) jobs
+    let rests : RestBut (is_at place) 0 (rows heard.seats.items) t.jobs =
+    subst (RestBut (is_at place) 0 (rows heard.seats.items)) jobs
     (rest-handed begun.reading label item place (rows heard.seats.items) begun.seats.items place 0 s.jobs (subst (λ rs. KeepsJobs begun.reading rs s.jobs) (rows-all begun.seats.items stay) start)
     (first-where (has_label label) begun.seats.items place handed.at) (omega arith) keeps.rests) in
     heard-already heard new t place asks is with_it rests kept orders
 
 -- no job of another label was asked
-pub others-spared : (begun heard new : Jobs) (label : Label) (place : ℕ) → IsHandedAt label place begun.seats.items heard.seats.items → SparesBut (Heard place) heard.seats.items new.seats.items →
+pub others-spared : (begun heard new : Jobs) (label : Label) (place : ℕ) → IsHandedAt label place begun.seats.items heard.seats.items → SparesBut (is_at place) heard.seats.items new.seats.items →
     counts (rows heard.seats.items) ≡ counts (rows begun.seats.items) → (other : Label) → is_same other label ≡ false →
     count_in (counts (rows new.seats.items)) other ≡ count_in (counts (rows begun.seats.items)) other
 others-spared begun heard new label place handed spares same other differ = spares other apart ∙ ap (λ cs. count_in cs other) same where
-  apart : (k : ℕ) (e : Seat) → slice_get heard.seats.items k ≡ Some e → has_label other e ≡ true → is_touched (Heard place) k e.def ≡ false
+  apart : (k : ℕ) (e : Seat) → slice_get heard.seats.items k ≡ Some e → has_label other e ≡ true → is_at place k e.def ≡ false
   apart k e there has = go (place == k) refl where
     go : (b : Bool) → (place == k) ≡ b → (place == k) ≡ false
     go false is = is
@@ -265,10 +261,10 @@ definition-at at label past (x ∷ xs) (job ∷ jobs) (suc k) e keeps once found
 
 -- no job that does not list the path was asked
 pub unlisted-spared : (path : Bor (List ℕ)) (obs : Obs) (begun new : Jobs) (s : State) (label : Label) (past : History) → KeepsJobs begun.reading (rows begun.seats.items) s.jobs →
-    AllStay begun.seats.items → IsOnce (map name begun.seats.items) → SparesBut (Sight path obs) begun.seats.items new.seats.items →
+    AllStay begun.seats.items → IsOnce (map name begun.seats.items) → SparesBut (reaches (Sight path obs)) begun.seats.items new.seats.items →
     past_in (first (filter (is_of label) s.jobs)) ≡ Some past → lists (definition_of past) path.now ≡ false →
     count_in (counts (rows new.seats.items)) label ≡ count_in (counts (rows begun.seats.items)) label
 unlisted-spared path obs begun new s label past keeps stay once spares found apart =
-    spares label (λ k e there has. ap (λ d. lists d path.now || false)
+    spares label (λ k e there has. ap (λ d. lists d path.now)
     (definition-at begun.reading label past begun.seats.items s.jobs k e (subst (λ rs. KeepsJobs begun.reading rs s.jobs) (rows-all begun.seats.items stay) keeps) once found there has)
-    ∙ ap (λ b. b || false) apart)
+    ∙ apart)

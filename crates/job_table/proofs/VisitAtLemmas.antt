@@ -16,7 +16,7 @@ use Rattle.job_table.specs.Visiting.{is_other, IsVisit}
 use Rattle.job_table.specs.Visits.{CanVisit, VisitsTouched}
 use Rattle.job_table.specs.declared.gone_jobs.Gone.{Gone}
 use Rattle.job_table.specs.declared.seat.Seat.{Seat}
-use Rattle.job_table.specs.declared.seat.Touch.TheVariants.{Heard}
+use Rattle.job_table.specs.Touch.{nothing_for}
 use Rattle.job_table.proofs.ListLemmas.{set-map}
 use Rattle.job_table.proofs.KnownNumbersLemmas.{named-at, all-named}
 use Rattle.job_table.proofs.MomentsLemmas.{retimed, alone-after}
@@ -38,7 +38,7 @@ reached : (place k : ℕ) (b : Bool) → (place == k) ≡ b → (k < place + 1) 
 reached place k true is = let same : place ≡ k = grind (arith, nat_tests, is) in inl (omega (arith, same))
 reached place k false is = inr (ap not is)
 
-module _ (place : ℕ) (now : Reading) (es : List Seat) (e new : Seat) (timers : Timers) (can : CanVisit (Heard place) now now (is_other place) es timers) (within : place < length es) (is : e ≡ get_or es place e) (named : name new ≡ name e) where
+module _ (place : ℕ) (now : Reading) (es : List Seat) (e new : Seat) (timers : Timers) (can : CanVisit nothing_for now now (is_other place) es timers) (within : place < length es) (is : e ≡ get_or es place e) (named : name new ≡ name e) where
   -- the seat's number is that of a job
   pub known-number : is_some (definition_of_number (map name es) new.number) ≡ true
   known-number = ap (λ n. is_some (definition_of_number (map name es) n.number)) named ∙ named-at (map name es) es es place e within refl is (all-named es)
@@ -46,10 +46,10 @@ module _ (place : ℕ) (now : Reading) (es : List Seat) (e new : Seat) (timers :
   pub visited-at : (earlier later : List Order) (after : Timers) (count : ℕ) (gone : Gone) → IsVisit now now None e new earlier later → new.core.decided ≡ cond new.has_gone e.core.decided (next_count e.core.decided) →
       ((names : List Name) → is_some (definition_of_number names e.number) ≡ true → list_all (is_known names) earlier ≡ true → list_all (is_known names) later ≡ true) →
       Updates timers after new.number (moment_for new now.up) → count ≡ cond new.has_gone 0 1 → StayBut gone (slice_set es place new) →
-      VisitsTouched (Heard place) now now (is_other place) es (slice_set es place new) earlier later after count gone
+      VisitsTouched nothing_for now now (is_other place) es (slice_set es place new) earlier later after count gone
   visited-at earlier later after count gone visit decided known updates counts stay =
       let own : is_other place place ≡ false = ap not (eqb-self place) in
-      let through = visit-alone now now (Heard place) (is_other place) can.now es earlier place e new later count can.stay can.spared within is own (other-than place) visit decided counts in
+      let through = visit-alone now now nothing_for (is_other place) can.brings es earlier place e new later count can.stay can.spared within is own (other-than place) visit decided counts in
       record {
         kept = through.kept;
         orders = through.orders;

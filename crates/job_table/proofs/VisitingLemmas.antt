@@ -16,18 +16,17 @@ use Rattle.history_model.specs.Machine.{Job}
 use Rattle.history_model.specs.Step.{acts_of, listed, stays, heard, with_item}
 use Rattle.history_model.proofs.BooleanLemmas.{or-second}
 use Rattle.job_defs.specs.Definitions.{definition}
+use Rattle.job_defs.specs.Described.{Described}
 use Rattle.job_table.specs.Tables.{Row}
 use Rattle.job_table.specs.StandsFor.{KeepsJob, KeepsJobs, IsAtRest, numbered_orders, numbered_all}
 use Rattle.job_table.specs.Counts.{next_count}
 use Rattle.job_table.specs.Seats.{row, name, rows, AllStay}
-use Rattle.job_table.specs.Touch.{item_for}
-use Rattle.job_table.specs.Hearing.{followed, refusal_if, IsHeard, AreFor, IsAccepted, present_with}
+use Rattle.job_table.specs.Hearing.{followed, refusal_if, IsHeard, AreFor, IsAccepted, Brings}
 use Rattle.job_table.specs.Visiting.{IsVisit, AreSpared, AreAtRest, IsOnWay, AreVisitedOnce, count_visited}
 use Rattle.job_table.specs.declared.seat.Seat.{Seat}
-use Rattle.job_table.specs.declared.seat.Touch.{Touch}
 use Rattle.job_table.proofs.ListLemmas.{at-drop, set-drop, set-take, drop-suc}
 use Rattle.job_table.proofs.ScanLemmas.{KeepsJobs-append, now-ordered, definition-ordered, rows-append, rows-stay}
-use Rattle.job_table.proofs.HearingLemmas.{heard-rows, label-with, past-with, definition-with, present-touch, take-of-drop}
+use Rattle.job_table.proofs.HearingLemmas.{heard-rows, label-with, past-with, definition-with, present-with, take-of-drop}
 
 -- ---- a job that rests gives nothing and stays as it is
 
@@ -37,19 +36,19 @@ rest-stays job rest = λ i. cond (rest.1 i) None (Some (record job { past = orde
 rest-acts : (job : Job) → IsAtRest job → acts_of job.past ≡ []
 rest-acts job rest = λ i. cond (rest.1 i) (map Close (waiting job.past) ++ Gone ∷ []) (listed (rest.0 i))
 
-module _ (before at : Reading) (touch : Touch) (item : Job → Option Item) (is_passed : ℕ → Bool) (is_now : at ≡ present_with touch before) (accepted : IsAccepted before item) where
-  skip-head : (place : ℕ) (e : Seat) (done todo : List Row) (earlier all : List Order) (after : List Job) → is_passed place ≡ true → IsHeard before (item_for touch e.def) e e →
-      IsOnWay before at touch item is_passed place done (row e ∷ todo) earlier all after → IsOnWay before at touch item is_passed (suc place) (done ++ row e ∷ []) todo earlier all after
+module _ (before at : Reading) (hears : Described → Option Item) (item : Job → Option Item) (is_passed : ℕ → Bool) (brings : Brings hears before at) (accepted : IsAccepted before item) where
+  skip-head : (place : ℕ) (e : Seat) (done todo : List Row) (earlier all : List Order) (after : List Job) → is_passed place ≡ true → IsHeard before (hears e.def) e e →
+      IsOnWay before at hears item is_passed place done (row e ∷ todo) earlier all after → IsOnWay before at hears item is_passed (suc place) (done ++ row e ∷ []) todo earlier all after
   skip-head place e done todo earlier all after spared heard_self way = go way.rest way.waits way.for way.rests way.leads way.gives where
-    go : (rest : List Job) → KeepsJobs before (row e ∷ todo) rest → AreFor touch item (row e ∷ todo) rest → AreAtRest is_passed place (heard item rest) →
+    go : (rest : List Job) → KeepsJobs before (row e ∷ todo) rest → AreFor hears item (row e ∷ todo) rest → AreAtRest is_passed place (heard item rest) →
         way.past ++ filter_map stays (heard item rest) ≡ after → earlier ++ numbered_all (row e ∷ todo) (heard item rest) ≡ all →
-        IsOnWay before at touch item is_passed (suc place) (done ++ row e ∷ []) todo earlier all after
+        IsOnWay before at hears item is_passed (suc place) (done ++ row e ∷ []) todo earlier all after
     go [] waits for rests leads gives = absurd waits
     go (job ∷ rest) waits for rests leads gives =
         let next = with_item job (item job) in
         let idle : IsAtRest next = rests.0 spared in
         let keeps : KeepsJob at (row e) next =
-        subst (λ r. KeepsJob r (row e) next) (sym is_now) (heard-rows before touch item (e ∷ []) (e ∷ []) (job ∷ []) (heard_self, tt) (for.0, tt) accepted (waits.0, tt)).0 in
+        (heard-rows hears before at brings item (e ∷ []) (e ∷ []) (job ∷ []) (heard_self, tt) (for.0, tt) accepted (waits.0, tt)).0 in
         record {
           past = way.past ++ next ∷ [];
           rest = rest;
@@ -61,16 +60,16 @@ module _ (before at : Reading) (touch : Touch) (item : Job → Option Item) (is_
           gives = ap (λ acts. earlier ++ (numbered_orders e.number acts ++ numbered_all todo (heard item rest))) (sym (rest-acts next idle)) ∙ gives;
         }
 
-  visit-head : (place : ℕ) (e new : Seat) (done todo : List Row) (earlier later all : List Order) (after : List Job) → IsVisit before at (item_for touch e.def) e new earlier later →
-      IsOnWay before at touch item is_passed place done (row e ∷ todo) earlier all after → IsOnWay before at touch item is_passed (suc place) (done ++ rows (new ∷ [])) todo later all after
+  visit-head : (place : ℕ) (e new : Seat) (done todo : List Row) (earlier later all : List Order) (after : List Job) → IsVisit before at (hears e.def) e new earlier later →
+      IsOnWay before at hears item is_passed place done (row e ∷ todo) earlier all after → IsOnWay before at hears item is_passed (suc place) (done ++ rows (new ∷ [])) todo later all after
   visit-head place e new done todo earlier later all after visit way = go way.rest way.waits way.for way.rests way.leads way.gives where
-    end : (b : Bool) (job : Job) (rest : List Job) → KeepsJob before (row e) job → KeepsJobs before todo rest → AreFor touch item todo rest → AreAtRest is_passed (suc place) (heard item rest) →
-        item_for touch e.def ≡ item job → Keeps e.core.facts job.past →
+    end : (b : Bool) (job : Job) (rest : List Job) → KeepsJob before (row e) job → KeepsJobs before todo rest → AreFor hears item todo rest → AreAtRest is_passed (suc place) (heard item rest) →
+        hears e.def ≡ item job → Keeps e.core.facts job.past →
         is_gone (with_item job (item job)).past ≡ b → new.has_gone ≡ b →
         (is_gone (with_item job (item job)).past ≡ false → Keeps new.core.facts (ordered (due (with_item job (item job)).past) (with_item job (item job)).past)) →
         way.past ++ cons_option (cond b None (Some (record (with_item job (item job)) { past = ordered (due (with_item job (item job)).past) (with_item job (item job)).past }))) (filter_map stays (heard item rest)) ≡ after →
         later ++ numbered_all todo (heard item rest) ≡ all →
-        IsOnWay before at touch item is_passed (suc place) (done ++ cond b [] (row new ∷ [])) todo later all after
+        IsOnWay before at hears item is_passed (suc place) (done ++ cond b [] (row new ∷ [])) todo later all after
     end true job rest this waits for rests same keeps gone going kept leads gives = record {
       past = way.past;
       rest = rest;
@@ -86,9 +85,9 @@ module _ (before at : Reading) (touch : Touch) (item : Job → Option Item) (is_
         let next : Job = record heard_job { past = ordered (due heard_job.past) heard_job.past } in
         let stays_on : KeepsJob at (row new) next = record {
           label = ap (λ n. n.described.label) visit.name ∙ this.label ∙ label-with job (item job);
-          definition = ap (λ n. definition n.described) visit.name ∙ this.definition ∙ definition-with job touch e.def (item job) same ∙ sym (definition-ordered (due heard_job.past) heard_job.past);
+          definition = ap (λ n. definition n.described) visit.name ∙ this.definition ∙ definition-with hears before at brings job e.def (item job) same ∙ sym (definition-ordered (due heard_job.past) heard_job.past);
           keeps = kept gone;
-          present = is_now ∙ present-touch touch before e.def (item job) job same this.present ∙ sym (now-ordered (due heard_job.past) heard_job.past);
+          present = present-with hears before at brings job e.def (item job) same this.present ∙ sym (now-ordered (due heard_job.past) heard_job.past);
         } in
         record {
           past = way.past ++ next ∷ [];
@@ -101,17 +100,17 @@ module _ (before at : Reading) (touch : Touch) (item : Job → Option Item) (is_
           gives = gives;
         }
 
-    go : (rest : List Job) → KeepsJobs before (row e ∷ todo) rest → AreFor touch item (row e ∷ todo) rest → AreAtRest is_passed place (heard item rest) →
+    go : (rest : List Job) → KeepsJobs before (row e ∷ todo) rest → AreFor hears item (row e ∷ todo) rest → AreAtRest is_passed place (heard item rest) →
         way.past ++ filter_map stays (heard item rest) ≡ after → earlier ++ numbered_all (row e ∷ todo) (heard item rest) ≡ all →
-        IsOnWay before at touch item is_passed (suc place) (done ++ rows (new ∷ [])) todo later all after
+        IsOnWay before at hears item is_passed (suc place) (done ++ rows (new ∷ [])) todo later all after
     go [] waits for rests leads gives = absurd waits
     go (job ∷ rest) waits for rests leads gives =
         let this = waits.0 in
-        let same : item_for touch e.def ≡ item job = for.0 in
+        let same : hears e.def ≡ item job = for.0 in
         let next = with_item job (item job) in
-        let past : followed (item_for touch e.def) job.past ≡ next.past = ap (λ o. followed o job.past) same ∙ past-with job (item job) in
-        let fine : refusal_if (item_for touch e.def) job.past ≡ None = ap (λ o. refusal_if o job.past) same ∙ accepted job this.present in
-        let is : at ≡ now (followed (item_for touch e.def) job.past) = is_now ∙ present-touch touch before e.def (item job) job same this.present ∙ ap now (sym past) in
+        let past : followed (hears e.def) job.past ≡ next.past = ap (λ o. followed o job.past) same ∙ past-with job (item job) in
+        let fine : refusal_if (hears e.def) job.past ≡ None = ap (λ o. refusal_if o job.past) same ∙ accepted job this.present in
+        let is : at ≡ now (followed (hears e.def) job.past) = brings.present e.def job.past this.present in
         let going : new.has_gone ≡ is_gone next.past = visit.going job.past this.keeps this.present fine is ∙ ap is_gone past in
         let orders : later ≡ earlier ++ numbered_orders e.number (acts_of next.past) =
         visit.orders job.past this.keeps this.present fine is ∙ ap (λ t. earlier ++ numbered_orders e.number (acts_of t)) past in
@@ -188,19 +187,19 @@ module _ (is_passed : ℕ → Bool) where
     go false true is = ap suc is
     go false false is = ap suc is
 
-module _ (before at : Reading) (touch : Touch) (is_passed : ℕ → Bool) (es0 : List Seat) (first : List Order) where
+module _ (before at : Reading) (hears : Described → Option Item) (is_passed : ℕ → Bool) (es0 : List Seat) (first : List Order) where
   -- the walk has come so far
   pub record IsWalked (es : List Seat) (front : ℕ) (earlier : List Order) (visited : ℕ) : Type 0 where
     pub untouched : drop front es ≡ drop front es0
-    pub spared : AreSpared is_passed before touch front (drop front es0)
+    pub spared : AreSpared is_passed before hears front (drop front es0)
     pub once : AreVisitedOnce is_passed 0 (take front es0) (take front es)
     pub count : visited ≡ count_visited is_passed 0 (take front es)
-    pub way : (jobs : List Job) (item : Job → Option Item) → AreFor touch item (rows es0) jobs → IsAccepted before item → AreAtRest is_passed 0 (heard item jobs) → KeepsJobs before (rows es0) jobs →
-        IsOnWay before at touch item is_passed front (rows (take front es)) (rows (drop front es0)) earlier (first ++ numbered_all (rows es0) (heard item jobs)) (filter_map stays (heard item jobs))
+    pub way : (jobs : List Job) (item : Job → Option Item) → AreFor hears item (rows es0) jobs → IsAccepted before item → AreAtRest is_passed 0 (heard item jobs) → KeepsJobs before (rows es0) jobs →
+        IsOnWay before at hears item is_passed front (rows (take front es)) (rows (drop front es0)) earlier (first ++ numbered_all (rows es0) (heard item jobs)) (filter_map stays (heard item jobs))
 
-module _ (before at : Reading) (touch : Touch) (is_passed : ℕ → Bool) (is_now : at ≡ present_with touch before) (es0 : List Seat) (first : List Order) where
+module _ (before at : Reading) (hears : Described → Option Item) (is_passed : ℕ → Bool) (brings : Brings hears before at) (es0 : List Seat) (first : List Order) where
   abbrev IsWalkedHere : List Seat → ℕ → List Order → ℕ → Type 0
-  IsWalkedHere es front earlier visited = IsWalked before at touch is_passed es0 first es front earlier visited
+  IsWalkedHere es front earlier visited = IsWalked before at hears is_passed es0 first es front earlier visited
 
   pub skip-one : (es : List Seat) (i : ℕ) (earlier : List Order) (visited : ℕ) → AllStay es0 → i < length es0 → is_passed i ≡ true → IsWalkedHere es i earlier visited → IsWalkedHere es (suc i) earlier visited
   skip-one es i earlier visited stay within spared walked =
@@ -210,7 +209,7 @@ module _ (before at : Reading) (touch : Touch) (is_passed : ℕ → Bool) (is_no
       let here0 : drop i es0 ≡ e ∷ rest0 = found.1 in
       let here : drop i es ≡ e ∷ rest0 = walked.untouched ∙ here0 in
       let staying : AllStay (e ∷ rest0) = subst AllStay here0 (stay-drop es0 i stay) in
-      let spares : AreSpared is_passed before touch i (e ∷ rest0) = subst (AreSpared is_passed before touch i) here0 walked.spared in
+      let spares : AreSpared is_passed before hears i (e ∷ rest0) = subst (AreSpared is_passed before hears i) here0 walked.spared in
       let taken0 : take (suc i) es0 ≡ take i es0 ++ e ∷ [] = take-of-drop es0 i e rest0 here0 in
       let taken : take (suc i) es ≡ take i es ++ e ∷ [] = take-of-drop es i e rest0 here in
       let done : rows (take (suc i) es) ≡ rows (take i es) ++ row e ∷ [] = ap rows taken ∙ rows-append (take i es) (e ∷ []) ∙ ap (λ rs. rows (take i es) ++ rs) (rows-stay e [] staying.0) in
@@ -226,9 +225,9 @@ module _ (before at : Reading) (touch : Touch) (is_passed : ℕ → Bool) (is_no
             (once-snoc is_passed 0 (take i es0) (take i es) e e walked.once refl (ap (λ b. cond b e.core.decided (next_count e.core.decided)) (sym (at-front e.has_gone))) (λ none. refl)));
         count = walked.count ∙ sym (ap (count_visited is_passed 0) taken ∙ count-snoc is_passed 0 (take i es) e true (at-done e.has_gone));
         way = λ jobs item for accepted rests keeps.
-            subst (λ d. IsOnWay before at touch item is_passed (suc i) d (rows rest0) earlier (first ++ numbered_all (rows es0) (heard item jobs)) (filter_map stays (heard item jobs))) (sym done)
-            (skip-head before at touch item is_passed is_now accepted i e (rows (take i es)) (rows rest0) earlier _ _ spared (spares.0 spared)
-            (subst (λ t. IsOnWay before at touch item is_passed i (rows (take i es)) t earlier (first ++ numbered_all (rows es0) (heard item jobs)) (filter_map stays (heard item jobs))) todo
+            subst (λ d. IsOnWay before at hears item is_passed (suc i) d (rows rest0) earlier (first ++ numbered_all (rows es0) (heard item jobs)) (filter_map stays (heard item jobs))) (sym done)
+            (skip-head before at hears item is_passed brings accepted i e (rows (take i es)) (rows rest0) earlier _ _ spared (spares.0 spared)
+            (subst (λ t. IsOnWay before at hears item is_passed i (rows (take i es)) t earlier (first ++ numbered_all (rows es0) (heard item jobs)) (filter_map stays (heard item jobs))) todo
             (walked.way jobs item for accepted rests keeps)));
       }
 
@@ -241,14 +240,14 @@ module _ (before at : Reading) (touch : Touch) (is_passed : ℕ → Bool) (is_no
       (skip-one es i earlier visited stay (omega (arith, within)) (spared i (omega arith) (omega arith)) walked))
 
   pub visit-one : (es : List Seat) (i : ℕ) (e new : Seat) (earlier later : List Order) (visited more : ℕ) → AllStay es0 → i < length es0 → i < length es → e ≡ get_or es i e → is_passed i ≡ false →
-      IsVisit before at (item_for touch e.def) e new earlier later → new.core.decided ≡ cond new.has_gone e.core.decided (next_count e.core.decided) → more ≡ cond new.has_gone visited (suc visited) →
+      IsVisit before at (hears e.def) e new earlier later → new.core.decided ≡ cond new.has_gone e.core.decided (next_count e.core.decided) → more ≡ cond new.has_gone visited (suc visited) →
       IsWalkedHere es i earlier visited → IsWalkedHere (slice_set es i new) (suc i) later more
   visit-one es i e new earlier later visited more stay within inside is marked visit decided counts walked =
       let here : drop i es ≡ e ∷ drop (suc i) es = at-drop es i e inside is in
       let here0 : drop i es0 ≡ e ∷ drop (suc i) es = sym walked.untouched ∙ here in
       let rest0 : drop (suc i) es0 ≡ drop (suc i) es = sym (drop-suc es es0 i walked.untouched) in
       let staying : AllStay (e ∷ drop (suc i) es) = subst AllStay here0 (stay-drop es0 i stay) in
-      let spares : AreSpared is_passed before touch i (e ∷ drop (suc i) es) = subst (AreSpared is_passed before touch i) here0 walked.spared in
+      let spares : AreSpared is_passed before hears i (e ∷ drop (suc i) es) = subst (AreSpared is_passed before hears i) here0 walked.spared in
       let taken0 : take (suc i) es0 ≡ take i es0 ++ e ∷ [] = take-of-drop es0 i e (drop (suc i) es) here0 in
       let taken : take (suc i) (slice_set es i new) ≡ take i es ++ new ∷ [] = set-take es i new inside in
       let done : rows (take (suc i) (slice_set es i new)) ≡ rows (take i es) ++ rows (new ∷ []) = ap rows taken ∙ rows-append (take i es) (new ∷ []) in
@@ -259,21 +258,21 @@ module _ (before at : Reading) (touch : Touch) (is_passed : ℕ → Bool) (is_no
       let long = take-length es i (omega (arith, inside)) in λ v. or-left v _ (subst (λ p. is_passed p ≡ false) (omega (arith, long)) marked) in
       record {
         untouched = set-drop es i new ∙ drop-suc es es0 i walked.untouched;
-        spared = subst (AreSpared is_passed before touch (suc i)) (sym rest0) spares.1;
+        spared = subst (AreSpared is_passed before hears (suc i)) (sym rest0) spares.1;
         once = subst (λ xs. AreVisitedOnce is_passed 0 xs (take (suc i) (slice_set es i new))) (sym taken0) (subst (λ ys. AreVisitedOnce is_passed 0 (take i es0 ++ e ∷ []) ys) (sym taken)
             (once-snoc is_passed 0 (take i es0) (take i es) e new walked.once visit.name (decided ∙ ap (λ b. cond b e.core.decided (next_count e.core.decided)) (sym (front new.has_gone))) (λ none. (let clash : true ≡ false = sym none ∙ front false in absurd (cc clash)))));
         count = counts ∙ ap (λ n. cond new.has_gone n (suc n)) walked.count ∙ sym (ap (count_visited is_passed 0) taken ∙ count-snoc is_passed 0 (take i es) new new.has_gone (front_done new.has_gone));
         way = λ jobs item for accepted rests keeps.
-            subst (λ d. IsOnWay before at touch item is_passed (suc i) d (rows (drop (suc i) es0)) later (first ++ numbered_all (rows es0) (heard item jobs)) (filter_map stays (heard item jobs))) (sym done)
-            (visit-head before at touch item is_passed is_now accepted i e new (rows (take i es)) (rows (drop (suc i) es0)) earlier later _ _ visit
-            (subst (λ t. IsOnWay before at touch item is_passed i (rows (take i es)) t earlier (first ++ numbered_all (rows es0) (heard item jobs)) (filter_map stays (heard item jobs))) todo
+            subst (λ d. IsOnWay before at hears item is_passed (suc i) d (rows (drop (suc i) es0)) later (first ++ numbered_all (rows es0) (heard item jobs)) (filter_map stays (heard item jobs))) (sym done)
+            (visit-head before at hears item is_passed brings accepted i e new (rows (take i es)) (rows (drop (suc i) es0)) earlier later _ _ visit
+            (subst (λ t. IsOnWay before at hears item is_passed i (rows (take i es)) t earlier (first ++ numbered_all (rows es0) (heard item jobs)) (filter_map stays (heard item jobs))) todo
             (walked.way jobs item for accepted rests keeps)));
       }
 
   pub record IsThrough (es : List Seat) (earlier : List Order) (visited : ℕ) : Type 0 where
-    pub kept : (jobs : List Job) (item : Job → Option Item) → AreFor touch item (rows es0) jobs → IsAccepted before item → AreAtRest is_passed 0 (heard item jobs) → KeepsJobs before (rows es0) jobs →
+    pub kept : (jobs : List Job) (item : Job → Option Item) → AreFor hears item (rows es0) jobs → IsAccepted before item → AreAtRest is_passed 0 (heard item jobs) → KeepsJobs before (rows es0) jobs →
         KeepsJobs at (rows es) (filter_map stays (heard item jobs))
-    pub orders : (jobs : List Job) (item : Job → Option Item) → AreFor touch item (rows es0) jobs → IsAccepted before item → AreAtRest is_passed 0 (heard item jobs) → KeepsJobs before (rows es0) jobs →
+    pub orders : (jobs : List Job) (item : Job → Option Item) → AreFor hears item (rows es0) jobs → IsAccepted before item → AreAtRest is_passed 0 (heard item jobs) → KeepsJobs before (rows es0) jobs →
         earlier ≡ first ++ numbered_all (rows es0) (heard item jobs)
     pub counted : visited ≡ count_visited is_passed 0 es
     pub visits : AreVisitedOnce is_passed 0 es0 es
@@ -286,20 +285,20 @@ module _ (before at : Reading) (touch : Touch) (is_passed : ℕ → Bool) (is_no
       record {
         kept = λ jobs item for accepted rests keeps.
             end-kept (filter_map stays (heard item jobs)) (first ++ numbered_all (rows es0) (heard item jobs)) item
-            (subst (λ d. IsOnWay before at touch item is_passed (length es0) d (rows (drop (length es0) es0)) earlier (first ++ numbered_all (rows es0) (heard item jobs)) (filter_map stays (heard item jobs))) (ap rows whole)
+            (subst (λ d. IsOnWay before at hears item is_passed (length es0) d (rows (drop (length es0) es0)) earlier (first ++ numbered_all (rows es0) (heard item jobs)) (filter_map stays (heard item jobs))) (ap rows whole)
             (walked.way jobs item for accepted rests keeps));
         orders = λ jobs item for accepted rests keeps.
             end-orders (filter_map stays (heard item jobs)) (first ++ numbered_all (rows es0) (heard item jobs)) item (walked.way jobs item for accepted rests keeps);
         counted = walked.count ∙ ap (count_visited is_passed 0) whole;
         visits = subst (λ xs. AreVisitedOnce is_passed 0 xs es) whole0 (subst (AreVisitedOnce is_passed 0 (take (length es0) es0)) whole walked.once);
       } where
-        end-kept : (after : List Job) (all : List Order) (item : Job → Option Item) → IsOnWay before at touch item is_passed (length es0) (rows es) (rows (drop (length es0) es0)) earlier all after → KeepsJobs at (rows es) after
+        end-kept : (after : List Job) (all : List Order) (item : Job → Option Item) → IsOnWay before at hears item is_passed (length es0) (rows es) (rows (drop (length es0) es0)) earlier all after → KeepsJobs at (rows es) after
         end-kept after all item way = go way.rest (subst (λ t. KeepsJobs before (rows t) way.rest) (drop-whole es0) way.waits) way.leads where
           go : (rest : List Job) → KeepsJobs before [] rest → way.past ++ filter_map stays (heard item rest) ≡ after → KeepsJobs at (rows es) after
           go [] waits leads = subst (KeepsJobs at (rows es)) (sym (append-nil way.past) ∙ leads) way.kept
           go (job ∷ rest) waits leads = absurd waits
 
-        end-orders : (after : List Job) (all : List Order) (item : Job → Option Item) → IsOnWay before at touch item is_passed (length es0) (rows (take (length es0) es)) (rows (drop (length es0) es0)) earlier all after → earlier ≡ all
+        end-orders : (after : List Job) (all : List Order) (item : Job → Option Item) → IsOnWay before at hears item is_passed (length es0) (rows (take (length es0) es)) (rows (drop (length es0) es0)) earlier all after → earlier ≡ all
         end-orders after all item way = go way.rest (rows (drop (length es0) es0)) (ap rows (drop-whole es0)) way.gives where
           go : (rest : List Job) (todo : List Row) → todo ≡ [] → earlier ++ numbered_all todo (heard item rest) ≡ all → earlier ≡ all
           go rest [] none gives = sym (append-nil earlier) ∙ gives
@@ -312,8 +311,8 @@ module _ (before at : Reading) (touch : Touch) (is_passed : ℕ → Bool) (is_no
       (skip-to es (length es0 - front) front earlier visited stay (omega (arith, within)) (λ k low high. spared k low) walked))
 
   -- the walk that visits the job at one place, and passes each other one by
-  pub visit-alone : (place : ℕ) (e new : Seat) (later : List Order) (count : ℕ) → AllStay es0 → AreSpared is_passed before touch 0 es0 → place < length es0 → e ≡ get_or es0 place e →
-      is_passed place ≡ false → ((k : ℕ) → place ≢ k → is_passed k ≡ true) → IsVisit before at (item_for touch e.def) e new first later →
+  pub visit-alone : (place : ℕ) (e new : Seat) (later : List Order) (count : ℕ) → AllStay es0 → AreSpared is_passed before hears 0 es0 → place < length es0 → e ≡ get_or es0 place e →
+      is_passed place ≡ false → ((k : ℕ) → place ≢ k → is_passed k ≡ true) → IsVisit before at (hears e.def) e new first later →
       new.core.decided ≡ cond new.has_gone e.core.decided (next_count e.core.decided) → count ≡ cond new.has_gone 0 1 → IsThrough (slice_set es0 place new) later count
   visit-alone place e new later count stay spared within is own others visit decided counts =
       let begun : IsWalkedHere es0 0 first 0 = record {

@@ -3,16 +3,14 @@ use Rattle.std.specs.Prelude.{◌≡◌, List, [], ◌∷◌, Option, Some, None
 use Rattle.history_model.specs.declared.Reading.{Reading}
 use Rattle.history_model.specs.declared.Refusal.{Refusal}
 use Rattle.history_model.specs.Items.{Item, History}
-use Rattle.history_model.specs.Clock.{now}
+use Rattle.history_model.specs.Clock.{now, definition_of}
 use Rattle.history_model.specs.Refusals.{refusal_of}
 use Rattle.history_model.specs.FactsOfPast.{Keeps}
 use Rattle.history_model.specs.Machine.{Job}
+use Rattle.job_defs.specs.Described.{Described}
 use Rattle.job_table.specs.Tables.{Row}
 use Rattle.job_table.specs.Seats.{name}
-use Rattle.job_table.specs.Touch.{item_for}
 use Rattle.job_table.specs.declared.seat.Seat.{Seat}
-use Rattle.job_table.specs.declared.seat.Touch.{Touch}
-use Rattle.job_table.specs.declared.seat.Touch.TheVariants as touch
 
 -- the past with the item, if there is one
 abbrev pub followed : Option Item → History → History
@@ -31,25 +29,28 @@ pub record IsHeard (at : Reading) (item : Option Item) (e new : Seat) : Type 0 w
   pub kept : (past : History) → Keeps e.core.facts past → at ≡ now past →
       refusal_if item past ≡ None → Keeps new.core.facts (followed item past)
 
-abbrev pub AreHeard : Reading → Touch → List Seat → List Seat → Type 0
-AreHeard at touch [] [] = Unit {0}
-AreHeard at touch [] (new ∷ rest) = ⊥
-AreHeard at touch (e ∷ es) [] = ⊥
-AreHeard at touch (e ∷ es) (new ∷ rest) =
-    IsHeard at (item_for touch e.def) e new × AreHeard at touch es rest
+-- what a job hears goes by its definition
+abbrev pub AreHeard : Reading → (Described → Option Item) → List Seat → List Seat → Type 0
+AreHeard at hears [] [] = Unit {0}
+AreHeard at hears [] (new ∷ rest) = ⊥
+AreHeard at hears (e ∷ es) [] = ⊥
+AreHeard at hears (e ∷ es) (new ∷ rest) =
+    IsHeard at (hears e.def) e new × AreHeard at hears es rest
 
--- the items that the touch is for each job are these
-abbrev pub AreFor : Touch → (Job → Option Item) → List Row → List Job → Type 0
-AreFor touch item [] jobs = Unit {0}
-AreFor touch item (row ∷ rows) [] = Unit {0}
-AreFor touch item (row ∷ rows) (job ∷ jobs) =
-    (item_for touch row.described ≡ item job) × AreFor touch item rows jobs
+-- what each job hears is its item
+abbrev pub AreFor : (Described → Option Item) → (Job → Option Item) → List Row → List Job → Type 0
+AreFor hears item [] jobs = Unit {0}
+AreFor hears item (row ∷ rows) [] = Unit {0}
+AreFor hears item (row ∷ rows) (job ∷ jobs) =
+    (hears row.described ≡ item job) × AreFor hears item rows jobs
 
 -- no job refuses its item
 abbrev pub IsAccepted : Reading → (Job → Option Item) → Type 0
 IsAccepted at item = (job : Job) → at ≡ now job.past → refusal_if (item job) job.past ≡ None
 
--- the reading once the touch is heard
-abbrev pub present_with : Touch → Reading → Reading
-present_with (touch.Reading at minutes) before = at
-present_with _ before = before
+-- what is heard brings each job from the reading before to this one, and leaves its definition
+pub record Brings (hears : Described → Option Item) (before at : Reading) : Type 0 where
+  pub present : (d : Described) (past : History) → before ≡ now past →
+      at ≡ now (followed (hears d) past)
+  pub definition : (d : Described) (past : History) →
+      definition_of past ≡ definition_of (followed (hears d) past)

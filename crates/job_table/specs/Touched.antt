@@ -1,17 +1,16 @@
--- The jobs that the touch of an event reaches, and the others.
-use Rattle.std.specs.Prelude.{◌≡◌, ◌≢◌, ℕ, suc, ◌<◌, true, false, List, [], ◌∷◌, length, Some, slice_get}
+-- The jobs that an event reaches, and the others.
+use Rattle.std.specs.Prelude.{◌≡◌, ◌≢◌, ℕ, suc, ◌<◌, Bool, true, false, List, [], ◌∷◌, length, Some, slice_get}
 use Rattle.std.specs.List.{position}
 use Rattle.history_model.specs.Labels.{Label}
 use Rattle.history_model.specs.Machine.{Job}
 use Rattle.timer_heap.specs.Timers.{moment_in}
+use Rattle.job_defs.specs.Described.{Described}
 use Rattle.job_table.specs.Tables.{Row}
 use Rattle.job_table.specs.StandsFor.{IsAtRest}
 use Rattle.job_table.specs.Counts.{counts, count_in}
 use Rattle.job_table.specs.Seats.{rows, has_label}
 use Rattle.job_table.specs.Index.{moment_for}
-use Rattle.job_table.specs.Touch.{is_touched}
 use Rattle.job_table.specs.declared.seat.Seat.{Seat}
-use Rattle.job_table.specs.declared.seat.Touch.{Touch}
 use Rattle.job_table.specs.declared.jobs.Jobs.{Jobs}
 
 -- each seat but the one at this place is as it was
@@ -25,24 +24,24 @@ pub record IsHandedAt (label : Label) (place : ℕ) (es later : List Seat) : Typ
   pub at : Some place ≡ position (has_label label) es
   pub own : (e : Seat) → slice_get later place ≡ Some e → has_label label e ≡ true
 
--- each job that the touch does not reach has its moment
-abbrev pub AreTimedBut : Touch → Jobs → Type 0
-AreTimedBut touch t =
-    (k : ℕ) (e : Seat) → slice_get t.seats.items k ≡ Some e → is_touched touch k e.def ≡ false →
+-- each job that is not reached has its moment
+abbrev pub AreTimedBut : (ℕ → Described → Bool) → Jobs → Type 0
+AreTimedBut reached t =
+    (k : ℕ) (e : Seat) → slice_get t.seats.items k ≡ Some e → reached k e.def ≡ false →
     moment_in t.index.timers e.number ≡ moment_for e t.reading.up
 
--- from this place on: the jobs that the touch does not reach rest
-abbrev pub RestBut : Touch → ℕ → List Row → List Job → Type 0
-RestBut touch place [] jobs = Unit {0}
-RestBut touch place (row ∷ rows) [] = Unit {0}
-RestBut touch place (row ∷ rows) (job ∷ jobs) =
-    (is_touched touch place row.described ≡ false → IsAtRest job)
-    × RestBut touch (suc place) rows jobs
+-- from this place on: the jobs that are not reached rest
+abbrev pub RestBut : (ℕ → Described → Bool) → ℕ → List Row → List Job → Type 0
+RestBut reached place [] jobs = Unit {0}
+RestBut reached place (row ∷ rows) [] = Unit {0}
+RestBut reached place (row ∷ rows) (job ∷ jobs) =
+    (reached place row.described ≡ false → IsAtRest job)
+    × RestBut reached (suc place) rows jobs
 
--- the count of a label stays if the touch reaches no job that has it
-abbrev pub SparesBut : Touch → List Seat → List Seat → Type 0
-SparesBut touch es later =
+-- the count of a label stays if no job that has it is reached
+abbrev pub SparesBut : (ℕ → Described → Bool) → List Seat → List Seat → Type 0
+SparesBut reached es later =
     (label : Label) →
     ((place : ℕ) (e : Seat) → slice_get es place ≡ Some e → has_label label e ≡ true →
-    is_touched touch place e.def ≡ false) →
+    reached place e.def ≡ false) →
     count_in (counts (rows later)) label ≡ count_in (counts (rows es)) label

@@ -9,28 +9,29 @@ use Rattle.history_model.specs.declared.TheConstants.{MAX_JOBS, MAX_UP}
 use Rattle.history_model.specs.Items.{Item}
 use Rattle.history_model.specs.Machine.{Job}
 use Rattle.history_model.specs.Step.{stays, heard}
+use Rattle.job_defs.specs.Described.{Described}
 use Rattle.job_table.specs.Tables.{Name, IsOnce, is_known}
 use Rattle.job_table.specs.StandsFor.{KeepsJobs, numbered_all}
 use Rattle.job_table.specs.Seats.{is_named, rows, name, AllStay}
 use Rattle.job_table.specs.Index.{moment_for, AreTimed, AreAlone, HaveRoom}
 use Rattle.job_table.specs.Leaving.{StayBut}
-use Rattle.job_table.specs.Hearing.{AreFor, IsAccepted, present_with}
+use Rattle.job_table.specs.Hearing.{AreFor, IsAccepted, Brings}
 use Rattle.job_table.specs.Visiting.{AreSpared, AreAtRest, AreVisitedOnce, count_visited}
 use Rattle.job_table.specs.declared.gone_jobs.Gone.{Gone}
 use Rattle.job_table.specs.declared.seat.Seat.{Seat}
-use Rattle.job_table.specs.declared.seat.Touch.{Touch}
 
--- no job is gone, each number and label stands once, and each place that is not passed by is that of a
--- job; a job that is passed by has its item though it did not hear it, and its next moment
-pub record CanVisit (touch : Touch) (before at : Reading) (is_passed : ℕ → Bool) (seats : List Seat)
-    (timers : Timers) : Type 0 where
+-- what is heard brings this reading, no job is gone, each number and label stands once, and each place
+-- that is not passed by is that of a job; a job that is passed by has its item though it did not hear
+-- it, and its next moment
+pub record CanVisit (hears : Described → Option Item) (before at : Reading) (is_passed : ℕ → Bool)
+    (seats : List Seat) (timers : Timers) : Type 0 where
   pub before_in_range : before.up ≤ MAX_UP
   pub in_range : at.up ≤ MAX_UP
-  pub now : at ≡ present_with touch before
+  pub brings : Brings hears before at
   pub stay : AllStay seats
   pub few : length seats ≤ MAX_JOBS
   pub inside : (place : ℕ) → is_passed place ≡ false → place < length seats
-  pub spared : AreSpared is_passed before touch 0 seats
+  pub spared : AreSpared is_passed before hears 0 seats
   pub once : IsOnce (map name seats)
   pub numbers : HaveRoom timers (map name seats)
   pub timed : (place : ℕ) (seat : Seat) → slice_get seats place ≡ Some seat →
@@ -40,14 +41,15 @@ pub record CanVisit (touch : Touch) (before at : Reading) (is_passed : ℕ → B
 -- every job has its item, the orders are those of all jobs, and the jobs that are not passed by were
 -- visited alone, each once; so many stayed, and those that went are known. Each order is of a job
 -- whose number is known, the names stay, and each number has its next moment
-pub record VisitsTouched (touch : Touch) (before at : Reading) (is_passed : ℕ → Bool)
+pub record VisitsTouched (hears : Described → Option Item) (before at : Reading)
+    (is_passed : ℕ → Bool)
     (seats later : List Seat) (earlier all : List Order) (timers : Timers) (count : ℕ)
     (gone : Gone) : Type 0 where
-  pub kept : (jobs : List Job) (item : Job → Option Item) → AreFor touch item (rows seats) jobs →
+  pub kept : (jobs : List Job) (item : Job → Option Item) → AreFor hears item (rows seats) jobs →
       IsAccepted before item → AreAtRest is_passed 0 (heard item jobs) →
       KeepsJobs before (rows seats) jobs →
       KeepsJobs at (rows later) (filter_map stays (heard item jobs))
-  pub orders : (jobs : List Job) (item : Job → Option Item) → AreFor touch item (rows seats) jobs →
+  pub orders : (jobs : List Job) (item : Job → Option Item) → AreFor hears item (rows seats) jobs →
       IsAccepted before item → AreAtRest is_passed 0 (heard item jobs) →
       KeepsJobs before (rows seats) jobs →
       all ≡ earlier ++ numbered_all (rows seats) (heard item jobs)

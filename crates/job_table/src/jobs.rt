@@ -17,8 +17,9 @@ ghost use Rattle.job_core.specs.Memory.{NeedsNoMemory};
 ghost use Rattle.job_table.specs.Loads.{refused_with};
 ghost use Rattle.job_table.specs.Touched.{IsChangedAt, IsHandedAt};
 ghost use Rattle.job_table.specs.Telling.{IsTold};
-ghost use Rattle.job_table.specs.AskedJobs.{CanAsk, AsksTouched};
-ghost use Rattle.job_table.specs.declared.seat.Touch.TheVariants.{Heard};
+ghost use Rattle.job_table.specs.AskedJobs.{CanAsk, AsksReached};
+ghost use Rattle.job_table.specs.Hearing.{Brings};
+ghost use Rattle.job_table.specs.Touch.{item_for, reaches, nothing_for, is_at};
 ghost use Rattle.std.specs.Option.{ForSome};
 
 use crate::gone_jobs::Gone;
@@ -106,7 +107,7 @@ impl Jobs {
             return Err(Refusal::NoSuchJob);
         };
         self.hand_at(place, item)?;
-        self.ask_touched(Touch::Heard(place));
+        self.ask_at(place);
         Ok(())
     }
 
@@ -148,13 +149,10 @@ impl Jobs {
 
     /// Tells the jobs that the touch reaches what it is for them, and asks them alone. The reading stays.
     pub fn ask_touched(&mut self, touch: Touch<'_>)
-        requires { CanAsk touch self.old }
-        ensures { AsksTouched touch.entry self.old self.new }
+        requires can { CanAsk (reaches touch) self.old }
+        requires brings { Brings (item_for touch) self.old.reading self.old.reading }
+        ensures { AsksReached (item_for touch.entry) (reaches touch.entry) self.old self.new }
     {
-        if let Touch::Heard(place) = touch {
-            self.ask_at(place);
-            return;
-        }
         mark_touched(
             &self.seats,
             touch,
@@ -175,10 +173,11 @@ impl Jobs {
         self.gone = gone;
     }
 
-    /// Asks the job at this place, which heard already what happened to it, and no other. No mark is set for it.
-    fn ask_at(&mut self, place: usize)
-        requires { CanAsk (Heard place) self.old }
-        ensures { AsksTouched (Heard place) self.old self.new }
+    /// Asks the job at this place alone, which heard already what happened to it. No mark is set for it, and the reading stays.
+    pub fn ask_at(&mut self, place: usize)
+        requires can { CanAsk (is_at place) self.old }
+        requires inside { place < length self.old.seats.items }
+        ensures { AsksReached nothing_for (is_at place) self.old self.new }
     {
         let (asked, left) = visit_at(
             &mut self.seats,

@@ -11,7 +11,7 @@ ghost use Rattle.job_table.specs.Seats.{name};
 ghost use Rattle.job_table.specs.declared.seat.Seat.{Seat};
 ghost use Rattle.job_table.specs.Triggers.{rank_of, AreOrdered, AreListed};
 ghost use Rattle.job_table.specs.Marking.{HavePlaces, IsMarked, IsReachedAt, IsMinuteAt, HaveMarks, Marks, stands_at};
-ghost use Rattle.job_table.specs.Touch.{is_touch_for};
+ghost use Rattle.job_table.specs.Touch.{is_touched};
 
 use crate::seat::{Seat, Touch};
 use crate::trigger::{Listed, Sought};
@@ -117,12 +117,11 @@ pub fn mark_touched(
     requires listed { AreListed listed.now (map name seats.now) }
     requires placed { ArePlaced places.now seats.now }
     ensures touched { (place : ℕ) (seat : Seat) → slice_get seats.now place ≡ Some seat →
-        is_spared ready.new place ≡ not (is_touch_for touch.entry seat.def) }
+        is_spared ready.new place ≡ not (is_touched touch.entry seat.def) }
     ensures marks { (place : ℕ) → has_place ready.new place ≡ true → place < length seats.now }
     ensures room { place_room ready.new ≡ place_room ready.old }
 {
     match touch {
-        Touch::Heard(_) => {}
         Touch::Sight(path, _) => mark_of(listed, Sought::Path(path), places, ready),
         Touch::Shutdown | Touch::Reading(_, _) => mark_each(seats.len() as u32, ready),
     }

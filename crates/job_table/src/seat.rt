@@ -41,11 +41,9 @@ pub struct Seat {
     pub has_gone: bool,
 }
 
-/// How an event touches the jobs: what they hear of it.
+/// How an event touches the jobs that it is for: what they hear of it.
 #[derive(Clone, Copy)]
 pub enum Touch<'a> {
-    /// Nothing: the job at this place, and no other, heard already.
-    Heard(usize),
     /// The launcher shuts down.
     Shutdown,
     /// The clock, and the civil minutes that it crossed.
@@ -61,7 +59,6 @@ impl Seat {
         ensures { IsHeard now (item_for touch.entry self.old.def) self.old self.new }
     {
         match touch {
-            Touch::Heard(_) => {}
             Touch::Shutdown => self.take_in(JobEvent::Item(JobItem::Asked(Ask::Shutdown)), now),
             Touch::Reading(at, minutes) => {
                 let fires = Calendar::fires(self.def.calendar(), minutes);

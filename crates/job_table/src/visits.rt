@@ -8,7 +8,7 @@ ghost use Rattle.job_table.specs.declared.seat.TheConstants.{ORDERS};
 ghost use Rattle.job_table.specs.Index.{moment_for};
 ghost use Rattle.job_table.specs.Visiting.{is_spared, is_other};
 ghost use Rattle.job_table.specs.Visits.{CanVisit, VisitsTouched, IsUnmarked};
-ghost use Rattle.job_table.specs.declared.seat.Touch.TheVariants.{Heard};
+ghost use Rattle.job_table.specs.Touch.{item_for, nothing_for};
 
 use crate::gone_jobs::Gone;
 use crate::seat::{Seat, Touch};
@@ -27,10 +27,10 @@ pub fn visit_ready(
     now: Reading,
     orders: &mut Vec<Order>,
 ) -> (u32, Gone)
-    requires can { CanVisit touch before now (is_spared ready.old) seats.old timers.old }
+    requires can { CanVisit (item_for touch) before now (is_spared ready.old) seats.old timers.old }
     requires room { vec_len orders.old + ORDERS * length seats.old ≤ vec_capacity orders.old }
-    ensures visits { VisitsTouched touch.entry before now (is_spared ready.old) seats.old seats.new
-        orders.old.items orders.new.items timers.new result.0 result.1 }
+    ensures visits { VisitsTouched (item_for touch.entry) before now (is_spared ready.old)
+        seats.old seats.new orders.old.items orders.new.items timers.new result.0 result.1 }
     ensures unmarked { IsUnmarked ready.old ready.new timers.old timers.new }
     ensures capacity { vec_capacity orders.new ≡ vec_capacity orders.old }
 {
@@ -61,9 +61,9 @@ pub fn visit_at(
     orders: &mut Vec<Order>,
 ) -> (u32, Gone)
     requires inside { place < length seats.old }
-    requires can { CanVisit (Heard place) now now (is_other place) seats.old timers.old }
+    requires can { CanVisit nothing_for now now (is_other place) seats.old timers.old }
     requires room { vec_len orders.old + ORDERS ≤ vec_capacity orders.old }
-    ensures visits { VisitsTouched (Heard place) now now (is_other place) seats.old seats.new
+    ensures visits { VisitsTouched nothing_for now now (is_other place) seats.old seats.new
         orders.old.items orders.new.items timers.new result.0 result.1 }
     ensures space { room timers.new ≡ room timers.old }
     ensures capacity { vec_capacity orders.new ≡ vec_capacity orders.old }

@@ -6,7 +6,7 @@ use Rattle.history_model.specs.declared.CivilMinute.{CivilMinute}
 use Rattle.history_model.specs.declared.Reading.{Reading as Moment}
 use Rattle.job_defs.specs.Described.{Described}
 use Rattle.job_table.specs.Marking.{stands_at}
-use Rattle.job_table.specs.Touch.{is_touch_for}
+use Rattle.job_table.specs.Touch.{is_touched}
 use Rattle.job_table.specs.declared.seat.Touch.{Touch}
 use Rattle.job_table.specs.declared.seat.Touch.TheVariants.{Shutdown, Reading}
 use Rattle.job_table.proofs.MinutesLemmas.{exact-marks, have-marks, stands, stood, listed-path}
@@ -15,18 +15,12 @@ use Rattle.job_table.proofs.marks.mark_touched.Goals as goal
 pub mark_of-requires-clause-places : goal.mark_of-requires-clause-places
 mark_of-requires-clause-places c = have-marks c.args.places.now c.args.seats.now c.args.listed.now c.args.ready.now c.requires.placed c.requires.listed c.requires.room
 
-pub returns-in-Heard-clause-touched : goal.returns-in-Heard-clause-touched
-returns-in-Heard-clause-touched c = λ place seat at. ap not (c.requires.empty place) ∙ ap (λ n. not (is_touch_for n seat.def)) (sym c.in-Heard.is)
-
-pub returns-in-Heard-clause-marks : goal.returns-in-Heard-clause-marks
-returns-in-Heard-clause-marks c = λ place at. (let clash : true ≡ false = sym at ∙ c.requires.empty place in absurd (cc clash))
-
 pub returns-in-Sight-clause-touched : goal.returns-in-Sight-clause-touched
 returns-in-Sight-clause-touched c = λ place seat at.
     let path = c.in-Sight.path.now in
     ap not (exact-marks c.args.ready.now c.mark_of.new.ready (stands_at c.args.listed.now c.args.places.now (1 ∷ path)) c.mark_of.ensures c.requires.empty place)
     ∙ ap not (stands c.args.places.now c.args.seats.now c.requires.placed c.args.listed.now c.requires.listed (1 ∷ path) place seat at ∙ listed-path path seat.def)
-    ∙ ap (λ n. not (is_touch_for n seat.def)) (sym c.in-Sight.is)
+    ∙ ap (λ n. not (is_touched n seat.def)) (sym c.in-Sight.is)
 
 pub returns-in-Sight-clause-marks : goal.returns-in-Sight-clause-marks
 returns-in-Sight-clause-marks c = λ place at.
@@ -35,9 +29,9 @@ returns-in-Sight-clause-marks c = λ place at.
     let found = stood c.args.places.now c.args.seats.now c.requires.placed c.args.listed.now c.requires.listed (1 ∷ path) place new in
     slice_get_within c.args.seats.now place found.0 found.1
 
-all-heard : (n : Touch) (d : Described) → (n ≡ Shutdown) ⊎ ((at : Moment) × (minutes : Bor (List CivilMinute)) × (n ≡ Reading at minutes)) → false ≡ not (is_touch_for n d)
-all-heard n d (inl is) = ap (λ m. not (is_touch_for m d)) (sym is)
-all-heard n d (inr read) = ap (λ m. not (is_touch_for m d)) (sym read.2)
+all-heard : (n : Touch) (d : Described) → (n ≡ Shutdown) ⊎ ((at : Moment) × (minutes : Bor (List CivilMinute)) × (n ≡ Reading at minutes)) → false ≡ not (is_touched n d)
+all-heard n d (inl is) = ap (λ m. not (is_touched m d)) (sym is)
+all-heard n d (inr read) = ap (λ m. not (is_touched m d)) (sym read.2)
 
 pub returns-in-Shutdown-clause-touched : goal.returns-in-Shutdown-clause-touched
 returns-in-Shutdown-clause-touched c = λ place seat at.

@@ -4,6 +4,7 @@ use Rattle.std.proofs.lemmas.Bool.Decides.{nat_tests}
 use Rattle.std.specs.Prelude.{is_some, slice_set, []}
 use Rattle.place_set.specs.Places.{Places, Pops, has_place, place_room}
 use Rattle.job_table.specs.Seats.{name}
+use Rattle.job_table.specs.Touch.{item_for}
 use Rattle.job_table.specs.Visiting.{is_spared}
 use Rattle.job_table.specs.declared.seat.Seat.{Seat}
 use Rattle.job_table.proofs.ListLemmas.{set-map}
@@ -96,9 +97,9 @@ loop-number-preserved c =
     let is : e ≡ get_or es number e = ap (get_or es number) c.index-seats-place.is in
     let between : (k : ℕ) → front ≤ k → k < front + (number - front) → is_spared ready0 k ≡ true =
     λ k low high. ap not (sym (inv.behind k low) ∙ popped.least k (omega (arith, high, after))) in
-    let passed : IsWalked c.args.before c.args.now c.args.touch (is_spared ready0) es0 c.args.orders.now.items es number c.loop-number.orders.items c.loop-number.visited =
-    subst (λ k. IsWalked c.args.before c.args.now c.args.touch (is_spared ready0) es0 c.args.orders.now.items es k c.loop-number.orders.items c.loop-number.visited) (omega (arith, after))
-    (skip-to c.args.before c.args.now c.args.touch (is_spared ready0) c.requires.can.now es0 c.args.orders.now.items es (number - front) front c.loop-number.orders.items c.loop-number.visited
+    let passed : IsWalked c.args.before c.args.now (item_for c.args.touch) (is_spared ready0) es0 c.args.orders.now.items es number c.loop-number.orders.items c.loop-number.visited =
+    subst (λ k. IsWalked c.args.before c.args.now (item_for c.args.touch) (is_spared ready0) es0 c.args.orders.now.items es k c.loop-number.orders.items c.loop-number.visited) (omega (arith, after))
+    (skip-to c.args.before c.args.now (item_for c.args.touch) (is_spared ready0) c.requires.can.brings es0 c.args.orders.now.items es (number - front) front c.loop-number.orders.items c.loop-number.visited
     c.requires.can.stay (omega (arith, within, after)) between inv.walked) in
     let counts : c.if-not-seat.visited ≡ cond new.has_gone c.loop-number.visited (suc c.loop-number.visited) = elim c.if-not-seat.branch [
       | then-not-seat w ↦ w.visited-is ∙ add-one c.loop-number.visited ∙ ap (λ b. cond b c.loop-number.visited (suc c.loop-number.visited)) (sym w.if-not-seat.true)
@@ -123,8 +124,8 @@ loop-number-preserved c =
         | then-not-seat w ↦ subst (λ g. StayBut g (slice_set es number new)) (sym w.gone-is) (stayed-more c.loop-number.gone number es new inv.stays w.if-not-seat.true)
         | else-not-seat w ↦ subst (λ g. StayBut g (slice_set es number new)) (sym (w.gone-is ∙ w.and-gone.ensures)) (went-more c.loop-number.gone number es new inv.stays)
       ];
-      walked = subst (λ k. IsWalked c.args.before c.args.now c.args.touch (is_spared ready0) es0 c.args.orders.now.items (slice_set es number new) k c.visit.new.orders.items c.if-not-seat.visited) (sym (add-one number))
-          (visit-one c.args.before c.args.now c.args.touch (is_spared ready0) c.requires.can.now es0 c.args.orders.now.items es number e new c.loop-number.orders.items c.visit.new.orders.items c.loop-number.visited c.if-not-seat.visited
+      walked = subst (λ k. IsWalked c.args.before c.args.now (item_for c.args.touch) (is_spared ready0) es0 c.args.orders.now.items (slice_set es number new) k c.visit.new.orders.items c.if-not-seat.visited) (sym (add-one number))
+          (visit-one c.args.before c.args.now (item_for c.args.touch) (is_spared ready0) c.requires.can.brings es0 c.args.orders.now.items es number e new c.loop-number.orders.items c.visit.new.orders.items c.loop-number.visited c.if-not-seat.visited
           c.requires.can.stay within inside is (ap not here.1) c.visit.ensures.visit c.visit.ensures.decided counts passed);
     }
 
@@ -137,7 +138,7 @@ pub returns-clause-visits : goal.returns-clause-visits
 returns-clause-visits c =
     let inv = c.loop-number.invariant in
     let rest = none-marked c.loop-number.ready c.args.ready.now c.loop-number.front inv.behind c.in_default.ensures.1 in
-    let whole = walk-over c.args.before c.args.now c.args.touch (is_spared c.args.ready.now) c.requires.can.now c.args.seats.now c.args.orders.now.items c.loop-number.seats c.loop-number.front c.loop-number.orders.items c.loop-number.visited
+    let whole = walk-over c.args.before c.args.now (item_for c.args.touch) (is_spared c.args.ready.now) c.requires.can.brings c.args.seats.now c.args.orders.now.items c.loop-number.seats c.loop-number.front c.loop-number.orders.items c.loop-number.visited
     c.requires.can.stay (omega arith) inv.front rest inv.walked in
     record {
       kept = whole.kept;

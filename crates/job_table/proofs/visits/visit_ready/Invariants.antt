@@ -8,6 +8,7 @@ use Rattle.job_table.specs.Tables.{Name, is_known}
 use Rattle.job_table.specs.Seats.{is_named, name}
 use Rattle.job_table.specs.Leaving.{StayBut}
 use Rattle.job_table.specs.Index.{AreAlone}
+use Rattle.job_table.specs.Touch.{item_for}
 use Rattle.job_table.specs.Visiting.{is_spared}
 use Rattle.job_table.proofs.MomentsLemmas.{AreTimedTo}
 use Rattle.job_table.proofs.VisitingLemmas.{IsWalked}
@@ -29,7 +30,7 @@ invariant-loop-number l = record {
   marks : place_room l.ready ≡ place_room l.fn.ready;
   space : room l.timers ≡ room l.fn.timers;
   stays : StayBut l.gone l.seats;
-  walked : IsWalked l.before l.now l.touch (is_spared l.fn.ready) l.fn.seats l.fn.orders.items l.seats l.front l.orders.items l.visited;
+  walked : IsWalked l.before l.now (item_for l.touch) (is_spared l.fn.ready) l.fn.seats l.fn.orders.items l.seats l.front l.orders.items l.visited;
 }
 
 abbrev pub decreases-loop-number : goal.decreases-loop-number

@@ -30,10 +30,12 @@ use Rattle.job_table.specs.TableOutcomes.{plain_outcome}
 use Rattle.job_table.specs.Sound.{seen_table, AreFree}
 use Rattle.job_table.specs.Hearing.{AreFor, IsAccepted}
 use Rattle.job_table.specs.Visiting.{is_spared, AreSpared, AreAtRest, AreVisitedOnce}
+use Rattle.job_table.specs.Touch.{item_for}
 use Rattle.job_table.specs.declared.seat.Touch.TheVariants as touch
 use Rattle.job_table.specs.declared.jobs.Jobs.{Jobs}
 use Rattle.job_table.proofs.ListLemmas.{lent-back}
 use Rattle.job_table.proofs.PlacesLemmas.{rows-all}
+use Rattle.job_table.proofs.HearingLemmas.{reading-brings}
 use Rattle.job_table.proofs.KnownNumbersLemmas.{all-named}
 use Rattle.job_table.proofs.HeldNumbersLemmas.{held-names}
 use Rattle.job_table.proofs.OutcomesLemmas.{IsDone, accepted}
@@ -82,7 +84,7 @@ visit_ready-visited-requires-clause-can c =
     record {
       before_in_range = c.requires.sound.in_range;
       in_range = rises.1;
-      now = refl;
+      brings = reading-brings old.reading c.args.at c.args.minutes;
       stay = subst AllStay (sym lent) c.requires.stay;
       few = (let few = c.requires.sound.few in let long = ap length lent in omega (arith, few, long));
       once = subst (λ xs. IsOnce (map name xs)) (sym lent) c.requires.sound.once;
@@ -92,7 +94,7 @@ visit_ready-visited-requires-clause-can c =
           (mark-at old.seats.items c.requires.stay old.reading c.args.at c.args.minutes.now old.index.timers c.mark_due.new.timers old.index.places.items c.mark_due.new.ready c.mark_minutes.new.ready
           indexed.timed indexed.alone indexed.placed m.marked m.reached m.spared m.minute place (not-false (has_place c.mark_minutes.new.ready place) there));
       spared =
-          subst (AreSpared (is_spared c.mark_minutes.new.ready) old.reading (touch.Reading c.args.at c.args.minutes) 0) (sym c.deref_mut.ensures.value)
+          subst (AreSpared (is_spared c.mark_minutes.new.ready) old.reading (item_for (touch.Reading c.args.at c.args.minutes)) 0) (sym c.deref_mut.ensures.value)
           (spared-all old.reading c.args.at c.args.minutes (later old.reading c.args.at c.requires.accepted).0 c.mark_minutes.new.ready 0 old.seats.items
           (λ k e there none. is-spare old.seats.items c.requires.stay old.reading c.args.at c.args.minutes.now old.index.timers c.mark_due.new.timers old.index.places.items c.mark_due.new.ready c.mark_minutes.new.ready
           indexed.timed indexed.alone indexed.placed m.marked m.reached m.spared m.minute k e there (subst (λ p. is_spared c.mark_minutes.new.ready p ≡ true) (omega arith) none)));
@@ -197,16 +199,16 @@ done c s keeps =
     let own : KeepsJobs old.reading (rows es) s.jobs = own-jobs old s keeps in
     let crosses : has_calendars (rows es) ≡ true → c.args.minutes.now ≡ map s.zone (crossed s.reading.wall at.wall) =
     λ some. c.requires.minutes some ∙ (λ i. map (keeps.zone i) (crossed (keeps.reading i).wall at.wall)) in
-    let for : AreFor (touch.Reading at c.args.minutes) item (rows es) s.jobs = readings s.zone s.reading at c.args.minutes (rows es) s.jobs crosses keeps.jobs in
+    let for : AreFor (item_for (touch.Reading at c.args.minutes)) item (rows es) s.jobs = readings s.zone s.reading at c.args.minutes (rows es) s.jobs crosses keeps.jobs in
     let fine : IsAccepted old.reading item =
     readings-fine old.reading at (λ job. calendar_fires s.zone (definition_of job.past).calendar s.reading.wall at.wall) c.requires.accepted in
     let rests : AreAtRest (is_spared ready) 0 (heard item s.jobs) =
     rest-all old.reading at c.args.minutes (later old.reading at c.requires.accepted).0 ready item fine 0 es s.jobs
     (λ k e there none. is-spare es c.requires.stay old.reading at c.args.minutes.now old.index.timers c.mark_due.new.timers old.index.places.items c.mark_due.new.ready ready
     indexed.timed indexed.alone indexed.placed m.marked m.reached m.spared m.minute k e there (subst (λ p. is_spared ready p ≡ true) (omega arith) none))
-    (subst (λ rs. AreFor (touch.Reading at c.args.minutes) item rs s.jobs) (rows-all es c.requires.stay) for) (subst (λ rs. KeepsJobs old.reading rs s.jobs) (rows-all es c.requires.stay) own) keeps.rests in
+    (subst (λ rs. AreFor (item_for (touch.Reading at c.args.minutes)) item rs s.jobs) (rows-all es c.requires.stay) for) (subst (λ rs. KeepsJobs old.reading rs s.jobs) (rows-all es c.requires.stay) own) keeps.rests in
     let lent = c.deref_mut.ensures.value in
-    let for_lent = subst (λ xs. AreFor (touch.Reading at c.args.minutes) item (rows xs) s.jobs) (sym lent) for in
+    let for_lent = subst (λ xs. AreFor (item_for (touch.Reading at c.args.minutes)) item (rows xs) s.jobs) (sym lent) for in
     let own_lent = subst (λ xs. KeepsJobs old.reading (rows xs) s.jobs) (sym lent) own in
     let kept : KeepsJobs at (rows after) (filter_map stays (heard item s.jobs)) = c.visit_ready-visited.ensures.visits.kept s.jobs item for_lent fine rests own_lent in
     let orders : c.visit_ready-visited.new.orders.items ≡ numbered_all (rows es) (heard item s.jobs) =

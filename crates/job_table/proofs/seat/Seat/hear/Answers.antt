@@ -10,9 +10,6 @@ use Rattle.job_table.specs.Touch.{item_for}
 use Rattle.job_table.proofs.HearingLemmas.{heard-as, heard-nothing}
 use Rattle.job_table.proofs.seat.Seat.hear.Goals as goal
 
-pub returns-in-Heard : goal.returns-in-Heard
-returns-in-Heard c = heard-as (ap (λ n. item_for n c.args.self.now.def) (sym c.in-Heard.is)) heard-nothing
-
 pub returns-in-Reading : goal.returns-in-Reading
 returns-in-Reading c =
     let fires = c.fires-fires.ensures.any ∙ ap (λ entries. list_any (λ minute. list_any (λ entry. matches entry minute) entries) c.in-Reading.minutes.now) c.calendar.ensures in
