@@ -6,7 +6,7 @@ set -euo pipefail
 
 cd "$(dirname "$0")/.."
 python3 - "$PWD/completions" "$(realpath -m "${1:-build/jobd}")" "$(realpath -m "${2:-build/jobctl}")" <<'END'
-import os, pty, re, select, shutil, subprocess, sys, tempfile, time
+import contextlib, os, pty, re, select, shutil, subprocess, sys, tempfile, time
 
 FOLDER, JOBD, CONTROL = sys.argv[1:]
 # The labels of the jobs behind each socket.
@@ -106,8 +106,9 @@ def read_until(fd, quiet, most, marker=None):
     return out.decode(errors="replace")
 
 
-def ask(program, words, setup, line, folder, environment):
-    """What the shell shows once TAB is pressed twice behind the line, in a terminal."""
+@contextlib.contextmanager
+def shell(program, words, setup, folder, environment):
+    """A shell in a terminal, which has done what it is told first. Gives its end of the terminal."""
     pid, fd = pty.fork()
     if pid == 0:
         os.chdir(folder)
@@ -116,26 +117,24 @@ def ask(program, words, setup, line, folder, environment):
         os.write(fd, (setup + "; echo set''up\n").encode())
         read_until(fd, 1.0, 60, b"setup\r\n")
         read_until(fd, 0.5, 5)
-        os.write(fd, line.encode() + b"\t\t")
-        return read_until(fd, 2.5, 20)
+        yield fd
     finally:
         os.close(fd)
         os.waitpid(pid, 0)
 
 
-def run_by(program, words, setup, line, folder, environment):
-    """The words that jobctl gets once TAB is pressed behind the line and the line is run, or nothing."""
-    log = f"{folder}/log"
+def ask(line, *started):
+    """What the shell shows once TAB is pressed twice behind the line."""
+    with shell(*started) as fd:
+        os.write(fd, line.encode() + b"\t\t")
+        return read_until(fd, 2.5, 20)
+
+
+def run_by(line, log, *started):
+    """The words that jobctl gets once TAB is pressed behind the line and the line is run, or nothing; and what the shell shows."""
     if os.path.exists(log):
         os.unlink(log)
-    pid, fd = pty.fork()
-    if pid == 0:
-        os.chdir(folder)
-        os.execvpe(program, [program, *words], environment)
-    try:
-        os.write(fd, (setup + "; echo set''up\n").encode())
-        read_until(fd, 1.0, 60, b"setup\r\n")
-        read_until(fd, 0.5, 5)
+    with shell(*started) as fd:
         os.write(fd, line.encode() + b"\t")
         shown = read_until(fd, 1.0, 10)
         os.write(fd, b"\n")
@@ -146,9 +145,6 @@ def run_by(program, words, setup, line, folder, environment):
             return None, shown
         with open(log) as it:
             return it.read().split("\0")[:-1], shown
-    finally:
-        os.close(fd)
-        os.waitpid(pid, 0)
 
 
 # How each shell is started, and what it is told first.
@@ -169,7 +165,7 @@ def shown_by(name, line, folder, environment):
     """What the shell offers behind the line."""
     words, setup = SHELLS[name]
     if name != "fish":
-        return ask(name, words, setup, line, folder, environment)
+        return ask(line, name, words, setup, folder, environment)
     run = subprocess.run(["fish", "-c", f"{setup}; complete -C {line!r}"], cwd=folder, env=environment, capture_output=True, text=True)
     return "\n".join(row.split("\t")[0] for row in run.stdout.splitlines())
 
@@ -234,7 +230,7 @@ def try_shell(name):
                 if word in words:
                     faults.append(f"{name}: {line!r} offers {word}")
         for line, wanted in RUNS:
-            got, shown = run_by(name, *SHELLS[name], line, folder, environment)
+            got, shown = run_by(line, f"{folder}/log", name, *SHELLS[name], folder, environment)
             if got != wanted:
                 faults.append(f"{name}: {line!r} and TAB runs {got}, not {wanted}: {shown!r}")
         for socket, launcher in launchers.items():

@@ -32,12 +32,10 @@ second after TERM (it may be late by half a second):
 --soak plays such clients of both kinds of sockets all together; from the first tenth of the time on the memory grows by 2 MiB at
 most. The status is 1 if something failed.
 """
-import argparse
 import json
 import os
 import random
 import select
-import shlex
 import shutil
 import sys
 import tempfile
@@ -47,9 +45,8 @@ import time
 from crowds import (
     LIST, Beside, Crowd, Deaf, Descriptors, asks, calls, is_held, never_reading, pipelining, resident, settles, silent, vanishing,
 )
-from edge_scenes import Fault, Stage, begin, call, check, connect, descriptors, shell_job, socket_job, wait_for
+from edge_scenes import Fault, Stage, begin, call, check, chosen, connect, descriptors, program_words, shell_job, socket_job, wait_for
 
-HERE = os.path.dirname(os.path.abspath(__file__))
 BAD = {"code": 2, "text": "bad request\n"}
 LONGEST = 262144
 MIB = 1024
@@ -348,26 +345,15 @@ def prepare(stage):
 
 
 def read_words():
-    words = argparse.ArgumentParser(usage="see the head of this script")
+    words = program_words(usage="see the head of this script")
     words.add_argument("--seed", type=int, default=int(time.time()))
-    words.add_argument("--jobd", type=shlex.split, default=[f"{HERE}/../build/jobd"])
-    words.add_argument("--jobctl", type=shlex.split, default=[f"{HERE}/../build/jobctl"])
     words.add_argument("--slack", type=float, default=1.0)
     words.add_argument("--soak", type=float)
-    words.add_argument("trials", nargs="*", metavar="TRIAL")
     given = words.parse_args()
-    for command in (given.jobd, given.jobctl):
-        command[0] = os.path.abspath(command[0])
-    unknown = [name for name in given.trials if name not in [trial.__name__ for trial in TRIALS]]
-    if unknown:
-        words.error(f"no trial {unknown[0]}")
-    return given
-
-
-def trials_of(given):
+    given.trials = chosen(words, given, TRIALS)
     if given.soak:
-        return [soak]
-    return [trial for trial in TRIALS if not given.trials or trial.__name__ in given.trials]
+        given.trials = [soak]
+    return given
 
 
 def play_all(stage):
@@ -375,7 +361,7 @@ def play_all(stage):
     launcher = prepare(stage)
     stage.told, failed = [], 0
     before, memory = descriptors(launcher.pid), resident(launcher.pid)
-    for trial in trials_of(stage.given):
+    for trial in stage.given.trials:
         try:
             line = f"ok {trial.__name__}: {play(stage, launcher, trial)}"
         except Fault as fault:

@@ -18,12 +18,10 @@ these two trials are skipped, and it is said. As root the trial of processes run
 
 Each prints `ok NAME`, `skipped NAME: why` or `FAILED NAME: why`; the last line counts, and the status is 1 if one failed.
 """
-import argparse
 import concurrent.futures
 import json
 import os
 import resource
-import shlex
 import shutil
 import subprocess
 import sys
@@ -33,7 +31,8 @@ sys.dont_write_bytecode = True
 HERE = os.path.dirname(os.path.abspath(__file__))
 sys.path.insert(0, os.path.join(HERE, "..", "crates", "live_check", "data"))
 from edge_scenes import (  # noqa: E402
-    Fault, Stage, adopt_orphans, call, check, comes, connect, end_children, first_free, shell_job, socket_job, text_at, wait_for,
+    Fault, Stage, adopt_orphans, call, check, chosen, comes, connect, end_children, first_free, program_words, shell_job, socket_job,
+    text_at, wait_for,
 )
 
 NOBODY = 65534
@@ -378,25 +377,16 @@ def go_within():
 
 
 def read_words():
-    words = argparse.ArgumentParser(usage="see the head of this script")
-    words.add_argument("--jobd", type=shlex.split, default=[f"{HERE}/../build/jobd"])
-    words.add_argument("--jobctl", type=shlex.split, default=[f"{HERE}/../build/jobctl"])
+    words = program_words(usage="see the head of this script")
     words.add_argument("--at-once", type=int, default=4)
-    words.add_argument("trials", nargs="*", metavar="TRIAL")
     given = words.parse_args()
-    for command in (given.jobd, given.jobctl):
-        command[0] = os.path.abspath(command[0])
-    unknown = [name for name in given.trials if name not in [trial.__name__ for trial in TRIALS]]
-    if unknown:
-        words.error(f"no trial {unknown[0]}")
-    return given
+    return given, chosen(words, given, TRIALS)
 
 
 def main():
-    given = read_words()
+    given, trials = read_words()
     go_within()
     adopt_orphans()
-    trials = [trial for trial in TRIALS if not given.trials or trial.__name__ in given.trials]
     folder, failed = tempfile.mkdtemp(prefix="scarce."), 0
     os.chmod(folder, 0o711)
     try:

@@ -1091,32 +1091,42 @@ def heed_signals():
             signal.signal(number, signal.SIG_DFL)
 
 
-def read_words():
-    words = argparse.ArgumentParser()
+def program_words(**how):
+    """A reader of the words that say over which programs something is played, and what of it."""
+    words = argparse.ArgumentParser(**how)
     words.add_argument("--jobd", type=shlex.split, default=[os.path.join(BUILD, "jobd")])
     words.add_argument("--jobctl", type=shlex.split, default=[os.path.join(BUILD, "jobctl")])
+    words.add_argument("names", nargs="*", metavar="NAME")
+    return words
+
+
+def chosen(words, given, played):
+    """Those of the played functions that the words name; all, if they name none. Each program's path is a whole one from here on."""
+    for command in (given.jobd, given.jobctl):
+        command[0] = os.path.abspath(command[0])
+    unknown = set(given.names) - {it.__name__ for it in played}
+    if unknown:
+        words.error(f"nothing here is named {min(unknown)}")
+    return [it for it in played if not given.names or it.__name__ in given.names]
+
+
+def read_words():
+    words = program_words()
     words.add_argument("--by", metavar="PROGRAM")
     words.add_argument("--at-once", type=int, default=4)
     words.add_argument("--times", action="store_true")
-    words.add_argument("scenes", nargs="*", metavar="SCENE")
     given = words.parse_args()
     if given.by:
         # It was started with words before its own if a loader runs it, as under `rt try`.
         front = [word for word in text_at(f"/proc/{os.getppid()}/cmdline").split("\0")[1:] if word]
         given.jobd, given.jobctl = [given.by, *front, "jobd"], [given.by, *front, "jobctl"]
-    for command in (given.jobd, given.jobctl):
-        command[0] = os.path.abspath(command[0])
-    unknown = [name for name in given.scenes if name not in [scene.__name__ for scene in SCENES]]
-    if unknown:
-        words.error(f"no scene {unknown[0]}")
-    return given
+    return given, chosen(words, given, SCENES)
 
 
 def main():
-    given = read_words()
+    given, scenes = read_words()
     heed_signals()
     adopt_orphans()
-    scenes = [scene for scene in SCENES if not given.scenes or scene.__name__ in given.scenes]
     failed = 0
     folder = tempfile.mkdtemp(prefix="edge.")
     try:
