@@ -65,12 +65,13 @@ struct Stage {
 fn new_stage(rt: &HostRuntime, name: &str) -> Option<Stage> {
     let path = folder_name(rt, name)?;
     let poll = Poll::new(rt).ok()?;
+    let events = Events::with_capacity(rt.alloc(), 8).ok()?;
     let mut socket = ControlSocket::open(rt, rt.alloc(), path.as_str()).ok()?;
     socket.register(poll.registry(), Token(3)).ok()?;
     Some(Stage {
         path,
         poll,
-        events: Events::with_capacity(rt.alloc(), 8).ok()?,
+        events,
         socket,
         echo: Echo {
             asked: Vec::new(rt.alloc()),

@@ -3,7 +3,7 @@
 use crate::calls::{Told, are_answered};
 use child_edge::{EdgeCall, MemoryEdge, Scripted};
 use history_model::{Ended, Obs, Reading};
-use job_defs::read_def;
+use job_defs::{Def, read_def};
 use std::alloc::Global;
 
 /// A script, for how many calls there is room, and the calls with the answers that are expected. The first ones are
@@ -184,17 +184,34 @@ const PAST_THE_ROOM: Case = Case {
     failures: 2,
 };
 
-/// Whether the calls are answered, listed and counted as the case says. None without memory.
-fn passes(alloc: Global, case: &Case) -> Option<bool> {
+/// Two definitions. None without memory.
+fn two_defs(alloc: Global) -> Option<(Def, Def)> {
     let first = read_def(alloc, b"{\"Label\":\"a\",\"Program\":\"/bin/x\"}").ok()?;
     let second = read_def(alloc, b"{\"Label\":\"b\",\"Program\":\"/bin/x\"}").ok()?;
+    Some((first, second))
+}
+
+/// An edge with the case's script. None without memory.
+fn edge_with(alloc: Global, case: &Case) -> Option<MemoryEdge> {
     let mut script = Vec::new(alloc);
     script.extend_from_slice(case.script).ok()?;
-    let mut edge = MemoryEdge::new(alloc, script, case.room).ok()?;
-    let is_answered = are_answered(&mut edge, &(first, second), case.calls);
-    let is_listed = edge.calls() == &case.calls[..case.listed.min(case.calls.len())];
-    let is_counted = edge.failures() == case.failures;
-    Some(is_answered && is_listed && is_counted)
+    MemoryEdge::new(alloc, script, case.room).ok()
+}
+
+/// Whether the calls are answered, listed and counted as the case says.
+fn is_so(edge: &mut MemoryEdge, defs: &(Def, Def), case: &Case) -> bool {
+    if !are_answered(edge, defs, case.calls) {
+        return false;
+    }
+    edge.calls() == &case.calls[..case.listed.min(case.calls.len())]
+        && edge.failures() == case.failures
+}
+
+/// The same, over an edge and definitions of its own. None without memory.
+fn passes(alloc: Global, case: &Case) -> Option<bool> {
+    let defs = two_defs(alloc)?;
+    let mut edge = edge_with(alloc, case)?;
+    Some(is_so(&mut edge, &defs, case))
 }
 
 static CASES: &[Case] = &[EACH_KIND, EACH_FAULT, ANOTHER_KIND, ENDED, PAST_THE_ROOM];

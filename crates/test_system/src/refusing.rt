@@ -299,25 +299,38 @@ fn edge_over(system: Refusing, folder: &str) -> Option<OsEdge<Refusing>> {
     OsEdge::new(system, alloc, spool).ok()
 }
 
-/// Whether the calls are answered, counted and told as the case says. None without memory.
-fn passes(alloc: Global, case: &Case) -> Option<bool> {
+/// A plain definition, and another one. None without memory.
+fn two_defs(alloc: Global, other: &str) -> Option<(Def, Def)> {
     let plain = read_def(alloc, PLAIN.as_bytes()).ok()?;
-    let other = if case.pid.is_none() { FILED } else { PLAIN };
     let other = read_def(alloc, other.as_bytes()).ok()?;
+    Some((plain, other))
+}
+
+/// Whether the calls are answered, counted and told as the case says.
+fn is_so(edge: &mut OsEdge<Refusing>, defs: &(Def, Def), case: &Case) -> bool {
+    if !are_answered(edge, defs, case.calls) {
+        return false;
+    }
+    if edge.failures() != case.failures {
+        return false;
+    }
+    match case.told {
+        Some(lines) => tells(edge, lines),
+        None => true,
+    }
+}
+
+/// The same, over an edge and definitions of its own. None without memory.
+fn passes(alloc: Global, case: &Case) -> Option<bool> {
     let system = Refusing {
         alloc,
         kind: case.kind,
         pid: case.pid,
         host: None,
     };
+    let defs = two_defs(alloc, if case.pid.is_none() { FILED } else { PLAIN })?;
     let mut edge = edge_over(system, "/none")?;
-    let is_answered = are_answered(&mut edge, &(plain, other), case.calls);
-    let is_counted = edge.failures() == case.failures;
-    let is_told = match case.told {
-        Some(lines) => tells(&mut edge, lines),
-        None => true,
-    };
-    Some(is_answered && is_counted && is_told)
+    Some(is_so(&mut edge, &defs, case))
 }
 
 const STILL: &str = "a: a client was let go: it took nothing of its reply for a minute";
@@ -325,8 +338,6 @@ const STILL: &str = "a: a client was let go: it took nothing of its reply for a 
 /// An edge with the host's files and a fast clock, which has the sockets of job 0, and a client of it under number 1. The client's far
 /// end stays open.
 fn held(rt: &HostRuntime, folder: &str, def: &Def) -> Option<OsEdge<Refusing>> {
-    let (near, far) = UnixStream::pair(rt).ok()?;
-    mem::forget(far);
     let system = Refusing {
         alloc: rt.alloc(),
         kind: ErrorKind::PermissionDenied,
@@ -334,40 +345,59 @@ fn held(rt: &HostRuntime, folder: &str, def: &Def) -> Option<OsEdge<Refusing>> {
         host: rt.clone().ok(),
     };
     let mut edge = edge_over(system, folder)?;
-    edge.bind(0, def).ok()?;
-    let exchange = Exchange::new(rt.alloc()).ok()?;
-    edge.take(0, 1, Client::Unix(near), exchange).ok()?;
+    take_client(rt, &mut edge, def)?;
     Some(edge)
+}
+
+/// Has the edge make the sockets of job 0, and take a client of it under number 1.
+fn take_client(rt: &HostRuntime, edge: &mut OsEdge<Refusing>, def: &Def) -> Option<()> {
+    edge.bind(0, def).ok()?;
+    let (near, far) = UnixStream::pair(rt).ok()?;
+    mem::forget(far);
+    let exchange = Exchange::new(rt.alloc()).ok()?;
+    edge.take(0, 1, Client::Unix(near), exchange).ok()
 }
 
 /// Whether it is told in five seconds that a client which takes nothing of a long reply is let go, after a minute of the edge's clock, with
 /// both files.
 fn lets_go_one_who_takes_nothing(rt: &HostRuntime) -> Option<bool> {
     let folder = folder_name(rt, "minute")?;
-    let port = free_port(rt)?;
+    let def = def_at(rt, free_port(rt)?)?;
+    fs::create_dir(rt, folder.as_str()).ok()?;
+    let mut edge = held(rt, folder.as_str(), &def)?;
+    let is_told = lengthen_reply(rt, folder.as_str()).is_some() && is_told_still(rt, &mut edge);
+    let is_empty = fs::remove_dir(rt, folder.as_str()).is_ok();
+    Some(is_told && is_empty)
+}
+
+/// A definition with a socket at this port.
+fn def_at(rt: &HostRuntime, port: u16) -> Option<Def> {
     let text = format!(in rt.alloc();
         "{{\"Label\":\"a\",\"Program\":\"/bin/x\",\"inetdCompatibility\":{{\"Wait\":false}},\"Sockets\":{{\"s\":{{\"SockNodeName\":\"localhost\",\"SockServiceName\":{port}}}}}}}"
     ).ok()?;
+    read_def(rt.alloc(), text.as_bytes()).ok()
+}
+
+/// Makes the file of the first reply 400,000 bytes long.
+fn lengthen_reply(rt: &HostRuntime, folder: &str) -> Option<()> {
     let reply = format!(in rt.alloc(); "{folder}/0-1.reply").ok()?;
-    let def = read_def(rt.alloc(), text.as_bytes()).ok()?;
-    fs::create_dir(rt, folder.as_str()).ok()?;
-    let mut edge = held(rt, folder.as_str(), &def)?;
     let file = OpenOptions::new()
         .write(true)
         .open(rt, reply.as_str())
         .ok()?;
-    file.set_len(400_000).ok()?;
-    let mut is_told = false;
+    file.set_len(400_000).ok()
+}
+
+/// Whether it is told within five seconds.
+fn is_told_still(rt: &HostRuntime, edge: &mut OsEdge<Refusing>) -> bool {
     for _ in 0..500u32 {
         edge.forward();
         if let Some(told) = edge.next_notice() {
-            is_told = told.text.as_str() == STILL;
-            break;
+            return told.text.as_str() == STILL;
         }
         pause(rt);
     }
-    let is_empty = fs::remove_dir(rt, folder.as_str()).is_ok();
-    Some(is_told && is_empty)
+    false
 }
 
 #[test]

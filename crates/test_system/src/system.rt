@@ -243,19 +243,32 @@ fn job_of(rt: &HostRuntime, folder: &str, port: u16, script: &str) -> Option<Def
 fn new_stage(rt: &HostRuntime, case: &Case) -> Option<Stage> {
     let port = free_port(rt)?;
     let folder = folder_name(rt, case.name)?;
-    let spool = folder_name(rt, case.name)?;
-    let first = job_of(rt, folder.as_str(), port, case.scripts[0])?;
-    let second = job_of(rt, folder.as_str(), port, case.scripts[1])?;
     fs::create_dir(rt, folder.as_str()).ok()?;
+    let poll = Poll::new(rt).ok()?;
+    let events = Events::with_capacity(rt.alloc(), 8).ok()?;
+    let defs = jobs_of(rt, folder.as_str(), port, case)?;
+    let edge = edge_at(rt, folder_name(rt, case.name)?)?;
     Some(Stage {
         folder,
         port,
-        defs: (first, second),
-        edge: OsEdge::new(rt.clone().ok()?, rt.alloc(), spool).ok()?,
-        poll: Poll::new(rt).ok()?,
-        events: Events::with_capacity(rt.alloc(), 8).ok()?,
+        defs,
+        edge,
+        poll,
+        events,
         bind: None,
     })
+}
+
+/// The case's two jobs.
+fn jobs_of(rt: &HostRuntime, folder: &str, port: u16, case: &Case) -> Option<(Def, Def)> {
+    let first = job_of(rt, folder, port, case.scripts[0])?;
+    let second = job_of(rt, folder, port, case.scripts[1])?;
+    Some((first, second))
+}
+
+/// An edge that spools in the folder.
+fn edge_at(rt: &HostRuntime, spool: String) -> Option<OsEdge<HostRuntime>> {
+    OsEdge::new(rt.clone().ok()?, rt.alloc(), spool).ok()
 }
 
 /// Whether the step is as it says. A step that waits is asked again while it is not.
