@@ -18,6 +18,7 @@ these two trials are skipped, and it is said. As root the trial of processes run
 
 Each prints `ok NAME`, `skipped NAME: why` or `FAILED NAME: why`; the last line counts, and the status is 1 if one failed.
 """
+import argparse
 import concurrent.futures
 import json
 import os
