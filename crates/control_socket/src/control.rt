@@ -39,6 +39,8 @@ pub struct ControlSocket {
     clients: Slab<Client>,
     room: Vec<u8>,
     notices: Notices,
+    // A descriptor that is kept for an accept which finds none free. None, as long as the system gives none.
+    spare: Option<File>,
     // As many rounds there were, and the `up` of the last.
     rounds: u64,
     up: u64,
@@ -90,6 +92,7 @@ impl ControlSocket {
             clients,
             room,
             notices: Notices::new(),
+            spare: spare_descriptor(rt),
             rounds: 0,
             up: 0,
             first: 0,
@@ -182,33 +185,77 @@ impl ControlSocket {
     /// least. If there is none of these too, the new client waits until a `serve` has looked at every client; if that one was
     /// the last, it gets the reply `too many clients` of code 2, and is closed.
     ///
-    /// Where the system refuses an accept, a descriptor may be missing: the longest silent client is let go, and the accept is
-    /// tried again, once. What is refused then is left for the next call.
-    pub fn accept(&mut self, registry: &Registry) {
-        let mut is_short = false;
+    /// Without a free descriptor the system refuses an accept also if nobody waits. So, if a client is silent, the accept is tried once
+    /// more by the descriptor that is kept for this. If somebody waits, the refusal is told, and the longest silent client is let go
+    /// if there is no other way to have that descriptor again; if nobody waits, nobody is let go and nothing is told. While the
+    /// system gives no descriptor to keep, the longest silent client is let go before the second try. What is refused then, or if no
+    /// client is silent, is told, and left for the next call.
+    pub fn accept<R: Files<File = File>>(&mut self, rt: &R, registry: &Registry) {
+        self.keep_spare(rt);
         let mut is_well = false;
+        let mut is_short = false;
+        let mut untold = None;
         for _ in 0..2 * CLIENTS {
             let place = self.place();
             if matches!(place, Place::Unknown) {
-                return;
+                break;
             }
             match self.listener.accept() {
-                Ok((stream, _)) => is_well = self.welcome(registry, stream, place) && !is_short,
+                Ok((stream, _)) => {
+                    if let Some(error) = untold.take() {
+                        self.give_way(rt, error);
+                    }
+                    is_well = self.welcome(registry, stream, place) && !is_short;
+                }
                 Err(error) if error.kind() == ErrorKind::Interrupted => {}
                 Err(error) if error.kind() == ErrorKind::WouldBlock => {
                     if is_well {
                         self.notices.accepted();
                     }
-                    return;
+                    break;
                 }
                 Err(error) => {
-                    self.notices.accept_refused(error);
-                    if is_short || !self.let_silent_go() {
-                        return;
+                    if is_short || !self.free_descriptor() {
+                        self.notices.accept_refused(error);
+                        break;
                     }
                     is_short = true;
                     is_well = false;
+                    untold = Some(error);
                 }
+            }
+        }
+        self.keep_spare(rt);
+    }
+
+    // Whether there is a spare descriptor now.
+    fn keep_spare<R: Files<File = File>>(&mut self, rt: &R) -> bool {
+        if self.spare.is_none() {
+            self.spare = spare_descriptor(rt);
+        }
+        self.spare.is_some()
+    }
+
+    // Frees a descriptor for one more accept: the spare one, or that of the longest silent client. False: no client is silent, so
+    // none could give way to the one that comes.
+    fn free_descriptor(&mut self) -> bool {
+        match self.longest_silent() {
+            None => false,
+            Some(key) => {
+                if self.spare.take().is_none() {
+                    let _gone = self.clients.try_remove(key);
+                }
+                true
+            }
+        }
+    }
+
+    // Somebody waited where an accept was refused with this error.
+    fn give_way<R: Files<File = File>>(&mut self, rt: &R, error: Error) {
+        self.notices.accept_refused(error);
+        if !self.keep_spare(rt) {
+            if let Some(key) = self.longest_silent() {
+                let _gone = self.clients.try_remove(key);
             }
         }
     }
@@ -237,17 +284,6 @@ impl ControlSocket {
                 self.notices.accept_refused(error);
                 false
             }
-        }
-    }
-
-    // False: no client is silent.
-    fn let_silent_go(&mut self) -> bool {
-        match self.longest_silent() {
-            Some(key) => {
-                let _gone = self.clients.try_remove(key);
-                true
-            }
-            None => false,
         }
     }
 
@@ -340,6 +376,11 @@ fn lock_beside<R: Files<File = File>>(rt: &R, alloc: Global, path: &str) -> io::
             _ => error,
         }),
     }
+}
+
+// The null device is opened for its descriptor alone. None: the system gives none.
+fn spare_descriptor<R: Files<File = File>>(rt: &R) -> Option<File> {
+    File::open(rt, "/dev/null").ok()
 }
 
 fn zeros(alloc: Global) -> io::Result<Vec<u8>> {

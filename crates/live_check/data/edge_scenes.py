@@ -683,7 +683,8 @@ def silent_clients_of_the_control_socket(stage):
 
 
 def no_descriptor_left(stage):
-    """No descriptor is left: a silent client of the control socket gives way to the next one, and the refusal is told once."""
+    """No descriptor is left: nobody is let go as long as nobody waits. A silent client of the control socket gives way to the next one,
+    and the refusal is told once."""
     launcher = stage.serve()
     told = "jobd: control socket: cannot accept: Too many open files (os error 24)"
     before, limits = descriptors(launcher.pid), resource.prlimit(launcher.pid, resource.RLIMIT_NOFILE)
@@ -691,6 +692,12 @@ def no_descriptor_left(stage):
         silent = [connect(launcher.path) for _ in range(8)]
         wait_for(lambda: descriptors(launcher.pid) == before + 8, "8 clients are not held")
         resource.prlimit(launcher.pid, resource.RLIMIT_NOFILE, (first_free(launcher.pid), limits[1]))
+        for _ in range(3):
+            # A few rounds, in which all are silent.
+            time.sleep(0.2)
+            for client in silent:
+                check(launcher.ask_over(client, {"req": "list"})["code"] == 0, "with no descriptor left list is refused")
+        check(launcher.lines("") == [told] * (times - 1), f"nobody waited, and it said {launcher.said()!r}")
         with connect(launcher.path) as client:
             for _ in range(3):
                 check(launcher.ask_over(client, {"req": "list"})["code"] == 0, "with no descriptor left list is refused")

@@ -150,7 +150,7 @@ fn serve_control<R: System, T: SettingStore, W: Write>(
     alloc: Global,
     live: &mut Live<R, T, W>,
 ) -> bool {
-    live.control.accept(live.poll.registry());
+    live.control.accept(rt, live.poll.registry());
     let mut time = RoundTime::begin(rt, live.inputs.at().up);
     live.control.serve(alloc, &mut live.inputs, &mut time)
 }

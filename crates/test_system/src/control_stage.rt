@@ -113,10 +113,10 @@ impl Stage {
             Step::HearsLast(number, text) => self.hears(rt.alloc(), number, Some(text), true),
             Step::IsLetGo(number) => self.hears(rt.alloc(), number, None, true),
             Step::Rounds(count) => {
-                let _is_busy = self.rounds(rt.alloc(), count);
+                let _is_busy = self.rounds(rt, count);
                 true
             }
-            Step::Busy(is_busy) => self.rounds(rt.alloc(), 1) == is_busy,
+            Step::Busy(is_busy) => self.rounds(rt, 1) == is_busy,
             _ => self.play_plain(step),
         }
     }
@@ -159,11 +159,11 @@ impl Stage {
     }
 
     // Rounds of a loop: whether a client may go on at once after the last.
-    fn rounds(&mut self, alloc: Global, count: usize) -> bool {
+    fn rounds(&mut self, rt: &HostRuntime, count: usize) -> bool {
         let mut is_busy = false;
         for _ in 0..count {
-            is_busy = self.socket.serve(alloc, &mut self.echo, &mut self.budget);
-            self.socket.accept(self.poll.registry());
+            is_busy = self.socket.serve(rt.alloc(), &mut self.echo, &mut self.budget);
+            self.socket.accept(rt, self.poll.registry());
         }
         is_busy
     }
