@@ -185,11 +185,10 @@ impl ControlSocket {
     /// least. If there is none of these too, the new client waits until a `serve` has looked at every client; if that one was
     /// the last, it gets the reply `too many clients` of code 2, and is closed.
     ///
-    /// Without a free descriptor the system refuses an accept also if nobody waits. So, if a client is silent, the accept is tried once
-    /// more by the descriptor that is kept for this. If somebody waits, the refusal is told, and the longest silent client is let go
-    /// if there is no other way to have that descriptor again; if nobody waits, nobody is let go and nothing is told. While the
-    /// system gives no descriptor to keep, the longest silent client is let go before the second try. What is refused then, or if no
-    /// client is silent, is told, and left for the next call.
+    /// Without a free descriptor the system refuses an accept also if nobody waits. So it is tried once more by the descriptor that is
+    /// kept for this. If nobody waits, that is kept again, nobody is let go, and nothing is told. If somebody waits, the refusal is
+    /// told, and the longest silent client is let go if there is no other way to keep a descriptor again. If no client is silent, the
+    /// one that becomes silent first is let go for it, unless a descriptor gets free before; until then who comes has to wait.
     pub fn accept<R: Files<File = File>>(&mut self, rt: &R, registry: &Registry) {
         self.keep_spare(rt);
         let mut is_well = false;
@@ -236,27 +235,28 @@ impl ControlSocket {
         self.spare.is_some()
     }
 
-    // Frees a descriptor for one more accept: the spare one, or that of the longest silent client. False: no client is silent, so
-    // none could give way to the one that comes.
+    // Frees a descriptor for one more accept: the spare one, or if a client has it, that of the longest silent one. False: no client is
+    // silent.
     fn free_descriptor(&mut self) -> bool {
-        match self.longest_silent() {
-            None => false,
-            Some(key) => {
-                if self.spare.take().is_none() {
-                    let _gone = self.clients.try_remove(key);
-                }
-                true
-            }
-        }
+        self.spare.take().is_some() || self.let_silent_go()
     }
 
     // Somebody waited where an accept was refused with this error.
     fn give_way<R: Files<File = File>>(&mut self, rt: &R, error: Error) {
         self.notices.accept_refused(error);
         if !self.keep_spare(rt) {
-            if let Some(key) = self.longest_silent() {
+            self.let_silent_go();
+        }
+    }
+
+    // False: no client is silent.
+    fn let_silent_go(&mut self) -> bool {
+        match self.longest_silent() {
+            Some(key) => {
                 let _gone = self.clients.try_remove(key);
+                true
             }
+            None => false,
         }
     }
 
