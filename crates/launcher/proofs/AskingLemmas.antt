@@ -10,7 +10,7 @@ use Rattle.history_model.specs.Labels.{Label}
 use Rattle.history_model.specs.Machine.{State, Event, ListJobs, PrintJob}
 use Rattle.history_model.specs.Acceptance.{refusal_in}
 use Rattle.history_model.specs.Step.{Outcome, outcome, step, step_by}
-use Rattle.job_table.specs.Tables.{Table}
+use Rattle.job_table.specs.Tables.{Name, Table}
 use Rattle.job_table.specs.StandsFor.{KeepsState}
 use Rattle.job_table.specs.Loads.{load_of_bytes, refused_with}
 use Rattle.job_table.specs.SettingChanges.{set_of}
@@ -28,7 +28,7 @@ use Rattle.launcher.proofs.NumbersLemmas.{same-numbers}
 use Rattle.launcher.specs.JournaledLines.{journaled_set}
 use Rattle.launcher.specs.LoadTurns.{LoadTurnOf, SetTurnOf, IsUntouched, Standing, is_memory, load_request, set_request, settings_after, standing}
 use Rattle.launcher.proofs.LoadTurnsLemmas.{nothing_done}
-use Rattle.launcher.specs.Hosts.{HostTurnOf, IsSpared, Hears}
+use Rattle.launcher.specs.Hosts.{HostTurnOf, IsOwn, IsSpared, Hears}
 use Rattle.launcher.proofs.HostsLemmas.{hears, wordless, settled, unsettled}
 use Rattle.child_edge.specs.Calls.{ToldCall}
 use Rattle.child_edge.proofs.CallsLemmas.{tells_nothing}
@@ -66,6 +66,11 @@ loaded bytes writes_setting force outside refusal words old new before after unt
       stored = λ holds. settled after refusal s (load_of_bytes bytes writes_setting force outside.bind outside.store) other (stored s keeps holds);
     })
 
+-- a setting asks for no job
+own_none : (label : Label) (disabled unload store : Bool) (names : List Name) → IsOwn (journaled_set label disabled unload store) names 0
+own_none label disabled true store names = tt
+own_none label disabled false store names = tt
+
 -- a turn of a setting, under each of its names
 set_turn : (s : State) (label : Label) (disabled unload kept : Bool) (refusal : Option Refusal) (old new : Standing) (before after : List Setting → Type 0) →
     SetTurnOf s (set_request label disabled unload) kept refusal old new →
@@ -76,7 +81,7 @@ set_turn s label true true kept refusal old new before after turn stored = recor
   mid = old.calls;
   asks = (refl, refl, turn.asks);
   turn = turn.turn;
-  own = λ none. tt;
+  own = λ none. own_none label true true true turn.turn.names;
   numbers = turn.numbers;
   stays = turn.stays;
   text = λ none. wordless s (set_of label true true kept) (λ t. refl) (turn.turn.replies ∙ none);
@@ -88,7 +93,7 @@ set_turn s label false true kept refusal old new before after turn stored = reco
   mid = old.calls;
   asks = (refl, refl, turn.asks);
   turn = turn.turn;
-  own = λ none. tt;
+  own = λ none. own_none label false true true turn.turn.names;
   numbers = turn.numbers;
   stays = turn.stays;
   text = λ none. wordless s (set_of label false true kept) (λ t. refl) (turn.turn.replies ∙ none);
@@ -100,7 +105,7 @@ set_turn s label disabled false kept refusal old new before after turn stored = 
   mid = old.calls;
   asks = (refl, refl, turn.asks);
   turn = turn.turn;
-  own = λ none. tt;
+  own = λ none. own_none label disabled false true turn.turn.names;
   numbers = turn.numbers;
   stays = turn.stays;
   text = λ none. wordless s (set_of label disabled false kept) (λ t. refl) (turn.turn.replies ∙ none);
