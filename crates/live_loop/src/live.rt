@@ -53,9 +53,10 @@ pub struct Live<R: System, T: SettingStore, W: Write> {
     pub(crate) ended_at: Option<u64>,
 }
 
-/// The rooms of the rounds.
+/// What the rounds wait on, and their rooms.
 #[derive(Drop)]
 struct Rooms {
+    poll: Poll,
     events: Events,
     sights: Sights,
     sockets: JobSockets,
@@ -63,13 +64,14 @@ struct Rooms {
     voice: Voice,
 }
 
-fn make_rooms(net: &impl Net, alloc: Global) -> Result<Rooms, AllocError> {
+fn rooms_beside(net: &impl Net, alloc: Global, poll: Poll) -> Result<Rooms, AllocError> {
     let events = Events::with_capacity(alloc, EVENTS)?;
     let sights = Sights::new(alloc)?;
     let sockets = JobSockets::new(alloc)?;
     let label = LabelRoom::new(alloc)?;
     let voice = Voice::new(net, alloc)?;
     Ok(Rooms {
+        poll,
         events,
         sights,
         sockets,
@@ -78,14 +80,21 @@ fn make_rooms(net: &impl Net, alloc: Global) -> Result<Rooms, AllocError> {
     })
 }
 
-// A poll that the control socket wakes.
-fn polled<R: System>(rt: &R, control: &mut ControlSocket) -> Result<Poll, ServeFault> {
+// A poll that the control socket wakes, and the rooms.
+fn make_rooms<R: System>(
+    rt: &R,
+    alloc: Global,
+    control: &mut ControlSocket,
+) -> Result<Rooms, ServeFault> {
     let Ok(poll) = Poll::new(rt) else {
         return Err(ServeFault::Poll);
     };
-    match control.register(poll.registry(), CONTROL) {
-        Ok(()) => Ok(poll),
-        Err(_) => Err(ServeFault::Poll),
+    if control.register(poll.registry(), CONTROL).is_err() {
+        return Err(ServeFault::Poll);
+    }
+    match rooms_beside(rt, alloc, poll) {
+        Ok(rooms) => Ok(rooms),
+        Err(_) => Err(ServeFault::NoMemory),
     }
 }
 
@@ -100,34 +109,43 @@ impl<R: System, T: SettingStore + Drop, W: Write + Drop> Live<R, T, W> {
         control: ControlSocket,
     ) -> Result<Live<R, T, W>, ServeFault> {
         let mut control = control;
-        let poll = polled(rt, &mut control)?;
-        let Ok(rooms) = make_rooms(rt, alloc) else {
-            return Err(ServeFault::NoMemory);
-        };
-        let Rooms {
-            events,
-            sights,
-            sockets,
-            label,
-            voice,
-        } = rooms;
-        Ok(Live {
-            inputs: RoundLauncher::new(host),
-            control,
-            poll,
-            events,
-            sights,
-            sockets,
-            label,
-            voice,
-            untold: None,
-            has_journal_closed: false,
-            pause: SHORTEST,
-            quick: 0,
-            next_child: 0,
-            is_busy: false,
-            ended_at: None,
-        })
+        // One way out alone lets the launcher go: each costs the proof much.
+        match make_rooms(rt, alloc, &mut control) {
+            Ok(rooms) => Ok(live_in(host, control, rooms)),
+            Err(fault) => Err(fault),
+        }
+    }
+}
+
+fn live_in<R: System, T: SettingStore, W: Write>(
+    host: Host<T, OsEdge<R>, W>,
+    control: ControlSocket,
+    rooms: Rooms,
+) -> Live<R, T, W> {
+    let Rooms {
+        poll,
+        events,
+        sights,
+        sockets,
+        label,
+        voice,
+    } = rooms;
+    Live {
+        inputs: RoundLauncher::new(host),
+        control,
+        poll,
+        events,
+        sights,
+        sockets,
+        label,
+        voice,
+        untold: None,
+        has_journal_closed: false,
+        pause: SHORTEST,
+        quick: 0,
+        next_child: 0,
+        is_busy: false,
+        ended_at: None,
     }
 }
 
