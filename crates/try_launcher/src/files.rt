@@ -126,18 +126,21 @@ pub fn old_files(alloc: Global) -> Option<Files<Memory>> {
     ran(connected(alloc, new_files(alloc), 3)?, FIRST_VERSION)
 }
 
-#[test]
-fn settings_last_over_closed_files(rt: HostRuntime) {
-    let alloc = rt.alloc();
-    assert!(rt; passes(alloc, new_files(alloc), NEW));
-}
-
-#[test]
-fn the_first_versions_files_are_moved_once(rt: HostRuntime) {
-    let alloc = rt.alloc();
-    let is_moved = match old_files(alloc) {
+/// Whether the rounds pass over files of the first version.
+fn old_pass(alloc: Global) -> bool {
+    match old_files(alloc) {
         Some(files) => passes(alloc, files, OLD),
         None => false,
-    };
-    assert!(rt; is_moved);
+    }
+}
+
+/// Shows whether settings last over closed files.
+pub fn try_all(rt: &impl Print, alloc: Global) -> anyhow::Result<()> {
+    let do_last = passes(alloc, new_files(alloc), NEW);
+    crate::show(rt, "settings_last_over_closed_files", do_last)?;
+    crate::show(
+        rt,
+        "the_first_versions_files_are_moved_once",
+        old_pass(alloc),
+    )
 }
