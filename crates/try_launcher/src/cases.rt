@@ -83,7 +83,8 @@ fn store_of<S: Alter + Drop>(
     if is_made && is_set { Some(store) } else { None }
 }
 
-fn set_all<S: Alter>(store: &mut OverrideStore<S>, rows: &[Row<'_>]) -> bool {
+/// Whether the store makes all of these settings.
+pub fn set_all<S: Alter>(store: &mut OverrideStore<S>, rows: &[Row<'_>]) -> bool {
     let mut is_set = true;
     for row in rows {
         is_set = sets(store, *row) && is_set;

@@ -2,12 +2,13 @@
 //! replies, calls and lines are read off the rules of launchctl(1) and launchd.plist(5) and the line protocol, and off no run
 //! of this code.
 
+use crate::staged::parts_of;
 use crate::turning::{LIST, LOAD, LOAD_LISTENING};
 use child_edge::{EdgeCall, MemoryEdge, Scripted};
-use history_model::{Ended, JobNo, Reading, Refusal, Setting, Text};
+use history_model::{Ended, JobNo, Reading, Refusal};
 use job_table::JobTable;
 use launcher::Input;
-use memory_stage::{MemoryStore, Sink, Stage, edge, header, opened, store};
+use memory_stage::{MemoryStore, Sink, Stage, opened};
 use std::alloc::Global;
 
 /// What the launcher is told, the code and the text of its reply, and how many calls were then made in all.
@@ -375,33 +376,10 @@ static CASES: &[Case] = &[
     },
 ];
 
-fn setting(alloc: Global, name: &str) -> Result<Setting, Refusal> {
-    match Text::copy_of(alloc, name) {
-        Ok(label) => Ok(Setting {
-            label,
-            disabled: true,
-        }),
-        Err(_) => Err(Refusal::NoMemory),
-    }
-}
-
-/// A setting for each of these names, in their order: it is disabled.
-pub fn disabled(alloc: Global, names: &[&str]) -> Result<Vec<Setting>, Refusal> {
-    let mut held = Vec::new(alloc);
-    for name in names {
-        if held.push(setting(alloc, name)?).is_err() {
-            return Err(Refusal::NoMemory);
-        }
-    }
-    Ok(held)
-}
-
 /// The launcher of the case.
 fn launched(alloc: Global, case: &Case) -> Result<Stage, Refusal> {
-    let held = disabled(alloc, case.held)?;
-    let header = header(alloc, "UTC0", 0)?;
-    let edge = edge(alloc, case.calls)?;
-    let store = store(alloc, held, case.answer);
+    let (header, mut store, edge) = parts_of(alloc, "UTC0", 0, case.held, case.calls)?;
+    store.answer = case.answer;
     match opened(alloc, header, store, edge, case.writes) {
         Ok(stage) => Ok(stage),
         Err(_) => Err(Refusal::NoMemory),

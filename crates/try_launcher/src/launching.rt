@@ -1,11 +1,8 @@
 //! A launcher that is made where memory is short.
 
-use crate::launchers::disabled;
-use crate::staged::{Launched, Launching, Parts, asked};
+use crate::staged::{Launched, Launching, Parts, asked, parts_of};
 use crate::turning::LOAD;
-use history_model::Refusal;
 use launcher::{HostFault, Input};
-use memory_stage::{edge, header, store};
 use scarce_memory::{Answer, Trial};
 use std::alloc::Global;
 
@@ -15,14 +12,6 @@ pub struct Making<H, M> {
     maker: M,
     parts: Option<Parts>,
     host: Option<H>,
-}
-
-/// What a launcher is made of whose store disables `a`.
-fn parts(alloc: Global) -> Result<Parts, Refusal> {
-    let header = header(alloc, "UTC0", 0)?;
-    let edge = edge(alloc, &[])?;
-    let held = disabled(alloc, &["a"])?;
-    Ok((header, store(alloc, held, true), edge))
 }
 
 impl<H: Launched + Drop, M: Launching<H>> Making<H, M> {
@@ -47,7 +36,7 @@ fn made<H>(made: Result<H, HostFault>) -> (Option<H>, Answer) {
 impl<H: Launched + Drop, M: Launching<H>> Trial for Making<H, M> {
     fn prepare(&mut self, alloc: Global) -> bool {
         self.host = None;
-        self.parts = parts(alloc).ok();
+        self.parts = parts_of(alloc, "UTC0", 0, &["a"], &[]).ok();
         self.parts.is_some()
     }
 

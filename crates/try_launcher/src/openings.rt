@@ -1,9 +1,9 @@
 //! Launchers over a store that gives its settings or does not, with a header that is right or not: which are made, and why others are not.
 
-use crate::launchers::disabled;
+use crate::staged::parts_of;
 use history_model::Refusal;
 use launcher::HostFault;
-use memory_stage::{edge, header, opened, store};
+use memory_stage::opened;
 use outside::StoreFault;
 use std::alloc::Global;
 
@@ -124,10 +124,7 @@ static LISTS: &[(&str, &[Opening])] = &[
 
 /// The number of the fault of the launcher that is made of this; 0 if it is made.
 fn fault_of(alloc: Global, opening: &Opening) -> Result<u8, Refusal> {
-    let held = disabled(alloc, opening.held)?;
-    let header = header(alloc, opening.zone, opening.up)?;
-    let edge = edge(alloc, &[])?;
-    let mut store = store(alloc, held, true);
+    let (header, mut store, edge) = parts_of(alloc, opening.zone, opening.up, opening.held, &[])?;
     store.fault = opening.fault;
     Ok(match opened(alloc, header, store, edge, 10) {
         Ok(_) => 0,

@@ -2,9 +2,9 @@
 
 use child_edge::{EdgeCall, MemoryEdge, Scripted};
 use ctl_protocol::Header;
-use history_model::Reply;
+use history_model::{Refusal, Reply, Setting, Text};
 use launcher::{HostFault, Input};
-use memory_stage::{MemoryStore, Stage, opened, set_stage};
+use memory_stage::{MemoryStore, Stage, edge, header, opened, set_stage, store};
 use std::alloc::Global;
 
 /// What a launcher is made of.
@@ -71,4 +71,40 @@ pub fn asked<H: Launched>(alloc: Global, host: &mut H, input: Input<'_>, text: &
         None => 0,
     };
     (code, reply.text.as_str() == text)
+}
+
+fn setting(alloc: Global, name: &str) -> Result<Setting, Refusal> {
+    match Text::copy_of(alloc, name) {
+        Ok(label) => Ok(Setting {
+            label,
+            disabled: true,
+        }),
+        Err(_) => Err(Refusal::NoMemory),
+    }
+}
+
+/// A setting for each of these names, in their order: it is disabled.
+fn disabled(alloc: Global, names: &[&str]) -> Result<Vec<Setting>, Refusal> {
+    let mut held = Vec::new(alloc);
+    for name in names {
+        if held.push(setting(alloc, name)?).is_err() {
+            return Err(Refusal::NoMemory);
+        }
+    }
+    Ok(held)
+}
+
+/// What a launcher is made of: a header of this zone and `up`, a store that disables these labels, and an edge that gives the answers
+/// beside these calls.
+pub fn parts_of(
+    alloc: Global,
+    zone: &str,
+    up: u64,
+    held: &[&str],
+    calls: &[(EdgeCall, Scripted)],
+) -> Result<Parts, Refusal> {
+    let held = disabled(alloc, held)?;
+    let edge = edge(alloc, calls)?;
+    let header = header(alloc, zone, up)?;
+    Ok((header, store(alloc, held, true), edge))
 }

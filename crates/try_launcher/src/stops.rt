@@ -65,11 +65,15 @@ fn run_from<D: Disk + Drop>(alloc: Global, files: Files<D>) -> Option<(Said, Fil
     }
 }
 
-/// The settings that a store over these files has.
-pub fn found<D: Disk + Drop>(alloc: Global, files: Files<D>) -> Option<Vec<Setting>> {
-    let conn = connected(alloc, files, 9)?;
+/// The settings that a store on the connection has.
+fn settings_on<S: Alter + Drop>(alloc: Global, conn: Connection<S>) -> Option<Vec<Setting>> {
     let mut store = opened(alloc, conn)?;
     all_of(alloc, &mut store).ok()
+}
+
+/// The settings that a store over these files has.
+pub fn found<D: Disk + Drop>(alloc: Global, files: Files<D>) -> Option<Vec<Setting>> {
+    settings_on(alloc, connected(alloc, files, 9)?)
 }
 
 /// Whether what is found may follow what was acknowledged.
