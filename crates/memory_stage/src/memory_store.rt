@@ -17,6 +17,8 @@ pub struct MemoryStore {
     pub answer: bool,
     /// What it answers if it is asked for its settings and does not give them.
     pub fault: Option<StoreFault>,
+    /// How often it was told a setting.
+    pub asked: u64,
 }
 
 impl MemoryStore {
@@ -82,6 +84,7 @@ impl SettingStore for MemoryStore {
     ghost may_give = { λ s answer. MayGive s.held.items s.fault answer };
 
     fn set(&mut self, label: &str, disabled: bool, _changed: u64) -> bool {
+        self.asked = self.asked.saturating_add(1);
         self.keep(label, disabled)
     }
 

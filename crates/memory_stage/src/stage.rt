@@ -51,6 +51,7 @@ pub fn store(alloc: Global, held: Vec<Setting>, answer: bool) -> MemoryStore {
         held,
         answer,
         fault: None,
+        asked: 0,
     }
 }
 

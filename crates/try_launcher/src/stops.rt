@@ -1,9 +1,10 @@
 //! Disks in memory that stop after so many calls, from the opening of a first version's file to the second of two
-//! settings: what was acknowledged is found again.
+//! settings, or from the opening of a new one through a launcher's turns: what was acknowledged is found again.
 
 use crate::calls::{Row, SECOND, all_of, connected, opened, sets, show_all};
 use crate::disks::{MANY, fused, left};
-use crate::files::old_files;
+use crate::files::{empty_files, old_files};
+use crate::stopped_turns::turns_stop;
 use history_model::Setting;
 use override_store::OverrideStore;
 use sqlite::{Alter, Connection, Files, Options};
@@ -64,11 +65,15 @@ fn run_from<D: Disk + Drop>(alloc: Global, files: Files<D>) -> Option<(Said, Fil
     }
 }
 
-/// The settings that a store over these files has.
-pub fn found<D: Disk + Drop>(alloc: Global, files: Files<D>) -> Option<Vec<Setting>> {
-    let conn = connected(alloc, files, 9)?;
+/// The settings that a store on the connection has.
+fn settings_on<S: Alter + Drop>(alloc: Global, conn: Connection<S>) -> Option<Vec<Setting>> {
     let mut store = opened(alloc, conn)?;
     all_of(alloc, &mut store).ok()
+}
+
+/// The settings that a store over these files has.
+pub fn found<D: Disk + Drop>(alloc: Global, files: Files<D>) -> Option<Vec<Setting>> {
+    settings_on(alloc, connected(alloc, files, 9)?)
 }
 
 /// Whether what is found may follow what was acknowledged.
@@ -88,21 +93,57 @@ fn may_follow(said: Said, all: &[Setting]) -> bool {
 }
 
 /// Whether the second setting was acknowledged; none if what is found does not follow.
-fn stops(alloc: Global, from: &Files<Memory>, log: u64, db: u64) -> Option<bool> {
-    let files = fused(alloc, from, log, db)?;
-    let (said, files) = run_from(alloc, files)?;
-    let files = left(alloc, &files)?;
-    let all = found(alloc, files)?;
-    let follows = may_follow(said, &all);
-    if follows { Some(said.second) } else { None }
+fn settings_stop(alloc: Global, from: &Files<Memory>, log: u64, db: u64) -> Option<bool> {
+    let (said, files) = run_from(alloc, fused(alloc, from, log, db)?)?;
+    let all = found(alloc, left(alloc, files)?)?;
+    if may_follow(said, &all) {
+        Some(said.second)
+    } else {
+        None
+    }
 }
 
-/// Whether each stop of the log, or of the database, is followed, up to a run that is whole.
-fn each_stop_is_followed(alloc: Global, from: &Files<Memory>, is_log: bool) -> bool {
+/// What runs over the disks: two settings, or a launcher.
+#[derive(Clone, Copy)]
+enum Run {
+    Settings,
+    Turns,
+}
+
+/// What runs, and whether the log's disk stops; otherwise that of the database does.
+static STOPS: &[(&str, Run, bool)] = &[
+    ("the_log_stops", Run::Settings, true),
+    ("the_database_stops", Run::Settings, false),
+    ("a_setting_lasts_where_the_log_stops", Run::Turns, true),
+    (
+        "a_setting_lasts_where_the_database_stops",
+        Run::Turns,
+        false,
+    ),
+];
+
+/// The files that the run begins with.
+fn first_files(alloc: Global, run: Run) -> Option<Files<Memory>> {
+    match run {
+        Run::Settings => old_files(alloc),
+        Run::Turns => empty_files(alloc),
+    }
+}
+
+/// Whether the run was acknowledged whole; none if what is found does not follow.
+fn stops(alloc: Global, run: Run, from: &Files<Memory>, log: u64, db: u64) -> Option<bool> {
+    match run {
+        Run::Settings => settings_stop(alloc, from, log, db),
+        Run::Turns => turns_stop(alloc, from, log, db),
+    }
+}
+
+/// Whether each stop of the log, or of the database, is followed, up to a run that is acknowledged whole.
+fn each_stop_is_followed(alloc: Global, run: Run, from: &Files<Memory>, is_log: bool) -> bool {
     for calls in 0..200u64 {
         let (log, db) = if is_log { (calls, MANY) } else { (MANY, calls) };
-        match stops(alloc, from, log, db) {
-            Some(true) => return true,
+        match stops(alloc, run, from, log, db) {
+            Some(true) => return calls > 0,
             Some(false) => {}
             None => return false,
         }
@@ -110,19 +151,17 @@ fn each_stop_is_followed(alloc: Global, from: &Files<Memory>, is_log: bool) -> b
     false
 }
 
-fn all_stops_are_followed(alloc: Global, is_log: bool) -> bool {
-    match old_files(alloc) {
-        Some(from) => each_stop_is_followed(alloc, &from, is_log),
+fn all_stops_are_followed(alloc: Global, run: Run, is_log: bool) -> bool {
+    match first_files(alloc, run) {
+        Some(from) => each_stop_is_followed(alloc, run, &from, is_log),
         None => false,
     }
 }
 
-#[test]
-fn the_log_stops(rt: HostRuntime) {
-    assert!(rt; all_stops_are_followed(rt.alloc(), true));
-}
-
-#[test]
-fn the_database_stops(rt: HostRuntime) {
-    assert!(rt; all_stops_are_followed(rt.alloc(), false));
+/// Shows whether each stop is followed.
+pub fn try_all(rt: &impl Print, alloc: Global) -> anyhow::Result<()> {
+    for (name, run, is_log) in STOPS {
+        crate::show(rt, name, all_stops_are_followed(alloc, *run, *is_log))?;
+    }
+    Ok(())
 }

@@ -3,6 +3,7 @@
 use crate::calls::{
     FIRST_VERSION, Row, SECOND, all_of, changes_of, has, opened, runs, sets, show_all,
 };
+use crate::many::has_many;
 use override_store::again::all_again;
 use override_store::{OverrideStore, StoreFault};
 use sqlite::{Alter, Connection};
@@ -21,7 +22,7 @@ struct Case {
 const EMPTY: &str = "";
 
 /// The last setting of each label stands, by rising bytes of the labels.
-static LAST: Case = Case {
+const LAST: &Case = &Case {
     made: EMPTY,
     between: EMPTY,
     sets: &[
@@ -32,14 +33,14 @@ static LAST: Case = Case {
     want: &[("a", false, SECOND + 60), ("b", true, SECOND)],
 };
 
-static MOVED: Case = Case {
+const MOVED: &Case = &Case {
     made: FIRST_VERSION,
     between: EMPTY,
     sets: &[],
     want: &[("a", true, 0), ("b", false, 0)],
 };
 
-static MOVED_AND_SET: Case = Case {
+const MOVED_AND_SET: &Case = &Case {
     made: FIRST_VERSION,
     between: EMPTY,
     sets: &[("a", false, SECOND + 60)],
@@ -47,7 +48,7 @@ static MOVED_AND_SET: Case = Case {
 };
 
 /// A program of the first version wrote beside the new table.
-static OLD_BESIDE_NEW: Case = Case {
+const OLD_BESIDE_NEW: &Case = &Case {
     made: EMPTY,
     between: "INSERT INTO settings VALUES ('a', 0, 5); INSERT INTO overrides VALUES ('a', 1)",
     sets: &[],
@@ -82,7 +83,8 @@ fn store_of<S: Alter + Drop>(
     if is_made && is_set { Some(store) } else { None }
 }
 
-fn set_all<S: Alter>(store: &mut OverrideStore<S>, rows: &[Row<'_>]) -> bool {
+/// Whether the store makes all of these settings.
+pub fn set_all<S: Alter>(store: &mut OverrideStore<S>, rows: &[Row<'_>]) -> bool {
     let mut is_set = true;
     for row in rows {
         is_set = sets(store, *row) && is_set;
@@ -107,31 +109,8 @@ fn passes_on<S: Alter + Drop>(alloc: Global, conn: Connection<S>, case: &Case) -
     is_listed && is_listed_again
 }
 
-fn passes(alloc: Global, case: &Case) -> bool {
-    match Connection::open_in_memory(alloc) {
-        Ok(conn) => passes_on(alloc, conn, case),
-        Err(_) => false,
-    }
-}
-
-#[test]
-fn the_last_setting_stands(rt: HostRuntime) {
-    assert!(rt; passes(rt.alloc(), &LAST));
-}
-
-#[test]
-fn the_rows_of_the_first_version(rt: HostRuntime) {
-    assert!(rt; passes(rt.alloc(), &MOVED));
-    assert!(rt; passes(rt.alloc(), &MOVED_AND_SET));
-}
-
-#[test]
-fn an_old_row_beside_a_new_one(rt: HostRuntime) {
-    assert!(rt; passes(rt.alloc(), &OLD_BESIDE_NEW));
-}
-
 /// A store over a database of the first version with a name that is no label.
-static FOREIGN: Case = Case {
+const FOREIGN: &Case = &Case {
     made: "CREATE TABLE overrides (label TEXT NOT NULL PRIMARY KEY, disabled INTEGER NOT NULL CHECK (disabled IN (0, 1))) STRICT; INSERT INTO overrides VALUES ('a', 1), ('b', 0), ('a/b', 1)",
     between: EMPTY,
     sets: &[],
@@ -139,7 +118,7 @@ static FOREIGN: Case = Case {
 };
 
 fn is_foreign<S: Alter + Drop>(alloc: Global, conn: Connection<S>) -> bool {
-    let Some(mut store) = store_of(alloc, conn, &FOREIGN) else {
+    let Some(mut store) = store_of(alloc, conn, FOREIGN) else {
         return false;
     };
     let all = all_of(alloc, &mut store).err();
@@ -147,11 +126,45 @@ fn is_foreign<S: Alter + Drop>(alloc: Global, conn: Connection<S>) -> bool {
     all == Some(StoreFault::Foreign) && changes == Some(StoreFault::Foreign)
 }
 
-#[test]
-fn a_name_that_is_no_label(rt: HostRuntime) {
-    let is_told = match Connection::open_in_memory(rt.alloc()) {
-        Ok(conn) => is_foreign(rt.alloc(), conn),
+/// What a connection to a new database in memory is tried by.
+#[derive(Clone, Copy)]
+enum Trial {
+    Listed(&'static Case),
+    Foreign,
+    Many,
+}
+
+static TRIALS: &[(&str, Trial)] = &[
+    ("the_last_setting_stands", Trial::Listed(LAST)),
+    ("the_rows_of_the_first_version", Trial::Listed(MOVED)),
+    (
+        "a_setting_beside_the_rows_of_the_first_version",
+        Trial::Listed(MOVED_AND_SET),
+    ),
+    ("an_old_row_beside_a_new_one", Trial::Listed(OLD_BESIDE_NEW)),
+    ("a_name_that_is_no_label", Trial::Foreign),
+    ("a_thousand_long_labels_are_listed", Trial::Many),
+];
+
+fn stands<S: Alter + Drop>(alloc: Global, conn: Connection<S>, trial: Trial) -> bool {
+    match trial {
+        Trial::Listed(case) => passes_on(alloc, conn, case),
+        Trial::Foreign => is_foreign(alloc, conn),
+        Trial::Many => has_many(alloc, conn),
+    }
+}
+
+fn passes(alloc: Global, trial: Trial) -> bool {
+    match Connection::open_in_memory(alloc) {
+        Ok(conn) => stands(alloc, conn, trial),
         Err(_) => false,
-    };
-    assert!(rt; is_told);
+    }
+}
+
+/// Shows whether each trial is passed.
+pub fn try_all(rt: &impl Print, alloc: Global) -> anyhow::Result<()> {
+    for (name, trial) in TRIALS {
+        crate::show(rt, name, passes(alloc, *trial))?;
+    }
+    Ok(())
 }

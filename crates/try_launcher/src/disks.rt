@@ -26,8 +26,12 @@ pub fn fused(
 }
 
 /// What the disks hold, without their fuses.
-pub fn left(alloc: Global, files: &Files<Fuse<Memory>>) -> Option<Files<Memory>> {
-    let log = copy(alloc, files.log.inner())?;
-    let db = copy(alloc, files.db.inner())?;
-    Some(Files { log, db })
+pub fn left(alloc: Global, files: Files<Fuse<Memory>>) -> Option<Files<Memory>> {
+    let log = copy(alloc, files.log.inner());
+    let db = copy(alloc, files.db.inner());
+    drop(files);
+    match (log, db) {
+        (Some(log), Some(db)) => Some(Files { log, db }),
+        _ => None,
+    }
 }

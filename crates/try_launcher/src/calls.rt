@@ -37,7 +37,12 @@ pub fn opened<S: Alter + Drop>(alloc: Global, conn: Connection<S>) -> Option<Ove
 }
 
 pub fn closed<D: Disk + Drop>(store: OverrideStore<FileStore<D>>) -> Option<Files<D>> {
-    store.close_on().close_files().ok()
+    files_of(store.close_on())
+}
+
+/// The files of a connection that is closed.
+pub fn files_of<D: Disk + Drop>(conn: Connection<FileStore<D>>) -> Option<Files<D>> {
+    conn.close_files().ok()
 }
 
 pub fn sets<S: Alter>(store: &mut OverrideStore<S>, row: Row<'_>) -> bool {

@@ -2,8 +2,7 @@
 //! found by the store that is opened again, and one that was refused is not made.
 
 use crate::calls::connected;
-use crate::disks::{MANY, fused, left};
-use crate::files::empty_files;
+use crate::disks::{fused, left};
 use crate::stops::found;
 use child_edge::{ChildEdge, EdgeCall, MemoryEdge, Scripted, SocketEdge};
 use history_model::Setting;
@@ -85,42 +84,14 @@ fn may_follow(codes: Codes, all: &[Setting]) -> bool {
 }
 
 /// Whether the setting was acknowledged; none if what is found does not follow.
-fn stops(alloc: Global, from: &Files<Memory>, log: u64, db: u64) -> Option<bool> {
+pub fn turns_stop(alloc: Global, from: &Files<Memory>, log: u64, db: u64) -> Option<bool> {
     let Some((codes, files)) = run_from(alloc, fused(alloc, from, log, db)?) else {
         return Some(false);
     };
-    let all = found(alloc, left(alloc, &files)?)?;
+    let all = found(alloc, left(alloc, files)?)?;
     if may_follow(codes, &all) {
         Some(codes.0 == 0)
     } else {
         None
     }
-}
-
-/// Whether each stop of the log, or of the database, is followed, up to a run whose setting is acknowledged.
-fn each_stop_is_followed(alloc: Global, is_log: bool) -> bool {
-    let Some(from) = empty_files(alloc) else {
-        return false;
-    };
-    for calls in 0..200u64 {
-        let (log, db) = if is_log { (calls, MANY) } else { (MANY, calls) };
-        match stops(alloc, &from, log, db) {
-            Some(true) => return calls > 0,
-            Some(false) => {}
-            None => return false,
-        }
-    }
-    false
-}
-
-/// The log's disk stops within the opening, the setting or the closing.
-#[test]
-fn a_setting_lasts_where_the_log_stops(rt: HostRuntime) {
-    assert!(rt; each_stop_is_followed(rt.alloc(), true));
-}
-
-/// The database's disk stops.
-#[test]
-fn a_setting_lasts_where_the_database_stops(rt: HostRuntime) {
-    assert!(rt; each_stop_is_followed(rt.alloc(), false));
 }

@@ -6,7 +6,6 @@ use ctl_protocol::{Header, Settings, ZoneText};
 use history_model::{Answer, Event, JobItem, Reading, Text};
 use launcher::Journal;
 use std::alloc::{AllocError, Global};
-use std::test::Fail;
 
 /// The header's line, and those of two events.
 const LINES: &[u8] = b"{\"overrides\":{},\"up\":0,\"wall\":1700000000,\"zone\":\"UTC0\"}\n\
@@ -82,40 +81,47 @@ fn header(alloc: Global) -> Result<Header, AllocError> {
     })
 }
 
-/// Notes the two events and ends the turn, and tells what is told of the journal.
-fn turned(alloc: Global, journal: Journal<&mut FailingWriter>) -> Result<Told, AllocError> {
-    let mut journal = journal;
+/// The second of the two events.
+fn event(alloc: Global) -> Result<Event, AllocError> {
     let job = Text::copy_of(alloc, "a")?;
-    let event = Event::OfJob {
+    Ok(Event::OfJob {
         job,
         item: JobItem::Answered(Answer::Spawned { run: 1, pid: 812 }),
-    };
+    })
+}
+
+/// Notes a list and the event, ends the turn, and tells what is told of the journal.
+fn turned(alloc: Global, journal: Journal<&mut FailingWriter>, event: &Event) -> Told {
+    let mut journal = journal;
     journal.note(alloc, &Event::List);
-    journal.note(alloc, &event);
+    journal.note(alloc, event);
     journal.flush();
     let first = journal.report_closing();
     let second = journal.report_closing();
     let given = journal.into_open().is_some();
-    Ok(Told {
+    Told {
         first,
         second,
         given,
-    })
+    }
 }
 
-/// Says whether the journal over the writer becomes what the row says. Its closing is told once, and a writer that fails at no write
-/// is flushed once.
-fn is_so(alloc: Global, row: Row) -> Result<bool, AllocError> {
-    let mut writer = FailingWriter {
+fn writer(alloc: Global, row: Row) -> FailingWriter {
+    FailingWriter {
         taken: Vec::new(alloc),
         piece: row.piece,
         writes: row.writes,
         is_full: row.is_full,
         flushes: 0,
         refuses_flush: row.refuses_flush,
-    };
-    let header = header(alloc)?;
-    let told = turned(alloc, Journal::begin(alloc, &mut writer, &header))?;
+    }
+}
+
+/// Says whether the journal over the writer becomes what the row says. Its closing is told once, and a writer that fails at no write
+/// is flushed once.
+fn becomes(alloc: Global, row: Row, header: &Header, event: &Event) -> bool {
+    let mut writer = writer(alloc, row);
+    let told = turned(alloc, Journal::begin(alloc, &mut writer, header), event);
     let is_told = told.first != row.is_open && !told.second && told.given == row.is_open;
     let written = writer.taken.as_slice();
     let holds = if row.is_whole {
@@ -123,32 +129,52 @@ fn is_so(alloc: Global, row: Row) -> Result<bool, AllocError> {
     } else {
         LINES.starts_with(written)
     };
-    Ok(is_told && holds)
+    is_told && holds
+}
+
+fn is_so(alloc: Global, row: Row) -> Result<bool, AllocError> {
+    let header = header(alloc)?;
+    let event = event(alloc)?;
+    Ok(becomes(alloc, row, &header, &event))
 }
 
 /// Says whether no journal stays silent: nothing is told and nothing is given back.
 fn is_silent(alloc: Global) -> Result<bool, AllocError> {
-    let told = turned(alloc, Journal::none())?;
+    let event = event(alloc)?;
+    let told = turned(alloc, Journal::none(), &event);
     Ok(!told.first && !told.second && !told.given)
 }
 
-/// Whichever write fails, or takes no byte. In pieces of seven bytes the header needs 8 of them, the events 2 and 7.
-#[test]
-fn a_journal_holds_its_lines_or_a_front(rt: HostRuntime) -> Result<(), Fail> {
-    let alloc = rt.alloc();
+fn rows_are_so(alloc: Global) -> bool {
+    let mut are_so = true;
     for row in ROWS {
-        assert!(rt; is_so(alloc, row)?, "{}", row.piece);
+        let is_so = is_so(alloc, row) == Ok(true);
+        are_so = are_so && is_so;
     }
-    for is_full in [false, true] {
-        for writes in 0..17usize {
-            let row = Row {
-                writes,
-                is_full,
-                ..FRONT
-            };
-            assert!(rt; is_so(alloc, row)?, "{is_full} {writes}");
-        }
+    are_so
+}
+
+/// Whichever write fails, or takes no byte. In pieces of seven bytes the header needs 8 of them, the events 2 and 7.
+fn fronts_are_so(alloc: Global, is_full: bool) -> bool {
+    let mut are_so = true;
+    for writes in 0..17usize {
+        let row = Row {
+            writes,
+            is_full,
+            ..FRONT
+        };
+        let is_so = is_so(alloc, row) == Ok(true);
+        are_so = are_so && is_so;
     }
-    assert!(rt; is_silent(alloc)?);
-    Ok(())
+    are_so
+}
+
+/// Shows whether the journals hold their lines, or a front of them.
+pub fn try_all(rt: &impl Print, alloc: Global) -> anyhow::Result<()> {
+    crate::show(rt, "a_journal_holds_its_lines", rows_are_so(alloc))?;
+    crate::show(rt, "a_journal_holds_a_front", fronts_are_so(alloc, false))?;
+    let is_front = fronts_are_so(alloc, true);
+    crate::show(rt, "a_journal_over_a_full_writer_holds_a_front", is_front)?;
+    let is_silent = is_silent(alloc) == Ok(true);
+    crate::show(rt, "no_journal_stays_silent", is_silent)
 }

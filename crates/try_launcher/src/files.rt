@@ -1,6 +1,7 @@
 //! Stores over files that are closed and opened again, on disks in memory: each acknowledged setting is there.
 
-use crate::calls::{FIRST_VERSION, Row, SECOND, closed, connected, has, opened, runs, sets};
+use crate::calls::{FIRST_VERSION, Row, SECOND, closed, connected, files_of, has, opened, runs};
+use crate::cases::set_all;
 use override_store::OverrideStore;
 use override_store::again::on_files;
 use sqlite::{Connection, FileStore, Files, Options};
@@ -52,14 +53,6 @@ static OLD: &[Round] = &[
         want: &[("a", true, 0), ("b", true, SECOND)],
     },
 ];
-
-fn set_all<D: Disk + Drop>(store: &mut OverrideStore<FileStore<D>>, rows: &[Row<'_>]) -> bool {
-    let mut is_set = true;
-    for row in rows {
-        is_set = sets(store, *row) && is_set;
-    }
-    is_set
-}
 
 /// A store over the files, if that can be opened.
 fn store_over<D: Disk + Drop>(
@@ -117,7 +110,7 @@ pub fn empty_files(alloc: Global) -> Option<Files<Memory>> {
 fn ran<D: Disk + Drop>(conn: Connection<FileStore<D>>, sql: &str) -> Option<Files<D>> {
     let mut conn = conn;
     let is_run = runs(&mut conn, sql);
-    let files = conn.close_files().ok()?;
+    let files = files_of(conn)?;
     if is_run { Some(files) } else { None }
 }
 
@@ -126,18 +119,21 @@ pub fn old_files(alloc: Global) -> Option<Files<Memory>> {
     ran(connected(alloc, new_files(alloc), 3)?, FIRST_VERSION)
 }
 
-#[test]
-fn settings_last_over_closed_files(rt: HostRuntime) {
-    let alloc = rt.alloc();
-    assert!(rt; passes(alloc, new_files(alloc), NEW));
-}
-
-#[test]
-fn the_first_versions_files_are_moved_once(rt: HostRuntime) {
-    let alloc = rt.alloc();
-    let is_moved = match old_files(alloc) {
+/// Whether the rounds pass over files of the first version.
+fn old_pass(alloc: Global) -> bool {
+    match old_files(alloc) {
         Some(files) => passes(alloc, files, OLD),
         None => false,
-    };
-    assert!(rt; is_moved);
+    }
+}
+
+/// Shows whether settings last over closed files.
+pub fn try_all(rt: &impl Print, alloc: Global) -> anyhow::Result<()> {
+    let do_last = passes(alloc, new_files(alloc), NEW);
+    crate::show(rt, "settings_last_over_closed_files", do_last)?;
+    crate::show(
+        rt,
+        "the_first_versions_files_are_moved_once",
+        old_pass(alloc),
+    )
 }

@@ -16,7 +16,7 @@ pub const DEFINITION: &str =
 
 /// Which call makes something.
 #[derive(Clone, Copy)]
-pub enum Part {
+pub enum Call {
     Conditions,
     Waiting,
     Exchange,
@@ -24,31 +24,31 @@ pub enum Part {
 }
 
 /// Each call by its name.
-pub static PARTS: &[(&str, Part)] = &[
-    ("Conditions::new", Part::Conditions),
-    ("Waiting::new", Part::Waiting),
-    ("Exchange::new", Part::Exchange),
-    ("JobCore::new", Part::JobCore),
+pub static PARTS: &[(&str, Call)] = &[
+    ("Conditions::new", Call::Conditions),
+    ("Waiting::new", Call::Waiting),
+    ("Exchange::new", Call::Exchange),
+    ("JobCore::new", Call::JobCore),
 ];
 
 /// A part of a job that is made of a definition.
 #[derive(Drop)]
-pub struct Making {
-    pub part: Part,
+pub struct Part {
+    pub call: Call,
     pub def: Def,
 }
 
-impl Trial for Making {
+impl Trial for Part {
     fn prepare(&mut self, _alloc: Global) -> bool {
         true
     }
 
     fn call(&mut self, alloc: Global) -> Answer {
-        match self.part {
-            Part::Conditions => told(Conditions::new(alloc, &self.def)),
-            Part::Waiting => told(Waiting::new(alloc)),
-            Part::Exchange => told(Exchange::new(alloc)),
-            Part::JobCore => told(JobCore::new(alloc, &self.def, at_load())),
+        match self.call {
+            Call::Conditions => told(Conditions::new(alloc, &self.def)),
+            Call::Waiting => told(Waiting::new(alloc)),
+            Call::Exchange => told(Exchange::new(alloc)),
+            Call::JobCore => told(JobCore::new(alloc, &self.def, at_load())),
         }
     }
 

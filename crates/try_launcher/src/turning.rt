@@ -1,9 +1,9 @@
 //! Turns of a launcher where memory is short.
 
+use crate::staged::{Launched, Launching, asked};
 use child_edge::{EdgeCall, Scripted};
 use history_model::{JobNo, Reading};
 use launcher::Input;
-use memory_stage::{Stage, set_stage};
 use scarce_memory::{Answer, Trial};
 use std::alloc::Global;
 
@@ -33,10 +33,10 @@ const LOAD_CALENDAR: &[u8] =
     b"{\"req\":\"load\",\"def\":\"{\\\"Label\\\":\\\"a\\\",\\\"ProgramArguments\\\":[\\\"/bin/a\\\"],\\\"StartCalendarInterval\\\":[{\\\"Minute\\\":0},{\\\"Minute\\\":15},{\\\"Minute\\\":30},{\\\"Minute\\\":45}]}\"}";
 
 /// A job with a socket, whose label is also enabled.
-const LOAD_LISTENING: &[u8] =
+pub const LOAD_LISTENING: &[u8] =
     b"{\"req\":\"load\",\"w\":true,\"def\":\"{\\\"Label\\\":\\\"s\\\",\\\"ProgramArguments\\\":[\\\"/bin/x\\\"],\\\"Sockets\\\":{\\\"l\\\":{\\\"SockPathName\\\":\\\"/s\\\"}},\\\"inetdCompatibility\\\":{\\\"Wait\\\":false}}\"}";
 
-const LIST: &[u8] = b"{\"req\":\"list\"}";
+pub const LIST: &[u8] = b"{\"req\":\"list\"}";
 
 const PRINT: &[u8] = b"{\"req\":\"print\",\"job\":\"a\"}";
 
@@ -138,26 +138,17 @@ enum Outcome {
 
 /// A turn on a launcher whose job runs.
 #[derive(Drop)]
-pub struct Turning {
+pub struct Turning<H, M> {
+    maker: M,
     turn: &'static Turn,
-    stage: Option<Stage>,
+    host: Option<H>,
     calls: usize,
     outcome: Outcome,
 }
 
-/// The code and whether the text is this one.
-fn asked(alloc: Global, stage: &mut Stage, input: Input<'_>, text: &str) -> (u8, bool) {
-    let reply = stage.turn(alloc, input);
-    let code = match reply.refusal {
-        Some(refusal) => refusal.code(),
-        None => 0,
-    };
-    (code, reply.text.as_str() == text)
-}
-
-fn taken(alloc: Global, stage: &mut Stage, turn: &Turn) -> Outcome {
-    let (code, is_text) = asked(alloc, stage, turn.input, turn.text);
-    let has_closed = stage.report_journal_closing();
+fn taken<H: Launched>(alloc: Global, host: &mut H, turn: &Turn) -> Outcome {
+    let (code, is_text) = asked(alloc, host, turn.input, turn.text);
+    let has_closed = host.has_closed();
     match code {
         0 if is_text && has_closed => Outcome::Closed,
         0 if is_text => Outcome::Made,
@@ -167,43 +158,66 @@ fn taken(alloc: Global, stage: &mut Stage, turn: &Turn) -> Outcome {
     }
 }
 
+/// Whether the request that shows what there is has this text.
+fn shows<H: Launched>(alloc: Global, host: &mut H, turn: &Turn, text: &str) -> bool {
+    let (code, is_text) = asked(alloc, host, Input::Line(turn.probe), text);
+    code == 0 && is_text
+}
+
 /// Whether a refused turn left all as it was, but for so many calls, and is made with memory.
-fn is_undone(alloc: Global, stage: &mut Stage, turn: &Turn, calls: usize) -> bool {
-    let is_uncalled = stage.edge().calls().len() == calls;
-    let was_so = asked(alloc, stage, Input::Line(turn.probe), turn.was) == (0, true);
-    let is_made = taken(alloc, stage, turn) == Outcome::Made;
-    let is_so = asked(alloc, stage, Input::Line(turn.probe), turn.is) == (0, true);
+fn is_undone<H: Launched>(alloc: Global, host: &mut H, turn: &Turn, calls: usize) -> bool {
+    let is_uncalled = host.calls() == calls;
+    let was_so = shows(alloc, host, turn, turn.was);
+    let is_made = taken(alloc, host, turn) == Outcome::Made;
+    let is_so = shows(alloc, host, turn, turn.is);
     is_uncalled && was_so && is_made && is_so
 }
 
-impl Turning {
-    pub fn new(turn: &'static Turn) -> Turning {
+/// Whether the outcome left what it should, if so many calls had been made before.
+fn is_left<H: Launched>(
+    alloc: Global,
+    host: &mut H,
+    turn: &Turn,
+    outcome: Outcome,
+    calls: usize,
+) -> bool {
+    match outcome {
+        Outcome::NoMemory => is_undone(alloc, host, turn, calls),
+        Outcome::NotStored => is_undone(alloc, host, turn, calls.saturating_add(turn.undone)),
+        Outcome::Made | Outcome::Closed | Outcome::Other => shows(alloc, host, turn, turn.is),
+    }
+}
+
+impl<H: Launched + Drop, M: Launching<H>> Turning<H, M> {
+    pub fn new(maker: M, turn: &'static Turn) -> Turning<H, M> {
         Turning {
+            maker,
             turn,
-            stage: None,
+            host: None,
             calls: 0,
             outcome: Outcome::Other,
         }
     }
 }
 
-impl Trial for Turning {
+impl<H: Launched + Drop, M: Launching<H>> Trial for Turning<H, M> {
     fn prepare(&mut self, alloc: Global) -> bool {
-        self.stage = None;
-        let Ok(mut stage) = set_stage(alloc, self.turn.answers, true, 1000) else {
-            return false;
-        };
-        let (code, is_text) = asked(alloc, &mut stage, Input::Line(self.turn.before), "");
-        self.calls = stage.edge().calls().len();
-        self.stage = Some(stage);
-        code == 0 && is_text
+        self.host = self.maker.set(alloc, self.turn.answers);
+        match self.host.as_mut() {
+            Some(host) => {
+                let (code, is_text) = asked(alloc, host, Input::Line(self.turn.before), "");
+                self.calls = host.calls();
+                code == 0 && is_text
+            }
+            None => false,
+        }
     }
 
     fn call(&mut self, alloc: Global) -> Answer {
-        let Some(stage) = self.stage.as_mut() else {
-            return Answer::Other;
+        self.outcome = match self.host.as_mut() {
+            Some(host) => taken(alloc, host, self.turn),
+            None => Outcome::Other,
         };
-        self.outcome = taken(alloc, stage, self.turn);
         match self.outcome {
             Outcome::Made => Answer::Made,
             Outcome::Closed | Outcome::NoMemory | Outcome::NotStored => Answer::NoMemory,
@@ -212,20 +226,9 @@ impl Trial for Turning {
     }
 
     fn is_right(&mut self, alloc: Global, _answer: Answer) -> bool {
-        let Some(stage) = self.stage.as_mut() else {
-            return false;
-        };
-        match self.outcome {
-            Outcome::NoMemory => is_undone(alloc, stage, self.turn, self.calls),
-            Outcome::NotStored => {
-                is_undone(
-                    alloc,
-                    stage,
-                    self.turn,
-                    self.calls.saturating_add(self.turn.undone),
-                )
-            }
-            _ => asked(alloc, stage, Input::Line(self.turn.probe), self.turn.is) == (0, true),
+        match self.host.as_mut() {
+            Some(host) => is_left(alloc, host, self.turn, self.outcome, self.calls),
+            None => false,
         }
     }
 }
