@@ -7,11 +7,11 @@ use crate::zone::zone_of;
 use exit_status::{BAD_CLOCK, BAD_FILE, REFUSED};
 use history_model::KeyName;
 use job_defs::Def;
+use launchctl_words::{Paths, ZoneWords};
 use path_files::{Found, files_at};
 use scope_check::{
     Change, Checked, Grade, Remark, changes_in_year, check_def, finding_line, place_of, summary_of,
 };
-use scope_words::{Paths, ZoneWords};
 use std::alloc::{AllocError, Global};
 
 /// A label, and the file that has it.

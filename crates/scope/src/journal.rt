@@ -2,9 +2,9 @@
 
 use crate::listener::Listener;
 use crate::telling::tell_of;
+use crate::words::command::JournalWords;
 use exit_status::BAD_FILE;
 use journal_reading::{JournalFault, JournalReader};
-use scope_words::JournalWords;
 use std::alloc::{AllocError, Global};
 use std::env::VarError;
 use std::fs::File;

@@ -5,9 +5,9 @@ use crate::journal::{
 };
 use crate::listener::{Listener, Shown};
 use crate::telling::put;
+use crate::words::command::JournalWords;
 use journal_reading::JournalFault;
-use scope_times::utc;
-use scope_words::JournalWords;
+use run_times::utc;
 use std::alloc::Global;
 use std::fs::File;
 use std::io::{ErrorKind, Read, Seek, SeekFrom};

@@ -8,9 +8,9 @@ use calendar_due::Zone;
 use exit_status::{BAD_CLOCK, BAD_FILE};
 use history_model::MAX_WALL;
 use job_defs::{Def, DefFault, read_def};
+use launchctl_words::{Paths, ZoneWords};
 use path_files::{Found, files_at};
-use scope_times::{span_text, time_text};
-use scope_words::{Paths, ZoneWords};
+use run_times::{span_text, time_text};
 use std::alloc::{AllocError, Global};
 
 /// A definition, and when the clock wants it next: by an entry of its calendar, and by its interval.

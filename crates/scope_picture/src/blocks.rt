@@ -7,7 +7,7 @@ use crate::ticks::{Tick, ticks};
 use crate::words::{columns_of, cut_text, missing_words};
 use calendar_due::Zone;
 use history_model::MAX_WALL;
-use scope_times::time_text;
+use run_times::time_text;
 use std::alloc::{AllocError, Global};
 
 /// The block of a bar by how grave its end is.

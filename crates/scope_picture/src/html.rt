@@ -5,7 +5,7 @@ use crate::escape::escaped;
 use crate::svg::figure_piece;
 use calendar_due::Zone;
 use history_model::MAX_WALL;
-use scope_times::time_text;
+use run_times::time_text;
 use std::alloc::{AllocError, Global};
 use std::fmt::Write;
 

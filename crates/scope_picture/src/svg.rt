@@ -7,7 +7,7 @@ use crate::ticks::ticks;
 use crate::words::{bar_words, cut_text, end_class, missing_words};
 use calendar_due::Zone;
 use history_model::MAX_WALL;
-use scope_times::time_text;
+use run_times::time_text;
 use std::alloc::{AllocError, Global};
 use std::fmt::Write;
 

@@ -3,7 +3,7 @@
 use crate::axis::Axis;
 use calendar_due::Zone;
 use history_model::CivilMinute;
-use scope_times::time_text;
+use run_times::time_text;
 use std::alloc::{AllocError, Global};
 
 const HOUR: u64 = 3600;
