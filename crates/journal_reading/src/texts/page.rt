@@ -57,6 +57,18 @@ impl<'a> Page<'a> {
         self.text.push_str(shown)
     }
 
+    /// Adds the time, as `add_time`, with words before it and behind it.
+    pub(crate) fn add_timed(
+        &mut self,
+        before: &str,
+        wall: u64,
+        behind: &str,
+    ) -> Result<(), AllocError> {
+        self.text.push_str(before)?;
+        self.add_time(wall)?;
+        self.text.push_str(behind)
+    }
+
     /// Adds the date and the minute.
     pub(crate) fn add_minute(&mut self, wall: u64) -> Result<(), AllocError> {
         let text = time_text(self.alloc, self.zone, wall.min(MAX_WALL))?;

@@ -2,6 +2,7 @@
 
 use crate::job::Job;
 use crate::reader::Journal;
+use crate::run::Run;
 use crate::telling::{Cause, causes};
 use crate::texts::coming::{FARTHEST, add_not_wanted};
 use crate::texts::page::Page;
@@ -67,8 +68,7 @@ fn add_named(
         Some(def) => add_job(alloc, page, journal, label, job, def),
         None => {
             write!(page.text, "\n{label} is not loaded: it was removed at ")?;
-            page.add_time(job.gone.wall)?;
-            page.add(".\n")
+            page.add_timed("", job.gone.wall, ".\n")
         }
     }
 }
@@ -141,9 +141,8 @@ fn add_removing(page: &mut Page<'_>, job: &Job) -> Result<(), AllocError> {
     page.add("It is being removed")?;
     if let Some((asked, at)) = job.asked {
         let name = asked_name(asked);
-        write!(page.text, " ({name} at ")?;
-        page.add_time(at.wall)?;
-        page.add(")")?;
+        write!(page.text, " ({name}")?;
+        page.add_timed(" at ", at.wall, ")")?;
     }
     page.add(": it is gone once its run has ended.")
 }
@@ -154,35 +153,27 @@ fn add_child(page: &mut Page<'_>, told: &Told<'_>, child: StandingChild) -> Resu
     let pid = child.pid;
     write!(page.text, "Run {run} lives, process {pid}")?;
     if let Some(present) = job.current {
-        page.add(", since ")?;
-        page.add_time(present.begun.wall)?;
-        page.add(" (for ")?;
+        page.add_timed(", since ", present.begun.wall, " (for ")?;
         page.add_span(present.lived(page.now))?;
         page.add(")")?;
     }
-    page.add(".")?;
-    if job.is_lost {
-        page.add(" The system refused to wait for it.")?;
-    }
-    if child.is_struck {
-        page.add(" `jobctl kickstart -k` asked for its end.")?;
-    }
-    if child.is_stopped {
-        page.add(" Its end was asked for.")?;
-    }
+    let lost = words_if(job.is_lost, " The system refused to wait for it.");
+    let struck = words_if(child.is_struck, " `jobctl kickstart -k` asked for its end.");
+    let stopped = words_if(child.is_stopped, " Its end was asked for.");
+    write!(page.text, ".{lost}{struck}{stopped}")?;
     add_signals(page, job, told.def)
+}
+
+// The words, if it holds.
+fn words_if(holds: bool, words: &'static str) -> &'static str {
+    if holds { words } else { "" }
 }
 
 fn add_signals(page: &mut Page<'_>, job: &Job, def: &Def) -> Result<(), AllocError> {
     match (job.kill, job.term) {
-        (Some(at), _) => {
-            page.add(" KILL was ordered at ")?;
-            page.add_time(at.wall)?;
-            page.add(".")
-        }
+        (Some(at), _) => { page.add_timed(" KILL was ordered at ", at.wall, ".") }
         (None, Some(at)) => {
-            page.add(" TERM was ordered at ")?;
-            page.add_time(at.wall)?;
+            page.add_timed(" TERM was ordered at ", at.wall, "")?;
             add_kill_time(page, def, at.up)
         }
         (None, None) => Ok(()),
@@ -218,19 +209,25 @@ fn add_throttle(page: &mut Page<'_>, told: &Told<'_>, up: u64) -> Result<(), All
     page.add(" (in ")?;
     page.add_span(up.saturating_sub(page.now.up))?;
     page.add(")")?;
+    add_throttle_start(page, told, up)
+}
+
+// The start from which the throttle goes, if it is known.
+fn add_throttle_start(page: &mut Page<'_>, told: &Told<'_>, up: u64) -> Result<(), AllocError> {
     let throttle = u64::from(told.def.throttle_interval());
     if let Some(at) = told.job.ordered {
         if at.up.saturating_add(throttle.saturating_mul(1000)) == up {
-            page.add(": its last start was ordered at ")?;
-            page.add_time(at.wall)?;
+            page.add_timed(": its last start was ordered at ", at.wall, "")?;
             return write!(page.text, ", ThrottleInterval is {throttle}.");
         }
     }
     if let Some(run) = told.job.refused {
         if run.ended.up.saturating_add(1000) == up {
-            page.add(": its last start was refused at ")?;
-            page.add_time(run.ended.wall)?;
-            return page.add(", and the next comes a second later at the earliest.");
+            return page.add_timed(
+                ": its last start was refused at ",
+                run.ended.wall,
+                ", and the next comes a second later at the earliest.",
+            );
         }
     }
     page.add(".")
@@ -239,34 +236,29 @@ fn add_throttle(page: &mut Page<'_>, told: &Told<'_>, up: u64) -> Result<(), All
 // How the last run ended, how many there were, and that the last start was refused.
 fn add_past(page: &mut Page<'_>, job: &Job) -> Result<(), AllocError> {
     if let Some(last) = job.last {
-        let (words, number) = end_words(last.end);
-        write!(page.text, "  It ended last {words}{number}")?;
-        page.add(if last.is_crash {
-            " (a crash), at "
-        } else {
-            ", at "
-        })?;
-        page.add_time(last.ended.wall)?;
-        page.add(", after ")?;
-        page.add_span(last.lived(page.now))?;
-        let starts = job.starts;
-        let ends = job.ends;
-        let noun = if starts == 1 { "start" } else { "starts" };
-        write!(
-            page.text,
-            "; {starts} {noun} since its load, {ends} ended.\n"
-        )?;
+        add_last(page, job, &last)?;
     }
     if let Some(run) = job.refused {
         let number = run.run;
-        write!(
-            page.text,
-            "  Its last start (run {number}) was refused, at "
-        )?;
-        page.add_time(run.ended.wall)?;
-        page.add(".\n")?;
+        write!(page.text, "  Its last start (run {number}) was refused")?;
+        page.add_timed(", at ", run.ended.wall, ".\n")?;
     }
     Ok(())
+}
+
+fn add_last(page: &mut Page<'_>, job: &Job, last: &Run) -> Result<(), AllocError> {
+    let (words, number) = end_words(last.end);
+    let crash = words_if(last.is_crash, " (a crash)");
+    write!(page.text, "  It ended last {words}{number}{crash}")?;
+    page.add_timed(", at ", last.ended.wall, ", after ")?;
+    page.add_span(last.lived(page.now))?;
+    let starts = job.starts;
+    let ends = job.ends;
+    let plural = words_if(starts != 1, "s");
+    write!(
+        page.text,
+        "; {starts} start{plural} since its load, {ends} ended.\n"
+    )
 }
 
 // When it starts by the clocks alone, if it does.
@@ -289,9 +281,8 @@ fn add_start(
         FARTHEST,
     ) {
         Some(seconds) => {
-            page.add("  It starts at ")?;
-            page.add_time(now.wall.saturating_add(seconds))?;
-            page.add(", if nothing else happens.\n")
+            let wall = now.wall.saturating_add(seconds);
+            page.add_timed("  It starts at ", wall, ", if nothing else happens.\n")
         }
         None => Ok(()),
     }
