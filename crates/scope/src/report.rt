@@ -143,8 +143,18 @@ fn paint_page(
         why: why.as_str(),
         coming: coming.as_slice(),
     };
+    put_page(host, alloc, zone, chart, &beside)
+}
+
+fn put_page(
+    host: &HostRuntime,
+    alloc: Global,
+    zone: &Zone,
+    chart: &Chart,
+    beside: &Page<'_>,
+) -> io::Result<()> {
     for index in 0..usize::MAX {
-        match page_piece(alloc, zone, chart, &beside, index)? {
+        match page_piece(alloc, zone, chart, beside, index)? {
             Some(piece) => put(host, piece.as_str())?,
             None => break,
         }

@@ -127,31 +127,33 @@ pub(crate) fn read_scope_words(alloc: Global, words: &[String]) -> Result<ScopeC
 /// The text to print if the words are no command of jobscope, or ask for help. If clap takes them, it is one line that says which
 /// value is no number, or that both zone options stand.
 pub(crate) fn explain_scope(alloc: Global, words: &[String]) -> Result<Explanation, AllocError> {
-    match read_meaning(alloc, words) {
-        Ok(
-            Meaning::BadNumber {
-                option,
-                value,
-                wanted,
-            },
-        ) => {
-            let value = value.as_str();
-            one_line(format!(in alloc; "jobscope: {option} {value:?}: wanted {wanted}\n"))
+    if let Ok(meaning) = read_meaning(alloc, words) {
+        if let Some(text) = own_fault(alloc, &meaning)? {
+            return Ok(Explanation {
+                text,
+                is_help: false,
+            });
         }
-        Ok(Meaning::BothZones) => one_line(String::from_str(
-            alloc,
-            "jobscope: --zone and --zone-file can't stand together\n",
-        )),
-        _ => explain_by(alloc, jobscope_words(alloc), words),
     }
+    explain_by(alloc, jobscope_words(alloc), words)
 }
 
-fn one_line(text: Result<String, AllocError>) -> Result<Explanation, AllocError> {
-    match text {
-        Ok(text) => Ok(Explanation {
-            text,
-            is_help: false,
-        }),
-        Err(error) => Err(error),
-    }
+// What is wrong with words that clap takes.
+fn own_fault(alloc: Global, meaning: &Meaning) -> Result<Option<String>, AllocError> {
+    let text = match meaning {
+        Meaning::BadNumber {
+            option,
+            value,
+            wanted,
+        } => {
+            let value = value.as_str();
+            format!(in alloc; "jobscope: {option} {value:?}: wanted {wanted}\n")?
+        }
+        Meaning::BothZones => String::from_str(
+            alloc,
+            "jobscope: --zone and --zone-file can't stand together\n",
+        )?,
+        _ => return Ok(None),
+    };
+    Ok(Some(text))
 }
