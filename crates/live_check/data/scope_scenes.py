@@ -12,6 +12,9 @@ import subprocess
 
 from edge_scenes import BOUND, HERE, check, text_at
 
+# A case may look through years minute by minute.
+LONGEST = 6 * BOUND
+
 
 class Case:
     """One case of a file: its name, and its parts by the words of the lines before them."""
@@ -42,9 +45,9 @@ def came(stage, folder, case):
     around.update(line.split("=", 1) for line in case.lines("environment"))
     command = [*stage.given.jobscope, *case.lines("words")]
     try:
-        ran = subprocess.run(command, cwd=folder, env=around, input=case.part("input").encode(), capture_output=True, timeout=3 * BOUND)
+        ran = subprocess.run(command, cwd=folder, env=around, input=case.part("input").encode(), capture_output=True, timeout=LONGEST)
     except subprocess.TimeoutExpired:
-        return f"no end in {3 * BOUND:.0f} s"
+        return f"no end in {LONGEST:.0f} s"
     return ran.returncode, ran.stdout, ran.stderr
 
 
