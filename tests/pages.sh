@@ -98,7 +98,7 @@ def check_program(program, page_path, source, flags_of, own_name):
 control = read(WORDS + "control_words.rt")
 check_program("build/jobctl", "man/jobctl.1", control, control, "jobctl")
 check_program("build/jobd", "man/jobd.8", read(WORDS + "jobd.rt"), "", "jobd")
-check_program("build/jobscope", "man/jobscope.1", read("crates/scope_words/src/words.rt"), "", "jobscope")
+check_program("build/jobscope", "man/jobscope.1", read("crates/scope/src/words/forms.rt"), "", "jobscope")
 
 # ---- the version
 
@@ -221,7 +221,7 @@ for reason in sorted(reasons):
     if not near(reason, ""):
         faults.append(f"{USING}: {reason} is not in the page")
 control_names, control_options = words_in(control, control)
-scope_names, scope_options = words_in(read("crates/scope_words/src/words.rt"), "")
+scope_names, scope_options = words_in(read("crates/scope/src/words/forms.rt"), "")
 for name in sorted((control_names | scope_names) - {"jobctl"}):
     if not any(re.match(rf"\| `{name}\b", row) for row in rows):
         faults.append(f"{USING}: {name} is not in the page")

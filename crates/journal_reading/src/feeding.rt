@@ -51,24 +51,26 @@ impl JournalReader {
 
     /// Reads the next whole line, and says whether there was one. A line that is no event is counted, and left out.
     pub fn next(&mut self, alloc: Global) -> Result<bool, JournalFault> {
-        let line = match self.feed.next_line() {
-            Ok(Some(line)) => line,
-            Ok(None) if self.is_long => {
-                return Err(JournalFault::LongLine(self.lines.saturating_add(1)));
-            }
-            Ok(None) => return Ok(false),
-            Err(_) => return Err(JournalFault::NoMemory),
-        };
+        match self.feed.next_line() {
+            Ok(Some(line)) => self.take_line(alloc, line.as_slice()),
+            Ok(None) if self.is_long => Err(JournalFault::LongLine(self.lines.saturating_add(1))),
+            Ok(None) => Ok(false),
+            Err(_) => Err(JournalFault::NoMemory),
+        }
+    }
+
+    // Takes in a whole line.
+    fn take_line(&mut self, alloc: Global, line: &[u8]) -> Result<bool, JournalFault> {
         self.lines = self.lines.saturating_add(1);
-        match &mut self.journal {
-            None => self.journal = Some(open(alloc, line.as_slice())?),
-            Some(journal) => {
-                if !journal.take(alloc, line.as_slice())? {
-                    self.bad = self.bad.saturating_add(1);
-                    if self.bad == 1 {
-                        self.first_bad = self.lines;
-                    }
-                }
+        let Some(journal) = &mut self.journal else {
+            self.journal = Some(open(alloc, line)?);
+            return Ok(true);
+        };
+        let is_event = journal.take(alloc, line)?;
+        if !is_event {
+            self.bad = self.bad.saturating_add(1);
+            if self.bad == 1 {
+                self.first_bad = self.lines;
             }
         }
         Ok(true)

@@ -10,6 +10,7 @@ mod past;
 mod reader;
 mod run;
 mod telling;
+mod texts;
 
 pub use fault::JournalFault;
 pub use feeding::JournalReader;
@@ -19,3 +20,4 @@ pub use past::{MOST_LABELS, MOST_RUNS, Past};
 pub use reader::Journal;
 pub use run::{Run, RunEnd};
 pub use telling::{Cause, causes};
+pub use texts::{begin_line, log_lines, runs_table, why_text};

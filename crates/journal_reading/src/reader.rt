@@ -5,7 +5,7 @@ use crate::hearing::{News, Wait, What, hear};
 use crate::job::Asked;
 use crate::past::Past;
 use calendar_due::Zone;
-use ctl_protocol::{LineReader, ReadFault, read_header};
+use ctl_protocol::{Header, LineReader, ReadFault, read_header};
 use history_model::{Act, Answer, Ask, Ended, Event, JobItem, Reading, Refusal};
 use job_defs::read_def;
 use job_table::JobTable;
@@ -49,22 +49,36 @@ fn wait_of(table: &JobTable, label: &str) -> Wait {
 
 /// The journal that a header opens.
 pub(crate) fn open(alloc: Global, line: &[u8]) -> Result<Journal, JournalFault> {
-    let header = match read_header(alloc, line) {
-        Ok(header) => header,
-        Err(ReadFault::NoMemory) => return Err(JournalFault::NoMemory),
-        Err(ReadFault::BadRequest) => return Err(JournalFault::BadHeader),
-    };
-    let Some(zone) = zone_of(alloc, &header.zone)? else {
-        return Err(JournalFault::BadZone);
-    };
+    let reader = LineReader::new(alloc)?;
+    let (zone, table) = opened(alloc, line)?;
+    Ok(Journal {
+        table,
+        zone,
+        past: Past::new(alloc),
+        news: Vec::new(alloc),
+        reader,
+    })
+}
+
+fn opened(alloc: Global, line: &[u8]) -> Result<(Zone, JobTable), JournalFault> {
+    match read_header(alloc, line) {
+        Ok(header) => opened_by(alloc, header),
+        Err(ReadFault::NoMemory) => Err(JournalFault::NoMemory),
+        Err(ReadFault::BadRequest) => Err(JournalFault::BadHeader),
+    }
+}
+
+fn opened_by(alloc: Global, header: Header) -> Result<(Zone, JobTable), JournalFault> {
+    match zone_of(alloc, &header.zone) {
+        Ok(Some(zone)) => table_in(alloc, zone, header),
+        Ok(None) => Err(JournalFault::BadZone),
+        Err(_) => Err(JournalFault::NoMemory),
+    }
+}
+
+fn table_in(alloc: Global, zone: Zone, header: Header) -> Result<(Zone, JobTable), JournalFault> {
     match table_of(alloc, header) {
-        Ok(table) => Ok(Journal {
-            table,
-            zone,
-            past: Past::new(alloc),
-            news: Vec::new(alloc),
-            reader: LineReader::new(alloc)?,
-        }),
+        Ok(table) => Ok((zone, table)),
         Err(OpeningFault::NoMemory) => Err(JournalFault::NoMemory),
         Err(OpeningFault::BadZone) => Err(JournalFault::BadZone),
         Err(_) => Err(JournalFault::BadSettings),
@@ -146,8 +160,8 @@ impl Journal {
         let Ok(def) = read_def(alloc, def.as_bytes()) else {
             return Ok(());
         };
+        self.tell(alloc, def.label(), What::Loaded)?;
         let label = String::from_str(alloc, def.label())?;
-        self.tell(alloc, label.as_str(), What::Loaded)?;
         self.past.load(label, def, at)
     }
 

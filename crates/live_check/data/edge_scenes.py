@@ -1,10 +1,10 @@
 #!/usr/bin/env python3
 """Scenes with a real `jobd serve` whose surroundings are hostile: files, clients, limits and other launchers.
 
-    edge_scenes.py [--jobd WORDS] [--jobctl WORDS] [--by PROGRAM] [--at-once N] [--times] [SCENE..]
+    edge_scenes.py [--jobd WORDS] [--jobctl WORDS] [--jobscope WORDS] [--by PROGRAM] [--at-once N] [--times] [SCENE..]
 
-WORDS start a program; blanks part them. With --by it is PROGRAM, which started this script, as `jobd` and as `jobctl`.
-Without scenes all are played, those of the four other files too, N at a time. Each prints `ok NAME` or
+WORDS start a program; blanks part them. With --by it is PROGRAM, which started this script, as each of the three.
+Without scenes all are played, those of the five other files too, N at a time. Each prints `ok NAME` or
 `FAILED NAME: why`, and the last line counts; --times adds how long it took. The status is 1 if one failed. Each scene has a folder of its
 own below TMPDIR, and every process that it started is ended.
 
@@ -1103,13 +1103,14 @@ def program_words(**how):
     words = argparse.ArgumentParser(**how)
     words.add_argument("--jobd", type=shlex.split, default=[os.path.join(BUILD, "jobd")])
     words.add_argument("--jobctl", type=shlex.split, default=[os.path.join(BUILD, "jobctl")])
+    words.add_argument("--jobscope", type=shlex.split, default=[os.path.join(BUILD, "jobscope")])
     words.add_argument("names", nargs="*", metavar="NAME")
     return words
 
 
 def chosen(words, given, played):
     """Those of the played functions that the words name; all, if they name none. Each program's path is a whole one from here on."""
-    for command in (given.jobd, given.jobctl):
+    for command in (given.jobd, given.jobctl, given.jobscope):
         command[0] = os.path.abspath(command[0])
     unknown = set(given.names) - {it.__name__ for it in played}
     if unknown:
@@ -1126,7 +1127,7 @@ def read_words():
     if given.by:
         # It was started with words before its own if a loader runs it, as under `rt try`.
         front = [word for word in text_at(f"/proc/{os.getppid()}/cmdline").split("\0")[1:] if word]
-        given.jobd, given.jobctl = [given.by, *front, "jobd"], [given.by, *front, "jobctl"]
+        given.jobd, given.jobctl, given.jobscope = ([given.by, *front, name] for name in ("jobd", "jobctl", "jobscope"))
     return given, chosen(words, given, SCENES)
 
 
@@ -1158,5 +1159,10 @@ if __name__ == "__main__":
     import client_scenes
     import user_scenes
     import word_scenes
-    edge_scenes.SCENES += [*job_scenes.SCENES, *client_scenes.SCENES, *user_scenes.SCENES, *word_scenes.SCENES]
+    import scope_scenes
+    edge_scenes.SCENES += [
+        scene
+        for file in (job_scenes, client_scenes, user_scenes, word_scenes, scope_scenes)
+        for scene in file.SCENES
+    ]
     sys.exit(edge_scenes.main())

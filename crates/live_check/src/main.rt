@@ -1,10 +1,12 @@
-//! Runs the launcher as its users do. The program starts itself: with no word it has the scenes of its `data/` played, which start it
-//! again as `live_check jobd ..`, the launcher, and as `live_check jobctl ..`, the control program.
+//! Runs the three programs as their users do. The program starts itself: with no word it has the scenes of its `data/` played, which
+//! start it again as `live_check jobd ..`, the launcher, as `live_check jobctl ..`, the control program, and as
+//! `live_check jobscope ..`, which reads definitions and journals.
 #![tactic(auto)]
 
 use control_client::jobctl;
 use jobd::jobd;
 use live_loop::System;
+use scope::jobscope;
 use std::net::{TcpListener, TcpStream};
 use std::process::{Command, ExitCode};
 use std::sync::Wait;
@@ -14,7 +16,7 @@ const PYTHON: &str = "/usr/bin/python3";
 
 const SCRIPT: &str = "edge_scenes.py";
 
-/// Plays all scenes, with the program at this path as the launcher and as the control program.
+/// Plays all scenes, with the program at this path as each of the three.
 fn are_well(rt: &HostRuntime) -> io::Result<bool> {
     let path = env::current_exe(rt)?;
     let mut command = Command::new(rt.alloc(), PYTHON)?;
@@ -36,6 +38,7 @@ fn status_of<W: System + Wait>(rt: &HostRuntime, waits: &W, words: &[String]) ->
     match words.first() {
         None => u8::from(!are_well(rt).unwrap_or(false)),
         Some(word) if word.as_str() == "jobd" => jobd(rt, waits, rt.alloc(), words),
+        Some(word) if word.as_str() == "jobscope" => jobscope(rt, waits, rt.alloc(), words),
         Some(_) => jobctl(rt, rt.alloc(), words),
     }
 }

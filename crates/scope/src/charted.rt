@@ -151,12 +151,7 @@ pub(crate) fn chart_of(
         },
         places: Vec::new(alloc),
     };
-    rows.add_jobs(alloc, journal, heard.labels)?;
-    rows.places.sort_unstable();
-    rows.add_runs(journal, heard)?;
-    for mark in &heard.marks {
-        rows.add_mark(mark)?;
-    }
+    rows.fill(alloc, journal, heard)?;
     let Rows { chart, .. } = rows;
     Ok(chart)
 }
@@ -169,6 +164,21 @@ struct Rows {
 }
 
 impl Rows {
+    fn fill(
+        &mut self,
+        alloc: Global,
+        journal: &Journal,
+        heard: &Heard<'_>,
+    ) -> Result<(), AllocError> {
+        self.add_jobs(alloc, journal, heard.labels)?;
+        self.places.sort_unstable();
+        self.add_runs(journal, heard)?;
+        for mark in &heard.marks {
+            self.add_mark(mark)?;
+        }
+        Ok(())
+    }
+
     fn add_jobs(
         &mut self,
         alloc: Global,
@@ -185,15 +195,14 @@ impl Rows {
 
     fn add_job(&mut self, alloc: Global, label: &str, serial: u64) -> Result<(), AllocError> {
         self.places.push((serial, self.chart.rows.len()))?;
-        Ok(
-            self.chart.rows.push(Row {
-                label: String::from_str(alloc, label)?,
-                bars: Vec::new(alloc),
-                demands: Vec::new(alloc),
-                throttles: Vec::new(alloc),
-                refusals: Vec::new(alloc),
-            })?,
-        )
+        let row = Row {
+            label: String::from_str(alloc, label)?,
+            bars: Vec::new(alloc),
+            demands: Vec::new(alloc),
+            throttles: Vec::new(alloc),
+            refusals: Vec::new(alloc),
+        };
+        Ok(self.chart.rows.push(row)?)
     }
 
     // Where the row of the job stands.

@@ -4,14 +4,15 @@ use crate::files::{bytes_of, is_empty_folder, now};
 use crate::telling::Outcome;
 use crate::there::add_missing;
 use crate::zone::zone_of;
+use calendar_due::Zone;
 use exit_status::{BAD_CLOCK, BAD_FILE, REFUSED};
 use history_model::KeyName;
 use job_defs::Def;
+use launchctl_words::{Paths, ZoneWords};
 use path_files::{Found, files_at};
 use scope_check::{
     Change, Checked, Grade, Remark, changes_in_year, check_def, finding_line, place_of, summary_of,
 };
-use scope_words::{Paths, ZoneWords};
 use std::alloc::{AllocError, Global};
 
 /// A label, and the file that has it.
@@ -41,13 +42,23 @@ pub(crate) fn check(
     zone: &ZoneWords,
     paths: &Paths,
 ) -> Result<Outcome, AllocError> {
-    let Some(zone) = zone_of(host, alloc, zone)? else {
-        return Ok(Outcome::failed(alloc, BAD_FILE));
-    };
+    match zone_of(host, alloc, zone)? {
+        Some(zone) => check_in(host, alloc, is_strict, &zone, paths),
+        None => Ok(Outcome::failed(alloc, BAD_FILE)),
+    }
+}
+
+fn check_in(
+    host: &HostRuntime,
+    alloc: Global,
+    is_strict: bool,
+    zone: &Zone,
+    paths: &Paths,
+) -> Result<Outcome, AllocError> {
     let Some(second) = now(host) else {
         return Ok(Outcome::failed(alloc, BAD_CLOCK));
     };
-    let changes = changes_in_year(alloc, &zone, second)?;
+    let changes = changes_in_year(alloc, zone, second)?;
     let mut findings = Findings {
         text: String::new(alloc),
         labels: Vec::new(alloc),
@@ -99,9 +110,7 @@ fn check_bytes(
     let path = file.path.as_str();
     match check_def(alloc, bytes, changes)? {
         Checked::Loads { def, mut remarks } => {
-            add_missing(host, alloc, bytes, &def, &mut remarks)?;
-            add_label(alloc, bytes, path, &def, findings, &mut remarks)?;
-            add_loading(alloc, path, &def, remarks.as_slice(), findings)
+            add_definition(host, alloc, path, bytes, &def, &mut remarks, findings)
         }
         Checked::Refused { place, text, .. } => {
             findings.has_errors = true;
@@ -109,6 +118,21 @@ fn check_bytes(
             findings.text.push_str(line.as_str())
         }
     }
+}
+
+// Adds what is found of a definition that loads, behind the remarks on its text.
+fn add_definition(
+    host: &HostRuntime,
+    alloc: Global,
+    path: &str,
+    bytes: &[u8],
+    def: &Def,
+    remarks: &mut Vec<Remark>,
+    findings: &mut Findings,
+) -> Result<(), AllocError> {
+    add_missing(host, alloc, bytes, def, remarks)?;
+    add_label(alloc, bytes, path, def, findings, remarks)?;
+    add_loading(alloc, path, def, remarks.as_slice(), findings)
 }
 
 // Adds a remark if a file before has the same label, and keeps the label.

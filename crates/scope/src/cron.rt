@@ -2,8 +2,8 @@
 
 use crate::telling::{Outcome, tell_error, tell_of};
 use exit_status::{BAD_FILE, REFUSED};
+use launchctl_words::Paths;
 use scope_cron::{Line, LineFault, definition_of, read_line};
-use scope_words::Paths;
 use std::alloc::{AllocError, Global};
 use std::io::Read;
 

@@ -2,9 +2,9 @@
 
 use crate::listener::Listener;
 use crate::telling::tell_of;
+use crate::words::command::JournalWords;
 use exit_status::BAD_FILE;
 use journal_reading::{JournalFault, JournalReader};
-use scope_words::JournalWords;
 use std::alloc::{AllocError, Global};
 use std::env::VarError;
 use std::fs::File;
@@ -126,15 +126,11 @@ pub(crate) fn open_journal(host: &HostRuntime, path: &str) -> io::Result<File> {
 }
 
 /// Tells what keeps the journal from being read, and answers the exit status. An error for want of memory.
-pub(crate) fn tell_fault(
-    host: &HostRuntime,
-    name: &str,
-    fault: &JournalFault,
-) -> Result<u8, AllocError> {
+pub(crate) fn tell_fault(host: &HostRuntime, name: &str, fault: JournalFault) -> io::Result<u8> {
     match fault {
-        JournalFault::NoMemory => Err(AllocError),
+        JournalFault::NoMemory => Err(io::Error::from(ErrorKind::OutOfMemory)),
         fault => {
-            tell_of(host, name, fault);
+            tell_of(host, name, &fault);
             Ok(BAD_FILE)
         }
     }
@@ -194,19 +190,28 @@ pub(crate) fn read_journal(
     of: &JournalWords,
     feed: &mut Feed,
     listener: &mut Listener<'_>,
-) -> Result<Option<u8>, AllocError> {
+) -> io::Result<Option<u8>> {
     let path = journal_path(host, of)?;
     let name = name_of(&path);
-    let read = match source_of(host, &path) {
+    match read_path(host, alloc, &path, feed, listener) {
+        Ok(()) => Ok(Some(tell_bad(host, name, &feed.reader))),
+        Err(fault) => match tell_fault(host, name, fault) {
+            Ok(_) => Ok(None),
+            Err(error) => Err(error),
+        },
+    }
+}
+
+fn read_path(
+    host: &HostRuntime,
+    alloc: Global,
+    path: &Option<String>,
+    feed: &mut Feed,
+    listener: &mut Listener<'_>,
+) -> Result<(), JournalFault> {
+    match source_of(host, path) {
         Ok(mut source) => read_source(host, alloc, &mut source, feed, listener),
         Err(error) => Err(JournalFault::Read(error)),
-    };
-    match read {
-        Ok(()) => Ok(Some(tell_bad(host, name, &feed.reader))),
-        Err(fault) => {
-            let _status = tell_fault(host, name, &fault)?;
-            Ok(None)
-        }
     }
 }
 

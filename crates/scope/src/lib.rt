@@ -15,6 +15,7 @@ mod program;
 mod report;
 mod telling;
 mod there;
+mod words;
 mod zone;
 
 pub use program::jobscope;

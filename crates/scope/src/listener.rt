@@ -3,8 +3,7 @@
 use crate::charted::Heard;
 use calendar_due::Zone;
 use history_model::Text;
-use journal_reading::{Journal, JournalReader};
-use journal_texts::{begin_line, log_lines};
+use journal_reading::{Journal, JournalReader, begin_line, log_lines};
 use std::alloc::{AllocError, Global};
 
 /// Who hears what each line of a journal gave.

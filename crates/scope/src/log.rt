@@ -5,9 +5,9 @@ use crate::journal::{
 };
 use crate::listener::{Listener, Shown};
 use crate::telling::put;
+use crate::words::command::JournalWords;
 use journal_reading::JournalFault;
-use scope_times::utc;
-use scope_words::JournalWords;
+use run_times::utc;
 use std::alloc::Global;
 use std::fs::File;
 use std::io::{ErrorKind, Read, Seek, SeekFrom};
@@ -29,13 +29,13 @@ pub(crate) fn log<W: Wait>(
     since: Option<u64>,
     of: &JournalWords,
 ) -> io::Result<u8> {
+    let path = journal_path(host, of)?;
     let mut listener = Listener::Log(Shown {
         zone: if of.is_utc { Some(utc()) } else { None },
         since: since.unwrap_or(0),
         labels: of.labels.as_slice(),
         text: String::new(alloc),
     });
-    let path = journal_path(host, of)?;
     match &path {
         Some(path) if follows => follow(host, waits, alloc, path.as_str(), &mut listener),
         _ => log_once(host, alloc, &path, &mut listener),
@@ -56,8 +56,8 @@ fn log_once(
     };
     match (fault, feed.reader.journal()) {
         (None, Some(_)) => Ok(tell_bad(host, name, &feed.reader)),
-        (Some(fault), _) => Ok(tell_fault(host, name, &fault)?),
-        (None, None) => Ok(tell_fault(host, name, &JournalFault::NoHeader)?),
+        (Some(fault), _) => tell_fault(host, name, fault),
+        (None, None) => tell_fault(host, name, JournalFault::NoHeader),
     }
 }
 
@@ -102,7 +102,7 @@ fn follow<W: Wait>(
     let mut told: u64 = 0;
     for _ in waits.forever() {
         if let Some(fault) = look(host, alloc, path, &mut feed, listener)? {
-            return Ok(tell_fault(host, path, &fault)?);
+            return tell_fault(host, path, fault);
         }
         if feed.reader.bad > told {
             let _status = tell_bad(host, path, &feed.reader);

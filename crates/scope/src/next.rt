@@ -8,9 +8,9 @@ use calendar_due::Zone;
 use exit_status::{BAD_CLOCK, BAD_FILE};
 use history_model::MAX_WALL;
 use job_defs::{Def, DefFault, read_def};
+use launchctl_words::{Paths, ZoneWords};
 use path_files::{Found, files_at};
-use scope_times::{span_text, time_text};
-use scope_words::{Paths, ZoneWords};
+use run_times::{span_text, time_text};
 use std::alloc::{AllocError, Global};
 
 /// A definition, and when the clock wants it next: by an entry of its calendar, and by its interval.
@@ -32,9 +32,20 @@ pub(crate) fn next(
     zone: &ZoneWords,
     paths: &Paths,
 ) -> Result<Outcome, AllocError> {
-    let Some(zone) = zone_of(host, alloc, zone)? else {
-        return Ok(Outcome::failed(alloc, BAD_FILE));
-    };
+    match zone_of(host, alloc, zone)? {
+        Some(zone) => next_in(host, alloc, count, from, &zone, paths),
+        None => Ok(Outcome::failed(alloc, BAD_FILE)),
+    }
+}
+
+fn next_in(
+    host: &HostRuntime,
+    alloc: Global,
+    count: u64,
+    from: Option<u64>,
+    zone: &Zone,
+    paths: &Paths,
+) -> Result<Outcome, AllocError> {
     let from = match from {
         Some(second) => Some(second.min(MAX_WALL)),
         None => now(host),
@@ -43,8 +54,8 @@ pub(crate) fn next(
         return Ok(Outcome::failed(alloc, BAD_CLOCK));
     };
     let mut jobs = Vec::new(alloc);
-    let is_well = add_jobs(host, alloc, paths, &zone, from, &mut jobs)?;
-    let text = starts_text(alloc, count, from, &zone, &mut jobs)?;
+    let is_well = add_jobs(host, alloc, paths, zone, from, &mut jobs)?;
+    let text = starts_text(alloc, count, from, zone, &mut jobs)?;
     let status = if is_well { 0 } else { BAD_FILE };
     Ok(Outcome { text, status })
 }

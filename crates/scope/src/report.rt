@@ -5,14 +5,13 @@ use crate::journal::{Feed, read_journal};
 use crate::listener::Listener;
 use crate::page::coming_of;
 use crate::telling::{put, tell_of};
+use crate::words::command::JournalWords;
 use calendar_due::Zone;
 use exit_status::BAD_FILE;
 use history_model::Text;
-use journal_reading::Journal;
-use journal_texts::{runs_table, why_text};
+use journal_reading::{Journal, runs_table, why_text};
+use run_times::utc;
 use scope_picture::{Chart, Page, blocks_text, page_piece, svg_piece};
-use scope_times::utc;
-use scope_words::JournalWords;
 use std::alloc::Global;
 use std::io::IsTerminal;
 use std::{env, io};
@@ -144,8 +143,18 @@ fn paint_page(
         why: why.as_str(),
         coming: coming.as_slice(),
     };
+    put_page(host, alloc, zone, chart, &beside)
+}
+
+fn put_page(
+    host: &HostRuntime,
+    alloc: Global,
+    zone: &Zone,
+    chart: &Chart,
+    beside: &Page<'_>,
+) -> io::Result<()> {
     for index in 0..usize::MAX {
-        match page_piece(alloc, zone, chart, &beside, index)? {
+        match page_piece(alloc, zone, chart, beside, index)? {
             Some(piece) => put(host, piece.as_str())?,
             None => break,
         }

@@ -2,9 +2,9 @@
 
 use crate::telling::{tell_error, tell_of};
 use calendar_due::{LONGEST_FILE, Zone, ZoneFault};
+use launchctl_words::ZoneWords;
 use path_files::read_file;
-use scope_times::utc;
-use scope_words::ZoneWords;
+use run_times::utc;
 use std::alloc::{AllocError, Global};
 
 /// The zone that the words name; UTC if they name none. None: the rule or the file tells no zone, and this was told.

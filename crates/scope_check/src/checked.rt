@@ -4,7 +4,7 @@ ghost use Rattle.std.specs.Prelude.{IfOk};
 ghost use Rattle.scope_check.specs.Verdict.{IsVerdict};
 
 use crate::changes::Change;
-use crate::conduct::remarks_of;
+use crate::conduct::add_remarks;
 use crate::finding::{Place, Remark};
 use crate::refusal::refusal_in;
 use history_model::{KeyName, Reason};
@@ -36,7 +36,8 @@ pub fn check_def(alloc: Global, bytes: &[u8], changes: &[Change]) -> Result<Chec
 {
     match read_def(alloc, bytes) {
         Ok(def) => {
-            let remarks = remarks_of(alloc, bytes, &def, changes)?;
+            let mut remarks = Vec::new(alloc);
+            add_remarks(alloc, bytes, &def, changes, &mut remarks)?;
             Ok(Checked::Loads { def, remarks })
         }
         Err(DefFault::Bad { reason, key }) => {

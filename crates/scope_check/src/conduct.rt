@@ -11,26 +11,25 @@ use job_defs::Def;
 use json_kinds::key_name;
 use std::alloc::{AllocError, Global};
 
-/// The remarks on a definition that was read from these bytes: first the keys that nothing acts on, then what it starts, then how.
-pub(crate) fn remarks_of(
+/// Adds the remarks on a definition that was read from these bytes: first the keys that nothing acts on, then what it starts, then how.
+pub(crate) fn add_remarks(
     alloc: Global,
     bytes: &[u8],
     def: &Def,
     changes: &[Change],
-) -> Result<Vec<Remark>, AllocError> {
-    let mut remarks = Vec::new(alloc);
+    remarks: &mut Vec<Remark>,
+) -> Result<(), AllocError> {
     let Ok(text) = std::str::from_utf8(bytes) else {
-        return Ok(remarks);
+        return Ok(());
     };
     for name in def.not_acted_on() {
         remarks.push(ignored_remark(alloc, text, name.as_str())?)?;
     }
-    add_starts(alloc, text, def, &mut remarks)?;
-    add_entries(alloc, text, def.calendar(), changes, &mut remarks)?;
-    add_command(alloc, text, def, &mut remarks)?;
-    add_paths(alloc, text, def, &mut remarks)?;
-    add_variables(alloc, text, &mut remarks)?;
-    Ok(remarks)
+    add_starts(alloc, text, def, remarks)?;
+    add_entries(alloc, text, def.calendar(), changes, remarks)?;
+    add_command(alloc, text, def, remarks)?;
+    add_paths(alloc, text, def, remarks)?;
+    add_variables(alloc, text, remarks)
 }
 
 fn add(
@@ -40,6 +39,21 @@ fn add(
     told: &str,
     remarks: &mut Vec<Remark>,
 ) -> Result<(), AllocError> {
+    add_if(true, alloc, text, key, told, remarks)
+}
+
+// Adds a remark on the key, if it holds.
+fn add_if(
+    holds: bool,
+    alloc: Global,
+    text: &str,
+    key: KeyName,
+    told: &str,
+    remarks: &mut Vec<Remark>,
+) -> Result<(), AllocError> {
+    if !holds {
+        return Ok(());
+    }
     let place = place_of(alloc, text.as_bytes(), key, None)?;
     let grade = match key {
         KeyName::DisabledKey => Grade::Note,
@@ -77,36 +91,50 @@ fn add_starts(
     def: &Def,
     remarks: &mut Vec<Remark>,
 ) -> Result<(), AllocError> {
-    if !is_started(def) {
-        let told = "nothing starts this job but jobctl start or kickstart";
-        add(alloc, text, KeyName::Label, told, remarks)?;
-    }
-    if conditions(def) > 1 {
-        let told =
-            "KeepAlive: one of its conditions suffices to keep the job running; they need not hold together";
-        add(alloc, text, KeyName::KeepAlive, told, remarks)?;
-    }
+    let told = "nothing starts this job but jobctl start or kickstart";
+    add_if(!is_started(def), alloc, text, KeyName::Label, told, remarks)?;
+    let told =
+        "KeepAlive: one of its conditions suffices to keep the job running; they need not hold together";
+    add_if(
+        conditions(def) > 1,
+        alloc,
+        text,
+        KeyName::KeepAlive,
+        told,
+        remarks,
+    )?;
+    add_interval(alloc, text, def, remarks)?;
+    let is_slow = def.has_sockets() && !has_key(alloc, text, KeyName::ThrottleInterval)?;
+    let told =
+        "Sockets: the default ThrottleInterval of 10 lets a client wait up to 10 s for the next start; give a smaller one, as 0 or 1";
+    add_if(is_slow, alloc, text, KeyName::Sockets, told, remarks)?;
+    let told =
+        "Disabled: a load leaves this job out, unless jobctl enable or load -w or -F says otherwise";
+    add_if(
+        def.disabled(),
+        alloc,
+        text,
+        KeyName::DisabledKey,
+        told,
+        remarks,
+    )
+}
+
+fn add_interval(
+    alloc: Global,
+    text: &str,
+    def: &Def,
+    remarks: &mut Vec<Remark>,
+) -> Result<(), AllocError> {
     let throttle = u64::from(def.throttle_interval());
-    if let Some(interval) = def.start_interval() {
-        let interval = u64::from(interval);
-        if interval < throttle {
-            let told = format!(in alloc;
-                "StartInterval is {interval}, less than ThrottleInterval: starts are {throttle} s apart at least"
-            )?;
-            add(alloc, text, KeyName::StartInterval, told.as_str(), remarks)?;
-        }
+    let interval = u64::from(def.start_interval().unwrap_or(u32::MAX));
+    if interval >= throttle {
+        return Ok(());
     }
-    if def.has_sockets() && !has_key(alloc, text, KeyName::ThrottleInterval)? {
-        let told =
-            "Sockets: the default ThrottleInterval of 10 lets a client wait up to 10 s for the next start; give a smaller one, as 0 or 1";
-        add(alloc, text, KeyName::Sockets, told, remarks)?;
-    }
-    if def.disabled() {
-        let told =
-            "Disabled: a load leaves this job out, unless jobctl enable or load -w or -F says otherwise";
-        add(alloc, text, KeyName::DisabledKey, told, remarks)?;
-    }
-    Ok(())
+    let told = format!(in alloc;
+        "StartInterval is {interval}, less than ThrottleInterval: starts are {throttle} s apart at least"
+    )?;
+    add(alloc, text, KeyName::StartInterval, told.as_str(), remarks)
 }
 
 // Whether the text looks like a command line: behind a blank comes an option or a path, or the first word is no whole path.

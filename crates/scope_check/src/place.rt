@@ -141,12 +141,17 @@ fn in_array(reader: &mut Reader<'_>, text: &str, top: Spot, index: Option<usize>
 fn find_key(reader: &mut Reader<'_>, text: &str, wanted: &str) -> Option<Spot> {
     for _k in 0..text.len() {
         let key = begin_at(text, reader.offset());
-        let found = reader.next_key().ok()??;
-        if found == wanted {
+        let is_found = match reader.next_key() {
+            Ok(Some(found)) => found == wanted,
+            _ => return None,
+        };
+        if is_found {
             let value = begin_at(text, reader.offset());
             return Some(Spot { key, value });
         }
-        reader.skip_value(DEPTH).ok()?;
+        if reader.skip_value(DEPTH).is_err() {
+            return None;
+        }
     }
     None
 }

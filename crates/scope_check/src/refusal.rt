@@ -9,6 +9,7 @@ use history_model::{KeyName, Reason};
 use json_kinds::{json_value, key_name};
 use serde_json::Value;
 use std::alloc::{AllocError, Global};
+use std::fmt::Write;
 
 /// The place and the text of a refusal.
 pub(crate) fn refusal_in(
@@ -17,13 +18,22 @@ pub(crate) fn refusal_in(
     reason: Reason,
     key: KeyName,
 ) -> Result<(Option<Place>, String), AllocError> {
-    let value = match json_value(alloc, bytes)? {
-        Some(value) => value,
+    match json_value(alloc, bytes)? {
+        Some(value) => refusal_of(alloc, bytes, &value, reason, key),
         None => {
             let (place, told) = broken_in(alloc, bytes)?;
-            return Ok((place, String::from_str(alloc, told)?));
+            Ok((place, String::from_str(alloc, told)?))
         }
-    };
+    }
+}
+
+fn refusal_of(
+    alloc: Global,
+    bytes: &[u8],
+    value: &Value,
+    reason: Reason,
+    key: KeyName,
+) -> Result<(Option<Place>, String), AllocError> {
     let Ok(text) = std::str::from_utf8(bytes) else {
         return Ok((None, String::new(alloc)));
     };
@@ -104,69 +114,81 @@ fn told_of(
 }
 
 fn told_wanted(alloc: Global, culprit: &Culprit<'_>, name: &str) -> Result<String, AllocError> {
-    let is = shown(alloc, culprit.value)?;
-    let wanted = wanted_text(alloc, culprit.wanted, culprit.value)?;
+    let mut told = String::from_str(alloc, name)?;
+    add_told(alloc, &mut told, culprit)?;
+    Ok(told)
+}
+
+// Adds where the value stands, what it is, and what is wanted.
+fn add_told(alloc: Global, told: &mut String, culprit: &Culprit<'_>) -> Result<(), AllocError> {
+    add_way(told, culprit)?;
+    told.push_str(" is ")?;
+    add_shown(alloc, told, culprit.value)?;
+    told.push_str(", wanted ")?;
+    add_wanted(told, culprit.wanted, culprit.value)
+}
+
+fn add_way(told: &mut String, culprit: &Culprit<'_>) -> Result<(), AllocError> {
     match (culprit.inside, culprit.index, culprit.below) {
         (Some(inside), _, Some((_, below))) if !below.is_empty() => {
-            format!(in alloc; "{name}: {inside}: {below} is {is}, wanted {wanted}")
+            write!(told, ": {inside}: {below}")
         }
-        (Some(inside), _, _) => format!(in alloc; "{name}: {inside} is {is}, wanted {wanted}"),
+        (Some(inside), _, _) => write!(told, ": {inside}"),
         (None, Some(index), _) => {
             let number = index.saturating_add(1);
-            format!(in alloc; "{name}: member {number} is {is}, wanted {wanted}")
+            write!(told, ": member {number}")
         }
-        (None, None, _) => format!(in alloc; "{name} is {is}, wanted {wanted}"),
+        (None, None, _) => Ok(()),
     }
 }
 
 // The longest text that is shown itself, in bytes.
 const SHOWN: usize = 40;
 
-// What a value is: a number, a word or a short text itself, of others the kind and the size.
-fn shown(alloc: Global, value: &Value) -> Result<String, AllocError> {
+// Adds what a value is: a number, a word or a short text itself, of others the kind and the size.
+fn add_shown(alloc: Global, told: &mut String, value: &Value) -> Result<(), AllocError> {
     if let Some(text) = value.as_str() {
-        return shown_text(alloc, text);
+        return add_shown_text(told, text);
     }
-    if let Some(items) = value.as_array() {
-        let count = items.len();
-        return format!(in alloc; "an array of {count}");
-    }
-    if let Some(members) = value.as_object() {
-        let count = members.len();
-        return format!(in alloc; "a dictionary of {count}");
-    }
-    value.to_string(alloc)
+    let (kind, count) = match (value.as_array(), value.as_object()) {
+        (Some(items), _) => ("an array of ", items.len()),
+        (_, Some(members)) => ("a dictionary of ", members.len()),
+        _ => {
+            let text = value.to_string(alloc)?;
+            return told.push_str(text.as_str());
+        }
+    };
+    write!(told, "{kind}{count}")
 }
 
-fn shown_text(alloc: Global, text: &str) -> Result<String, AllocError> {
+fn add_shown_text(told: &mut String, text: &str) -> Result<(), AllocError> {
     let count = text.len();
     if count == 0 {
-        String::from_str(alloc, "an empty text")
+        told.push_str("an empty text")
     } else if count <= SHOWN {
-        format!(in alloc; "{text:?}")
+        write!(told, "{text:?}")
     } else {
-        format!(in alloc; "a text of {count} bytes")
+        write!(told, "a text of {count} bytes")
     }
 }
 
-fn wanted_text(alloc: Global, wanted: Wanted, value: &Value) -> Result<String, AllocError> {
+fn add_wanted(told: &mut String, wanted: Wanted, value: &Value) -> Result<(), AllocError> {
     match wanted {
-        Wanted::Flag => String::from_str(alloc, "true or false"),
-        Wanted::Number { low, high } if value.as_i64().is_some() => {
-            format!(in alloc; "{low} to {high}")
+        Wanted::Flag => told.push_str("true or false"),
+        Wanted::Number { low, high } => {
+            let kind = if value.as_i64().is_some() {
+                ""
+            } else {
+                "a whole number, "
+            };
+            write!(told, "{kind}{low} to {high}")
         }
-        Wanted::Number { low, high } => format!(in alloc; "a whole number, {low} to {high}"),
-        Wanted::Text {
-            limit,
-            is_filled: true,
-        } => format!(in alloc; "a text of 1 to {limit} bytes, none of them 0"),
-        Wanted::Text { limit, .. } => {
-            format!(in alloc; "a text of at most {limit} bytes, none of them 0")
+        Wanted::Text { limit, is_filled } => {
+            let range = if is_filled { "1 to" } else { "at most" };
+            write!(told, "a text of {range} {limit} bytes, none of them 0")
         }
-        Wanted::Array { most, of } => format!(in alloc; "an array of at most {most} {of}"),
-        Wanted::Dictionary { most, of } => {
-            format!(in alloc; "a dictionary of at most {most} {of}")
-        }
-        Wanted::Said(words) => String::from_str(alloc, words),
+        Wanted::Array { most, of } => write!(told, "an array of at most {most} {of}"),
+        Wanted::Dictionary { most, of } => write!(told, "a dictionary of at most {most} {of}"),
+        Wanted::Said(words) => told.push_str(words),
     }
 }

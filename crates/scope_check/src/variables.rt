@@ -4,7 +4,7 @@ use crate::finding::{Grade, Remark};
 use crate::place::{Way, place_by};
 use history_model::KeyName;
 use json_kinds::{json_value, key_name};
-use serde_json::{Map, Value};
+use serde_json::Value;
 use std::alloc::{AllocError, Global};
 
 /// The remarks on variables of the environment whose values are no texts: they are left out.
@@ -13,10 +13,22 @@ pub(crate) fn add_variables(
     text: &str,
     remarks: &mut Vec<Remark>,
 ) -> Result<(), AllocError> {
-    let Some(value) = json_value(alloc, text.as_bytes())? else {
+    match json_value(alloc, text.as_bytes())? {
+        Some(value) => add_from(alloc, text, &value, remarks),
+        None => Ok(()),
+    }
+}
+
+fn add_from(
+    alloc: Global,
+    text: &str,
+    value: &Value,
+    remarks: &mut Vec<Remark>,
+) -> Result<(), AllocError> {
+    let Some(found) = value.get(key_name(KeyName::EnvironmentVariables)) else {
         return Ok(());
     };
-    let Some(members) = variables_in(&value) else {
+    let Some(members) = found.as_object() else {
         return Ok(());
     };
     for (name, found) in members.iter() {
@@ -25,12 +37,6 @@ pub(crate) fn add_variables(
         }
     }
     Ok(())
-}
-
-fn variables_in(value: &Value) -> Option<&Map<String, Value>> {
-    value
-        .get(key_name(KeyName::EnvironmentVariables))?
-        .as_object()
 }
 
 fn add_unset(

@@ -6,6 +6,7 @@ use crate::line::When;
 use history_model::Entry;
 use serde_json::Value;
 use std::alloc::{AllocError, Global};
+use std::fmt::Write;
 
 /// The longest name that stands in a label, in bytes.
 const LONGEST_NAME: usize = 64;
@@ -98,34 +99,31 @@ fn calendar_text(alloc: Global, entries: &[Entry]) -> Result<String, AllocError>
         if !text.is_empty() {
             text.push_str(", ")?;
         }
-        add_entry(alloc, &mut text, entry)?;
+        add_entry(&mut text, entry)?;
     }
     Ok(text)
 }
 
-fn add_entry(alloc: Global, text: &mut String, entry: &Entry) -> Result<(), AllocError> {
-    let mut keys = String::new(alloc);
-    add_key(alloc, &mut keys, "Minute", entry.minute)?;
-    add_key(alloc, &mut keys, "Hour", entry.hour)?;
-    add_key(alloc, &mut keys, "Day", entry.day)?;
-    add_key(alloc, &mut keys, "Month", entry.month)?;
-    add_key(alloc, &mut keys, "Weekday", entry.weekday)?;
+fn add_entry(text: &mut String, entry: &Entry) -> Result<(), AllocError> {
     text.push('{')?;
-    text.push_str(keys.as_str())?;
+    add_key(text, "Minute", entry.minute)?;
+    add_key(text, "Hour", entry.hour)?;
+    add_key(text, "Day", entry.day)?;
+    add_key(text, "Month", entry.month)?;
+    add_key(text, "Weekday", entry.weekday)?;
     text.push('}')
 }
 
-fn add_key(
-    alloc: Global,
-    keys: &mut String,
-    name: &str,
-    value: Option<u8>,
-) -> Result<(), AllocError> {
+// Adds a key of the entry that the text ends with, if it has the value.
+fn add_key(text: &mut String, name: &str, value: Option<u8>) -> Result<(), AllocError> {
     let Some(value) = value else {
         return Ok(());
     };
     let value = usize::from(value);
-    let between = if keys.is_empty() { "" } else { ", " };
-    let text = format!(in alloc; "{between}\"{name}\": {value}")?;
-    keys.push_str(text.as_str())
+    let between = if text.as_str().ends_with("{") {
+        ""
+    } else {
+        ", "
+    };
+    write!(text, "{between}\"{name}\": {value}")
 }

@@ -129,20 +129,24 @@ fn no_name(alloc: Global, name: &str) -> LineFault {
     ))
 }
 
+/// The fields that a name stands for.
+const NAMED: [(&str, &str); 7] = [
+    ("@yearly", "0 0 1 1 *"),
+    ("@annually", "0 0 1 1 *"),
+    ("@monthly", "0 0 1 * *"),
+    ("@weekly", "0 0 * * 0"),
+    ("@daily", "0 0 * * *"),
+    ("@midnight", "0 0 * * *"),
+    ("@hourly", "0 * * * *"),
+];
+
 fn fields_named(name: &str) -> Option<&'static str> {
-    if name == "@yearly" || name == "@annually" {
-        Some("0 0 1 1 *")
-    } else if name == "@monthly" {
-        Some("0 0 1 * *")
-    } else if name == "@weekly" {
-        Some("0 0 * * 0")
-    } else if name == "@daily" || name == "@midnight" {
-        Some("0 0 * * *")
-    } else if name == "@hourly" {
-        Some("0 * * * *")
-    } else {
-        None
+    for (known, fields) in NAMED.iter() {
+        if *known == name {
+            return Some(*fields);
+        }
     }
+    None
 }
 
 // Whether a `%` stands there with no `\` before it.

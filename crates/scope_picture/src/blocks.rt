@@ -1,13 +1,11 @@
 //! The chart in lines of a terminal: bars of block characters, and a line of marks under a row that has some.
 
 use crate::axis::Axis;
-use crate::chart::{Chart, Mark, Row, gravity};
+use crate::chart::{Bar, Chart, Mark, Row, gravity};
 use crate::escape::is_unwritable;
 use crate::ticks::{Tick, ticks};
-use crate::words::{columns_of, cut_text, missing_words};
+use crate::words::{add_moment, columns_of, cut_text, missing_words};
 use calendar_due::Zone;
-use history_model::MAX_WALL;
-use scope_times::time_text;
 use std::alloc::{AllocError, Global};
 
 /// The block of a bar by how grave its end is.
@@ -55,70 +53,69 @@ pub fn blocks_text(
         column,
         axis: Axis::new(chart.axis.from, chart.axis.until, room as u16),
     };
-    screen.add_span(width)?;
-    for row in &chart.rows {
-        screen.add_row(row)?;
-    }
-    screen.add_axis()?;
-    screen.add_pieces(LEGEND, '\n', "  ", width)?;
-    let missing = missing_words(alloc, chart)?;
-    for sentence in &missing {
-        screen.add_pieces(sentence.as_str(), ' ', " ", width)?;
-    }
+    screen.fill(chart, width)?;
     let Screen { text, .. } = screen;
     Ok(text)
 }
 
 impl Screen<'_> {
+    fn fill(&mut self, chart: &Chart, width: usize) -> Result<(), AllocError> {
+        self.add_span(width)?;
+        for row in &chart.rows {
+            self.add_row(row)?;
+        }
+        self.add_axis()?;
+        self.add_pieces(LEGEND, '\n', "  ", width)?;
+        let missing = missing_words(self.alloc, chart)?;
+        for sentence in &missing {
+            self.add_pieces(sentence.as_str(), ' ', " ", width)?;
+        }
+        Ok(())
+    }
+
     // Adds a line: the label in its column, cut if it is longer and with control characters as question marks, a space, and the cells.
     // Spaces at its end are left out.
     fn add_line(&mut self, label: &str, cells: &[char]) -> Result<(), AllocError> {
         let label = cut_text(self.alloc, label, self.column)?;
-        let mut line = Vec::new(self.alloc);
-        for c in label.as_str().chars() {
-            line.push(if is_unwritable(c) { '?' } else { c })?;
-        }
-        for _ in columns_of(label.as_str())..self.column.saturating_add(1) {
-            line.push(' ')?;
-        }
-        line.extend_from_slice(cells)?;
-        let mut spaces: usize = 0;
-        for c in &line {
-            if *c == ' ' {
-                spaces = spaces.saturating_add(1);
-                continue;
-            }
-            for _ in 0..spaces {
-                self.text.push(' ')?;
-            }
-            spaces = 0;
-            self.text.push(*c)?;
-        }
+        let line = self.line_of(label.as_str(), cells)?;
+        self.text.push_str(line.as_str().trim_end_matches(' '))?;
         self.text.push('\n')
     }
 
+    fn line_of(&self, label: &str, cells: &[char]) -> Result<String, AllocError> {
+        let mut line = String::new(self.alloc);
+        for c in label.chars() {
+            line.push(if is_unwritable(c) { '?' } else { c })?;
+        }
+        for _ in columns_of(label)..self.column.saturating_add(1) {
+            line.push(' ')?;
+        }
+        for c in cells {
+            line.push(*c)?;
+        }
+        Ok(line)
+    }
+
+    // The graver bar stands over the others of its place.
     fn add_row(&mut self, row: &Row) -> Result<(), AllocError> {
         let mut cells = self.empty_cells()?;
-        let mut graves = Vec::new(self.alloc);
-        for _ in 0..self.axis.places {
-            graves.push(0u8)?;
-        }
-        for bar in &row.bars {
-            let (first, past) = self.axis.filled(bar.from, bar.until);
-            let grave = gravity(bar.end).saturating_add(1);
-            for place in first..past {
-                if let Some(held) = graves.get_mut(usize::from(place)) {
-                    *held = grave.max(*held);
-                }
-            }
-        }
-        for (place, grave) in graves.iter().enumerate() {
-            if let Some(block) = BLOCKS.get(usize::from(*grave).wrapping_sub(1)) {
-                put(&mut cells, place, *block);
-            }
+        for (grave, block) in BLOCKS.iter().enumerate() {
+            self.put_bars(&mut cells, row.bars.as_slice(), grave, *block);
         }
         self.add_line(row.label.as_str(), cells.as_slice())?;
         self.add_marks(row)
+    }
+
+    // Puts the bars whose end is so grave.
+    fn put_bars(&self, cells: &mut Vec<char>, bars: &[Bar], grave: usize, block: char) {
+        for bar in bars {
+            if usize::from(gravity(bar.end)) == grave {
+                let (first, past) = self.axis.filled(bar.from, bar.until);
+                for place in first..past {
+                    put(cells, usize::from(place), block);
+                }
+            }
+        }
     }
 
     fn empty_cells(&self) -> Result<Vec<char>, AllocError> {
@@ -174,9 +171,10 @@ impl Screen<'_> {
 
     // From when to when.
     fn add_span(&mut self, width: usize) -> Result<(), AllocError> {
-        let from = time_text(self.alloc, self.zone, self.axis.from.min(MAX_WALL))?;
-        let until = time_text(self.alloc, self.zone, self.axis.until.min(MAX_WALL))?;
-        let span = format!(in self.alloc; "{from}\nto {until}")?;
+        let mut span = String::new(self.alloc);
+        add_moment(self.alloc, &mut span, self.zone, self.axis.from)?;
+        span.push_str("\nto ")?;
+        add_moment(self.alloc, &mut span, self.zone, self.axis.until)?;
         self.add_pieces(span.as_str(), '\n', "  ", width)
     }
 

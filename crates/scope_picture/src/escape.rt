@@ -12,12 +12,18 @@ pub fn escaped(alloc: Global, text: &str) -> Result<String, AllocError>
 {
     let mut written = String::new(alloc);
     for c in text.chars() {
-        add_escaped(&mut written, c)?;
+        add_char(&mut written, c)?;
     }
     Ok(written)
 }
 
-fn add_escaped(written: &mut String, c: char) -> Result<(), AllocError>
+/// Adds the text as it is written within XML or HTML.
+pub(crate) fn add_escaped(alloc: Global, text: &mut String, part: &str) -> Result<(), AllocError> {
+    let part = escaped(alloc, part)?;
+    text.push_str(part.as_str())
+}
+
+fn add_char(written: &mut String, c: char) -> Result<(), AllocError>
     ensures { OnOk result (string_bytes written.new ≡ string_bytes written.old ++ escaped c) }
 {
     match c {

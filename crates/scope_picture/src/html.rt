@@ -1,11 +1,10 @@
 //! A page that stands alone: the chart, the table of the runs, why each job stands as it does, and the coming starts. No script.
 
 use crate::chart::Chart;
-use crate::escape::escaped;
+use crate::escape::add_escaped;
 use crate::svg::figure_piece;
+use crate::words::add_moment;
 use calendar_due::Zone;
-use history_model::MAX_WALL;
-use scope_times::time_text;
 use std::alloc::{AllocError, Global};
 use std::fmt::Write;
 
@@ -99,23 +98,18 @@ fn add_rest(
     add_table(alloc, text, page.table)?;
     text.push_str("</table></div>\n<h2>Coming starts by the clock</h2>\n")?;
     add_coming(alloc, text, zone, page.coming)?;
-    let why = escaped_lines(alloc, page.why)?;
-    let why = why.as_str();
-    write!(
-        text,
-        "<h2>Why each job stands as it does</h2>\n<pre>{why}</pre>\n</main>\n</body>\n</html>\n"
-    )
+    text.push_str("<h2>Why each job stands as it does</h2>\n<pre>")?;
+    add_escaped_lines(alloc, text, page.why)?;
+    text.push_str("</pre>\n</main>\n</body>\n</html>\n")
 }
 
 // The text escaped line by line, so that its newlines stay.
-fn escaped_lines(alloc: Global, text: &str) -> Result<String, AllocError> {
-    let mut lines = String::new(alloc);
-    for line in text.split('\n') {
-        let line = escaped(alloc, line)?;
-        lines.push_str(line.as_str())?;
-        lines.push_str("\n")?;
+fn add_escaped_lines(alloc: Global, text: &mut String, lines: &str) -> Result<(), AllocError> {
+    for line in lines.split('\n') {
+        add_escaped(alloc, text, line)?;
+        text.push_str("\n")?;
     }
-    Ok(lines)
+    Ok(())
 }
 
 fn add_table(alloc: Global, text: &mut String, table: &str) -> Result<(), AllocError> {
@@ -135,23 +129,17 @@ fn add_cells(
     is_head: bool,
     line: &str,
 ) -> Result<(), AllocError> {
-    let (open, close) = cell_marks(is_head);
-    for part in line.split('\t') {
-        let part = escaped(alloc, part)?;
-        text.push_str(open)?;
-        text.push_str(part.as_str())?;
-        text.push_str(close)?;
-    }
-    Ok(())
-}
-
-// What stands before a cell and behind it.
-fn cell_marks(is_head: bool) -> (&'static str, &'static str) {
-    if is_head {
+    let (open, close) = if is_head {
         ("<th>", "</th>")
     } else {
         ("<td>", "</td>")
+    };
+    for part in line.split('\t') {
+        text.push_str(open)?;
+        add_escaped(alloc, text, part)?;
+        text.push_str(close)?;
     }
+    Ok(())
 }
 
 fn add_coming(
@@ -167,14 +155,21 @@ fn add_coming(
         "<div class=\"wide\"><table class=\"left\">\n<tr><th>time</th><th>label</th><th>by</th></tr>\n",
     )?;
     for start in coming {
-        let time = time_text(alloc, zone, start.at.min(MAX_WALL))?;
-        let label = escaped(alloc, start.label.as_str())?;
-        let label = label.as_str();
-        let key = start.key;
-        write!(
-            text,
-            "<tr><td>{time}</td><td>{label}</td><td>{key}</td></tr>\n"
-        )?;
+        add_start(alloc, text, zone, start)?;
     }
     text.push_str("</table></div>\n")
+}
+
+fn add_start(
+    alloc: Global,
+    text: &mut String,
+    zone: &Zone,
+    start: &Coming,
+) -> Result<(), AllocError> {
+    text.push_str("<tr><td>")?;
+    add_moment(alloc, text, zone, start.at)?;
+    text.push_str("</td><td>")?;
+    add_escaped(alloc, text, start.label.as_str())?;
+    let key = start.key;
+    write!(text, "</td><td>{key}</td></tr>\n")
 }

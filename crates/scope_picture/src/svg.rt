@@ -2,12 +2,10 @@
 
 use crate::axis::Axis;
 use crate::chart::{Bar, Chart, End, Mark, MarkKind, Row};
-use crate::escape::escaped;
-use crate::ticks::ticks;
-use crate::words::{bar_words, cut_text, end_class, missing_words};
+use crate::escape::add_escaped;
+use crate::ticks::{Tick, ticks};
+use crate::words::{add_bar_words, add_moment, cut_text, end_class, missing_words};
 use calendar_due::Zone;
-use history_model::MAX_WALL;
-use scope_times::time_text;
 use std::alloc::{AllocError, Global};
 use std::fmt::Write;
 
@@ -32,6 +30,16 @@ const LABEL: usize = 130;
 
 /// So many ticks are written at most.
 const MOST_TICKS: u64 = 9;
+
+/// The ends of runs, and what they are called below the rows.
+const ENDS: [(End, &str); 6] = [
+    (End::Code(0), "code 0"),
+    (End::Code(1), "another code"),
+    (End::Signal(1), "a signal"),
+    (End::Crash(11), "a crash"),
+    (End::Stopped, "stopped"),
+    (End::Lives, "lives"),
+];
 
 const STYLE: &str = "<style>
 .runs { color-scheme: light dark; --ground: #ffffff; --ink: #1c2733; --faint: #5b6875; --line: #d9dfe5; --well: #2e7d5b; --code: #b86200; --signal: #7b4fb5; --crash: #c62828; --stopped: #4a6a8a; --lives: #1b76c4; }
@@ -130,75 +138,76 @@ impl Sheet<'_> {
         let missing = missing_words(self.alloc, chart)?;
         let mut line = bottom.saturating_add(64);
         for sentence in &missing {
-            let sentence = sentence.as_str();
-            write!(
-                self.text,
-                "<text class=\"faint\" x=\"10\" y=\"{line}\">{sentence}</text>\n"
-            )?;
+            self.add_faint(10, line, sentence.as_str())?;
             line = line.saturating_add(LINE);
         }
         self.text.push_str("</svg>\n")
     }
 
-    fn moment(&self, at: u64) -> Result<String, AllocError> {
-        time_text(self.alloc, self.zone, at.min(MAX_WALL))
+    // A faint text at its place.
+    fn add_faint(&mut self, x: u64, y: u64, text: &str) -> Result<(), AllocError> {
+        write!(
+            self.text,
+            "<text class=\"faint\" x=\"{x}\" y=\"{y}\">{text}</text>\n"
+        )
+    }
+
+    // Two moments with a word between them.
+    fn add_span(&mut self, from: u64, until: u64) -> Result<(), AllocError> {
+        add_moment(self.alloc, &mut self.text, self.zone, from)?;
+        self.text.push_str(" to ")?;
+        add_moment(self.alloc, &mut self.text, self.zone, until)
     }
 
     // The head: how large it is, its title, its colours, and the span.
     fn begin(&mut self, height: u64) -> Result<(), AllocError> {
-        let from = self.moment(self.axis.from)?;
-        let until = self.moment(self.axis.until)?;
+        let from = self.axis.from;
+        let until = self.axis.until;
         write!(
             self.text,
-            "<svg xmlns=\"http://www.w3.org/2000/svg\" class=\"runs\" viewBox=\"0 0 1000 {height}\" width=\"1000\" height=\"{height}\" role=\"img\">\n"
+            "<svg xmlns=\"http://www.w3.org/2000/svg\" class=\"runs\" viewBox=\"0 0 1000 {height}\" width=\"1000\" height=\"{height}\" role=\"img\">\n<title>Runs from "
         )?;
-        write!(self.text, "<title>Runs from {from} to {until}</title>\n")?;
+        self.add_span(from, until)?;
+        self.text.push_str("</title>\n")?;
         self.text.push_str(STYLE)?;
         write!(
             self.text,
-            "<rect class=\"ground\" width=\"1000\" height=\"{height}\"/>\n"
+            "<rect class=\"ground\" width=\"1000\" height=\"{height}\"/>\n<text x=\"10\" y=\"18\">"
         )?;
-        write!(
-            self.text,
-            "<text x=\"10\" y=\"18\">{from} to {until}</text>\n"
-        )
+        self.add_span(from, until)?;
+        self.text.push_str("</text>\n")
     }
 
     // The ticks, from above the rows to their bottom.
     fn add_ticks(&mut self, bottom: u64) -> Result<(), AllocError> {
         let ticks = ticks(self.alloc, self.zone, &self.axis, MOST_TICKS)?;
         for tick in &ticks {
-            let place = u64::from(self.axis.place(tick.at));
-            let x = LEFT + place;
-            let anchor = anchor_of(place);
-            let text = tick.text.as_str();
-            let below = tick.below.as_str();
-            write!(
-                self.text,
-                "<path class=\"tick\" d=\"M{x} 58V{bottom}\"/><text class=\"faint\" x=\"{x}\" y=\"38\" text-anchor=\"{anchor}\">{text}</text><text class=\"faint\" x=\"{x}\" y=\"52\" text-anchor=\"{anchor}\">{below}</text>\n"
-            )?;
+            self.add_tick(tick, bottom)?;
         }
         Ok(())
     }
 
-    fn add_row(&mut self, row: &Row, top: u64) -> Result<(), AllocError> {
-        let whole = escaped(self.alloc, row.label.as_str())?;
-        let whole = whole.as_str();
-        let shown = cut_text(self.alloc, row.label.as_str(), LABEL)?;
-        let shown = escaped(self.alloc, shown.as_str())?;
-        let shown = shown.as_str();
-        let written = top.saturating_add(14);
-        let base = top.saturating_add(47);
+    fn add_tick(&mut self, tick: &Tick, bottom: u64) -> Result<(), AllocError> {
+        let place = u64::from(self.axis.place(tick.at));
+        let x = LEFT + place;
+        let anchor = anchor_of(place);
+        let text = tick.text.as_str();
+        let below = tick.below.as_str();
         write!(
             self.text,
-            "<g><text class=\"label\" x=\"10\" y=\"{written}\">{shown}<title>{whole}</title></text><path class=\"base\" d=\"M10 {base}h980\"/>\n"
-        )?;
+            "<path class=\"tick\" d=\"M{x} 58V{bottom}\"/><text class=\"faint\" x=\"{x}\" y=\"38\" text-anchor=\"{anchor}\">{text}</text><text class=\"faint\" x=\"{x}\" y=\"52\" text-anchor=\"{anchor}\">{below}</text>\n"
+        )
+    }
+
+    fn add_row(&mut self, row: &Row, top: u64) -> Result<(), AllocError> {
+        self.add_label(row.label.as_str(), top)?;
+        let bars = top.saturating_add(31);
         for bar in &row.bars {
-            self.add_bar(bar, top.saturating_add(31))?;
+            self.add_bar(bar, bars)?;
         }
         for bar in &row.bars {
             let (_, end) = self.axis.edges(bar.from, bar.until);
-            self.add_end(bar.end, LEFT + u64::from(end), top.saturating_add(31))?;
+            self.add_end(bar.end, LEFT + u64::from(end), bars)?;
         }
         let lane = top.saturating_add(18);
         self.add_marks(MarkKind::Demand, row.demands.as_slice(), lane)?;
@@ -207,19 +216,45 @@ impl Sheet<'_> {
         self.text.push_str("</g>\n")
     }
 
+    // The label, cut if it is too wide and whole in its title, and the line on which the bars stand.
+    fn add_label(&mut self, label: &str, top: u64) -> Result<(), AllocError> {
+        let written = top.saturating_add(14);
+        let base = top.saturating_add(47);
+        write!(
+            self.text,
+            "<g><text class=\"label\" x=\"10\" y=\"{written}\">"
+        )?;
+        self.add_cut(label)?;
+        self.text.push_str("<title>")?;
+        add_escaped(self.alloc, &mut self.text, label)?;
+        write!(
+            self.text,
+            "</title></text><path class=\"base\" d=\"M10 {base}h980\"/>\n"
+        )
+    }
+
+    fn add_cut(&mut self, label: &str) -> Result<(), AllocError> {
+        let shown = cut_text(self.alloc, label, LABEL)?;
+        add_escaped(self.alloc, &mut self.text, shown.as_str())
+    }
+
     // A bar whose upper edge is there.
     fn add_bar(&mut self, bar: &Bar, top: u64) -> Result<(), AllocError> {
         let (begin, end) = self.axis.edges(bar.from, bar.until);
-        let from = self.moment(bar.from)?;
-        let until = self.moment(bar.until)?;
-        let told = bar_words(self.alloc, bar)?;
         let x = LEFT + u64::from(begin);
         let width = u64::from(end - begin).max(1);
         let class = end_class(bar.end);
         let runs = u64::from(bar.runs);
         write!(
             self.text,
-            "<g class=\"{class}\" data-runs=\"{runs}\"><title>{told}: {from} to {until}</title><rect x=\"{x}\" y=\"{top}\" width=\"{width}\" height=\"12\"/></g>\n"
+            "<g class=\"{class}\" data-runs=\"{runs}\"><title>"
+        )?;
+        add_bar_words(&mut self.text, bar)?;
+        self.text.push_str(": ")?;
+        self.add_span(bar.from, bar.until)?;
+        write!(
+            self.text,
+            "</title><rect x=\"{x}\" y=\"{top}\" width=\"{width}\" height=\"12\"/></g>\n"
         )
     }
 
@@ -240,50 +275,33 @@ impl Sheet<'_> {
     }
 
     fn add_marks(&mut self, kind: MarkKind, marks: &[Mark], top: u64) -> Result<(), AllocError> {
-        let (class, name, shape) = mark_words(kind);
         for mark in marks {
-            let x = LEFT + u64::from(self.axis.place(mark.at));
-            let at = self.moment(mark.at)?;
-            let count = u64::from(mark.count);
-            let more = count.saturating_sub(1);
-            write!(
-                self.text,
-                "<path class=\"{class}\" data-count=\"{count}\" d=\"M{x} {top}{shape}\"><title>{name}: {at}"
-            )?;
-            if more > 0 {
-                write!(self.text, ", and {more} more beside it")?;
-            }
-            self.text.push_str("</title></path>\n")?;
+            self.add_mark(kind, mark, top)?;
         }
         Ok(())
     }
 
+    fn add_mark(&mut self, kind: MarkKind, mark: &Mark, top: u64) -> Result<(), AllocError> {
+        let (class, name, shape) = mark_words(kind);
+        let x = LEFT + u64::from(self.axis.place(mark.at));
+        let count = u64::from(mark.count);
+        write!(
+            self.text,
+            "<path class=\"{class}\" data-count=\"{count}\" d=\"M{x} {top}{shape}\"><title>{name}: "
+        )?;
+        add_moment(self.alloc, &mut self.text, self.zone, mark.at)?;
+        let more = count.saturating_sub(1);
+        if more > 0 {
+            write!(self.text, ", and {more} more beside it")?;
+        }
+        self.text.push_str("</title></path>\n")
+    }
+
     // What each colour and shape means.
     fn add_legend(&mut self, bottom: u64) -> Result<(), AllocError> {
-        let bars = [
-            (End::Code(0), "code 0"),
-            (End::Code(1), "another code"),
-            (End::Signal(1), "a signal"),
-            (End::Crash(11), "a crash"),
-            (End::Stopped, "stopped"),
-            (End::Lives, "lives"),
-        ];
-        let top = bottom.saturating_add(10);
-        let line = bottom.saturating_add(21);
         let mut x = LEFT;
-        for bar in bars.iter() {
-            let (end, name) = *bar;
-            let class = end_class(end);
-            write!(
-                self.text,
-                "<rect class=\"{class}\" x=\"{x}\" y=\"{top}\" width=\"22\" height=\"12\"/>"
-            )?;
-            self.add_end(end, x.saturating_add(22), top)?;
-            let beside = x.saturating_add(34);
-            write!(
-                self.text,
-                "<text class=\"faint\" x=\"{beside}\" y=\"{line}\">{name}</text>\n"
-            )?;
+        for (end, name) in ENDS.iter() {
+            self.add_swatch(*end, *name, x, bottom)?;
             x = x.saturating_add(150);
         }
         self.add_sign(MarkKind::Demand, 25, bottom)?;
@@ -291,16 +309,27 @@ impl Sheet<'_> {
         self.add_sign(MarkKind::Refusal, 325, bottom)
     }
 
+    // What a bar and its end mean.
+    fn add_swatch(&mut self, end: End, name: &str, x: u64, bottom: u64) -> Result<(), AllocError> {
+        let class = end_class(end);
+        let top = bottom.saturating_add(10);
+        write!(
+            self.text,
+            "<rect class=\"{class}\" x=\"{x}\" y=\"{top}\" width=\"22\" height=\"12\"/>"
+        )?;
+        self.add_end(end, x.saturating_add(22), top)?;
+        self.add_faint(x.saturating_add(34), bottom.saturating_add(21), name)
+    }
+
     // What a mark means.
     fn add_sign(&mut self, kind: MarkKind, x: u64, bottom: u64) -> Result<(), AllocError> {
         let (class, name, shape) = mark_words(kind);
         let top = bottom.saturating_add(32);
-        let line = bottom.saturating_add(41);
-        let beside = x.saturating_add(19);
         write!(
             self.text,
-            "<path class=\"{class}\" d=\"M{x} {top}{shape}\"/><text class=\"faint\" x=\"{beside}\" y=\"{line}\">{name}</text>\n"
-        )
+            "<path class=\"{class}\" d=\"M{x} {top}{shape}\"/>"
+        )?;
+        self.add_faint(x.saturating_add(19), bottom.saturating_add(41), name)
     }
 }
 

@@ -2,8 +2,8 @@
 
 use crate::axis::Axis;
 use calendar_due::Zone;
-use history_model::CivilMinute;
-use scope_times::time_text;
+use history_model::{CivilMinute, MAX_WALL};
+use run_times::time_text;
 use std::alloc::{AllocError, Global};
 
 const HOUR: u64 = 3600;
@@ -128,8 +128,7 @@ pub(crate) fn ticks(
         }
         let shown = zone.civil_minute(at);
         if is_round(step, &shown, at) {
-            let text = time_text(alloc, zone, at)?;
-            ticks.push(tick_of(alloc, step, at, text.as_str(), &mut before)?)?;
+            add_tick(alloc, zone, step, at, &mut before, &mut ticks)?;
         }
         at = at.saturating_add(ahead(step, &shown, at));
     }
@@ -148,6 +147,19 @@ fn parts_of(step: Step, moment: &str) -> (&str, &str) {
     (text.unwrap_or(moment), below.unwrap_or(""))
 }
 
+fn add_tick(
+    alloc: Global,
+    zone: &Zone,
+    step: Step,
+    at: u64,
+    before: &mut String,
+    ticks: &mut Vec<Tick>,
+) -> Result<(), AllocError> {
+    let moment = time_text(alloc, zone, at.min(MAX_WALL))?;
+    let tick = tick_of(alloc, step, at, moment.as_str(), before)?;
+    Ok(ticks.push(tick)?)
+}
+
 fn tick_of(
     alloc: Global,
     step: Step,
@@ -156,12 +168,12 @@ fn tick_of(
     before: &mut String,
 ) -> Result<Tick, AllocError> {
     let (text, below) = parts_of(step, moment);
-    let text = String::from_str(alloc, text)?;
-    if before.as_str() == below {
-        let below = String::new(alloc);
-        return Ok(Tick { at, text, below });
+    let is_same = before.as_str() == below;
+    let below = if is_same { "" } else { below };
+    if !is_same {
+        *before = String::from_str(alloc, below)?;
     }
-    *before = String::from_str(alloc, below)?;
+    let text = String::from_str(alloc, text)?;
     let below = String::from_str(alloc, below)?;
     Ok(Tick { at, text, below })
 }

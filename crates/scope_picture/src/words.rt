@@ -1,7 +1,11 @@
 //! What is told of bars and of what is left out, in words, and how wide a text is.
 
 use crate::chart::{Bar, Chart, End};
+use calendar_due::Zone;
+use history_model::MAX_WALL;
+use run_times::time_text;
 use std::alloc::{AllocError, Global};
+use std::fmt::Write;
 use unicode_width::UnicodeWidthChar;
 
 /// How many columns the character takes; one that can't be shown takes one.
@@ -36,6 +40,17 @@ pub(crate) fn cut_text(alloc: Global, text: &str, columns: usize) -> Result<Stri
     Ok(cut)
 }
 
+/// Adds the moment as a clock in the zone shows it.
+pub(crate) fn add_moment(
+    alloc: Global,
+    text: &mut String,
+    zone: &Zone,
+    at: u64,
+) -> Result<(), AllocError> {
+    let moment = time_text(alloc, zone, at.min(MAX_WALL))?;
+    text.push_str(moment.as_str())
+}
+
 /// The name of an end's kind, for a picture's style.
 pub(crate) fn end_class(end: End) -> &'static str {
     match end {
@@ -48,19 +63,19 @@ pub(crate) fn end_class(end: End) -> &'static str {
     }
 }
 
-/// How a bar's runs ended: of one its end, of several their number and the gravest end.
-pub(crate) fn bar_words(alloc: Global, bar: &Bar) -> Result<String, AllocError> {
+/// Adds how a bar's runs ended: of one its end, of several their number and the gravest end.
+pub(crate) fn add_bar_words(text: &mut String, bar: &Bar) -> Result<(), AllocError> {
     let (words, number) = end_words(bar.end);
-    let number = match number {
-        Some(number) => format!(in alloc; " {number}")?,
-        None => String::new(alloc),
-    };
     let run = bar.run;
     let runs = u64::from(bar.runs);
     if runs == 1 {
-        format!(in alloc; "run {run} {words}{number}")
+        write!(text, "run {run} {words}")?;
     } else {
-        format!(in alloc; "{runs} runs from run {run} on; the gravest {words}{number}")
+        write!(text, "{runs} runs from run {run} on; the gravest {words}")?;
+    }
+    match number {
+        Some(number) => write!(text, " {number}"),
+        None => Ok(()),
     }
 }
 

@@ -7,7 +7,7 @@ use Rattle.scope_picture.proofs.escape.escaped.Goals as goal
 
 pub loop-c-preserved : goal.loop-c-preserved
 loop-c-preserved c =
-    c.in_ok-add_escaped.ensures ∙ ap (λ bytes. bytes ++ escaped c.in-Some.c) c.loop-c.invariant
+    c.in_ok-add_char.ensures ∙ ap (λ bytes. bytes ++ escaped c.in-Some.c) c.loop-c.invariant
     ∙ ap (λ bytes. escaped_text c.loop-c.yielded ++ bytes) (sym (append-nil (escaped c.in-Some.c)))
     ∙ sym (flat_map-append escaped c.loop-c.yielded (c.in-Some.c ∷ []))
 

@@ -1,0 +1,106 @@
+//! What will want a job that nothing wants, in words.
+
+use crate::job::Job;
+use crate::run::RunEnd;
+use crate::texts::page::Page;
+use crate::texts::told::Told;
+use calendar_due::{Calendar, Zone};
+use history_model::{MAX_WALL, Reasons};
+use job_defs::Def;
+use std::alloc::AllocError;
+use std::fmt::Write;
+
+/// How far is looked ahead, in seconds: 400 days.
+pub(crate) const FARTHEST: u64 = 34_560_000;
+
+/// That nothing wants it, why its conditions do not, and the ways by which it comes to be wanted.
+pub(crate) fn add_not_wanted(page: &mut Page<'_>, told: &Told<'_>) -> Result<(), AllocError> {
+    page.add("Nothing wants it.")?;
+    if told.reasons.is_removing {
+        return Ok(());
+    }
+    add_conditions(page, told.job, told.def)?;
+    page.add(" It will be wanted")?;
+    let before = page.text.len();
+    add_calendar(page, told.zone, told.def)?;
+    add_interval(page, told.job, told.def)?;
+    add_events(page, told.def)?;
+    let has_way = page.text.len() > before;
+    page.add(if has_way { " or by " } else { " by " })?;
+    page.add(asking_words(&told.reasons))
+}
+
+fn add_events(page: &mut Page<'_>, def: &Def) -> Result<(), AllocError> {
+    if !def.watch_paths().is_empty() {
+        page.add(" once a path of WatchPaths changes,")?;
+    }
+    if !def.queue_directories().is_empty() {
+        page.add(" once a folder of QueueDirectories has an entry,")?;
+    }
+    if !def.path_state().is_empty() {
+        page.add(" once a path of KeepAlive PathState is as it says,")?;
+    }
+    if def.has_sockets() {
+        page.add(" once a connection comes to its sockets,")?;
+    }
+    Ok(())
+}
+
+// What a client can ask. A start is no demand of a job that runs and is not being stopped.
+fn asking_words(reasons: &Reasons) -> &'static str {
+    match (reasons.child, reasons.awaited) {
+        (None, None) => "`jobctl start`.",
+        (Some(child), _) if child.is_stopped => "`jobctl start`.",
+        _ => "`jobctl kickstart -k`.",
+    }
+}
+
+// Why the conditions of its last end do not want it.
+fn add_conditions(page: &mut Page<'_>, job: &Job, def: &Def) -> Result<(), AllocError> {
+    let Some(last) = job.last else {
+        return Ok(());
+    };
+    page.add(match (def.successful_exit(), last.end) {
+        (Some(true), _) => {
+            " KeepAlive SuccessfulExit is true, and its last run did not end with code 0."
+        }
+        (Some(false), RunEnd::Code(0)) => {
+            " KeepAlive SuccessfulExit is false, and its last run ended with code 0."
+        }
+        _ => "",
+    })?;
+    page.add(match (def.crashed(), last.is_crash) {
+        (Some(true), false) => " KeepAlive Crashed is true, and its last run did not crash.",
+        (Some(false), true) => " KeepAlive Crashed is false, and its last run crashed.",
+        _ => "",
+    })
+}
+
+fn add_calendar(page: &mut Page<'_>, zone: &Zone, def: &Def) -> Result<(), AllocError> {
+    if def.calendar().is_empty() {
+        return Ok(());
+    }
+    let after = page.now.wall;
+    let until = after.saturating_add(FARTHEST).min(MAX_WALL);
+    match Calendar::next(def.calendar(), zone, after, until) {
+        Some(wall) => {
+            page.add(" at ")?;
+            page.add_minute(wall)?;
+            page.add(" (StartCalendarInterval),")
+        }
+        None => page.add(" in no minute of the next 400 days (StartCalendarInterval),"),
+    }
+}
+
+// An interval is counted from the load.
+fn add_interval(page: &mut Page<'_>, job: &Job, def: &Def) -> Result<(), AllocError> {
+    let Some(seconds) = def.start_interval() else {
+        return Ok(());
+    };
+    let length = u64::from(seconds).saturating_mul(1000).max(1);
+    let gone = page.now.up.saturating_sub(job.loaded.up) / length;
+    let next = gone.saturating_add(1).saturating_mul(length);
+    page.add(" at ")?;
+    page.add_coming(job.loaded.up.saturating_add(next))?;
+    write!(page.text, " (StartInterval is {seconds}),")
+}

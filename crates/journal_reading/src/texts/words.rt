@@ -1,0 +1,63 @@
+//! Names for what a journal tells.
+
+use crate::job::Asked;
+use crate::run::RunEnd;
+use history_model::{DemandKind, Refusal};
+
+/// What was asked, as the word of `jobctl`.
+pub(crate) fn asked_name(asked: Asked) -> &'static str {
+    match asked {
+        Asked::Start => "start",
+        Asked::Stop => "stop",
+        Asked::Kickstart => "kickstart",
+        Asked::Strike => "kickstart -k",
+        Asked::Unload => "unload",
+        Asked::UnloadForGood => "unload -w",
+        Asked::Enable => "enable",
+        Asked::Disable => "disable",
+        Asked::Shutdown => "shutdown",
+    }
+}
+
+/// Why an event was refused.
+pub(crate) fn refusal_name(refusal: Refusal) -> &'static str {
+    match refusal {
+        Refusal::NoMemory => "no memory",
+        Refusal::BadRequest => "bad request",
+        Refusal::NoSuchJob => "no such job",
+        Refusal::AlreadyLoaded => "already loaded",
+        Refusal::Disabled => "disabled",
+        Refusal::Removing => "being removed",
+        Refusal::NotRunning => "not running",
+        Refusal::BadDefinition(_, _) => "bad definition",
+        Refusal::StoreRefused => "store refused",
+        Refusal::TooManyJobs => "too many jobs",
+        Refusal::SocketRefused => "socket refused",
+        Refusal::TooManyConnections => "too many connections",
+        Refusal::Stale => "stale",
+        Refusal::ClockRefused => "clock refused",
+        Refusal::ShuttingDown => "shutting down",
+    }
+}
+
+/// How a run ended: the words before the number, and the number.
+pub(crate) fn end_words(end: RunEnd) -> (&'static str, u8) {
+    match end {
+        RunEnd::Code(code) => ("with code ", code),
+        RunEnd::Signal(signal) => ("by signal ", signal),
+        RunEnd::Awaited | RunEnd::Lives | RunEnd::Refused => ("with no end ", 0),
+    }
+}
+
+/// What made a demand.
+pub(crate) fn demand_words(demand: Option<DemandKind>) -> &'static str {
+    match demand {
+        Some(DemandKind::Load) => "it starts at its load",
+        Some(DemandKind::Start) => "`jobctl start` asked for it",
+        Some(DemandKind::Kickstart) => "`jobctl kickstart` asked for it",
+        Some(DemandKind::Interval) => "its StartInterval was over",
+        Some(DemandKind::Calendar) => "an entry of StartCalendarInterval matched",
+        Some(DemandKind::Path) => "a path of WatchPaths changed",
+        None => "a demand is pending",
+    }
+}

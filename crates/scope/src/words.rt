@@ -1,0 +1,7 @@
+//! What the words of `jobscope` mean.
+
+pub(crate) mod command;
+mod forms;
+mod journal;
+mod numbers;
+pub(crate) mod reading;
