@@ -13,7 +13,7 @@ RT_JOBS ?= $(shell nproc)
 
 run: need_rt
 	@mkdir -p build
-	@cd crates/replay_look && { rt try < ../../examples/first.jsonl 2> ../../build/run.log || { cat ../../build/run.log >&2; exit 1; }; }
+	@cd crates/try_replay && { rt try -- look < ../../examples/first.jsonl 2> ../../build/run.log || { cat ../../build/run.log >&2; exit 1; }; }
 	@echo "make run: nothing was proved for this look; make build proves the programs and leaves them as build/jobd and build/jobctl" >&2
 
 # What the gate said last is kept for `make dist`, and so are the programs that it proved and ran.

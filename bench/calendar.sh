@@ -3,7 +3,7 @@
 # program first, runs it ten times, prints the least of each time, and fails where the minutes took over 100 milliseconds.
 set -eu
 cd "$(dirname "$0")/../crates/try_replay"
-rt run > /dev/null
+rt run < stdin > /dev/null
 for _ in 1 2 3 4 5 6 7 8 9 10; do
   out/try_replay time 2>&1 > /dev/null
 done | awk -F ': ' '

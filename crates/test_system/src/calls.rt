@@ -1,7 +1,8 @@
 //! Calls of an edge, each with the answer that is expected of it.
 
 use child_edge::{ChildEdge, ClockEdge, EdgeCall, EdgeFault, PathEdge, Scripted, SocketEdge};
-use job_defs::Def;
+use job_defs::{Def, read_def};
+use std::alloc::Global;
 
 /// A call, and the answer that is expected of it.
 pub type Told = (EdgeCall, Scripted);
@@ -19,16 +20,28 @@ macro_rules! told {
     };
 }
 
+/// The two definitions that calls are about. Each is made in a function of its own and lent from there on: a function that has one at an
+/// early return is dear to prove.
+#[derive(Clone, Copy)]
+pub struct Jobs<'a> {
+    pub first: &'a Def,
+    pub second: &'a Def,
+}
+
+/// The definition. None without memory.
+pub fn def_of(alloc: Global, text: &str) -> Option<Def> {
+    read_def(alloc, text.as_bytes()).ok()
+}
+
 /// What the edge answers to the call. Run 1 is of the first definition, every other one of the second; sockets are those of the first.
 fn answer_to<E: ChildEdge + ClockEdge + PathEdge + SocketEdge>(
     edge: &mut E,
-    defs: &(Def, Def),
+    jobs: Jobs<'_>,
     call: EdgeCall,
 ) -> Scripted {
-    let (first, second) = defs;
     match call {
         EdgeCall::Start { job, run, conn } => {
-            let def = if run == 1 { first } else { second };
+            let def = if run == 1 { jobs.first } else { jobs.second };
             told!(edge.start(job, run, def, conn), pid => Scripted::Started(pid))
         }
         EdgeCall::Term { job, run } => told!(edge.term(job, run), () => Scripted::Done),
@@ -36,7 +49,7 @@ fn answer_to<E: ChildEdge + ClockEdge + PathEdge + SocketEdge>(
         EdgeCall::Poll { job, run } => {
             told!(edge.poll(job, run), Some(ended) => Scripted::Over(ended), None => Scripted::Running)
         }
-        EdgeCall::Bind { job } => told!(edge.bind(job, first), () => Scripted::Done),
+        EdgeCall::Bind { job } => told!(edge.bind(job, jobs.first), () => Scripted::Done),
         EdgeCall::Close { job, conn } => {
             edge.close(job, conn);
             Scripted::Done
@@ -53,12 +66,12 @@ fn answer_to<E: ChildEdge + ClockEdge + PathEdge + SocketEdge>(
 /// Whether each call is answered as it says.
 pub fn are_answered<E: ChildEdge + ClockEdge + PathEdge + SocketEdge>(
     edge: &mut E,
-    defs: &(Def, Def),
+    jobs: Jobs<'_>,
     calls: &[Told],
 ) -> bool {
     let mut are_so = true;
     for (call, wanted) in calls {
-        let answer = answer_to(edge, defs, *call);
+        let answer = answer_to(edge, jobs, *call);
         let is_so = match (answer, *wanted) {
             (Scripted::Started(pid), SOME_CHILD) => pid > 0,
             (answer, wanted) => answer == wanted,

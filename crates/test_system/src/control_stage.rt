@@ -162,7 +162,9 @@ impl Stage {
     fn rounds(&mut self, rt: &HostRuntime, count: usize) -> bool {
         let mut is_busy = false;
         for _ in 0..count {
-            is_busy = self.socket.serve(rt.alloc(), &mut self.echo, &mut self.budget);
+            is_busy = self
+                .socket
+                .serve(rt.alloc(), &mut self.echo, &mut self.budget);
             self.socket.accept(rt, self.poll.registry());
         }
         is_busy

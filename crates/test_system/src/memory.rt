@@ -1,9 +1,9 @@
 //! The edge in memory: what it answers by a script, and what it then lists.
 
-use crate::calls::{Told, are_answered};
+use crate::calls::{Jobs, Told, are_answered, def_of};
 use child_edge::{EdgeCall, MemoryEdge, Scripted};
 use history_model::{Ended, Obs, Reading};
-use job_defs::{Def, read_def};
+use job_defs::Def;
 use std::alloc::Global;
 
 /// A script, for how many calls there is room, and the calls with the answers that are expected. The first ones are
@@ -184,13 +184,6 @@ const PAST_THE_ROOM: Case = Case {
     failures: 2,
 };
 
-/// Two definitions. None without memory.
-fn two_defs(alloc: Global) -> Option<(Def, Def)> {
-    let first = read_def(alloc, b"{\"Label\":\"a\",\"Program\":\"/bin/x\"}").ok()?;
-    let second = read_def(alloc, b"{\"Label\":\"b\",\"Program\":\"/bin/x\"}").ok()?;
-    Some((first, second))
-}
-
 /// An edge with the case's script. None without memory.
 fn edge_with(alloc: Global, case: &Case) -> Option<MemoryEdge> {
     let mut script = Vec::new(alloc);
@@ -199,19 +192,41 @@ fn edge_with(alloc: Global, case: &Case) -> Option<MemoryEdge> {
 }
 
 /// Whether the calls are answered, listed and counted as the case says.
-fn is_so(edge: &mut MemoryEdge, defs: &(Def, Def), case: &Case) -> bool {
-    if !are_answered(edge, defs, case.calls) {
-        return false;
-    }
-    edge.calls() == &case.calls[..case.listed.min(case.calls.len())]
-        && edge.failures() == case.failures
+fn is_so(edge: &mut MemoryEdge, jobs: Jobs<'_>, case: &Case) -> bool {
+    let are_answered = are_answered(edge, jobs, case.calls);
+    let are_listed = edge.calls() == &case.calls[..case.listed.min(case.calls.len())];
+    are_answered && are_listed && edge.failures() == case.failures
 }
 
-/// The same, over an edge and definitions of its own. None without memory.
-fn passes(alloc: Global, case: &Case) -> Option<bool> {
-    let defs = two_defs(alloc)?;
-    let mut edge = edge_with(alloc, case)?;
-    Some(is_so(&mut edge, &defs, case))
+/// The same, over an edge of its own.
+fn passes_with(alloc: Global, jobs: Jobs<'_>, case: &Case) -> bool {
+    match edge_with(alloc, case) {
+        Some(mut edge) => is_so(&mut edge, jobs, case),
+        None => false,
+    }
+}
+
+/// The same, with a second definition.
+fn passes_after(alloc: Global, first: &Def, case: &Case) -> bool {
+    match def_of(alloc, "{\"Label\":\"b\",\"Program\":\"/bin/x\"}") {
+        Some(second) => passes_with(
+            alloc,
+            Jobs {
+                first,
+                second: &second,
+            },
+            case,
+        ),
+        None => false,
+    }
+}
+
+/// The same, with two definitions.
+fn passes(alloc: Global, case: &Case) -> bool {
+    match def_of(alloc, "{\"Label\":\"a\",\"Program\":\"/bin/x\"}") {
+        Some(first) => passes_after(alloc, &first, case),
+        None => false,
+    }
 }
 
 static CASES: &[Case] = &[EACH_KIND, EACH_FAULT, ANOTHER_KIND, ENDED, PAST_THE_ROOM];
@@ -220,7 +235,7 @@ static CASES: &[Case] = &[EACH_KIND, EACH_FAULT, ANOTHER_KIND, ENDED, PAST_THE_R
 fn the_edge_in_memory_answers_by_its_script(rt: HostRuntime) {
     let mut passed = 0usize;
     for case in CASES {
-        if passes(rt.alloc(), case) == Some(true) {
+        if passes(rt.alloc(), case) {
             passed = passed.saturating_add(1);
         }
     }

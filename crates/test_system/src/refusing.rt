@@ -1,10 +1,10 @@
 //! A system that refuses each call, by a runtime of the tests' own: what the edge answers, counts, keeps and tells. And one
 //! whose clock goes a hundred times as fast.
 
-use crate::calls::{Told, are_answered};
+use crate::calls::{Jobs, Told, are_answered, def_of};
 use crate::system::{folder_name, free_port, pause};
 use child_edge::{Client, EdgeCall, OsEdge, Scripted, SocketEdge};
-use job_defs::{Def, read_def};
+use job_defs::Def;
 use mio::net::UnixStream;
 use socket_demand::Exchange;
 use std::alloc::{Allocator, Global};
@@ -299,83 +299,80 @@ fn edge_over(system: Refusing, folder: &str) -> Option<OsEdge<Refusing>> {
     OsEdge::new(system, alloc, spool).ok()
 }
 
-/// A plain definition, and another one. None without memory.
-fn two_defs(alloc: Global, other: &str) -> Option<(Def, Def)> {
-    let plain = read_def(alloc, PLAIN.as_bytes()).ok()?;
-    let other = read_def(alloc, other.as_bytes()).ok()?;
-    Some((plain, other))
-}
-
 /// Whether the calls are answered, counted and told as the case says.
-fn is_so(edge: &mut OsEdge<Refusing>, defs: &(Def, Def), case: &Case) -> bool {
-    if !are_answered(edge, defs, case.calls) {
-        return false;
-    }
-    if edge.failures() != case.failures {
-        return false;
-    }
-    match case.told {
+fn is_so(edge: &mut OsEdge<Refusing>, jobs: Jobs<'_>, case: &Case) -> bool {
+    let are_answered = are_answered(edge, jobs, case.calls);
+    let are_counted = edge.failures() == case.failures;
+    let are_told = match case.told {
         Some(lines) => tells(edge, lines),
         None => true,
-    }
+    };
+    are_answered && are_counted && are_told
 }
 
-/// The same, over an edge and definitions of its own. None without memory.
-fn passes(alloc: Global, case: &Case) -> Option<bool> {
+/// The same, over an edge of its own.
+fn passes_with(alloc: Global, jobs: Jobs<'_>, case: &Case) -> bool {
     let system = Refusing {
         alloc,
         kind: case.kind,
         pid: case.pid,
         host: None,
     };
-    let defs = two_defs(alloc, if case.pid.is_none() { FILED } else { PLAIN })?;
-    let mut edge = edge_over(system, "/none")?;
-    Some(is_so(&mut edge, &defs, case))
+    match edge_over(system, "/none") {
+        Some(mut edge) => is_so(&mut edge, jobs, case),
+        None => false,
+    }
+}
+
+/// The same, with a second definition.
+fn passes_after(alloc: Global, first: &Def, case: &Case) -> bool {
+    let other = if case.pid.is_none() { FILED } else { PLAIN };
+    match def_of(alloc, other) {
+        Some(second) => passes_with(
+            alloc,
+            Jobs {
+                first,
+                second: &second,
+            },
+            case,
+        ),
+        None => false,
+    }
+}
+
+/// The same, with two definitions.
+fn passes(alloc: Global, case: &Case) -> bool {
+    match def_of(alloc, PLAIN) {
+        Some(first) => passes_after(alloc, &first, case),
+        None => false,
+    }
 }
 
 const STILL: &str = "a: a client was let go: it took nothing of its reply for a minute";
 
-/// An edge with the host's files and a fast clock, which has the sockets of job 0, and a client of it under number 1. The client's far
-/// end stays open.
-fn held(rt: &HostRuntime, folder: &str, def: &Def) -> Option<OsEdge<Refusing>> {
-    let system = Refusing {
-        alloc: rt.alloc(),
-        kind: ErrorKind::PermissionDenied,
-        pid: None,
-        host: rt.clone().ok(),
-    };
-    let mut edge = edge_over(system, folder)?;
-    take_client(rt, &mut edge, def)?;
-    Some(edge)
-}
-
-/// Has the edge make the sockets of job 0, and take a client of it under number 1.
-fn take_client(rt: &HostRuntime, edge: &mut OsEdge<Refusing>, def: &Def) -> Option<()> {
-    edge.bind(0, def).ok()?;
+/// An end of a connection whose far end stays open.
+fn near_end(rt: &HostRuntime) -> Option<UnixStream> {
     let (near, far) = UnixStream::pair(rt).ok()?;
     mem::forget(far);
-    let exchange = Exchange::new(rt.alloc()).ok()?;
-    edge.take(0, 1, Client::Unix(near), exchange).ok()
+    Some(near)
 }
 
-/// Whether it is told in five seconds that a client which takes nothing of a long reply is let go, after a minute of the edge's clock, with
-/// both files.
-fn lets_go_one_who_takes_nothing(rt: &HostRuntime) -> Option<bool> {
-    let folder = folder_name(rt, "minute")?;
-    let def = def_at(rt, free_port(rt)?)?;
-    fs::create_dir(rt, folder.as_str()).ok()?;
-    let mut edge = held(rt, folder.as_str(), &def)?;
-    let is_told = lengthen_reply(rt, folder.as_str()).is_some() && is_told_still(rt, &mut edge);
-    let is_empty = fs::remove_dir(rt, folder.as_str()).is_ok();
-    Some(is_told && is_empty)
+/// Whether the edge takes this client of job 0 under number 1.
+fn takes(alloc: Global, edge: &mut OsEdge<Refusing>, near: UnixStream) -> bool {
+    match Exchange::new(alloc) {
+        Ok(exchange) => edge.take(0, 1, Client::Unix(near), exchange).is_ok(),
+        Err(_) => false,
+    }
 }
 
-/// A definition with a socket at this port.
-fn def_at(rt: &HostRuntime, port: u16) -> Option<Def> {
-    let text = format!(in rt.alloc();
-        "{{\"Label\":\"a\",\"Program\":\"/bin/x\",\"inetdCompatibility\":{{\"Wait\":false}},\"Sockets\":{{\"s\":{{\"SockNodeName\":\"localhost\",\"SockServiceName\":{port}}}}}}}"
-    ).ok()?;
-    read_def(rt.alloc(), text.as_bytes()).ok()
+/// Has the edge make the sockets of job 0, and take a client of it.
+fn takes_client(rt: &HostRuntime, edge: &mut OsEdge<Refusing>, def: &Def) -> bool {
+    let is_bound = edge.bind(0, def).is_ok();
+    let is_taken = match near_end(rt) {
+        Some(near) => takes(rt.alloc(), edge, near),
+        None => false,
+    };
+    is_bound && is_taken
 }
 
 /// Makes the file of the first reply 400,000 bytes long.
@@ -400,11 +397,54 @@ fn is_told_still(rt: &HostRuntime, edge: &mut OsEdge<Refusing>) -> bool {
     false
 }
 
+/// Whether a client that takes nothing of a long reply is let go, and the folder is then empty.
+fn lets_go(rt: &HostRuntime, edge: &mut OsEdge<Refusing>, folder: &str, def: &Def) -> bool {
+    let is_taken = takes_client(rt, edge, def);
+    let is_long = lengthen_reply(rt, folder).is_some();
+    let is_told = is_told_still(rt, edge);
+    let is_empty = fs::remove_dir(rt, folder).is_ok();
+    is_taken && is_long && is_told && is_empty
+}
+
+/// The same, over an edge of its own, with the host's files and a fast clock.
+fn lets_go_with(rt: &HostRuntime, folder: &str, def: &Def) -> bool {
+    let system = Refusing {
+        alloc: rt.alloc(),
+        kind: ErrorKind::PermissionDenied,
+        pid: None,
+        host: rt.clone().ok(),
+    };
+    match edge_over(system, folder) {
+        Some(mut edge) => lets_go(rt, &mut edge, folder, def),
+        None => false,
+    }
+}
+
+/// A definition with a socket at this port.
+fn def_at(rt: &HostRuntime, port: u16) -> Option<Def> {
+    let text = format!(in rt.alloc();
+        "{{\"Label\":\"a\",\"Program\":\"/bin/x\",\"inetdCompatibility\":{{\"Wait\":false}},\"Sockets\":{{\"s\":{{\"SockNodeName\":\"localhost\",\"SockServiceName\":{port}}}}}}}"
+    ).ok()?;
+    def_of(rt.alloc(), text.as_str())
+}
+
+/// Whether it is told in five seconds that a client which takes nothing of a long reply is let go, after a minute of the edge's clock, with
+/// both files.
+fn lets_go_one_who_takes_nothing(rt: &HostRuntime) -> Option<bool> {
+    let port = free_port(rt)?;
+    let folder = folder_name(rt, "minute")?;
+    fs::create_dir(rt, folder.as_str()).ok()?;
+    Some(match def_at(rt, port) {
+        Some(def) => lets_go_with(rt, folder.as_str(), &def),
+        None => false,
+    })
+}
+
 #[test]
 fn what_a_system_refuses_is_counted_kept_and_told(rt: HostRuntime) {
     let mut passed = 0usize;
     for case in CASES {
-        if passes(rt.alloc(), case) == Some(true) {
+        if passes(rt.alloc(), case) {
             passed = passed.saturating_add(1);
         }
     }

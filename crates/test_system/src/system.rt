@@ -1,10 +1,10 @@
 //! The edge of the real system, by what only a call can see. Each case has a folder of its own, a port, and an edge that spools into the
 //! folder.
 
-use crate::calls::{SOME_CHILD, are_answered};
-use child_edge::{EdgeCall, OsEdge, Scripted};
+use crate::calls::{Jobs, SOME_CHILD, are_answered, def_of};
+use child_edge::{Client, EdgeCall, OsEdge, Scripted};
 use history_model::{Ended, JobNo};
-use job_defs::{Def, read_def};
+use job_defs::Def;
 use mio::{Events, Poll, Token};
 use socket_demand::Exchange;
 use std::net::{Ipv4Addr, Shutdown, SocketAddr, TcpListener, TcpStream};
@@ -195,13 +195,17 @@ const WAKES: Case = Case {
 
 static CASES: &[Case] = &[OVER, AGAIN, ENDED, BINDS, TWICE, WAKES];
 
-/// Where a case is played.
-#[derive(Drop)]
-struct Stage {
-    folder: String,
+/// Where a case is played, and with which jobs.
+#[derive(Clone, Copy)]
+struct Place<'a> {
+    folder: &'a str,
     port: u16,
-    defs: (Def, Def),
-    edge: OsEdge<HostRuntime>,
+    jobs: Jobs<'a>,
+}
+
+/// The poll that the edge's sockets may wake.
+#[derive(Drop)]
+struct Watch {
     poll: Poll,
     events: Events,
     // The bind that gave job 0 its sockets, at the last step that asked.
@@ -236,111 +240,125 @@ fn job_of(rt: &HostRuntime, folder: &str, port: u16, script: &str) -> Option<Def
     let text = format!(in rt.alloc();
         "{{\"Label\":\"a\",\"ProgramArguments\":[\"/bin/sh\",\"-c\",\"{script}\"],\"WorkingDirectory\":\"{folder}\",\"inetdCompatibility\":{{\"Wait\":false}},\"Sockets\":{{\"s\":{{\"SockPathName\":\"{folder}/s\"}},\"t\":{{\"SockNodeName\":\"localhost\",\"SockServiceName\":{port}}}}}}}"
     ).ok()?;
-    read_def(rt.alloc(), text.as_bytes()).ok()
+    def_of(rt.alloc(), text.as_str())
 }
 
-/// A new folder for the case, and an edge.
-fn new_stage(rt: &HostRuntime, case: &Case) -> Option<Stage> {
-    let port = free_port(rt)?;
-    let folder = folder_name(rt, case.name)?;
-    fs::create_dir(rt, folder.as_str()).ok()?;
-    let poll = Poll::new(rt).ok()?;
+/// An edge that spools in the folder.
+fn edge_at(rt: &HostRuntime, folder: &str) -> Option<OsEdge<HostRuntime>> {
+    let spool = String::from_str(rt.alloc(), folder).ok()?;
+    OsEdge::new(rt.clone().ok()?, rt.alloc(), spool).ok()
+}
+
+fn new_watch(rt: &HostRuntime) -> Option<Watch> {
     let events = Events::with_capacity(rt.alloc(), 8).ok()?;
-    let defs = jobs_of(rt, folder.as_str(), port, case)?;
-    let edge = edge_at(rt, folder_name(rt, case.name)?)?;
-    Some(Stage {
-        folder,
-        port,
-        defs,
-        edge,
+    let poll = Poll::new(rt).ok()?;
+    Some(Watch {
         poll,
         events,
         bind: None,
     })
 }
 
-/// The case's two jobs.
-fn jobs_of(rt: &HostRuntime, folder: &str, port: u16, case: &Case) -> Option<(Def, Def)> {
-    let first = job_of(rt, folder, port, case.scripts[0])?;
-    let second = job_of(rt, folder, port, case.scripts[1])?;
-    Some((first, second))
+/// Whether the edge takes the client under number 1.
+fn takes(rt: &HostRuntime, edge: &mut OsEdge<HostRuntime>, client: Client) -> Option<bool> {
+    let exchange = Exchange::new(rt.alloc()).ok()?;
+    Some(edge.take(0, 1, client, exchange).is_ok())
 }
 
-/// An edge that spools in the folder.
-fn edge_at(rt: &HostRuntime, spool: String) -> Option<OsEdge<HostRuntime>> {
-    OsEdge::new(rt.clone().ok()?, rt.alloc(), spool).ok()
+/// Whether a client waits, and the edge takes it or refuses to.
+fn is_taken(rt: &HostRuntime, edge: &mut OsEdge<HostRuntime>, is_taken: bool) -> bool {
+    match edge.accept(0) {
+        Some(client) => takes(rt, edge, client) == Some(is_taken),
+        None => false,
+    }
+}
+
+/// Whether job 0 has sockets by another bind than before, or has none.
+fn has_sockets(edge: &OsEdge<HostRuntime>, watch: &mut Watch, has_some: bool) -> bool {
+    let bind = edge.bind_of(0);
+    let is_other = bind.is_none() || bind != watch.bind;
+    watch.bind = bind.or(watch.bind);
+    is_other && bind.is_some() == has_some
 }
 
 /// Whether the step is as it says. A step that waits is asked again while it is not.
-fn is_so(rt: &HostRuntime, stage: &mut Stage, step: Step) -> Option<bool> {
-    let edge = &mut stage.edge;
+fn is_so(
+    rt: &HostRuntime,
+    place: Place<'_>,
+    edge: &mut OsEdge<HostRuntime>,
+    watch: &mut Watch,
+    step: Step,
+) -> bool {
     match step {
         Step::Answers(call, wanted) | Step::Ends(call, wanted) => {
-            Some(are_answered(edge, &stage.defs, &[(call, wanted)]))
+            are_answered(edge, place.jobs, &[(call, wanted)])
         }
-        Step::IsOver(job, run) => Some(edge.over_from(job) == Some(run)),
-        Step::NoneIsOver(job) => Some(edge.over_from(job).is_none()),
-        Step::HasFailed(count) => Some(edge.failures() == count),
-        Step::NobodyCalls => Some(edge.accept(0).is_none()),
-        Step::IsTaken(is_taken) => {
-            let client = edge.accept(0)?;
-            let exchange = Exchange::new(rt.alloc()).ok()?;
-            Some(edge.take(0, 1, client, exchange).is_ok() == is_taken)
+        Step::IsOver(job, run) => edge.over_from(job) == Some(run),
+        Step::NoneIsOver(job) => edge.over_from(job).is_none(),
+        Step::HasFailed(count) => edge.failures() == count,
+        Step::NobodyCalls => edge.accept(0).is_none(),
+        Step::IsTaken(wanted) => is_taken(rt, edge, wanted),
+        Step::HasSockets(has_some) => has_sockets(edge, watch, has_some),
+        Step::Registers => edge.register(watch.poll.registry(), Token(7)).is_ok(),
+        Step::IsWoken(wanted) => is_woken(watch, wanted),
+        Step::CallPort => calls_port(rt, place.port),
+        Step::CallPath => calls_path(rt, place.folder) == Some(true),
+        Step::IsSpooled(is_spooled) => {
+            let has_request = lies_in(rt, place.folder, "0-1.request");
+            let has_reply = lies_in(rt, place.folder, "0-1.reply");
+            has_request == Some(is_spooled) && has_reply == Some(is_spooled)
         }
-        Step::HasSockets(has_some) => {
-            let bind = edge.bind_of(0);
-            let is_other = bind.is_none() || bind != stage.bind;
-            stage.bind = bind.or(stage.bind);
-            Some(is_other && bind.is_some() == has_some)
-        }
-        Step::Registers => Some(edge.register(stage.poll.registry(), Token(7)).is_ok()),
-        _ => is_so_outside(rt, stage, step),
     }
 }
 
-/// The steps that ask nothing of the edge. A caller's end stays open.
-fn is_so_outside(rt: &HostRuntime, stage: &mut Stage, step: Step) -> Option<bool> {
-    let folder = stage.folder.as_str();
-    match step {
-        Step::CallPort => {
-            let caller = TcpStream::connect(rt, address(stage.port)).ok()?;
+/// Somebody calls the port, and half-closes. The caller's end stays open.
+fn calls_port(rt: &HostRuntime, port: u16) -> bool {
+    match TcpStream::connect(rt, address(port)) {
+        Ok(caller) => {
             let is_shut = caller.shutdown(Shutdown::Write).is_ok();
             mem::forget(caller);
-            Some(is_shut)
+            is_shut
         }
-        Step::CallPath => {
-            let path = format!(in rt.alloc(); "{folder}/s").ok()?;
-            mem::forget(UnixStream::connect(rt, path.as_str()).ok()?);
-            Some(true)
-        }
-        Step::IsSpooled(is_spooled) => {
-            let request = format!(in rt.alloc(); "{folder}/0-1.request").ok()?;
-            let reply = format!(in rt.alloc(); "{folder}/0-1.reply").ok()?;
-            let has_request = fs::symlink_metadata(rt, request.as_str()).is_ok();
-            let has_reply = fs::symlink_metadata(rt, reply.as_str()).is_ok();
-            Some(has_request == is_spooled && has_reply == is_spooled)
-        }
-        Step::IsWoken(is_woken) => {
-            let wait = Duration::from_millis(if is_woken { 5_000 } else { 50 });
-            stage.poll.poll(&mut stage.events, Some(wait)).ok()?;
-            let mut is_token = false;
-            for event in stage.events.iter() {
-                is_token = is_token || event.token() == Token(7);
-            }
-            Some(is_token == is_woken)
-        }
-        _ => None,
+        Err(_) => false,
     }
+}
+
+/// Somebody calls the path. The caller's end stays open.
+fn calls_path(rt: &HostRuntime, folder: &str) -> Option<bool> {
+    let path = format!(in rt.alloc(); "{folder}/s").ok()?;
+    mem::forget(UnixStream::connect(rt, path.as_str()).ok()?);
+    Some(true)
+}
+
+fn lies_in(rt: &HostRuntime, folder: &str, name: &str) -> Option<bool> {
+    let path = format!(in rt.alloc(); "{folder}/{name}").ok()?;
+    Some(fs::symlink_metadata(rt, path.as_str()).is_ok())
+}
+
+fn is_woken(watch: &mut Watch, is_woken: bool) -> bool {
+    let wait = Duration::from_millis(if is_woken { 5_000 } else { 50 });
+    let is_polled = watch.poll.poll(&mut watch.events, Some(wait)).is_ok();
+    let mut is_token = false;
+    for event in watch.events.iter() {
+        is_token = is_token || event.token() == Token(7);
+    }
+    is_polled && is_token == is_woken
 }
 
 /// Whether the step comes to be as it says, in five seconds if it is one that waits.
-fn comes(rt: &HostRuntime, stage: &mut Stage, step: Step) -> bool {
+fn comes(
+    rt: &HostRuntime,
+    place: Place<'_>,
+    edge: &mut OsEdge<HostRuntime>,
+    watch: &mut Watch,
+    step: Step,
+) -> bool {
     let tries = match step {
         Step::Ends(..) | Step::IsOver(..) | Step::IsTaken(_) => 500u32,
         _ => 1,
     };
     for _ in 0..tries {
-        if is_so(rt, stage, step) == Some(true) {
+        if is_so(rt, place, edge, watch, step) {
             return true;
         }
         pause(rt);
@@ -348,20 +366,79 @@ fn comes(rt: &HostRuntime, stage: &mut Stage, step: Step) -> bool {
     false
 }
 
-/// The number of the first step that goes wrong, or of none, if the folder could then be removed. The edge is left to the end of the test's
-/// process, which closes what it holds.
-fn played(rt: &HostRuntime, case: &Case) -> Option<usize> {
-    let mut stage = new_stage(rt, case)?;
+/// The number of the first step that goes wrong, or of none.
+fn passed(
+    rt: &HostRuntime,
+    place: Place<'_>,
+    edge: &mut OsEdge<HostRuntime>,
+    watch: &mut Watch,
+    steps: &[Step],
+) -> usize {
     let mut passed = 0usize;
-    for step in case.steps {
-        if !comes(rt, &mut stage, *step) {
+    for step in steps {
+        if !comes(rt, place, edge, watch, *step) {
             break;
         }
         passed = passed.saturating_add(1);
     }
-    let is_left = fs::remove_dir_all(rt, stage.folder.as_str()).is_ok();
-    mem::forget(stage);
-    if is_left { Some(passed) } else { None }
+    passed
+}
+
+/// The same, with a poll of its own.
+fn watched(
+    rt: &HostRuntime,
+    place: Place<'_>,
+    edge: &mut OsEdge<HostRuntime>,
+    steps: &[Step],
+) -> Option<usize> {
+    let mut watch = new_watch(rt)?;
+    Some(passed(rt, place, edge, &mut watch, steps))
+}
+
+/// The same, over an edge that is left to the end of the test's process, which closes what it holds.
+fn played_at(rt: &HostRuntime, place: Place<'_>, steps: &[Step]) -> Option<usize> {
+    let mut edge = edge_at(rt, place.folder)?;
+    let passed = watched(rt, place, &mut edge, steps);
+    mem::forget(edge);
+    passed
+}
+
+/// The same, with the second of the case's jobs.
+fn played_with<'x>(
+    rt: &HostRuntime,
+    folder: &'x str,
+    port: u16,
+    first: &'x Def,
+    case: &Case,
+) -> Option<usize> {
+    match job_of(rt, folder, port, case.scripts[1]) {
+        Some(second) => {
+            let jobs = Jobs {
+                first,
+                second: &second,
+            };
+            played_at(rt, Place { folder, port, jobs }, case.steps)
+        }
+        None => None,
+    }
+}
+
+/// The same, with both.
+fn played_in(rt: &HostRuntime, folder: &str, port: u16, case: &Case) -> Option<usize> {
+    match job_of(rt, folder, port, case.scripts[0]) {
+        Some(first) => played_with(rt, folder, port, &first, case),
+        None => None,
+    }
+}
+
+/// The same, if the case's folder could then be removed.
+fn played(rt: &HostRuntime, case: &Case) -> Option<usize> {
+    let port = free_port(rt)?;
+    let folder = folder_name(rt, case.name)?;
+    fs::create_dir(rt, folder.as_str()).ok()?;
+    let passed = played_in(rt, folder.as_str(), port, case);
+    let is_left = fs::remove_dir_all(rt, folder.as_str()).is_ok();
+    if is_left { passed } else { None }
 }
 
 #[test]

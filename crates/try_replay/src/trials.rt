@@ -93,70 +93,91 @@ fn front_is_answered(alloc: Global, bytes: usize) -> bool {
         && text.ends_with(last)
 }
 
-fn all_pieces(alloc: Global) -> bool {
-    (1..=300usize).all(|piece| is_answered(alloc, piece))
+/// A trial, which is made for each number of a range.
+#[derive(Clone, Copy)]
+enum Trial {
+    /// The journal in pieces of that many bytes.
+    Pieces,
+    /// As many reads of so many bytes, and then one that fails so.
+    Reads(usize, ErrorKind),
+    /// As many written bytes, and then a write that fails so, or takes no byte.
+    Writes(Option<ErrorKind>),
+    /// As many reads at most.
+    Counts,
+    /// Reads of that many bytes.
+    LongReads,
+    /// As many bytes of the journal.
+    Fronts,
 }
 
-fn all_reads(alloc: Global, piece: usize, failure: ErrorKind) -> bool {
-    let most = JOURNAL.len() / piece.max(1);
-    (0..=most).all(|reads| read_may_fail(alloc, piece, reads, failure))
-}
-
-fn all_writes(alloc: Global, failure: Option<ErrorKind>) -> bool {
-    (0..OUTCOMES.len()).all(|writes| write_may_fail(alloc, writes, failure))
-}
-
-fn all_counts(alloc: Global) -> bool {
-    (0..=JOURNAL.len()).all(|reads| reads_are_counted(alloc, reads))
-}
-
-fn all_long_reads(alloc: Global) -> bool {
-    (1..=600usize).all(|piece| few_long_reads_suffice(alloc, piece))
-}
-
-fn all_fronts(alloc: Global) -> bool {
-    (0..JOURNAL.len()).all(|bytes| front_is_answered(alloc, bytes))
-}
-
-fn show<R: Print>(rt: &R, name: &str, passed: bool) -> io::Result<()> {
-    if passed {
-        println!(rt; "{name}")
-    } else {
-        println!(rt; "{name}: other than wanted")
+fn holds(alloc: Global, trial: Trial, number: usize) -> bool {
+    match trial {
+        Trial::Pieces => is_answered(alloc, number),
+        Trial::Reads(piece, failure) => read_may_fail(alloc, piece, number, failure),
+        Trial::Writes(failure) => write_may_fail(alloc, number, failure),
+        Trial::Counts => reads_are_counted(alloc, number),
+        Trial::LongReads => few_long_reads_suffice(alloc, number),
+        Trial::Fronts => front_is_answered(alloc, number),
     }
 }
 
-/// Tries each kind of trial.
-pub fn try_all<R: Print + AllocGlobal>(rt: &R) -> io::Result<()> {
-    let alloc = rt.alloc();
-    show(rt, "pieces_of_any_length", all_pieces(alloc))?;
-    show(
-        rt,
+/// The least and the greatest number of the trial.
+fn range(trial: Trial) -> (usize, usize) {
+    match trial {
+        Trial::Pieces => (1, 300),
+        Trial::Reads(piece, _) => (0, JOURNAL.len() / piece.max(1)),
+        Trial::Writes(_) => (0, OUTCOMES.len().saturating_sub(1)),
+        Trial::Counts => (0, JOURNAL.len()),
+        Trial::LongReads => (1, 600),
+        Trial::Fronts => (0, JOURNAL.len().saturating_sub(1)),
+    }
+}
+
+/// Whether the trial holds for each number.
+fn always_holds(alloc: Global, trial: Trial) -> bool {
+    let (least, greatest) = range(trial);
+    let mut are_so = true;
+    for number in least..=greatest {
+        let is_so = holds(alloc, trial, number);
+        are_so = are_so && is_so;
+    }
+    are_so
+}
+
+static TRIALS: &[(&str, Trial)] = &[
+    ("pieces_of_any_length", Trial::Pieces),
+    (
         "each_read_of_a_byte_fails",
-        all_reads(alloc, 1, ErrorKind::Other),
-    )?;
-    show(
-        rt,
+        Trial::Reads(1, ErrorKind::Other),
+    ),
+    (
         "each_read_of_seven_bytes_fails",
-        all_reads(alloc, 7, ErrorKind::BrokenPipe),
-    )?;
-    show(
-        rt,
+        Trial::Reads(7, ErrorKind::BrokenPipe),
+    ),
+    (
         "each_read_is_interrupted",
-        all_reads(alloc, 1, ErrorKind::Interrupted),
-    )?;
-    show(
-        rt,
-        "each_write_fails",
-        all_writes(alloc, Some(ErrorKind::Other)),
-    )?;
-    show(
-        rt,
+        Trial::Reads(1, ErrorKind::Interrupted),
+    ),
+    ("each_write_fails", Trial::Writes(Some(ErrorKind::Other))),
+    (
         "each_write_is_interrupted",
-        all_writes(alloc, Some(ErrorKind::Interrupted)),
-    )?;
-    show(rt, "each_write_takes_no_byte", all_writes(alloc, None))?;
-    show(rt, "reads_are_counted", all_counts(alloc))?;
-    show(rt, "few_long_reads_suffice", all_long_reads(alloc))?;
-    show(rt, "each_front_is_answered", all_fronts(alloc))
+        Trial::Writes(Some(ErrorKind::Interrupted)),
+    ),
+    ("each_write_takes_no_byte", Trial::Writes(None)),
+    ("reads_are_counted", Trial::Counts),
+    ("few_long_reads_suffice", Trial::LongReads),
+    ("each_front_is_answered", Trial::Fronts),
+];
+
+/// Makes each trial, and names it.
+pub fn try_all<R: Print + AllocGlobal>(rt: &R) -> io::Result<()> {
+    for (name, trial) in TRIALS {
+        let fault = if always_holds(rt.alloc(), *trial) {
+            ""
+        } else {
+            ": other than wanted"
+        };
+        println!(rt; "{name}{fault}")?;
+    }
+    Ok(())
 }
