@@ -1,0 +1,62 @@
+#!/usr/bin/env python3
+"""Tells where the time of a crate's check went, module by module.
+
+    bench/modules.py CRATE [NUMBER]
+
+First: `rm -r crates/CRATE/out/incremental; cd crates/CRATE; rt check --jobs 1`. The check keeps what it proved as files in out/incremental,
+one for each module, written as it goes. So the time between two files is what the later one took, by the clock. The NUMBER (25) dearest
+modules are listed, then what each kind of module took together:
+
+    F.Lts        the steps of the function F: grows with its calls, and with each way out that lets values go
+    F.Proof      the proof that F meets its clauses; F.Answers, what was written of it
+    F.Tie        what joins F's types with those of the functions that it calls
+    XLemmas      a file of lemmas. One that takes more than seconds has a term whose type the prover computes at length: state that
+                 step as a lemma of its own, with its type written out
+    the crate    what it stands on, loaded
+
+A check of several jobs writes modules side by side, and tells nothing here. The progress lines of `rt check` tell less: they count the
+modules of a function's callers to the function that is checked first.
+"""
+import collections
+import os
+import sys
+
+TOP = os.path.dirname(os.path.dirname(os.path.abspath(__file__)))
+
+# The last parts of a module's name that are a kind of their own.
+KINDS = ("Answers", "Code", "Kinds", "Layout", "Lts", "Proof", "Reads", "Statement", "Tie")
+
+
+def modules_of(crate):
+    """The modules that the last check of the crate wrote, with the moment of each, in order."""
+    found = []
+    for folder, _, files in os.walk(f"{TOP}/crates/{crate}/out/incremental"):
+        found += [(os.stat(f"{folder}/{it}").st_mtime, it.removesuffix(".oantt")) for it in files if it.endswith(".oantt")]
+    return sorted(found)
+
+
+def kind_of(module, crate):
+    name = module.removesuffix(".decls")
+    last = name.rpartition(".")[2]
+    if name == f"Rattle-{crate}":
+        return "the crate"
+    if name.startswith(f"Rattle-{crate}-specs"):
+        return "specs"
+    return last if last in KINDS else "lemmas" if last.endswith("Lemmas") else "others"
+
+
+def main(crate, number="25"):
+    modules = modules_of(crate)
+    if len(modules) < 2:
+        sys.exit(f"crates/{crate}/out/incremental has no modules: check the crate first, with --jobs 1")
+    spent = [(later - earlier, name) for (earlier, _), (later, name) in zip(modules, modules[1:])]
+    for seconds, name in sorted(spent, reverse=True)[: int(number)]:
+        print(f"{seconds:8.1f} {name}")
+    sums = collections.Counter()
+    for seconds, name in spent:
+        sums[kind_of(name, crate)] += seconds
+    print(f"{sum(sums.values()):8.1f} in all, {len(modules)} modules: " + ", ".join(f"{kind} {s:.1f}" for kind, s in sums.most_common()))
+
+
+if __name__ == "__main__":
+    main(*sys.argv[1:])
