@@ -24,6 +24,8 @@ pub enum Trial {
     Children,
     Paths,
     Shutdown,
+    Answers,
+    LateAnswers,
 }
 
 /// A table with no job, whose clock shows UTC.
@@ -94,31 +96,29 @@ fn refusal_of(table: &mut JobTable, number: JobNo, answer: Answer) -> Option<Ref
 }
 
 /// Says whether answers go to the jobs of their numbers, though the one that was loaded last stands first, and each is taken in once.
-pub fn answers_arrive(alloc: Global) -> Result<bool, Refusal> {
-    let mut table = empty_table(alloc)?;
-    let second = load(alloc, &mut table, B)?;
-    let first = load(alloc, &mut table, A)?;
+fn answers_arrive(alloc: Global, table: &mut JobTable) -> Result<bool, Refusal> {
+    let second = load(alloc, table, B)?;
+    let first = load(alloc, table, A)?;
     let started = Answer::Spawned { run: 1, pid: 812 };
-    let is_told = refusal_of(&mut table, second, started).is_none();
+    let is_told = refusal_of(table, second, started).is_none();
     let is_alone = table.child_after("") == Some(("b", second, 1));
-    let is_refused = refusal_of(&mut table, first, Answer::SpawnRefused { run: 1 }).is_none();
-    let is_stale = refusal_of(&mut table, second, started) == Some(Refusal::Stale);
+    let is_refused = refusal_of(table, first, Answer::SpawnRefused { run: 1 }).is_none();
+    let is_stale = refusal_of(table, second, started) == Some(Refusal::Stale);
     let is_still_alone = table.child_after("") == Some(("b", second, 1));
     Ok(is_told && is_alone && is_refused && is_stale && is_still_alone)
 }
 
 /// Says whether an answer is refused whose job went at the event before, and one whose number no job has.
-pub fn late_answers_are_refused(alloc: Global) -> Result<bool, Refusal> {
-    let mut table = empty_table(alloc)?;
-    let left = load(alloc, &mut table, IDLE)?;
-    let stays = load(alloc, &mut table, B)?;
+fn late_answers_are_refused(alloc: Global, table: &mut JobTable) -> Result<bool, Refusal> {
+    let left = load(alloc, table, IDLE)?;
+    let stays = load(alloc, table, B)?;
     table.unload("a")?;
     let late = Answer::SpawnRefused { run: 1 };
-    let is_gone = refusal_of(&mut table, left, late) == Some(Refusal::NoSuchJob);
-    let is_none = refusal_of(&mut table, 7, late) == Some(Refusal::BadRequest);
-    let is_bad = refusal_of(&mut table, stays, Answer::Spawned { run: 1, pid: 0 })
+    let is_gone = refusal_of(table, left, late) == Some(Refusal::NoSuchJob);
+    let is_none = refusal_of(table, 7, late) == Some(Refusal::BadRequest);
+    let is_bad = refusal_of(table, stays, Answer::Spawned { run: 1, pid: 0 })
         == Some(Refusal::BadRequest);
-    let is_other = refusal_of(&mut table, stays, late).is_none();
+    let is_other = refusal_of(table, stays, late).is_none();
     Ok(is_gone && is_none && is_bad && is_other)
 }
 
@@ -151,6 +151,8 @@ pub fn stands(alloc: Global, trial: Trial) -> bool {
         Trial::Children => children_follow(alloc, &mut table),
         Trial::Paths => paths_follow(alloc, &mut table),
         Trial::Shutdown => is_shut_down(alloc, &mut table),
+        Trial::Answers => answers_arrive(alloc, &mut table),
+        Trial::LateAnswers => late_answers_are_refused(alloc, &mut table),
     };
     is_so == Ok(true)
 }

@@ -21,8 +21,8 @@ fn children_and_paths_come_in_order(rt: HostRuntime) {
 /// the answer is refused.
 #[test]
 fn answers_are_told_by_number(rt: HostRuntime) {
-    assert!(rt; answers_arrive(rt.alloc()) == Ok(true));
-    assert!(rt; late_answers_are_refused(rt.alloc()) == Ok(true));
+    assert!(rt; stands(rt.alloc(), Trial::Answers));
+    assert!(rt; stands(rt.alloc(), Trial::LateAnswers));
 }
 
 #[test]
