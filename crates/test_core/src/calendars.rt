@@ -19,10 +19,10 @@ fn zone_of(alloc: Global, word: &str) -> Option<Zone> {
     }
 }
 
-// Whether the zone of the line shows what the line says.
+// Whether the zone of the line shows what the line says. It is made last, so that no way out before has it to let go.
 fn is_shown(alloc: Global, line: &str) -> Option<bool> {
     let mut words = line.split(' ');
-    let zone = zone_of(alloc, words.next()?)?;
+    let name = words.next()?;
     let seconds = words.next()?.parse::<u64>().ok()?;
     let year = words.next()?.parse::<i16>().ok()?;
     let mut rest = [0u8; 5];
@@ -38,6 +38,7 @@ fn is_shown(alloc: Global, line: &str) -> Option<bool> {
         minute,
         weekday,
     };
+    let zone = zone_of(alloc, name)?;
     Some(seconds <= LATEST && zone.civil_minute(seconds) == wanted)
 }
 

@@ -95,17 +95,30 @@ fn refusal_of(table: &mut JobTable, number: JobNo, answer: Answer) -> Option<Ref
     table.answered(number, answer).err()
 }
 
+/// Says whether the first child is that of this job and run.
+fn is_first_child(table: &JobTable, label: &str, number: JobNo, run: u64) -> bool {
+    match table.child_after("") {
+        None => false,
+        Some(child) => child == (label, number, run),
+    }
+}
+
 /// Says whether answers go to the jobs of their numbers, though the one that was loaded last stands first, and each is taken in once.
 fn answers_arrive(alloc: Global, table: &mut JobTable) -> Result<bool, Refusal> {
     let second = load(alloc, table, B)?;
     let first = load(alloc, table, A)?;
+    Ok(answers_reach(table, first, second))
+}
+
+fn answers_reach(table: &mut JobTable, first: JobNo, second: JobNo) -> bool {
     let started = Answer::Spawned { run: 1, pid: 812 };
-    let is_told = refusal_of(table, second, started).is_none();
-    let is_alone = table.child_after("") == Some(("b", second, 1));
-    let is_refused = refusal_of(table, first, Answer::SpawnRefused { run: 1 }).is_none();
-    let is_stale = refusal_of(table, second, started) == Some(Refusal::Stale);
-    let is_still_alone = table.child_after("") == Some(("b", second, 1));
-    Ok(is_told && is_alone && is_refused && is_stale && is_still_alone)
+    let told = refusal_of(table, second, started);
+    let is_alone = is_first_child(table, "b", second, 1);
+    let refused = refusal_of(table, first, Answer::SpawnRefused { run: 1 });
+    let stale = refusal_of(table, second, started);
+    let is_still_alone = is_first_child(table, "b", second, 1);
+    let is_taken_in = told.is_none() && refused.is_none();
+    is_taken_in && is_alone && is_still_alone && stale == Some(Refusal::Stale)
 }
 
 /// Says whether an answer is refused whose job went at the event before, and one whose number no job has.
