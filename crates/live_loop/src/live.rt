@@ -53,10 +53,9 @@ pub struct Live<R: System, T: SettingStore, W: Write> {
     pub(crate) ended_at: Option<u64>,
 }
 
-/// What the rounds wait on, and their rooms.
+/// What the rounds keep.
 #[derive(Drop)]
 struct Rooms {
-    poll: Poll,
     events: Events,
     sights: Sights,
     sockets: JobSockets,
@@ -64,37 +63,61 @@ struct Rooms {
     voice: Voice,
 }
 
-fn rooms_beside(net: &impl Net, alloc: Global, poll: Poll) -> Result<Rooms, AllocError> {
-    let events = Events::with_capacity(alloc, EVENTS)?;
-    let sights = Sights::new(alloc)?;
-    let sockets = JobSockets::new(alloc)?;
+fn make_rooms(net: &impl Net, alloc: Global) -> Result<Rooms, AllocError> {
     let label = LabelRoom::new(alloc)?;
+    let events = Events::with_capacity(alloc, EVENTS)?;
     let voice = Voice::new(net, alloc)?;
-    Ok(Rooms {
-        poll,
-        events,
-        sights,
-        sockets,
-        label,
-        voice,
-    })
+    match senses(alloc) {
+        Ok((sights, sockets)) => Ok(Rooms {
+            events,
+            sights,
+            sockets,
+            label,
+            voice,
+        }),
+        Err(fault) => {
+            drop((label, events, voice));
+            Err(fault)
+        }
+    }
 }
 
-// A poll that the control socket wakes, and the rooms.
-fn make_rooms<R: System>(
-    rt: &R,
-    alloc: Global,
-    control: &mut ControlSocket,
-) -> Result<Rooms, ServeFault> {
+fn senses(alloc: Global) -> Result<(Sights, JobSockets), AllocError> {
+    let sights = Sights::new(alloc)?;
+    match JobSockets::new(alloc) {
+        Ok(sockets) => Ok((sights, sockets)),
+        Err(fault) => {
+            drop(sights);
+            Err(fault)
+        }
+    }
+}
+
+// A poll that the control socket wakes.
+fn poll_with<R: System>(rt: &R, control: &mut ControlSocket) -> Result<Poll, ServeFault> {
     let Ok(poll) = Poll::new(rt) else {
         return Err(ServeFault::Poll);
     };
     if control.register(poll.registry(), CONTROL).is_err() {
+        drop(poll);
         return Err(ServeFault::Poll);
     }
-    match rooms_beside(rt, alloc, poll) {
-        Ok(rooms) => Ok(rooms),
-        Err(_) => Err(ServeFault::NoMemory),
+    Ok(poll)
+}
+
+// The poll first: nothing is made if the system refuses it.
+fn poll_and_rooms<R: System>(
+    rt: &R,
+    alloc: Global,
+    control: &mut ControlSocket,
+) -> Result<(Poll, Rooms), ServeFault> {
+    let poll = poll_with(rt, control)?;
+    match make_rooms(rt, alloc) {
+        Ok(rooms) => Ok((poll, rooms)),
+        Err(_) => {
+            drop(poll);
+            Err(ServeFault::NoMemory)
+        }
     }
 }
 
@@ -109,10 +132,13 @@ impl<R: System, T: SettingStore + Drop, W: Write + Drop> Live<R, T, W> {
         control: ControlSocket,
     ) -> Result<Live<R, T, W>, ServeFault> {
         let mut control = control;
-        // One way out alone lets the launcher go: each costs the proof much.
-        match make_rooms(rt, alloc, &mut control) {
-            Ok(rooms) => Ok(live_in(host, control, rooms)),
-            Err(fault) => Err(fault),
+        match poll_and_rooms(rt, alloc, &mut control) {
+            Ok((poll, rooms)) => Ok(live_in(host, control, poll, rooms)),
+            Err(fault) => {
+                drop(host);
+                drop(control);
+                Err(fault)
+            }
         }
     }
 }
@@ -120,10 +146,10 @@ impl<R: System, T: SettingStore + Drop, W: Write + Drop> Live<R, T, W> {
 fn live_in<R: System, T: SettingStore, W: Write>(
     host: Host<T, OsEdge<R>, W>,
     control: ControlSocket,
+    poll: Poll,
     rooms: Rooms,
 ) -> Live<R, T, W> {
     let Rooms {
-        poll,
         events,
         sights,
         sockets,
@@ -162,7 +188,20 @@ impl<R: System, T: SettingStore, W: Write> Live<R, T, W> {
     pub fn into_host(self) -> Host<T, OsEdge<R>, W>
         ensures { result ≡ self.inputs.host }
     {
-        let Live { inputs, .. } = self;
+        let Live {
+            inputs,
+            control,
+            poll,
+            events,
+            sights,
+            sockets,
+            label,
+            voice,
+            untold,
+            ..
+        } = self;
+        drop((control, poll, events, untold));
+        drop((sights, sockets, label, voice));
         let RoundLauncher { host, .. } = inputs;
         host
     }

@@ -75,6 +75,7 @@ pub fn serve<R: System + Wait, T: SettingStore + Drop, W: Write + Drop>(
         };
         if let Some(answer) = end {
             close(rt, alloc, &mut live);
+            drop(live);
             return answer;
         }
     }
