@@ -12,7 +12,7 @@ use outside::SettingStore;
 use override_store::StoredSettings;
 use own_files::LockFile;
 use own_process::{Standing, open_null_streams};
-use sqlite::{Alter, Connection, FileStore};
+use sqlite::FileStore;
 use startup::{
     Places, Plan, begun, bound, hold_spool, journal_at, no_clock, open_store, read_wishes, refuse,
     report, room_of, settle, stored, system_of, tell_long_header, tell_standing, zone_of,
@@ -22,8 +22,32 @@ use std::fs::File;
 use std::io::BufWriter;
 use std::sync::Wait;
 
-/// The store in its file.
-type Stored = StoredSettings<FileStore<sqlite::File>>;
+/// Opens a store of settings. The launcher is put together over any, since each place that lets one go is proved for its whole type.
+trait Opens {
+    type Store: SettingStore + Drop;
+
+    /// The store and its settings, or the status of a fault, which is told.
+    fn open(&self, alloc: Global, plan: &Plan) -> Result<(Self::Store, Vec<Setting>), u8>;
+}
+
+/// Opens the store in its file.
+#[derive(Clone, Copy)]
+struct InFile<'a> {
+    rt: &'a HostRuntime,
+}
+
+impl Opens for InFile<'_> {
+    type Store = StoredSettings<FileStore<sqlite::File>>;
+
+    fn open(&self, alloc: Global, plan: &Plan) -> Result<(Self::Store, Vec<Setting>), u8> {
+        let level = plan.wishes.level;
+        let path = plan.places.store.as_str();
+        match open_store(self.rt, alloc, level, path) {
+            Ok(conn) => stored(self.rt, alloc, level, path, conn),
+            Err(status) => Err(status),
+        }
+    }
+}
 
 /// What a launcher has before its store is opened.
 #[derive(Drop)]
@@ -80,17 +104,18 @@ pub(crate) fn serve_at<R: System + Wait>(
         wishes,
         standing: Standing::read(rt),
     };
-    serve_by(host, rt, alloc, &plan, zone)
+    serve_by(host, rt, alloc, &plan, zone, &InFile { rt: host })
 }
 
-fn serve_by<R: System + Wait>(
+fn serve_by<R: System + Wait, O: Opens>(
     host: &HostRuntime,
     rt: &R,
     alloc: Global,
     plan: &Plan,
     zone: ZoneWords,
+    store: &O,
 ) -> u8 {
-    let Started { live, lock } = match start(host, rt, alloc, plan, zone) {
+    let Started { live, lock } = match start(rt, alloc, plan, zone, store) {
         Ok(started) => started,
         Err(status) => return status,
     };
@@ -112,22 +137,43 @@ fn let_go<R: System>(rt: &R, lock: Option<LockFile>) {
     }
 }
 
-fn start<R: System>(
-    host: &HostRuntime,
+fn start<R: System, O: Opens>(
     rt: &R,
     alloc: Global,
     plan: &Plan,
     zone: ZoneWords,
-) -> Result<Started<R, Stored>, u8> {
+    store: &O,
+) -> Result<Started<R, O::Store>, u8> {
     let zone = zone_of(rt, alloc, plan.wishes.level, zone)?;
-    let (edge, reading) = system_of(rt, alloc, plan)?;
-    let header = Header {
-        reading,
-        zone,
-        overrides: Settings::new(Vec::new(alloc)),
+    match system_of(rt, alloc, plan) {
+        Ok((edge, reading)) => {
+            let header = Header {
+                reading,
+                zone,
+                overrides: Settings::new(Vec::new(alloc)),
+            };
+            start_over(rt, alloc, plan, header, edge, store)
+        }
+        Err(status) => Err(status),
+    }
+}
+
+fn start_over<R: System, O: Opens>(
+    rt: &R,
+    alloc: Global,
+    plan: &Plan,
+    header: Header,
+    edge: OsEdge<R>,
+    store: &O,
+) -> Result<Started<R, O::Store>, u8> {
+    let control = match bound(rt, alloc, plan) {
+        Ok(control) => control,
+        Err(status) => {
+            drop((header, edge));
+            return Err(status);
+        }
     };
-    let control = bound(rt, alloc, plan)?;
-    match make(host, rt, alloc, plan, header, edge) {
+    match make(rt, alloc, plan, header, edge, store) {
         Ok(made) => start_with(rt, alloc, plan, made, control),
         Err(status) => {
             control.remove(rt);
@@ -136,36 +182,49 @@ fn start<R: System>(
     }
 }
 
-fn make<R: System>(
-    host: &HostRuntime,
+fn make<R: System, O: Opens>(
     rt: &R,
     alloc: Global,
     plan: &Plan,
     header: Header,
     edge: OsEdge<R>,
-) -> Result<Made<R, Stored>, u8> {
-    let journal = journal_at(rt, plan)?;
-    let parts = Parts {
-        header,
-        edge,
-        journal,
+    store: &O,
+) -> Result<Made<R, O::Store>, u8> {
+    let parts = match journal_at(rt, plan) {
+        Ok(journal) => Parts {
+            header,
+            edge,
+            journal,
+        },
+        Err(status) => {
+            drop((header, edge));
+            return Err(status);
+        }
     };
-    let conn = open_store(host, alloc, plan.wishes.level, plan.places.store.as_str())?;
-    make_on(rt, alloc, plan, parts, conn)
+    match store.open(alloc, plan) {
+        Ok((store, settings)) => make_on(rt, alloc, plan, parts, store, settings),
+        Err(status) => {
+            drop(parts);
+            Err(status)
+        }
+    }
 }
 
-// What lets a store go is proved for its whole type, so the rest is generic over what the store stands on.
-
-fn make_on<R: System, S: Alter + Drop>(
+fn make_on<R: System, T: SettingStore + Drop>(
     rt: &R,
     alloc: Global,
     plan: &Plan,
     parts: Parts<R>,
-    conn: Connection<S>,
-) -> Result<Made<R, StoredSettings<S>>, u8> {
-    let path = plan.places.store.as_str();
-    let (store, settings) = stored(rt, alloc, plan.wishes.level, path, conn)?;
-    let lock = hold_spool(rt, alloc, plan)?;
+    store: T,
+    settings: Vec<Setting>,
+) -> Result<Made<R, T>, u8> {
+    let lock = match hold_spool(rt, alloc, plan) {
+        Ok(lock) => lock,
+        Err(status) => {
+            drop((parts, store, settings));
+            return Err(status);
+        }
+    };
     match launcher_of(rt, alloc, plan, parts, store, settings) {
         Ok(launcher) => Ok(Made { launcher, lock }),
         Err(status) => {
@@ -188,13 +247,39 @@ fn launcher_of<R: System, T: SettingStore + Drop>(
         edge,
         journal,
     } = parts;
-    let mut header = header;
-    header.overrides = Settings::new(settings);
+    let Header { reading, zone, .. } = header;
+    let header = Header {
+        reading,
+        zone,
+        overrides: Settings::new(settings),
+    };
+    match writer_of(rt, alloc, plan, &header, journal) {
+        Ok(journal) => match Host::new(alloc, header, store, edge, journal) {
+            Ok(launcher) => Ok(launcher),
+            Err(fault) => Err(report_host(rt, plan, fault)),
+        },
+        Err(status) => {
+            drop((header, edge, store));
+            Err(status)
+        }
+    }
+}
+
+// The journal, emptied. A header that is too long for it is told.
+fn writer_of<R: System>(
+    rt: &R,
+    alloc: Global,
+    plan: &Plan,
+    header: &Header,
+    journal: Option<File>,
+) -> Result<Option<BufWriter<File>>, u8> {
     let journal = begun(rt, alloc, plan, journal)?;
-    tell_long_header(rt, alloc, plan, &header)?;
-    match Host::new(alloc, header, store, edge, journal) {
-        Ok(launcher) => Ok(launcher),
-        Err(fault) => Err(report_host(rt, plan, fault)),
+    match tell_long_header(rt, alloc, plan, header) {
+        Ok(_) => Ok(journal),
+        Err(status) => {
+            drop(journal);
+            Err(status)
+        }
     }
 }
 
