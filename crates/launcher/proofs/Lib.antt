@@ -1,5 +1,7 @@
 pub mod AcceptingLemmas
-pub mod AskingLemmas
+pub mod LoadAskingLemmas
+pub mod QuestionLemmas
+pub mod SettingAskingLemmas
 pub mod CarryLemmas
 pub mod FinishingLemmas
 pub mod HeaderLemmas

@@ -7,7 +7,7 @@ use Rattle.history_model.specs.Step.{outcome}
 use Rattle.job_table.specs.StandsFor.{KeepsState}
 use Rattle.job_table.specs.Loads.{load_of_bytes, refused_with}
 use Rattle.launcher.proofs.HostsLemmas.{as_replied}
-use Rattle.launcher.proofs.AskingLemmas.{loaded, load_words}
+use Rattle.launcher.proofs.LoadAskingLemmas.{loaded, load_words}
 use Rattle.launcher.proofs.host.Host.ask_load.Goals as goal
 use Rattle.launcher.specs.LoadTurns.{label_written, load_request, stamps_after, standing}
 

@@ -5,7 +5,7 @@ use Rattle.history_model.specs.declared.event.Event.TheVariants as events
 use Rattle.job_table.specs.Loads.{refused_with}
 use Rattle.launcher.specs.Hosts.{Hears}
 use Rattle.launcher.proofs.HostsLemmas.{as_replied}
-use Rattle.launcher.proofs.AskingLemmas.{printed}
+use Rattle.launcher.proofs.QuestionLemmas.{printed}
 use Rattle.launcher.proofs.host.Host.ask_print.Goals as goal
 use Rattle.launcher.specs.LoadTurns.{standing}
 

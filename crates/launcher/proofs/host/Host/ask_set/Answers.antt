@@ -6,7 +6,7 @@ use Rattle.job_table.specs.Loads.{refused_with}
 use Rattle.launcher.specs.JournaledLines.{journaled_set}
 use Rattle.launcher.specs.LoadTurns.{stamps_after, standing}
 use Rattle.launcher.proofs.HostsLemmas.{as_replied}
-use Rattle.launcher.proofs.AskingLemmas.{changed}
+use Rattle.launcher.proofs.SettingAskingLemmas.{changed}
 use Rattle.launcher.proofs.StampsLemmas.{set_asked}
 use Rattle.launcher.proofs.host.Host.ask_set.Goals as goal
 
