@@ -71,6 +71,13 @@ struct Started<R: System, T: SettingStore> {
     lock: Option<LockFile>,
 }
 
+/// What is read before anything is opened, and what is held as long as the launcher lives.
+#[derive(Drop)]
+struct Prepared {
+    plan: Plan,
+    _null_streams: Vec<File>,
+}
+
 /// Serves until a shutdown was accepted and no job is left: 0. A fault is told, and its status given: in this order the zone
 /// 7, how the process was started and the clock 9, the control socket 6, the journal 8, the store 5, the spool 10, waiting 9; 1
 /// for want of memory. A journal is emptied only after the spool. The files of the control socket and of locks are removed in
@@ -82,29 +89,47 @@ pub(crate) fn serve_at<R: System + Wait>(
     places: Places,
     zone: ZoneWords,
 ) -> u8 {
+    match prepare(host, rt, alloc, places) {
+        Ok(prepared) => {
+            let store = InFile { rt: host };
+            let status = serve_by(host, rt, alloc, &prepared.plan, zone, &store);
+            drop(prepared);
+            status
+        }
+        Err(status) => status,
+    }
+}
+
+fn prepare<R: System>(
+    host: &HostRuntime,
+    rt: &R,
+    alloc: Global,
+    places: Places,
+) -> Result<Prepared, u8> {
     let Ok(wishes) = read_wishes(host) else {
-        return NO_MEMORY;
+        return Err(NO_MEMORY);
     };
-    let null = "/dev/null";
-    let _null_streams = match open_null_streams(rt, alloc) {
-        Ok(held) => held,
+    match open_null_streams(rt, alloc) {
+        Ok(held) => Ok(Prepared {
+            plan: Plan {
+                places,
+                wishes,
+                standing: Standing::read(rt),
+            },
+            _null_streams: held,
+        }),
         Err(error) => {
-            return refuse(
+            let level = wishes.level;
+            Err(refuse(
                 rt,
-                wishes.level,
+                level,
                 CLOCK_OR_WAITING,
                 "null device",
-                null,
+                "/dev/null",
                 &error,
-            );
+            ))
         }
-    };
-    let plan = Plan {
-        places,
-        wishes,
-        standing: Standing::read(rt),
-    };
-    serve_by(host, rt, alloc, &plan, zone, &InFile { rt: host })
+    }
 }
 
 fn serve_by<R: System + Wait, O: Opens>(
