@@ -75,17 +75,29 @@ impl<P: OpenProcess + Drop> Children<P> {
         ensures { IfOk result (λ pid. 0 < pid) }
     {
         let Err(place) = self.place(job, run) else {
+            drop(kept);
             return Err(io::Error::from(ErrorKind::AlreadyExists));
         };
-        self.started.reserve(1)?;
+        if self.started.reserve(1).is_err() {
+            drop(kept);
+            return Err(io::Error::from(ErrorKind::OutOfMemory));
+        }
         let number = self.started.vacant_key();
-        self.runs.insert(place, Numbered { job, run, number })?;
+        if self
+            .runs
+            .insert(place, Numbered { job, run, number })
+            .is_err()
+        {
+            drop(kept);
+            return Err(io::Error::from(ErrorKind::OutOfMemory));
+        }
         match spawn(rt, command) {
             Ok((pid, child)) => {
                 self.started.insert_reserved(Started { child, kept });
                 Ok(pid)
             }
             Err(error) => {
+                drop(kept);
                 self.runs.remove(place);
                 Err(error)
             }
@@ -118,9 +130,10 @@ impl<P: OpenProcess + Drop> Children<P> {
 
     /// The label of the run's job, if the run has a child.
     pub(crate) fn label(&self, job: JobNo, run: u64) -> Option<&str> {
-        let started = self.started.get(self.number(job, run))?;
-        let label = started.kept.label.as_ref()?;
-        Some(label.as_str())
+        match self.started.get(self.number(job, run)) {
+            Some(started) => started.kept.label.as_ref().map(Text::as_str),
+            None => None,
+        }
     }
 
     /// Gives the run's child TERM, by `kill` of `/bin/sh`. It is asked for its end first: one that has ended gets no signal, as
@@ -177,10 +190,12 @@ impl<P: OpenProcess + Drop> Children<P> {
         };
         let gone = self.runs.remove(place);
         match self.started.try_remove(gone.number) {
-            Some(gone) => Ok(Some(End {
-                ended: end_of(status),
-                kept: gone.kept,
-            })),
+            Some(gone) => {
+                let Started { child, kept } = gone;
+                drop(child);
+                let ended = end_of(status);
+                Ok(Some(End { ended, kept }))
+            }
             None => Err(io::Error::from(ErrorKind::NotFound)),
         }
     }

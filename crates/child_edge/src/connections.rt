@@ -14,7 +14,7 @@ use crate::spool::Spooled;
 use crate::{Client, words};
 use history_model::{JobNo, Text};
 use socket_demand::Exchange;
-use std::alloc::Global;
+use std::alloc::{AllocError, Global};
 use std::collections::BTreeMap;
 use std::fs::{File, Files};
 use std::io;
@@ -84,11 +84,13 @@ impl Connections {
         mut exchange: Exchange,
     ) -> io::Result<()> {
         if self.held.contains_key(&key) {
+            drop((client, exchange));
             return Err(io::Error::from(ErrorKind::AlreadyExists));
         }
         self.read_clock(rt);
         if let Some(why) = self.want_of_room(rt, notices, key.0) {
             notices.let_go(key.0, label, why);
+            drop((client, exchange));
             return Err(io::Error::from(ErrorKind::Other));
         }
         exchange.request_end();
@@ -116,25 +118,41 @@ impl Connections {
         client: Client,
         exchange: Exchange,
     ) -> io::Result<()> {
-        let label = match label {
-            Some(label) => Some(Text::copy_of(self.alloc, label)?),
-            None => None,
+        let Ok(label) = copy_of(self.alloc, label) else {
+            drop((client, exchange));
+            return Err(io::Error::from(ErrorKind::OutOfMemory));
         };
         let folder = self.folder.as_str();
-        let (files, reply) = Spooled::make(rt, self.alloc, folder, key, exchange.request_bytes())?;
-        let connection = Connection {
-            client,
-            exchange,
-            files,
-            reply,
-            label,
-            is_over: false,
-            moved: self.now,
-        };
+        match Spooled::make(rt, self.alloc, folder, key, exchange.request_bytes()) {
+            Ok((files, reply)) => {
+                let connection = Connection {
+                    client,
+                    exchange,
+                    files,
+                    reply,
+                    label,
+                    is_over: false,
+                    moved: self.now,
+                };
+                self.put(rt, key, connection)
+            }
+            Err(error) => {
+                drop((client, exchange, label));
+                Err(error)
+            }
+        }
+    }
+
+    // Puts the connection beside the others. After an `Err` its files are removed.
+    fn put<R: Files>(&mut self, rt: &R, key: Key, connection: Connection) -> io::Result<()> {
         match self.held.insert(key, connection) {
-            Ok(_) => Ok(()),
+            Ok(other) => {
+                drop(other);
+                Ok(())
+            }
             Err(failed) => {
                 failed.value.1.files.remove(rt);
+                drop(failed);
                 Err(io::Error::from(ErrorKind::OutOfMemory))
             }
         }
@@ -205,6 +223,7 @@ impl Connections {
         if let Some(connection) = self.held.remove(&key) {
             notices.let_go(key.0, connection.label(), why);
             connection.files.remove(rt);
+            drop(connection);
         }
     }
 
@@ -241,6 +260,7 @@ impl Connections {
     pub(crate) fn close<R: Files>(&mut self, rt: &R, job: JobNo, conn: u64) {
         if let Some(connection) = self.held.remove(&(job, conn)) {
             connection.files.remove(rt);
+            drop(connection);
         }
     }
 
@@ -298,9 +318,16 @@ impl Connections {
         };
         let progress = connection.forward(now);
         if !stays(rt, notices, key.0, connection, progress) {
-            let _gone = self.held.remove(&key);
+            drop(self.held.remove(&key));
         }
         matches!(progress, Progress::MayGoOn)
+    }
+}
+
+fn copy_of(alloc: Global, label: Option<&str>) -> Result<Option<Text>, AllocError> {
+    match label {
+        Some(label) => Ok(Some(Text::copy_of(alloc, label)?)),
+        None => Ok(None),
     }
 }
 

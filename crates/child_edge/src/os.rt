@@ -209,16 +209,18 @@ impl<R: Clock + Files<File = File> + Processes> OsEdge<R> {
         let Some(conn) = conn else {
             return own_streams(&self.rt, def);
         };
-        match served_streams(&self.rt, def, self.connections.files(job, conn)) {
-            Err(failure) if failure.is_lost() => {
-                let what = failure.given_up(self.alloc, def).ok();
-                self.notices
-                    .refused(job, Asked::Spool, def.label(), Some(run), what);
-                self.connections.close(&self.rt, job, conn);
-                served_streams(&self.rt, def, None)
-            }
-            answer => answer,
+        let failure = match served_streams(&self.rt, def, self.connections.files(job, conn)) {
+            Ok(streams) => return Ok(streams),
+            Err(failure) => failure,
+        };
+        if !failure.is_lost() {
+            return Err(failure);
         }
+        let what = failure.given_up(self.alloc, def).ok();
+        self.notices
+            .refused(job, Asked::Spool, def.label(), Some(run), what);
+        self.connections.close(&self.rt, job, conn);
+        served_streams(&self.rt, def, None)
     }
 
     fn launch(&mut self, job: JobNo, run: u64, def: &Def, conn: Option<u64>) -> Result<u32, Failure>
@@ -244,8 +246,17 @@ impl<R: Clock + Files<File = File> + Processes> OsEdge<R> {
         ensures pid { IfOk result (λ pid. 0 < pid) }
         ensures failures { self.new ≡ self.old }
     {
-        let mut command = command_of(self.alloc, def, streams)?;
-        self.children.start(&self.rt, job, run, kept, &mut command)
+        match command_of(self.alloc, def, streams) {
+            Ok(mut command) => {
+                let pid = self.children.start(&self.rt, job, run, kept, &mut command);
+                drop(command);
+                pid
+            }
+            Err(error) => {
+                drop(kept);
+                Err(io::Error::from(error))
+            }
+        }
     }
 
     fn kept(&self, def: &Def, conn: Option<u64>) -> Kept {
@@ -279,6 +290,7 @@ impl<R: Clock + Files<File = File> + Processes> OsEdge<R> {
                 self.notices.run(line);
             }
         }
+        drop(kept);
         ended
     }
 }
