@@ -100,8 +100,8 @@ impl<P: OpenProcess + Drop> KeptShell<P> {
     pub(crate) fn end(&mut self) {
         if let Some(shell) = self.shell.take() {
             let Shell { mut child, socket } = shell;
-            drop(socket);
             let _ = child.kill();
+            drop(socket);
             drop(mem::replace(&mut self.given_up, Some(child)));
         }
     }

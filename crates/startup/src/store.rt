@@ -92,9 +92,17 @@ fn open_files(rt: &HostRuntime, path: &str) -> Result<Connection<FileStore<File>
         ..Options::new(seed(rt)?)
     };
     let files = sqlite_std_file::open(rt, path, Unknown)?;
-    match Connection::open_files(rt.alloc(), files, options) {
+    connection_in(Connection::open_files(rt.alloc(), files, options))
+}
+
+// The connection, or why there is none; what is left of the files is let go.
+fn connection_in<C, L: Drop>(opened: Result<C, (Error, L)>) -> Result<C, OpenFault> {
+    match opened {
         Ok(conn) => Ok(conn),
-        Err((error, _)) => Err(OpenFault::Database(error)),
+        Err((error, left)) => {
+            drop(left);
+            Err(OpenFault::Database(error))
+        }
     }
 }
 
@@ -143,7 +151,10 @@ pub fn stored<S: Alter + Drop>(
 ) -> Result<(StoredSettings<S>, Vec<Setting>), u8> {
     match opened(alloc, conn) {
         Ok(both) => Ok(both),
-        Err((fault, _)) => Err(report_fault(rt, level, path, fault)),
+        Err((fault, conn)) => {
+            drop(conn);
+            Err(report_fault(rt, level, path, fault))
+        }
     }
 }
 
