@@ -81,10 +81,20 @@ fn list<R: Files + AllocGlobal + Clone + Drop>(
 ) -> io::Result<()> {
     for entry in fs::read_dir(rt, folder)? {
         let entry = entry?;
-        let path = entry.path().as_str();
-        if is_named_so(path) && !is_folder(rt, path) {
-            names.push(String::from_str(rt.alloc(), path)?)?;
-        }
+        let added = add_name(rt, entry.path().as_str(), names);
+        drop(entry);
+        added?;
+    }
+    Ok(())
+}
+
+fn add_name<R: Files + AllocGlobal>(
+    rt: &R,
+    path: &str,
+    names: &mut Vec<String>,
+) -> Result<(), AllocError> {
+    if is_named_so(path) && !is_folder(rt, path) {
+        names.push(String::from_str(rt.alloc(), path)?)?;
     }
     Ok(())
 }
