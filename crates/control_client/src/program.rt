@@ -206,11 +206,15 @@ fn hand_in_one<R: Net + Files + Print + Eprint>(
         }
         Kind::File => {}
     }
-    let event = event_for(rt, alloc, deed, path)?;
     let name = if is_named { Some(path) } else { None };
-    let answer = session.ask(rt, alloc, &event, name);
-    drop(event);
-    answer
+    match event_for(rt, alloc, deed, path) {
+        Ok(event) => {
+            let answer = session.ask(rt, alloc, &event, name);
+            drop(event);
+            answer
+        }
+        Err(fault) => Err(fault),
+    }
 }
 
 fn event_for<R: Files>(rt: &R, alloc: Global, deed: Deed, path: &str) -> Result<Event, Fault> {

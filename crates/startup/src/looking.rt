@@ -67,48 +67,34 @@ pub fn look(rt: &HostRuntime, alloc: Global, path: &str) -> Result<Found, LookFa
 
 fn look_at(alloc: Global, files: Files<Memory>) -> Result<Found, LookFault> {
     if !files.may_be_used() {
-        drop(files);
         return Err(LookFault::System(io::Error::from(ErrorKind::OutOfMemory)));
     }
     let options = Options {
         cache_pages: CACHE_PAGES,
         ..Options::new(0)
     };
-    look_through(alloc, Connection::open_files(alloc, files, options))
+    match Connection::open_files(alloc, files, options) {
+        Ok(conn) => look_through(alloc, conn),
+        Err((error, _)) => Err(LookFault::Database(error)),
+    }
 }
 
-// It is generic over the store and over what is left of one that was not opened: to move a connection over files is dear to prove.
-fn look_through<S: Alter + Drop, L: Drop>(
-    alloc: Global,
-    opened: Result<Connection<S>, (Error, L)>,
-) -> Result<Found, LookFault> {
-    let mut conn = match opened {
-        Ok(conn) => conn,
-        Err((error, left)) => {
-            drop(left);
-            return Err(LookFault::Database(error));
-        }
-    };
+fn look_through<S: Alter + Drop>(alloc: Global, conn: Connection<S>) -> Result<Found, LookFault> {
+    let mut conn = conn;
     let tables = conn.schema().tables.len();
-    let first = has(&mut conn, "SELECT label, disabled FROM overrides");
-    let second = has(&mut conn, "SELECT label, disabled, changed FROM settings");
-    let (Some(first), Some(second)) = (first, second) else {
-        drop(conn);
-        return Err(LookFault::System(io::Error::from(ErrorKind::OutOfMemory)));
-    };
+    let first = has(&mut conn, "SELECT label, disabled FROM overrides")?;
+    let second = has(&mut conn, "SELECT label, disabled, changed FROM settings")?;
     let own = match (first, second) {
         (true, true) => 2,
         (false, false) => 0,
         _ => 1,
     };
     if own < tables {
-        drop(conn);
         return Ok(Found::Foreign);
     }
     let mut store = OverrideStore::open_on(alloc, conn)?;
-    let answer = read_all(alloc, &mut store);
-    drop(store);
-    answer?;
+    let _settings = store.all(alloc)?;
+    let _changes = store.changes(alloc)?;
     Ok(if tables == 0 {
         Found::Empty
     } else {
@@ -116,22 +102,14 @@ fn look_through<S: Alter + Drop, L: Drop>(
     })
 }
 
-// An error if its settings, or when they changed, can't be read.
-fn read_all<S: Alter>(alloc: Global, store: &mut OverrideStore<S>) -> Result<(), StoreFault> {
-    drop(store.all(alloc)?);
-    drop(store.changes(alloc)?);
-    Ok(())
-}
-
-// Whether the database has what the statement reads. None: memory is wanting.
-fn has<S: Alter>(conn: &mut Connection<S>, sql: &str) -> Option<bool> {
+// Whether the database has what the statement reads.
+fn has<S: Alter>(conn: &mut Connection<S>, sql: &str) -> Result<bool, LookFault> {
     match conn.prepare(sql) {
-        Ok(statement) => {
-            drop(statement);
-            Some(true)
-        }
-        Err(Error::SqliteFailure(ErrorCode::OutOfMemory)) => None,
-        Err(_) => Some(false),
+        Ok(_) => Ok(true),
+        Err(Error::SqliteFailure(ErrorCode::OutOfMemory)) => Err(LookFault::System(io::Error::from(
+            ErrorKind::OutOfMemory,
+        ))),
+        Err(_) => Ok(false),
     }
 }
 

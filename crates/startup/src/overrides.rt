@@ -13,35 +13,28 @@ use std::io;
 /// Prints `LABEL`, `enabled` or `disabled`, and the second of Unix time in which that was set, with a tab between them.
 /// A store that is not there is not made: status 5, as for one that can't be read. A file that is no store is not written to.
 pub fn list_store(rt: &HostRuntime, alloc: Global, path: &str) -> u8 {
-    match found(rt, alloc, Level::NONE, path) {
-        Ok(Found::Store) => list_on(rt, alloc, path, connect(rt, Level::NONE, path)),
-        Ok(_) => 0,
+    let listed = match found(rt, alloc, Level::NONE, path) {
+        Ok(Found::Store) => connect(rt, Level::NONE, path),
+        Ok(_) => return 0,
+        Err(status) => Err(status),
+    };
+    match listed {
+        Ok(conn) => list_on(rt, alloc, path, conn),
         Err(status) => status,
     }
 }
 
-// To move a store over files, or to let it go, is dear to prove. So the rest is generic over what the store stands on.
+// What lets a store go is proved for its whole type, so the rest is generic over what the store stands on.
 
 fn list_on<S: Alter + Drop>(
     rt: &(impl Print + Eprint),
     alloc: Global,
     path: &str,
-    conn: Result<Connection<S>, u8>,
+    conn: Connection<S>,
 ) -> u8 {
-    let conn = match conn {
-        Ok(conn) => conn,
-        Err(status) => return status,
-    };
     match OverrideStore::open_or_give(alloc, conn) {
-        Ok(mut store) => {
-            let status = list_all(rt, alloc, path, &mut store);
-            drop(store);
-            status
-        }
-        Err((fault, conn)) => {
-            drop(conn);
-            report_fault(rt, Level::NONE, path, fault)
-        }
+        Ok(mut store) => list_all(rt, alloc, path, &mut store),
+        Err((fault, _)) => report_fault(rt, Level::NONE, path, fault),
     }
 }
 

@@ -92,17 +92,9 @@ fn open_files(rt: &HostRuntime, path: &str) -> Result<Connection<FileStore<File>
         ..Options::new(seed(rt)?)
     };
     let files = sqlite_std_file::open(rt, path, Unknown)?;
-    connection_in(Connection::open_files(rt.alloc(), files, options))
-}
-
-// The connection, or why there is none; what is left of the files is let go.
-fn connection_in<C, L: Drop>(opened: Result<C, (Error, L)>) -> Result<C, OpenFault> {
-    match opened {
+    match Connection::open_files(rt.alloc(), files, options) {
         Ok(conn) => Ok(conn),
-        Err((error, left)) => {
-            drop(left);
-            Err(OpenFault::Database(error))
-        }
+        Err((error, _)) => Err(OpenFault::Database(error)),
     }
 }
 
@@ -151,10 +143,7 @@ pub fn stored<S: Alter + Drop>(
 ) -> Result<(StoredSettings<S>, Vec<Setting>), u8> {
     match opened(alloc, conn) {
         Ok(both) => Ok(both),
-        Err((fault, conn)) => {
-            drop(conn);
-            Err(report_fault(rt, level, path, fault))
-        }
+        Err((fault, _)) => Err(report_fault(rt, level, path, fault)),
     }
 }
 
