@@ -25,15 +25,11 @@ pub(crate) fn launch_keys(alloc: Global, def: &Value) -> Result<Launch, DefFault
     ensures { Gives launch_of result (launch_at (view def.now)) }
 {
     let label = label_key_of(alloc, def)?;
-    let found = optional_text_of(alloc, def, KeyName::Program, WORD_LIMIT);
-    let program = or_let_go!(found, label);
-    let command = or_let_go!(command_key_of(alloc, program, def), label);
-    let found = bool_key_of(def, KeyName::RunAtLoad, false);
-    let run_at_load = or_let_go!(found, label, command);
-    let found = bool_key_of(def, KeyName::LaunchOnlyOnce, false);
-    let launch_only_once = or_let_go!(found, label, command);
-    let found = bool_key_of(def, KeyName::DisabledKey, false);
-    let disabled = or_let_go!(found, label, command);
+    let program = optional_text_of(alloc, def, KeyName::Program, WORD_LIMIT)?;
+    let command = command_key_of(alloc, program, def)?;
+    let run_at_load = bool_key_of(def, KeyName::RunAtLoad, false)?;
+    let launch_only_once = bool_key_of(def, KeyName::LaunchOnlyOnce, false)?;
+    let disabled = bool_key_of(def, KeyName::DisabledKey, false)?;
     Ok(Launch {
         label,
         command,

@@ -1,19 +1,6 @@
 //! Reads the definitions of jobs, a profile of launchd.plist(5) in JSON, and tells which of their keys nothing acts on.
 #![tactic(auto)]
 
-/// The value of the answer. After a fault the others are let go, each by one call, and the fault is answered.
-macro_rules! or_let_go {
-    ($answer:expr, $($other:ident),+) => {
-        match $answer {
-            Ok(value) => value,
-            Err(fault) => {
-                $(drop($other);)+
-                return Err(fault);
-            }
-        }
-    };
-}
-
 mod calendars;
 mod conditions;
 mod def;

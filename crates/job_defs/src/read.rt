@@ -50,33 +50,20 @@ fn def_in(alloc: Global, value: &Value) -> Result<Def, DefFault>
         });
     }
     let launch = launch_keys(alloc, value)?;
-    let demand = or_let_go!(demand_keys(alloc, value), launch);
-    let pace = or_let_go!(pace_keys(value), launch, demand);
-    let surroundings = or_let_go!(surroundings_keys(alloc, value), launch, demand);
-    let sockets = or_let_go!(
-        sockets_and_inetd_of(alloc, value),
+    let demand = demand_keys(alloc, value)?;
+    let pace = pace_keys(value)?;
+    let surroundings = surroundings_keys(alloc, value)?;
+    let sockets = sockets_and_inetd_of(alloc, value)?;
+    refusals_keys(value)?;
+    let not_acted_on = not_acted_on_of(alloc, !sockets.is_empty(), value)?;
+    Ok(Def {
         launch,
         demand,
-        surroundings
-    );
-    or_let_go!(refusals_keys(value), launch, demand, surroundings, sockets);
-    match not_acted_on_of(alloc, !sockets.is_empty(), value) {
-        Ok(not_acted_on) => Ok(Def {
-            launch,
-            demand,
-            pace,
-            surroundings,
-            sockets,
-            not_acted_on,
-        }),
-        Err(_) => {
-            drop(launch);
-            drop(demand);
-            drop(surroundings);
-            drop(sockets);
-            Err(DefFault::NoMemory)
-        }
-    }
+        pace,
+        surroundings,
+        sockets,
+        not_acted_on,
+    })
 }
 
 /// Keys that would change who or where the job is.

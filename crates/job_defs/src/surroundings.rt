@@ -25,20 +25,10 @@ pub(crate) fn surroundings_keys(alloc: Global, def: &Value) -> Result<Surroundin
     ensures { Gives surroundings_of result (surroundings_at (view def.now)) }
 {
     let environment = environment_key_of(alloc, def)?;
-    let found = optional_path_of(alloc, def, KeyName::WorkingDirectory);
-    let working_directory = or_let_go!(found, environment);
-    let found = optional_path_of(alloc, def, KeyName::StandardInPath);
-    let standard_in_path = or_let_go!(found, environment, working_directory);
-    let found = optional_path_of(alloc, def, KeyName::StandardOutPath);
-    let standard_out_path = or_let_go!(found, environment, working_directory, standard_in_path);
-    let found = optional_path_of(alloc, def, KeyName::StandardErrorPath);
-    let standard_error_path = or_let_go!(
-        found,
-        environment,
-        working_directory,
-        standard_in_path,
-        standard_out_path
-    );
+    let working_directory = optional_path_of(alloc, def, KeyName::WorkingDirectory)?;
+    let standard_in_path = optional_path_of(alloc, def, KeyName::StandardInPath)?;
+    let standard_out_path = optional_path_of(alloc, def, KeyName::StandardOutPath)?;
+    let standard_error_path = optional_path_of(alloc, def, KeyName::StandardErrorPath)?;
     Ok(Surroundings {
         environment,
         working_directory,
