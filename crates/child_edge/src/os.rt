@@ -29,7 +29,6 @@ use std::time::Instant;
 use std::{fs, io};
 
 /// Does what is asked by the system of its runtime, and counts what fails.
-#[derive(Drop)]
 pub struct OsEdge<R: Processes> {
     rt: R,
     alloc: Global,
@@ -40,6 +39,23 @@ pub struct OsEdge<R: Processes> {
     notices: Notices,
     logs_runs: bool,
     failures: u64,
+}
+
+// It is written out, so that a function which lets it go calls this, in place of letting each part go.
+impl<R: Drop + Processes> Drop for OsEdge<R> {
+    fn drop(self) {
+        let OsEdge {
+            rt: _,
+            alloc: _,
+            made: _,
+            children: _,
+            sockets: _,
+            connections: _,
+            notices: _,
+            logs_runs: _,
+            failures: _,
+        } = self;
+    }
 }
 
 impl<R: Processes> Model for OsEdge<R> {
