@@ -28,7 +28,6 @@ const TOO_MANY: &[u8] = b"{\"code\":2,\"text\":\"too many clients\\n\"}\n";
 ///
 /// Readiness only wakes the poll: each call of `serve` tries every client. A client takes at most the memory of its longest
 /// line ([`ctl_protocol::LINE_LIMIT`]) and of the replies that it has not taken: [`crate::UNSENT`] bytes and one reply more.
-#[derive(Drop)]
 pub struct ControlSocket {
     alloc: Global,
     listener: UnixListener,
@@ -48,6 +47,28 @@ pub struct ControlSocket {
     first: usize,
     // The last round looked at every client.
     is_whole: bool,
+}
+
+// It is written out, so that a function which lets it go calls this, in place of letting each part go.
+impl Drop for ControlSocket {
+    fn drop(self) {
+        let ControlSocket {
+            alloc: _,
+            listener: _,
+            path: _,
+            mark: _,
+            lock: _,
+            token: _,
+            clients: _,
+            room: _,
+            notices: _,
+            spare: _,
+            rounds: _,
+            up: _,
+            first: _,
+            is_whole: _,
+        } = self;
+    }
 }
 
 /// Where a new client can be.
