@@ -80,14 +80,11 @@ fn list<R: Files + AllocGlobal + Clone + Drop>(
     names: &mut Vec<String>,
 ) -> io::Result<()> {
     for entry in fs::read_dir(rt, folder)? {
-        add_name(rt, entry?.path().as_str(), names)?;
-    }
-    Ok(())
-}
-
-fn add_name<R: Files + AllocGlobal>(rt: &R, path: &str, names: &mut Vec<String>) -> io::Result<()> {
-    if is_named_so(path) && !is_folder(rt, path) {
-        names.push(String::from_str(rt.alloc(), path)?)?;
+        let entry = entry?;
+        let path = entry.path().as_str();
+        if is_named_so(path) && !is_folder(rt, path) {
+            names.push(String::from_str(rt.alloc(), path)?)?;
+        }
     }
     Ok(())
 }
