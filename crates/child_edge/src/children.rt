@@ -3,8 +3,10 @@
 ghost use Rattle.std.specs.Prelude.{◌<◌, IfOk, length};
 ghost use Rattle.std.specs.List.Sorted.{IsSearchInRange};
 
+use crate::command::{Streams, command_of};
 use crate::shell::KeptShell;
 use history_model::{Ended, JobNo, Text};
+use job_defs::Def;
 use slab::Slab;
 use std::alloc::Global;
 use std::io;
@@ -62,9 +64,35 @@ impl<P: OpenProcess + Drop> Children<P> {
         }
     }
 
-    /// Starts the command for the run, and answers its process id. The room for the child is made first: a child that was
-    /// started is kept. A run that has a child is refused another.
-    pub(crate) fn start<R: Processes<Started = P>>(
+    /// Starts what the definition says for the run, with these streams, as `start` does.
+    pub(crate) fn launch<R: Processes<Started = P>>(
+        &mut self,
+        rt: &R,
+        alloc: Global,
+        job: JobNo,
+        run: u64,
+        def: &Def,
+        kept: Kept,
+        streams: Streams,
+    ) -> io::Result<u32>
+        ensures { IfOk result (λ pid. 0 < pid) }
+    {
+        match command_of(alloc, def, streams) {
+            Ok(mut command) => {
+                let pid = self.start(rt, job, run, kept, &mut command);
+                drop(command);
+                pid
+            }
+            Err(error) => {
+                drop(kept);
+                Err(io::Error::from(error))
+            }
+        }
+    }
+
+    // Starts the command for the run, and answers its process id. The room for the child is made first: a child that was
+    // started is kept. A run that has a child is refused another.
+    fn start<R: Processes<Started = P>>(
         &mut self,
         rt: &R,
         job: JobNo,

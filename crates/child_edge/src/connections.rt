@@ -8,11 +8,15 @@
 //! two kinds than its share: fewer than there is room left beside those of all jobs. A job alone has half the room, two have a
 //! third each.
 
+use crate::command::Streams;
 use crate::connection::{Connection, Progress};
+use crate::failure::Failure;
 use crate::notices::{Asked, LetGo, Notices};
 use crate::spool::Spooled;
+use crate::streams::{own_streams, served_streams};
 use crate::{Client, words};
 use history_model::{JobNo, Text};
+use job_defs::Def;
 use socket_demand::Exchange;
 use std::alloc::{AllocError, Global};
 use std::collections::BTreeMap;
@@ -227,10 +231,38 @@ impl Connections {
         }
     }
 
-    /// The connection's files, if it is held.
-    pub(crate) fn files(&self, job: JobNo, conn: u64) -> Option<&Spooled> {
+    // The connection's files, if it is held.
+    fn files(&self, job: JobNo, conn: u64) -> Option<&Spooled> {
         let connection = self.held.get(&(job, conn))?;
         Some(&connection.files)
+    }
+
+    /// The streams of a run. One that serves a connection reads its request and writes its reply. If one of these files is lost,
+    /// the client is let go and the run is started without it, as one whose client said nothing and takes nothing: what waits
+    /// behind it is served.
+    pub(crate) fn streams<R: Files<File = File>>(
+        &mut self,
+        rt: &R,
+        notices: &mut Notices,
+        job: JobNo,
+        run: u64,
+        def: &Def,
+        conn: Option<u64>,
+    ) -> Result<Streams, Failure> {
+        let Some(conn) = conn else {
+            return own_streams(rt, def);
+        };
+        let failure = match served_streams(rt, def, self.files(job, conn)) {
+            Ok(streams) => return Ok(streams),
+            Err(failure) => failure,
+        };
+        if !failure.is_lost() {
+            return Err(failure);
+        }
+        let what = failure.given_up(self.alloc, def).ok();
+        notices.refused(job, Asked::Spool, def.label(), Some(run), what);
+        self.close(rt, job, conn);
+        served_streams(rt, def, None)
     }
 
     /// The run that served the connection has ended. If the job then has more of these than it may, one is let go.
