@@ -3,8 +3,10 @@
 ghost use Rattle.std.specs.Prelude.{◌<◌, IfOk, length};
 ghost use Rattle.std.specs.List.Sorted.{IsSearchInRange};
 
+use crate::command::{Streams, command_of};
 use crate::shell::KeptShell;
 use history_model::{Ended, JobNo, Text};
+use job_defs::Def;
 use slab::Slab;
 use std::alloc::Global;
 use std::io;
@@ -62,9 +64,35 @@ impl<P: OpenProcess + Drop> Children<P> {
         }
     }
 
-    /// Starts the command for the run, and answers its process id. The room for the child is made first: a child that was
-    /// started is kept. A run that has a child is refused another.
-    pub(crate) fn start<R: Processes<Started = P>>(
+    /// Starts what the definition says for the run, with these streams, as `start` does.
+    pub(crate) fn launch<R: Processes<Started = P>>(
+        &mut self,
+        rt: &R,
+        alloc: Global,
+        job: JobNo,
+        run: u64,
+        def: &Def,
+        kept: Kept,
+        streams: Streams,
+    ) -> io::Result<u32>
+        ensures { IfOk result (λ pid. 0 < pid) }
+    {
+        match command_of(alloc, def, streams) {
+            Ok(mut command) => {
+                let pid = self.start(rt, job, run, kept, &mut command);
+                drop(command);
+                pid
+            }
+            Err(error) => {
+                drop(kept);
+                Err(io::Error::from(error))
+            }
+        }
+    }
+
+    // Starts the command for the run, and answers its process id. The room for the child is made first: a child that was
+    // started is kept. A run that has a child is refused another.
+    fn start<R: Processes<Started = P>>(
         &mut self,
         rt: &R,
         job: JobNo,
@@ -75,17 +103,29 @@ impl<P: OpenProcess + Drop> Children<P> {
         ensures { IfOk result (λ pid. 0 < pid) }
     {
         let Err(place) = self.place(job, run) else {
+            drop(kept);
             return Err(io::Error::from(ErrorKind::AlreadyExists));
         };
-        self.started.reserve(1)?;
+        if self.started.reserve(1).is_err() {
+            drop(kept);
+            return Err(io::Error::from(ErrorKind::OutOfMemory));
+        }
         let number = self.started.vacant_key();
-        self.runs.insert(place, Numbered { job, run, number })?;
+        if self
+            .runs
+            .insert(place, Numbered { job, run, number })
+            .is_err()
+        {
+            drop(kept);
+            return Err(io::Error::from(ErrorKind::OutOfMemory));
+        }
         match spawn(rt, command) {
             Ok((pid, child)) => {
                 self.started.insert_reserved(Started { child, kept });
                 Ok(pid)
             }
             Err(error) => {
+                drop(kept);
                 self.runs.remove(place);
                 Err(error)
             }
@@ -118,9 +158,10 @@ impl<P: OpenProcess + Drop> Children<P> {
 
     /// The label of the run's job, if the run has a child.
     pub(crate) fn label(&self, job: JobNo, run: u64) -> Option<&str> {
-        let started = self.started.get(self.number(job, run))?;
-        let label = started.kept.label.as_ref()?;
-        Some(label.as_str())
+        match self.started.get(self.number(job, run)) {
+            Some(started) => started.kept.label.as_ref().map(Text::as_str),
+            None => None,
+        }
     }
 
     /// Gives the run's child TERM, by `kill` of `/bin/sh`. It is asked for its end first: one that has ended gets no signal, as
@@ -177,10 +218,12 @@ impl<P: OpenProcess + Drop> Children<P> {
         };
         let gone = self.runs.remove(place);
         match self.started.try_remove(gone.number) {
-            Some(gone) => Ok(Some(End {
-                ended: end_of(status),
-                kept: gone.kept,
-            })),
+            Some(gone) => {
+                let Started { child, kept } = gone;
+                drop(child);
+                let ended = end_of(status);
+                Ok(Some(End { ended, kept }))
+            }
             None => Err(io::Error::from(ErrorKind::NotFound)),
         }
     }

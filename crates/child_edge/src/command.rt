@@ -39,7 +39,10 @@ pub(crate) fn command_of(alloc: Global, def: &Def, streams: Streams) -> Result<C
     command.stderr(errors);
     match set_up(&mut command, def) {
         Ok(()) => Ok(command),
-        Err(error) => Err(error),
+        Err(error) => {
+            drop(command);
+            Err(error)
+        }
     }
 }
 

@@ -32,7 +32,6 @@ const PIECES: u32 = 16;
 /// A client that takes nothing of its reply for as many seconds is let go.
 const STILL: u64 = 60;
 
-#[derive(Drop)]
 pub(crate) struct Connection {
     pub(crate) client: Client,
     pub(crate) exchange: Exchange,
@@ -44,6 +43,21 @@ pub(crate) struct Connection {
     pub(crate) is_over: bool,
     // When the client took something last, or had nothing to take.
     pub(crate) moved: Instant,
+}
+
+// It is written out, so that a function which lets it go calls this, in place of letting each part go.
+impl Drop for Connection {
+    fn drop(self) {
+        let Connection {
+            client: _,
+            exchange: _,
+            files: _,
+            reply: _,
+            label: _,
+            is_over: _,
+            moved: _,
+        } = self;
+    }
 }
 
 impl Connection {

@@ -8,13 +8,17 @@
 //! two kinds than its share: fewer than there is room left beside those of all jobs. A job alone has half the room, two have a
 //! third each.
 
+use crate::command::Streams;
 use crate::connection::{Connection, Progress};
+use crate::failure::Failure;
 use crate::notices::{Asked, LetGo, Notices};
 use crate::spool::Spooled;
+use crate::streams::{own_streams, served_streams};
 use crate::{Client, words};
 use history_model::{JobNo, Text};
+use job_defs::Def;
 use socket_demand::Exchange;
-use std::alloc::Global;
+use std::alloc::{AllocError, Global};
 use std::collections::BTreeMap;
 use std::fs::{File, Files};
 use std::io;
@@ -84,11 +88,13 @@ impl Connections {
         mut exchange: Exchange,
     ) -> io::Result<()> {
         if self.held.contains_key(&key) {
+            drop((client, exchange));
             return Err(io::Error::from(ErrorKind::AlreadyExists));
         }
         self.read_clock(rt);
         if let Some(why) = self.want_of_room(rt, notices, key.0) {
             notices.let_go(key.0, label, why);
+            drop((client, exchange));
             return Err(io::Error::from(ErrorKind::Other));
         }
         exchange.request_end();
@@ -116,25 +122,41 @@ impl Connections {
         client: Client,
         exchange: Exchange,
     ) -> io::Result<()> {
-        let label = match label {
-            Some(label) => Some(Text::copy_of(self.alloc, label)?),
-            None => None,
+        let Ok(label) = copy_of(self.alloc, label) else {
+            drop((client, exchange));
+            return Err(io::Error::from(ErrorKind::OutOfMemory));
         };
         let folder = self.folder.as_str();
-        let (files, reply) = Spooled::make(rt, self.alloc, folder, key, exchange.request_bytes())?;
-        let connection = Connection {
-            client,
-            exchange,
-            files,
-            reply,
-            label,
-            is_over: false,
-            moved: self.now,
-        };
+        match Spooled::make(rt, self.alloc, folder, key, exchange.request_bytes()) {
+            Ok((files, reply)) => {
+                let connection = Connection {
+                    client,
+                    exchange,
+                    files,
+                    reply,
+                    label,
+                    is_over: false,
+                    moved: self.now,
+                };
+                self.put(rt, key, connection)
+            }
+            Err(error) => {
+                drop((client, exchange, label));
+                Err(error)
+            }
+        }
+    }
+
+    // Puts the connection beside the others. After an `Err` its files are removed.
+    fn put<R: Files>(&mut self, rt: &R, key: Key, connection: Connection) -> io::Result<()> {
         match self.held.insert(key, connection) {
-            Ok(_) => Ok(()),
+            Ok(other) => {
+                drop(other);
+                Ok(())
+            }
             Err(failed) => {
                 failed.value.1.files.remove(rt);
+                drop(failed);
                 Err(io::Error::from(ErrorKind::OutOfMemory))
             }
         }
@@ -205,13 +227,42 @@ impl Connections {
         if let Some(connection) = self.held.remove(&key) {
             notices.let_go(key.0, connection.label(), why);
             connection.files.remove(rt);
+            drop(connection);
         }
     }
 
-    /// The connection's files, if it is held.
-    pub(crate) fn files(&self, job: JobNo, conn: u64) -> Option<&Spooled> {
+    // The connection's files, if it is held.
+    fn files(&self, job: JobNo, conn: u64) -> Option<&Spooled> {
         let connection = self.held.get(&(job, conn))?;
         Some(&connection.files)
+    }
+
+    /// The streams of a run. One that serves a connection reads its request and writes its reply. If one of these files is lost,
+    /// the client is let go and the run is started without it, as one whose client said nothing and takes nothing: what waits
+    /// behind it is served.
+    pub(crate) fn streams<R: Files<File = File>>(
+        &mut self,
+        rt: &R,
+        notices: &mut Notices,
+        job: JobNo,
+        run: u64,
+        def: &Def,
+        conn: Option<u64>,
+    ) -> Result<Streams, Failure> {
+        let Some(conn) = conn else {
+            return own_streams(rt, def);
+        };
+        let failure = match served_streams(rt, def, self.files(job, conn)) {
+            Ok(streams) => return Ok(streams),
+            Err(failure) => failure,
+        };
+        if !failure.is_lost() {
+            return Err(failure);
+        }
+        let what = failure.given_up(self.alloc, def).ok();
+        notices.refused(job, Asked::Spool, def.label(), Some(run), what);
+        self.close(rt, job, conn);
+        served_streams(rt, def, None)
     }
 
     /// The run that served the connection has ended. If the job then has more of these than it may, one is let go.
@@ -241,6 +292,7 @@ impl Connections {
     pub(crate) fn close<R: Files>(&mut self, rt: &R, job: JobNo, conn: u64) {
         if let Some(connection) = self.held.remove(&(job, conn)) {
             connection.files.remove(rt);
+            drop(connection);
         }
     }
 
@@ -298,9 +350,16 @@ impl Connections {
         };
         let progress = connection.forward(now);
         if !stays(rt, notices, key.0, connection, progress) {
-            let _gone = self.held.remove(&key);
+            drop(self.held.remove(&key));
         }
         matches!(progress, Progress::MayGoOn)
+    }
+}
+
+fn copy_of(alloc: Global, label: Option<&str>) -> Result<Option<Text>, AllocError> {
+    match label {
+        Some(label) => Ok(Some(Text::copy_of(alloc, label)?)),
+        None => Ok(None),
     }
 }
 

@@ -169,6 +169,31 @@ impl Notices {
         }
     }
 
+    /// The run of the job of this label got the signal, which is told if `is_told` says so, or the system refused that.
+    pub(crate) fn signal(
+        &mut self,
+        job: JobNo,
+        run: u64,
+        label: &str,
+        asked: Asked,
+        signal: &str,
+        answer: io::Result<()>,
+        is_told: bool,
+    ) {
+        match answer {
+            Ok(()) => {
+                self.done(job, asked);
+                if is_told {
+                    self.run(words::signalled(self.alloc, label, run, signal));
+                }
+            }
+            Err(error) => {
+                let what = words::cannot(self.alloc, signal, error);
+                self.refused(job, asked, label, Some(run), what);
+            }
+        }
+    }
+
     /// The call for the job was done: the next refusal is told, whatever its reason.
     pub(crate) fn done(&mut self, job: JobNo, asked: Asked) {
         if !self.told.is_empty() {

@@ -4,13 +4,11 @@ ghost use Rattle.std.specs.Prelude.{◌≡◌, ◌<◌, None, IfOk, OnOk, OnErr}
 ghost use Rattle.child_edge.specs.Calls.{one_more};
 
 use crate::children::{Children, End, Kept};
-use crate::command::{Streams, command_of};
 use crate::connections::Connections;
 use crate::failure::{Failure, Part};
 use crate::fault::fault_of;
 use crate::notices::{Asked, Notices};
 use crate::sockets::Sockets;
-use crate::streams::{own_streams, served_streams};
 use crate::{
     ChildEdge, Client, ClockEdge, Edge, EdgeFault, Notice, PathEdge, SocketEdge, clock, paths,
     words,
@@ -29,7 +27,6 @@ use std::time::Instant;
 use std::{fs, io};
 
 /// Does what is asked by the system of its runtime, and counts what fails.
-#[derive(Drop)]
 pub struct OsEdge<R: Processes> {
     rt: R,
     alloc: Global,
@@ -40,6 +37,23 @@ pub struct OsEdge<R: Processes> {
     notices: Notices,
     logs_runs: bool,
     failures: u64,
+}
+
+// It is written out, so that a function which lets it go calls this, in place of letting each part go.
+impl<R: Drop + Processes> Drop for OsEdge<R> {
+    fn drop(self) {
+        let OsEdge {
+            rt: _,
+            alloc: _,
+            made: _,
+            children: _,
+            sockets: _,
+            connections: _,
+            notices: _,
+            logs_runs: _,
+            failures: _,
+        } = self;
+    }
 }
 
 impl<R: Processes> Model for OsEdge<R> {
@@ -195,57 +209,21 @@ impl<R: Clock + Files<File = File> + Processes> OsEdge<R> {
         self.children.end_shell();
     }
 
-    // A run that serves a connection reads its request and writes its reply. If one of these files is lost, the client is let
-    // go and the run is started without it, as one whose client said nothing and takes nothing: what waits behind it is served.
-    fn streams(
-        &mut self,
-        job: JobNo,
-        run: u64,
-        def: &Def,
-        conn: Option<u64>,
-    ) -> Result<Streams, Failure>
-        ensures { self.new ≡ self.old }
-    {
-        let Some(conn) = conn else {
-            return own_streams(&self.rt, def);
-        };
-        match served_streams(&self.rt, def, self.connections.files(job, conn)) {
-            Err(failure) if failure.is_lost() => {
-                let what = failure.given_up(self.alloc, def).ok();
-                self.notices
-                    .refused(job, Asked::Spool, def.label(), Some(run), what);
-                self.connections.close(&self.rt, job, conn);
-                served_streams(&self.rt, def, None)
-            }
-            answer => answer,
-        }
-    }
-
     fn launch(&mut self, job: JobNo, run: u64, def: &Def, conn: Option<u64>) -> Result<u32, Failure>
         ensures pid { IfOk result (λ pid. 0 < pid) }
         ensures failures { self.new ≡ self.old }
     {
-        let streams = self.streams(job, run, def, conn)?;
+        let streams = self
+            .connections
+            .streams(&self.rt, &mut self.notices, job, run, def, conn)?;
         let kept = self.kept(def, conn);
-        match self.spawn(job, run, def, kept, streams) {
+        match self
+            .children
+            .launch(&self.rt, self.alloc, job, run, def, kept, streams)
+        {
             Ok(pid) => Ok(pid),
             Err(error) => Err(culprit(&self.rt, self.alloc, def, error)),
         }
-    }
-
-    fn spawn(
-        &mut self,
-        job: JobNo,
-        run: u64,
-        def: &Def,
-        kept: Kept,
-        streams: Streams,
-    ) -> io::Result<u32>
-        ensures pid { IfOk result (λ pid. 0 < pid) }
-        ensures failures { self.new ≡ self.old }
-    {
-        let mut command = command_of(self.alloc, def, streams)?;
-        self.children.start(&self.rt, job, run, kept, &mut command)
     }
 
     fn kept(&self, def: &Def, conn: Option<u64>) -> Kept {
@@ -279,40 +257,8 @@ impl<R: Clock + Files<File = File> + Processes> OsEdge<R> {
                 self.notices.run(line);
             }
         }
+        drop(kept);
         ended
-    }
-}
-
-impl<R: Processes> OsEdge<R> {
-    // The run got the signal, or the system refused that.
-    fn tell_signal(
-        &mut self,
-        job: JobNo,
-        run: u64,
-        asked: Asked,
-        signal: &str,
-        answer: io::Result<()>,
-    ) -> io::Result<()>
-        ensures failures { self.new ≡ self.old }
-        ensures answer { result ≡ answer }
-    {
-        let Some(label) = self.children.label(job, run) else {
-            return answer;
-        };
-        match answer {
-            Ok(()) => {
-                self.notices.done(job, asked);
-                if self.logs_runs {
-                    let line = words::signalled(self.alloc, label, run, signal);
-                    self.notices.run(line);
-                }
-            }
-            Err(error) => {
-                let what = words::cannot(self.alloc, signal, error);
-                self.notices.refused(job, asked, label, Some(run), what);
-            }
-        }
-        answer
     }
 }
 
@@ -353,7 +299,10 @@ impl<R: Clock + Files<File = File> + Net + Processes> ChildEdge for OsEdge<R> {
 
     fn term(&mut self, job: JobNo, run: u64) -> Result<(), EdgeFault> {
         let answer = self.children.term(&self.rt, job, run);
-        match self.tell_signal(job, run, Asked::Term, "TERM", answer) {
+        if let Some(label) = self.children.label(job, run) {
+            self.notices.signal(job, run, label, Asked::Term, "TERM", answer, self.logs_runs);
+        }
+        match answer {
             Ok(()) => Ok(()),
             Err(error) => Err(self.fail(error)),
         }
@@ -361,7 +310,10 @@ impl<R: Clock + Files<File = File> + Net + Processes> ChildEdge for OsEdge<R> {
 
     fn kill(&mut self, job: JobNo, run: u64) -> Result<(), EdgeFault> {
         let answer = self.children.kill(job, run);
-        match self.tell_signal(job, run, Asked::Kill, "KILL", answer) {
+        if let Some(label) = self.children.label(job, run) {
+            self.notices.signal(job, run, label, Asked::Kill, "KILL", answer, self.logs_runs);
+        }
+        match answer {
             Ok(()) => Ok(()),
             Err(error) => Err(self.fail(error)),
         }

@@ -4,14 +4,14 @@
 //! line, and answers each with the status of its `kill`. It ends once its socket does, so also if the launcher is killed. What it
 //! is asked has its answer before anything else is done: no number waits in it whose process may be gone.
 
-use std::alloc::Global;
-use std::io;
+use std::alloc::{AllocError, Global};
 use std::io::{ErrorKind, Read, Write};
 use std::net::Net;
 use std::os::fd::OwnedFd;
 use std::os::unix::net::UnixStream;
 use std::process::{Child, Command, OpenProcess, Processes, Stdio};
 use std::time::Duration;
+use std::{io, mem};
 
 const SCRIPT: &str = "while read p; do kill -s TERM \"$p\"; echo $?; done";
 
@@ -80,7 +80,8 @@ impl<P: OpenProcess + Drop> KeptShell<P> {
             if !self.is_gone() {
                 return Err(io::Error::from(ErrorKind::WouldBlock));
             }
-            self.shell = Some(start(rt, self.alloc)?);
+            let shell = start(rt, self.alloc)?;
+            drop(mem::replace(&mut self.shell, Some(shell)));
         }
         match &mut self.shell {
             Some(shell) => Ok(&mut shell.socket),
@@ -98,9 +99,10 @@ impl<P: OpenProcess + Drop> KeptShell<P> {
     /// Ends the shell that is kept, if there is one: also one that was stopped.
     pub(crate) fn end(&mut self) {
         if let Some(shell) = self.shell.take() {
-            let mut child = shell.child;
+            let Shell { mut child, socket } = shell;
             let _ = child.kill();
-            self.given_up = Some(child);
+            drop(socket);
+            drop(mem::replace(&mut self.given_up, Some(child)));
         }
     }
 
@@ -111,7 +113,7 @@ impl<P: OpenProcess + Drop> KeptShell<P> {
                 return false;
             }
         }
-        self.given_up = None;
+        drop(self.given_up.take());
         true
     }
 }
@@ -131,28 +133,59 @@ fn read_answer(socket: &mut UnixStream) -> io::Result<bool> {
 // A shell with nothing of the launcher but its own end of a socket. No other child gets the launcher's end.
 fn start<R: Net + Processes>(rt: &R, alloc: Global) -> io::Result<Shell<R::Started>> {
     let (socket, far) = UnixStream::pair(rt)?;
+    match start_at(rt, alloc, &socket, far) {
+        Ok(child) => Ok(Shell { child, socket }),
+        Err(error) => {
+            drop(socket);
+            Err(error)
+        }
+    }
+}
+
+// The shell at the far end of the socket.
+fn start_at<R: Processes>(
+    rt: &R,
+    alloc: Global,
+    socket: &UnixStream,
+    far: UnixStream,
+) -> io::Result<Child<R::Started>> {
     socket.set_read_timeout(Some(Duration::from_millis(PATIENCE)))?;
-    let mut command = shell_of(alloc, SCRIPT)?;
+    let input = Stdio::from(OwnedFd::from(far.try_clone()?));
+    let output = Stdio::from(OwnedFd::from(far));
+    let mut command = shell_of(alloc, SCRIPT, input, output)?;
     command.env_clear();
-    command.stdin(Stdio::from(OwnedFd::from(far.try_clone()?)));
-    command.stdout(Stdio::from(OwnedFd::from(far)));
-    let child = command.spawn(rt)?;
-    Ok(Shell { child, socket })
+    let child = command.spawn(rt);
+    drop(command);
+    child
 }
 
 // Whether `kill` of a shell for this TERM alone ended with 0.
 fn run_shell<R: Processes>(rt: &R, alloc: Global, pid: u32) -> io::Result<bool> {
     let text = format!(in alloc; "kill -s TERM {pid}")?;
-    let mut command = shell_of(alloc, text.as_str())?;
-    command.stdin(Stdio::null());
-    command.stdout(Stdio::null());
-    Ok(command.status(rt)?.success())
+    let shell = shell_of(alloc, text.as_str(), Stdio::null(), Stdio::null());
+    drop(text);
+    let mut command = shell?;
+    let status = command.status(rt);
+    drop(command);
+    Ok(status?.success())
 }
 
-fn shell_of(alloc: Global, script: &str) -> io::Result<Command> {
+fn shell_of(
+    alloc: Global,
+    script: &str,
+    input: Stdio,
+    output: Stdio,
+) -> Result<Command, AllocError> {
     let mut command = Command::new(alloc, "/bin/sh")?;
-    command.arg("-c")?;
-    command.arg(script)?;
+    command.stdin(input);
+    command.stdout(output);
     command.stderr(Stdio::null());
-    Ok(command)
+    let has_flag = command.arg("-c").is_ok();
+    let has_script = command.arg(script).is_ok();
+    if has_flag && has_script {
+        Ok(command)
+    } else {
+        drop(command);
+        Err(AllocError)
+    }
 }

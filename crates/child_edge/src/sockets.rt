@@ -71,17 +71,28 @@ impl Sockets {
         let Ok(label) = Text::copy_of(self.alloc, def.label()) else {
             return Err(BindFault::of_all(ErrorKind::OutOfMemory));
         };
+        let listeners = match bind_all(rt, self.alloc, def.sockets()) {
+            Ok(listeners) => listeners,
+            Err(fault) => {
+                drop(label);
+                return Err(fault);
+            }
+        };
         let bound = Bound {
             label,
-            listeners: bind_all(rt, self.alloc, def.sockets())?,
+            listeners,
             bind: self.binds,
             registered: 0,
         };
         self.binds = self.binds.wrapping_add(1);
         match self.jobs.insert(job, bound) {
-            Ok(_) => Ok(()),
+            Ok(other) => {
+                drop(other);
+                Ok(())
+            }
             Err(failed) => {
                 give_up(rt, &failed.value.1.listeners);
+                drop(failed);
                 Err(BindFault::of_all(ErrorKind::OutOfMemory))
             }
         }
@@ -102,6 +113,7 @@ impl Sockets {
     pub(crate) fn release<R: Files>(&mut self, rt: &R, job: JobNo) {
         if let Some(bound) = self.jobs.remove(&job) {
             give_up(rt, &bound.listeners);
+            drop(bound);
         }
     }
 
@@ -196,10 +208,9 @@ fn bind_all<R: Files + Net<Listener = std::net::TcpListener, Stream = std::net::
         Ok(()) => Ok(listeners),
         Err(error) => {
             give_up(rt, &listeners);
-            Err(BindFault {
-                socket: listeners.len(),
-                error,
-            })
+            let socket = listeners.len();
+            drop(listeners);
+            Err(BindFault { socket, error })
         }
     }
 }

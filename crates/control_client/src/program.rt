@@ -90,14 +90,25 @@ pub fn jobctl<R: Net + Files + Env + Print + Eprint + AllocGlobal + Clone + Drop
         Ok(settings) => settings,
         Err(fault) => return tell_setting(rt, fault),
     };
-    match read_by(alloc, &settings, words) {
+    let patience = settings.patience;
+    let meant = read_by(alloc, &settings, words);
+    drop(settings);
+    match meant {
         Ok(Words { socket, command }) => {
-            let mut session = Session::new(socket, settings.patience);
+            let mut session = Session::new(socket, patience);
             match task_of(command) {
-                Task::Files(deed, paths) => hand_in(rt, alloc, &mut session, deed, &paths),
-                Task::Request(event) => session.ask_once(rt, alloc, &event),
+                Task::Files(deed, paths) => {
+                    hand_in(rt, alloc, &mut session, deed, &paths);
+                    drop(paths);
+                }
+                Task::Request(event) => {
+                    session.ask_once(rt, alloc, &event);
+                    drop(event);
+                }
             }
-            session.status()
+            let status = session.status();
+            drop(session);
+            status
         }
         Err(WordFault::Usage) => explain_words(rt, alloc, words),
         Err(WordFault::NoMemory) => want_memory(rt),
@@ -195,9 +206,15 @@ fn hand_in_one<R: Net + Files + Print + Eprint>(
         }
         Kind::File => {}
     }
-    let event = event_for(rt, alloc, deed, path)?;
     let name = if is_named { Some(path) } else { None };
-    session.ask(rt, alloc, &event, name)
+    match event_for(rt, alloc, deed, path) {
+        Ok(event) => {
+            let answer = session.ask(rt, alloc, &event, name);
+            drop(event);
+            answer
+        }
+        Err(fault) => Err(fault),
+    }
 }
 
 fn event_for<R: Files>(rt: &R, alloc: Global, deed: Deed, path: &str) -> Result<Event, Fault> {

@@ -28,7 +28,6 @@ const TOO_MANY: &[u8] = b"{\"code\":2,\"text\":\"too many clients\\n\"}\n";
 ///
 /// Readiness only wakes the poll: each call of `serve` tries every client. A client takes at most the memory of its longest
 /// line ([`ctl_protocol::LINE_LIMIT`]) and of the replies that it has not taken: [`crate::UNSENT`] bytes and one reply more.
-#[derive(Drop)]
 pub struct ControlSocket {
     alloc: Global,
     listener: UnixListener,
@@ -48,6 +47,28 @@ pub struct ControlSocket {
     first: usize,
     // The last round looked at every client.
     is_whole: bool,
+}
+
+// It is written out, so that a function which lets it go calls this, in place of letting each part go.
+impl Drop for ControlSocket {
+    fn drop(self) {
+        let ControlSocket {
+            alloc: _,
+            listener: _,
+            path: _,
+            mark: _,
+            lock: _,
+            token: _,
+            clients: _,
+            room: _,
+            notices: _,
+            spare: _,
+            rounds: _,
+            up: _,
+            first: _,
+            is_whole: _,
+        } = self;
+    }
 }
 
 /// Where a new client can be.
@@ -71,14 +92,13 @@ impl ControlSocket {
         alloc: Global,
         path: &str,
     ) -> io::Result<ControlSocket> {
-        let own_path = Text::copy_of(alloc, path)?;
-        let room = zeros(alloc)?;
-        let clients = Slab::with_capacity(alloc, CLIENTS)?;
-        let lock = lock_beside(rt, alloc, path)?;
-        let (listener, mark) = match socket_file::bind(rt, path) {
+        let (own_path, room, clients) = memory_for(alloc, path)?;
+        let (lock, listener, mark) = match bind(rt, alloc, path) {
             Ok(bound) => bound,
             Err(error) => {
-                lock.remove(rt);
+                drop(own_path);
+                drop(room);
+                drop(clients);
                 return Err(error);
             }
         };
@@ -175,7 +195,7 @@ impl ControlSocket {
             Ok(Progress::Ended) => self.notices.ended_well(),
             Err(error) => self.notices.let_go(error),
         }
-        let _gone = self.clients.try_remove(key);
+        drop(self.clients.try_remove(key));
         false
     }
 
@@ -253,7 +273,7 @@ impl ControlSocket {
     fn let_silent_go(&mut self) -> bool {
         match self.longest_silent() {
             Some(key) => {
-                let _gone = self.clients.try_remove(key);
+                drop(self.clients.try_remove(key));
                 true
             }
             None => false,
@@ -264,9 +284,7 @@ impl ControlSocket {
     fn welcome(&mut self, registry: &Registry, stream: UnixStream, place: Place) -> bool {
         match place {
             Place::Free => {}
-            Place::Of(key) => {
-                let _gone = self.clients.try_remove(key);
-            }
+            Place::Of(key) => drop(self.clients.try_remove(key)),
             Place::Unknown | Place::Nowhere => {
                 self.turn_away(stream);
                 return true;
@@ -277,10 +295,11 @@ impl ControlSocket {
         match registry.register(&mut stream, self.token, interest) {
             Ok(()) => {
                 let client = Client::new(self.alloc, stream, self.rounds);
-                let _ = self.clients.insert(client);
+                drop(self.clients.insert(client));
                 true
             }
             Err(error) => {
+                drop(stream);
                 self.notices.accept_refused(error);
                 false
             }
@@ -358,6 +377,40 @@ impl ControlSocket {
     pub fn remove<R: Files<File = File>>(&self, rt: &R) {
         socket_file::remove(rt, self.path.as_str(), self.mark);
         self.lock.remove(rt);
+    }
+}
+
+// The socket's path, the room for a piece, and that for the clients.
+fn memory_for(alloc: Global, path: &str) -> io::Result<(Text, Vec<u8>, Slab<Client>)> {
+    let path = Text::copy_of(alloc, path)?;
+    let Ok(room) = zeros(alloc) else {
+        drop(path);
+        return Err(Error::from(ErrorKind::OutOfMemory));
+    };
+    match Slab::with_capacity(alloc, CLIENTS) {
+        Ok(clients) => Ok((path, room, clients)),
+        Err(error) => {
+            drop(path);
+            drop(room);
+            Err(Error::from(error))
+        }
+    }
+}
+
+// The listener at the path, with the lock beside it.
+fn bind<R: Files<File = File> + Net>(
+    rt: &R,
+    alloc: Global,
+    path: &str,
+) -> io::Result<(LockFile, UnixListener, SocketMark)> {
+    let lock = lock_beside(rt, alloc, path)?;
+    match socket_file::bind(rt, path) {
+        Ok((listener, mark)) => Ok((lock, listener, mark)),
+        Err(error) => {
+            lock.remove(rt);
+            drop(lock);
+            Err(error)
+        }
     }
 }
 

@@ -9,7 +9,6 @@ use std::marker::Model;
 
 /// A job's definition, read from JSON by [`read_def`](crate::read_def). The keys and their meaning are those of
 /// launchd.plist(5), but for what is said here.
-#[derive(Drop)]
 pub struct Def {
     pub(crate) launch: Launch,
     pub(crate) demand: Demand,
@@ -17,6 +16,20 @@ pub struct Def {
     pub(crate) surroundings: Surroundings,
     pub(crate) sockets: Vec<Socket>,
     pub(crate) not_acted_on: Vec<Text>,
+}
+
+// It is written out, so that a function which lets it go calls this, in place of letting each part go.
+impl Drop for Def {
+    fn drop(self) {
+        let Def {
+            launch: _,
+            demand: _,
+            pace: _,
+            surroundings: _,
+            sockets: _,
+            not_acted_on: _,
+        } = self;
+    }
 }
 
 impl Model for Def {

@@ -42,13 +42,25 @@ pub(crate) struct Command {
     pub(crate) arguments: Vec<Text>,
 }
 
-#[derive(Drop)]
 pub(crate) struct Launch {
     pub(crate) label: Text,
     pub(crate) command: Command,
     pub(crate) run_at_load: bool,
     pub(crate) launch_only_once: bool,
     pub(crate) disabled: bool,
+}
+
+// It is written out, so that a function which lets it go calls this, in place of letting each part go.
+impl Drop for Launch {
+    fn drop(self) {
+        let Launch {
+            label: _,
+            command: _,
+            run_at_load: _,
+            launch_only_once: _,
+            disabled: _,
+        } = self;
+    }
 }
 
 /// What `KeepAlive` and `OnDemand` say.
@@ -60,7 +72,6 @@ pub(crate) struct Keep {
     pub(crate) path_state: Vec<PathState>,
 }
 
-#[derive(Drop)]
 pub(crate) struct Demand {
     pub(crate) keep: Keep,
     pub(crate) watch_paths: Vec<Text>,
@@ -69,17 +80,42 @@ pub(crate) struct Demand {
     pub(crate) calendar: Vec<Entry>,
 }
 
+// It is written out, so that a function which lets it go calls this, in place of letting each part go.
+impl Drop for Demand {
+    fn drop(self) {
+        let Demand {
+            keep: _,
+            watch_paths: _,
+            queue_directories: _,
+            start_interval: _,
+            calendar: _,
+        } = self;
+    }
+}
+
 #[derive(Clone, Copy)]
 pub(crate) struct Pace {
     pub(crate) throttle_interval: u32,
     pub(crate) exit_time_out: u32,
 }
 
-#[derive(Drop)]
 pub(crate) struct Surroundings {
     pub(crate) environment: Vec<Variable>,
     pub(crate) working_directory: Option<Text>,
     pub(crate) standard_in_path: Option<Text>,
     pub(crate) standard_out_path: Option<Text>,
     pub(crate) standard_error_path: Option<Text>,
+}
+
+// It is written out, so that a function which lets it go calls this, in place of letting each part go.
+impl Drop for Surroundings {
+    fn drop(self) {
+        let Surroundings {
+            environment: _,
+            working_directory: _,
+            standard_in_path: _,
+            standard_out_path: _,
+            standard_error_path: _,
+        } = self;
+    }
 }

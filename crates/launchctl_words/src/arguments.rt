@@ -83,7 +83,10 @@ pub fn add_arg<'a>(
 {
     match command {
         Ok(command) => command.arg(arg),
-        Err(e) => Err(e),
+        Err(e) => {
+            drop(arg);
+            Err(e)
+        }
     }
 }
 
@@ -98,9 +101,15 @@ pub fn add_subcommand<'a>(
     match command {
         Ok(command) => match subcommand {
             Ok(subcommand) => command.subcommand(subcommand),
-            Err(e) => Err(e),
+            Err(e) => {
+                drop(command);
+                Err(e)
+            }
         },
-        Err(e) => Err(e),
+        Err(e) => {
+            drop(subcommand);
+            Err(e)
+        }
     }
 }
 

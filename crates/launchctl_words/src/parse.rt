@@ -53,7 +53,10 @@ pub fn explain_by<'a>(
     command: Result<clap::Command<'a>, AllocError>,
     words: &'a [String],
 ) -> Result<Explanation, AllocError> {
-    explain_with(alloc, &mut command?, words)
+    let mut command = command?;
+    let explanation = explain_with(alloc, &mut command, words);
+    drop(command);
+    explanation
 }
 
 fn explain_with<'a>(

@@ -5,6 +5,11 @@ use ctl_protocol::{ReadFault, read_target};
 use job_defs::is_label;
 use std::alloc::{AllocError, Global};
 
+// The subcommands that take a label, and those that take a target.
+const OF_LABELS: [&str; 2] = ["start", "stop"];
+
+const OF_TARGETS: [&str; 4] = ["enable", "disable", "kickstart", "print"];
+
 const A_LABEL: &str = "a label has 1 to 255 bytes, no / and no control character";
 
 const A_TARGET: &str = "a target is LABEL, system/LABEL, user/UID/LABEL or gui/UID/LABEL";
@@ -17,11 +22,11 @@ pub fn reason_in(alloc: Global, matches: &ArgMatches<'_>) -> Result<Option<Strin
     let Some((name, found)) = matches.subcommand() else {
         return Ok(None);
     };
-    if name == "start" || name == "stop" {
+    if OF_LABELS.contains(&name) {
         label_reason(alloc, name, found.get_str("label"))
     } else if name == "serve" {
         zone_reason(alloc, found.get_str("zone"), found.get_str("zone-file"))
-    } else if name == "enable" || name == "disable" || name == "kickstart" || name == "print" {
+    } else if OF_TARGETS.contains(&name) {
         target_reason(alloc, found.get_str("target"))
     } else {
         Ok(None)

@@ -23,9 +23,19 @@ pub fn open_appended<R: Files<File = File>>(rt: &R, path: &str) -> io::Result<Fi
         Err(error) => return Err(error),
     }
     let file = options.open(rt, path)?;
+    match take(&file) {
+        Ok(()) => Ok(file),
+        Err(error) => {
+            drop(file);
+            Err(error)
+        }
+    }
+}
+
+// Locks the file, if it is a plain one.
+fn take(file: &File) -> io::Result<()> {
     if !file.metadata()?.is_file() {
         return Err(no_plain_file());
     }
-    lock(&file)?;
-    Ok(file)
+    lock(file)
 }

@@ -2,16 +2,26 @@
 
 use std::alloc::Global;
 use std::io;
+use std::io::ErrorKind;
 use std::process::{Command, Processes, Stdio};
 
 /// Starts `/bin/sh -c :` and waits for its end. False: the system does not tell the end, as in a process whose starter ignores
 /// SIGCHLD. An `Err` if the shell can't be started.
 pub fn sees_children<R: Processes>(rt: &R, alloc: Global) -> io::Result<bool> {
     let mut command = Command::new(alloc, "/bin/sh")?;
-    command.arg("-c")?.arg(":")?;
+    let has_flag = command.arg("-c").is_ok();
+    let has_script = command.arg(":").is_ok();
+    if !(has_flag && has_script) {
+        drop(command);
+        return Err(io::Error::from(ErrorKind::OutOfMemory));
+    }
     command.stdin(Stdio::null());
     command.stdout(Stdio::null());
     command.stderr(Stdio::null());
-    let mut child = command.spawn(rt)?;
-    Ok(child.wait().is_ok())
+    let started = command.spawn(rt);
+    drop(command);
+    let mut child = started?;
+    let end = child.wait();
+    drop(child);
+    Ok(end.is_ok())
 }

@@ -51,12 +51,17 @@ fn bind_new<R: Files + Net>(rt: &R, path: &str) -> io::Result<(UnixListener, Soc
             Ok(()) => Ok((listener, mark)),
             Err(error) => {
                 remove(rt, path, mark);
+                drop(listener);
                 Err(error)
             }
         },
-        Ok(None) => Err(Error::from(ErrorKind::AddrInUse)),
+        Ok(None) => {
+            drop(listener);
+            Err(Error::from(ErrorKind::AddrInUse))
+        }
         Err(error) => {
             let _left = fs::remove_file(rt, path);
+            drop(listener);
             Err(error)
         }
     }
@@ -67,7 +72,7 @@ fn make_private<R: Files>(rt: &R, path: &str, listener: &UnixListener) -> io::Re
     fs::set_permissions(rt, path, Permissions::from_mode(0o600))?;
     for _ in 0..WAITING {
         match listener.accept() {
-            Ok(_) => {}
+            Ok(client) => drop(client),
             Err(error) if error.kind() == ErrorKind::Interrupted => {}
             Err(error) if error.kind() == ErrorKind::WouldBlock => return Ok(()),
             Err(error) => return Err(error),
@@ -89,7 +94,10 @@ fn give_way<R: Files + Net>(rt: &R, path: &str) -> io::Result<()> {
             remove(rt, path, mark);
             Ok(())
         }
-        _ => Err(Error::from(ErrorKind::AddrInUse)),
+        answer => {
+            drop(answer);
+            Err(Error::from(ErrorKind::AddrInUse))
+        }
     }
 }
 

@@ -3,7 +3,7 @@
 use crate::plan::Plan;
 use crate::reporting::{Level, refuse, tell};
 use crate::standing::{check_standing, room_of};
-use child_edge::{ClockEdge, OsEdge, System};
+use child_edge::{ClockEdge, EdgeFault, OsEdge, System};
 use control_socket::ControlSocket;
 use exit_status::{CLOCK_OR_WAITING, CONTROL_SOCKET, NO_MEMORY};
 use history_model::Reading;
@@ -31,27 +31,25 @@ pub fn system_of<R: System>(
         return Err(NO_MEMORY);
     };
     match OsEdge::new(own, alloc, folder) {
-        Ok(edge) => first_reading(rt, plan, edge),
+        Ok(mut edge) => match first_reading(plan, &mut edge) {
+            Ok(reading) => Ok((edge, reading)),
+            Err(_) => {
+                drop(edge);
+                Err(no_clock(rt, plan.wishes.level))
+            }
+        },
         Err(_) => Err(no_clock(rt, plan.wishes.level)),
     }
 }
 
-fn first_reading<R: System>(
-    rt: &R,
-    plan: &Plan,
-    edge: OsEdge<R>,
-) -> Result<(OsEdge<R>, Reading), u8> {
-    let mut edge = edge;
+fn first_reading<R: System>(plan: &Plan, edge: &mut OsEdge<R>) -> Result<Reading, EdgeFault> {
     if plan.wishes.logs_runs {
         edge.log_runs();
     }
     if let Some(room) = room_of(&plan.standing) {
         edge.set_room(room);
     }
-    match edge.read() {
-        Ok(reading) => Ok((edge, reading)),
-        Err(_) => Err(no_clock(rt, plan.wishes.level)),
-    }
+    edge.read()
 }
 
 /// Tells that the first reading is refused.
