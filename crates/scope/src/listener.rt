@@ -53,10 +53,13 @@ impl Shown<'_> {
         }
         let zone = self.zone.as_ref().unwrap_or(&journal.zone);
         let lines = if is_header {
-            begin_line(alloc, journal, zone)?
+            begin_line(alloc, journal, zone)
         } else {
-            log_lines(alloc, journal, zone, self.labels)?
+            log_lines(alloc, journal, zone, self.labels)
         };
-        self.text.push_str(lines.as_str())
+        let lines = lines?;
+        let added = self.text.push_str(lines.as_str());
+        drop(lines);
+        added
     }
 }
