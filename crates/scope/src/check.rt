@@ -157,21 +157,40 @@ fn add_label(
     findings: &mut Findings,
     remarks: &mut Vec<Remark>,
 ) -> Result<(), AllocError> {
-    let label = def.label();
-    if let Some(other) = path_with(findings.labels.as_slice(), label) {
-        remarks.push(Remark {
-            place: place_of(alloc, bytes, KeyName::Label, None)?,
-            grade: Grade::Warning,
-            text: format!(in alloc;
-                "Label: {other} has this label too; only one of them can be loaded"
-            )?,
-        })?;
-        return Ok(());
+    match path_with(findings.labels.as_slice(), def.label()) {
+        Some(other) => add_double(alloc, bytes, other, remarks),
+        None => keep_label(alloc, path, def.label(), findings),
     }
-    let label = String::from_str(alloc, label)?;
+}
+
+fn add_double(
+    alloc: Global,
+    bytes: &[u8],
+    other: &str,
+    remarks: &mut Vec<Remark>,
+) -> Result<(), AllocError> {
+    let place = place_of(alloc, bytes, KeyName::Label, None)?;
+    let text = format!(in alloc;
+        "Label: {other} has this label too; only one of them can be loaded"
+    )?;
+    let grade = Grade::Warning;
+    Ok(remarks.push(Remark { place, grade, text })?)
+}
+
+fn keep_label(
+    alloc: Global,
+    path: &str,
+    label: &str,
+    findings: &mut Findings,
+) -> Result<(), AllocError> {
     let path = String::from_str(alloc, path)?;
-    findings.labels.push(Labelled { label, path })?;
-    Ok(())
+    match String::from_str(alloc, label) {
+        Ok(label) => Ok(findings.labels.push(Labelled { label, path })?),
+        Err(error) => {
+            drop(path);
+            Err(error)
+        }
+    }
 }
 
 fn path_with<'a>(labels: &'a [Labelled], label: &str) -> Option<&'a str> {

@@ -51,15 +51,22 @@ impl Shown<'_> {
         if journal.reading().wall < self.since {
             return Ok(());
         }
-        let zone = self.zone.as_ref().unwrap_or(&journal.zone);
+        let zone = match &self.zone {
+            Some(zone) => zone,
+            None => &journal.zone,
+        };
         let lines = if is_header {
             begin_line(alloc, journal, zone)
         } else {
             log_lines(alloc, journal, zone, self.labels)
         };
-        let lines = lines?;
-        let added = self.text.push_str(lines.as_str());
-        drop(lines);
-        added
+        match lines {
+            Ok(lines) => {
+                let added = self.text.push_str(lines.as_str());
+                drop(lines);
+                added
+            }
+            Err(error) => Err(error),
+        }
     }
 }

@@ -82,17 +82,16 @@ fn write_report(
     let utc = utc();
     let zone = if of.is_utc { &utc } else { &journal.zone };
     let labels = of.labels.as_slice();
-    if let Listener::Chart(heard) = listener {
-        tell_absent(host, journal, labels);
-        return paint(host, alloc, wanted, journal, zone, heard, labels);
-    }
-    put_made(
-        host,
-        match wanted {
-            Subject::Why => why_text(alloc, journal, zone, labels),
-            _ => runs_table(alloc, journal, labels),
-        },
-    )
+    let written = match (listener, wanted) {
+        (Listener::Chart(heard), _) => {
+            tell_absent(host, journal, labels);
+            paint(host, alloc, wanted, journal, zone, heard, labels)
+        }
+        (_, Subject::Why) => put_made(host, why_text(alloc, journal, zone, labels)),
+        _ => put_made(host, runs_table(alloc, journal, labels)),
+    };
+    drop(utc);
+    written
 }
 
 // Tells each named label that the journal has no load of. This is no fault.

@@ -157,19 +157,15 @@ pub(crate) fn jobscope_words<'a>(alloc: Global) -> Result<clap::Command<'a>, All
     let command = clap::Command::new(alloc, "jobscope")
         .about("Reads definitions before a load, and journals after")
         .subcommand_required(true);
+    let why = "Say why each job runs or not, and what will make it run";
     let command = add_subcommand(Ok(command), check_words(alloc));
     let command = add_subcommand(command, next_words(alloc));
-    add_subcommand(add_journal_words(alloc, command), cron_words(alloc))
-}
-
-// The subcommands that read a journal.
-fn add_journal_words<'a>(
-    alloc: Global,
-    command: Result<clap::Command<'a>, AllocError>,
-) -> Result<clap::Command<'a>, AllocError> {
-    let why = "Say why each job runs or not, and what will make it run";
     let command = add_subcommand(command, timed_words(alloc, "why", why));
     let command = add_subcommand(command, log_words(alloc));
-    let runs = journal_words(alloc, "runs", "Count each job's runs");
-    add_subcommand(add_subcommand(command, runs), picture_words(alloc))
+    let command = add_subcommand(
+        command,
+        journal_words(alloc, "runs", "Count each job's runs"),
+    );
+    let command = add_subcommand(command, picture_words(alloc));
+    add_subcommand(command, cron_words(alloc))
 }
