@@ -20,8 +20,9 @@ pub(crate) enum Listener<'a> {
 /// The journal for people: what of it is shown, and the text that is not written yet.
 #[derive(Drop)]
 pub(crate) struct Shown<'a> {
-    /// The zone in which times are shown; that of the journal if there is none.
-    pub(crate) zone: Option<Zone>,
+    /// Whether times are shown in UTC, and not in the journal's zone.
+    pub(crate) is_utc: bool,
+    pub(crate) utc: Zone,
     pub(crate) since: u64,
     pub(crate) labels: &'a [Text],
     pub(crate) text: String,
@@ -51,9 +52,10 @@ impl Shown<'_> {
         if journal.reading().wall < self.since {
             return Ok(());
         }
-        let zone = match &self.zone {
-            Some(zone) => zone,
-            None => &journal.zone,
+        let zone = if self.is_utc {
+            &self.utc
+        } else {
+            &journal.zone
         };
         let lines = if is_header {
             begin_line(alloc, journal, zone)

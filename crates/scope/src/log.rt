@@ -31,7 +31,8 @@ pub(crate) fn log<W: Wait>(
 ) -> io::Result<u8> {
     let path = journal_path(host, of)?;
     let mut listener = Listener::Log(Shown {
-        zone: if of.is_utc { Some(utc()) } else { None },
+        is_utc: of.is_utc,
+        utc: utc(),
         since: since.unwrap_or(0),
         labels: of.labels.as_slice(),
         text: String::new(alloc),
