@@ -4,6 +4,7 @@ use crate::fault::JournalFault;
 use crate::reader::{Journal, open};
 use ctl_protocol::{LINE_LIMIT, LineFault, LineFeed};
 use std::alloc::{AllocError, Global};
+use std::mem;
 
 /// The lines of a journal that comes in pieces, and the journal as far as it was read.
 #[derive(Drop)]
@@ -62,18 +63,27 @@ impl JournalReader {
     // Takes in a whole line.
     fn take_line(&mut self, alloc: Global, line: &[u8]) -> Result<bool, JournalFault> {
         self.lines = self.lines.saturating_add(1);
-        let Some(journal) = &mut self.journal else {
-            self.journal = Some(open(alloc, line)?);
-            return Ok(true);
-        };
-        let is_event = journal.take(alloc, line)?;
-        if !is_event {
-            self.bad = self.bad.saturating_add(1);
-            if self.bad == 1 {
-                self.first_bad = self.lines;
+        match &mut self.journal {
+            Some(journal) => {
+                let is_event = journal.take(alloc, line)?;
+                self.count(is_event);
+            }
+            None => {
+                let journal = open(alloc, line)?;
+                drop(mem::replace(&mut self.journal, Some(journal)));
             }
         }
         Ok(true)
+    }
+
+    fn count(&mut self, is_event: bool) {
+        if is_event {
+            return;
+        }
+        self.bad = self.bad.saturating_add(1);
+        if self.bad == 1 {
+            self.first_bad = self.lines;
+        }
     }
 
     /// The journal, if its header was read.

@@ -89,11 +89,15 @@ struct LoadWords {
 
 fn load(alloc: Global, table: &mut JobTable, def: &str, words: LoadWords) -> Result<bool, Refusal> {
     let ready = table.prepare_load(alloc, def.as_bytes(), words.writes_setting, words.force)?;
-    if ready.def().has_sockets() && !words.bind {
-        return Err(Refusal::SocketRefused);
-    }
-    if words.writes_setting && !words.store {
-        return Err(Refusal::StoreRefused);
+    let lacks_socket = ready.def().has_sockets() && !words.bind;
+    let lacks_store = words.writes_setting && !words.store;
+    if lacks_socket || lacks_store {
+        drop(ready);
+        return Err(if lacks_socket {
+            Refusal::SocketRefused
+        } else {
+            Refusal::StoreRefused
+        });
     }
     table.commit_load(ready);
     Ok(true)
@@ -109,6 +113,7 @@ fn set(
 ) -> Result<bool, Refusal> {
     let ready = table.prepare_set(alloc, job, disabled, unload)?;
     if !store {
+        drop(ready);
         return Err(Refusal::StoreRefused);
     }
     table.commit_set(ready);

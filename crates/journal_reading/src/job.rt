@@ -3,6 +3,7 @@
 use crate::run::{Run, RunEnd, is_crash};
 use history_model::{DemandKind, Ended, Reading};
 use job_defs::Def;
+use std::mem;
 
 /// What was asked of a job, by a control client.
 #[derive(Clone, Copy)]
@@ -109,7 +110,8 @@ impl Job {
     pub(crate) fn load(&mut self, def: Def, at: Reading) {
         let gone = self.gone;
         let totals = self.totals;
-        *self = Job::new(self.serial, def, at);
+        let job = Job::new(self.serial, def, at);
+        drop(mem::replace(self, job));
         self.gone = gone;
         self.totals = totals;
     }
@@ -201,7 +203,7 @@ impl Job {
         self.end_gap(at);
         let loaded = at.up.saturating_sub(self.loaded.up);
         self.totals.loaded = self.totals.loaded.saturating_add(loaded);
-        self.def = None;
+        drop(self.def.take());
         self.gone = at;
     }
 

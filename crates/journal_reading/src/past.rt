@@ -1,6 +1,6 @@
 //! What is kept of all jobs: by their labels, and the runs that are over.
 
-use crate::job::Job;
+use crate::job::{Asked, Job};
 use crate::run::Run;
 use history_model::Reading;
 use job_defs::Def;
@@ -41,33 +41,74 @@ impl Past {
     }
 
     /// A job is loaded.
-    pub(crate) fn load(&mut self, label: String, def: Def, at: Reading) -> Result<(), AllocError> {
-        if let Some(job) = self.jobs.get_mut(label.as_str()) {
-            job.load(def, at);
+    pub(crate) fn load(&mut self, alloc: Global, def: Def, at: Reading) -> Result<(), AllocError> {
+        match self.jobs.get_mut(def.label()) {
+            Some(job) => {
+                job.load(def, at);
+                Ok(())
+            }
+            None => self.load_new(alloc, def, at),
+        }
+    }
+
+    // Its label was not loaded before.
+    fn load_new(&mut self, alloc: Global, def: Def, at: Reading) -> Result<(), AllocError> {
+        let label = String::from_str(alloc, def.label());
+        let is_room = self.make_room().is_ok();
+        self.next = self.next.saturating_add(1);
+        let job = Job::new(self.next, def, at);
+        match label {
+            Ok(label) if is_room => self.add(label, job),
+            label => {
+                drop(label);
+                drop(job);
+                Err(AllocError)
+            }
+        }
+    }
+
+    fn add(&mut self, label: String, job: Job) -> Result<(), AllocError> {
+        match self.jobs.insert(label, job) {
+            Ok(old) => {
+                drop(old);
+                Ok(())
+            }
+            Err(refused) => {
+                drop(refused);
+                Err(AllocError)
+            }
+        }
+    }
+
+    // If as many labels are kept as may be, the first that is not loaded is forgotten.
+    fn make_room(&mut self) -> Result<(), AllocError> {
+        if self.jobs.len() < MOST_LABELS {
             return Ok(());
         }
-        if self.jobs.len() >= MOST_LABELS {
-            self.forget()?;
-        }
-        self.next = self.next.saturating_add(1);
-        self.jobs.insert(label, Job::new(self.next, def, at))?;
+        let label = match self.first_gone() {
+            Some(label) => label.clone()?,
+            None => return Ok(()),
+        };
+        drop(self.jobs.remove(label.as_str()));
+        drop(label);
+        self.forgotten = self.forgotten.saturating_add(1);
         Ok(())
     }
 
-    // Forgets the first label that is not loaded.
-    fn forget(&mut self) -> Result<(), AllocError> {
-        let mut gone = None;
+    fn first_gone(&self) -> Option<&String> {
         for (label, job) in &self.jobs {
             if job.def.is_none() {
-                gone = Some(label.clone()?);
-                break;
+                return Some(label);
             }
         }
-        if let Some(label) = gone {
-            let _job = self.jobs.remove(label.as_str());
-            self.forgotten = self.forgotten.saturating_add(1);
+        None
+    }
+
+    /// All jobs are asked to end.
+    pub(crate) fn ask_all(&mut self, asked: Asked, at: Reading) {
+        for job in self.jobs.values_mut() {
+            job.asked = Some((asked, at));
         }
-        Ok(())
     }
 
     /// A run is over.

@@ -96,8 +96,12 @@ impl Journal {
         self.news.clear();
         match self.reader.event(alloc, line) {
             Ok(event) => {
-                self.hear(alloc, &event)?;
-                Ok(true)
+                let heard = self.hear(alloc, &event);
+                drop(event);
+                match heard {
+                    Ok(()) => Ok(true),
+                    Err(error) => Err(error),
+                }
             }
             Err(ReadFault::NoMemory) => Err(AllocError),
             Err(ReadFault::BadRequest) => Ok(false),
@@ -118,9 +122,7 @@ impl Journal {
 
     // Tells what the line gave.
     fn tell(&mut self, alloc: Global, label: &str, what: What) -> Result<(), AllocError> {
-        let label = String::from_str(alloc, label)?;
-        self.news.push(News { label, what })?;
-        Ok(())
+        add_news(alloc, &mut self.news, label, what)
     }
 
     // What a load, a question to a job or an answer was refused. Answers out of turn are left aside.
@@ -131,14 +133,28 @@ impl Journal {
         refusal: Refusal,
     ) -> Result<(), AllocError> {
         if let Event::Load { def, .. } = event {
-            return match read_def(alloc, def.as_str().as_bytes()) {
-                Ok(def) => self.tell(alloc, def.label(), What::LoadRefused(refusal)),
-                Err(_) => self.tell(alloc, "", What::LoadRefused(refusal)),
-            };
+            return self.note_bad_load(alloc, def.as_str(), refusal);
         }
         match asked_in(event) {
             Some((label, asked)) => self.tell(alloc, label, What::Declined(asked, refusal)),
             None => Ok(()),
+        }
+    }
+
+    fn note_bad_load(
+        &mut self,
+        alloc: Global,
+        def: &str,
+        refusal: Refusal,
+    ) -> Result<(), AllocError> {
+        let what = What::LoadRefused(refusal);
+        match read_def(alloc, def.as_bytes()) {
+            Ok(def) => {
+                let told = self.tell(alloc, def.label(), what);
+                drop(def);
+                told
+            }
+            Err(_) => self.tell(alloc, "", what),
         }
     }
 
@@ -157,27 +173,28 @@ impl Journal {
 
     fn note_load(&mut self, alloc: Global, def: &str) -> Result<(), AllocError> {
         let at = self.reading();
-        let Ok(def) = read_def(alloc, def.as_bytes()) else {
-            return Ok(());
-        };
-        self.tell(alloc, def.label(), What::Loaded)?;
-        let label = String::from_str(alloc, def.label())?;
-        self.past.load(label, def, at)
+        match read_def(alloc, def.as_bytes()) {
+            Ok(def) => {
+                let told = self.tell(alloc, def.label(), What::Loaded);
+                let kept = self.past.load(alloc, def, at);
+                told?;
+                kept
+            }
+            Err(_) => Ok(()),
+        }
     }
 
     // What keeps from a start, or asks for an end, is kept until the next order.
     fn note_asked(&mut self, label: &str, asked: Asked) {
         let at = self.reading();
-        if let Asked::Shutdown = asked {
-            for (_, job) in self.past.jobs.iter_mut() {
-                job.asked = Some((asked, at));
+        match asked {
+            Asked::Shutdown => self.past.ask_all(asked, at),
+            Asked::Start | Asked::Kickstart | Asked::Enable | Asked::Disable => {}
+            _ => {
+                if let Some(job) = self.past.jobs.get_mut(label) {
+                    job.asked = Some((asked, at));
+                }
             }
-        }
-        if let Asked::Start | Asked::Kickstart | Asked::Enable | Asked::Disable = asked {
-            return;
-        }
-        if let Some(job) = self.past.jobs.get_mut(label) {
-            job.asked = Some((asked, at));
         }
     }
 
@@ -268,12 +285,22 @@ impl Journal {
         for order in step.orders {
             let label = step.label(order.job);
             if let Some(what) = ordered(&self.table, &mut self.past, label, order.act, at) {
-                let label = String::from_str(alloc, label)?;
-                self.news.push(News { label, what })?;
+                add_news(alloc, &mut self.news, label, what)?;
             }
         }
         Ok(())
     }
+}
+
+fn add_news(
+    alloc: Global,
+    news: &mut Vec<News>,
+    label: &str,
+    what: What,
+) -> Result<(), AllocError> {
+    let label = String::from_str(alloc, label)?;
+    news.push(News { label, what })?;
+    Ok(())
 }
 
 // Takes in an order.

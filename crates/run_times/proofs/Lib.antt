@@ -1,1 +1,2 @@
 pub mod NextRunLemmas
+pub mod WrittenLemmas

@@ -151,9 +151,16 @@ pub(crate) fn chart_of(
         },
         places: Vec::new(alloc),
     };
-    rows.fill(alloc, journal, heard)?;
-    let Rows { chart, .. } = rows;
-    Ok(chart)
+    let filled = rows.fill(alloc, journal, heard);
+    let Rows { chart, places } = rows;
+    drop(places);
+    match filled {
+        Ok(()) => Ok(chart),
+        Err(error) => {
+            drop(chart);
+            Err(error)
+        }
+    }
 }
 
 // The rows of a chart, and where the row of each job stands, by the job's serial number.

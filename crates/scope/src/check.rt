@@ -10,6 +10,7 @@ use history_model::KeyName;
 use job_defs::Def;
 use launchctl_words::{Paths, ZoneWords};
 use path_files::{Found, files_at};
+use run_times::Ink;
 use scope_check::{
     Change, Checked, Grade, Remark, changes_in_year, check_def, finding_line, place_of, summary_of,
 };
@@ -25,7 +26,7 @@ struct Labelled {
 /// What was found so far.
 #[derive(Drop)]
 struct Findings {
-    text: String,
+    ink: Ink,
     labels: Vec<Labelled>,
     has_errors: bool,
     has_warnings: bool,
@@ -60,16 +61,23 @@ fn check_in(
     };
     let changes = changes_in_year(alloc, zone, second)?;
     let mut findings = Findings {
-        text: String::new(alloc),
+        ink: Ink::new(alloc),
         labels: Vec::new(alloc),
         has_errors: false,
         has_warnings: false,
         is_unread: false,
     };
-    check_files(host, alloc, paths, changes.as_slice(), &mut findings)?;
+    let checked = check_files(host, alloc, paths, changes.as_slice(), &mut findings);
+    drop(changes);
     let status = status_of(&findings, is_strict);
-    let Findings { text, .. } = findings;
-    Ok(Outcome { text, status })
+    let Findings { ink, labels, .. } = findings;
+    drop(labels);
+    let text = ink.into_text();
+    checked?;
+    match text {
+        Ok(text) => Ok(Outcome { text, status }),
+        Err(error) => Err(error),
+    }
 }
 
 fn status_of(findings: &Findings, is_strict: bool) -> u8 {
@@ -110,12 +118,16 @@ fn check_bytes(
     let path = file.path.as_str();
     match check_def(alloc, bytes, changes)? {
         Checked::Loads { def, mut remarks } => {
-            add_definition(host, alloc, path, bytes, &def, &mut remarks, findings)
+            let added = add_definition(host, alloc, path, bytes, &def, &mut remarks, findings);
+            drop(remarks);
+            drop(def);
+            added
         }
         Checked::Refused { place, text, .. } => {
             findings.has_errors = true;
-            let line = finding_line(alloc, path, place, Grade::Error, text.as_str())?;
-            findings.text.push_str(line.as_str())
+            let line = finding_line(alloc, path, place, Grade::Error, text.as_str());
+            findings.ink.put_made(line);
+            Ok(())
         }
     }
 }
@@ -132,7 +144,8 @@ fn add_definition(
 ) -> Result<(), AllocError> {
     add_missing(host, alloc, bytes, def, remarks)?;
     add_label(alloc, bytes, path, def, findings, remarks)?;
-    add_loading(alloc, path, def, remarks.as_slice(), findings)
+    add_loading(alloc, path, def, remarks.as_slice(), findings);
+    Ok(())
 }
 
 // Adds a remark if a file before has the same label, and keeps the label.
@@ -144,21 +157,40 @@ fn add_label(
     findings: &mut Findings,
     remarks: &mut Vec<Remark>,
 ) -> Result<(), AllocError> {
-    let label = def.label();
-    if let Some(other) = path_with(findings.labels.as_slice(), label) {
-        remarks.push(Remark {
-            place: place_of(alloc, bytes, KeyName::Label, None)?,
-            grade: Grade::Warning,
-            text: format!(in alloc;
-                "Label: {other} has this label too; only one of them can be loaded"
-            )?,
-        })?;
-        return Ok(());
+    match path_with(findings.labels.as_slice(), def.label()) {
+        Some(other) => add_double(alloc, bytes, other, remarks),
+        None => keep_label(alloc, path, def.label(), findings),
     }
-    let label = String::from_str(alloc, label)?;
+}
+
+fn add_double(
+    alloc: Global,
+    bytes: &[u8],
+    other: &str,
+    remarks: &mut Vec<Remark>,
+) -> Result<(), AllocError> {
+    let place = place_of(alloc, bytes, KeyName::Label, None)?;
+    let text = format!(in alloc;
+        "Label: {other} has this label too; only one of them can be loaded"
+    )?;
+    let grade = Grade::Warning;
+    Ok(remarks.push(Remark { place, grade, text })?)
+}
+
+fn keep_label(
+    alloc: Global,
+    path: &str,
+    label: &str,
+    findings: &mut Findings,
+) -> Result<(), AllocError> {
     let path = String::from_str(alloc, path)?;
-    findings.labels.push(Labelled { label, path })?;
-    Ok(())
+    match String::from_str(alloc, label) {
+        Ok(label) => Ok(findings.labels.push(Labelled { label, path })?),
+        Err(error) => {
+            drop(path);
+            Err(error)
+        }
+    }
 }
 
 fn path_with<'a>(labels: &'a [Labelled], label: &str) -> Option<&'a str> {
@@ -171,26 +203,20 @@ fn path_with<'a>(labels: &'a [Labelled], label: &str) -> Option<&'a str> {
 }
 
 // Adds the lines of a definition that loads: that it is well, if there is no warning, and its remarks.
-fn add_loading(
-    alloc: Global,
-    path: &str,
-    def: &Def,
-    remarks: &[Remark],
-    findings: &mut Findings,
-) -> Result<(), AllocError> {
+fn add_loading(alloc: Global, path: &str, def: &Def, remarks: &[Remark], findings: &mut Findings) {
     if has_warning(remarks) {
         findings.has_warnings = true;
     } else {
-        let summary = summary_of(alloc, def)?;
-        let line = format!(in alloc; "{path}: {summary}\n")?;
-        findings.text.push_str(line.as_str())?;
+        findings.ink.put(path);
+        findings.ink.put(": ");
+        findings.ink.put_made(summary_of(alloc, def));
+        findings.ink.put("\n");
     }
     for remark in remarks {
         let told = remark.text.as_str();
-        let line = finding_line(alloc, path, remark.place, remark.grade, told)?;
-        findings.text.push_str(line.as_str())?;
+        let line = finding_line(alloc, path, remark.place, remark.grade, told);
+        findings.ink.put_made(line);
     }
-    Ok(())
 }
 
 fn has_warning(remarks: &[Remark]) -> bool {

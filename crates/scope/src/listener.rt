@@ -20,8 +20,9 @@ pub(crate) enum Listener<'a> {
 /// The journal for people: what of it is shown, and the text that is not written yet.
 #[derive(Drop)]
 pub(crate) struct Shown<'a> {
-    /// The zone in which times are shown; that of the journal if there is none.
-    pub(crate) zone: Option<Zone>,
+    /// Whether times are shown in UTC, and not in the journal's zone.
+    pub(crate) is_utc: bool,
+    pub(crate) utc: Zone,
     pub(crate) since: u64,
     pub(crate) labels: &'a [Text],
     pub(crate) text: String,
@@ -51,12 +52,23 @@ impl Shown<'_> {
         if journal.reading().wall < self.since {
             return Ok(());
         }
-        let zone = self.zone.as_ref().unwrap_or(&journal.zone);
-        let lines = if is_header {
-            begin_line(alloc, journal, zone)?
+        let zone = if self.is_utc {
+            &self.utc
         } else {
-            log_lines(alloc, journal, zone, self.labels)?
+            &journal.zone
         };
-        self.text.push_str(lines.as_str())
+        let lines = if is_header {
+            begin_line(alloc, journal, zone)
+        } else {
+            log_lines(alloc, journal, zone, self.labels)
+        };
+        match lines {
+            Ok(lines) => {
+                let added = self.text.push_str(lines.as_str());
+                drop(lines);
+                added
+            }
+            Err(error) => Err(error),
+        }
     }
 }

@@ -13,7 +13,7 @@ use std::fs::File;
 use std::io::{ErrorKind, Read, Seek, SeekFrom};
 use std::sync::Wait;
 use std::time::Duration;
-use std::{io, thread};
+use std::{io, mem, thread};
 
 /// So many milliseconds lie between two looks at a file that may grow.
 const PAUSE: u64 = 250;
@@ -31,15 +31,19 @@ pub(crate) fn log<W: Wait>(
 ) -> io::Result<u8> {
     let path = journal_path(host, of)?;
     let mut listener = Listener::Log(Shown {
-        zone: if of.is_utc { Some(utc()) } else { None },
+        is_utc: of.is_utc,
+        utc: utc(),
         since: since.unwrap_or(0),
         labels: of.labels.as_slice(),
         text: String::new(alloc),
     });
-    match &path {
+    let status = match &path {
         Some(path) if follows => follow(host, waits, alloc, path.as_str(), &mut listener),
         _ => log_once(host, alloc, &path, &mut listener),
-    }
+    };
+    drop(listener);
+    drop(path);
+    status
 }
 
 fn log_once(
@@ -50,14 +54,32 @@ fn log_once(
 ) -> io::Result<u8> {
     let mut feed = Feed::new(alloc);
     let name = name_of(path);
-    let fault = match source_of(host, path) {
-        Ok(mut source) => show_source(host, alloc, &mut source, &mut feed, listener)?,
-        Err(error) => Some(JournalFault::Read(error)),
+    let status = match show_path(host, alloc, path, &mut feed, listener) {
+        Ok(Some(fault)) => tell_fault(host, name, fault),
+        Ok(None) => match feed.reader.journal() {
+            Some(_) => Ok(tell_bad(host, name, &feed.reader)),
+            None => tell_fault(host, name, JournalFault::NoHeader),
+        },
+        Err(error) => Err(error),
     };
-    match (fault, feed.reader.journal()) {
-        (None, Some(_)) => Ok(tell_bad(host, name, &feed.reader)),
-        (Some(fault), _) => tell_fault(host, name, fault),
-        (None, None) => tell_fault(host, name, JournalFault::NoHeader),
+    drop(feed);
+    status
+}
+
+fn show_path(
+    host: &HostRuntime,
+    alloc: Global,
+    path: &Option<String>,
+    feed: &mut Feed,
+    listener: &mut Listener<'_>,
+) -> io::Result<Option<JournalFault>> {
+    match source_of(host, path) {
+        Ok(mut source) => {
+            let shown = show_source(host, alloc, &mut source, feed, listener);
+            drop(source);
+            shown
+        }
+        Err(error) => Ok(Some(JournalFault::Read(error))),
     }
 }
 
@@ -99,9 +121,22 @@ fn follow<W: Wait>(
     listener: &mut Listener<'_>,
 ) -> io::Result<u8> {
     let mut feed = Feed::new(alloc);
+    let status = follow_on(host, waits, alloc, path, &mut feed, listener);
+    drop(feed);
+    status
+}
+
+fn follow_on<W: Wait>(
+    host: &HostRuntime,
+    waits: &W,
+    alloc: Global,
+    path: &str,
+    feed: &mut Feed,
+    listener: &mut Listener<'_>,
+) -> io::Result<u8> {
     let mut told: u64 = 0;
     for _ in waits.forever() {
-        if let Some(fault) = look(host, alloc, path, &mut feed, listener)? {
+        if let Some(fault) = look(host, alloc, path, feed, listener)? {
             return tell_fault(host, path, fault);
         }
         if feed.reader.bad > told {
@@ -122,7 +157,12 @@ fn look(
     listener: &mut Listener<'_>,
 ) -> io::Result<Option<JournalFault>> {
     match reopened(host, alloc, path, feed) {
-        Ok(file) => show_source(host, alloc, &mut Source::File(file), feed, listener),
+        Ok(file) => {
+            let mut source = Source::File(file);
+            let shown = show_source(host, alloc, &mut source, feed, listener);
+            drop(source);
+            shown
+        }
         Err(error) if error.kind() == ErrorKind::NotFound && feed.offset > 0 => Ok(None),
         Err(error) => Ok(Some(JournalFault::Read(error))),
     }
@@ -132,11 +172,21 @@ fn look(
 // beginning.
 fn reopened(host: &HostRuntime, alloc: Global, path: &str, feed: &mut Feed) -> io::Result<File> {
     let mut file = open_journal(host, path)?;
-    if is_other(alloc, &file, feed)? {
-        *feed = Feed::new(alloc);
+    match go_on(alloc, &mut file, feed) {
+        Ok(()) => Ok(file),
+        Err(error) => {
+            drop(file);
+            Err(error)
+        }
+    }
+}
+
+fn go_on(alloc: Global, file: &mut File, feed: &mut Feed) -> io::Result<()> {
+    if is_other(alloc, file, feed)? {
+        drop(mem::replace(feed, Feed::new(alloc)));
     }
     file.seek(SeekFrom::Start(feed.offset))?;
-    Ok(file)
+    Ok(())
 }
 
 fn is_other(alloc: Global, file: &File, feed: &Feed) -> io::Result<bool> {

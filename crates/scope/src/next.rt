@@ -10,7 +10,8 @@ use history_model::MAX_WALL;
 use job_defs::{Def, DefFault, read_def};
 use launchctl_words::{Paths, ZoneWords};
 use path_files::{Found, files_at};
-use run_times::{span_text, time_text};
+use run_times::Piece::{Number, Text};
+use run_times::{Ink, span_text};
 use std::alloc::{AllocError, Global};
 
 /// A definition, and when the clock wants it next: by an entry of its calendar, and by its interval.
@@ -54,10 +55,20 @@ fn next_in(
         return Ok(Outcome::failed(alloc, BAD_CLOCK));
     };
     let mut jobs = Vec::new(alloc);
-    let is_well = add_jobs(host, alloc, paths, zone, from, &mut jobs)?;
-    let text = starts_text(alloc, count, from, zone, &mut jobs)?;
-    let status = if is_well { 0 } else { BAD_FILE };
-    Ok(Outcome { text, status })
+    let is_well = add_jobs(host, alloc, paths, zone, from, &mut jobs);
+    let text = starts_text(alloc, count, from, zone, &mut jobs);
+    drop(jobs);
+    match (is_well, text) {
+        (Ok(true), Ok(text)) => Ok(Outcome { text, status: 0 }),
+        (Ok(false), Ok(text)) => Ok(Outcome {
+            text,
+            status: BAD_FILE,
+        }),
+        (_, text) => {
+            drop(text);
+            Err(AllocError)
+        }
+    }
 }
 
 // Adds the jobs of the paths; false if a file has a fault.
@@ -134,15 +145,15 @@ fn starts_text(
     zone: &Zone,
     jobs: &mut Vec<Job>,
 ) -> Result<String, AllocError> {
-    let mut text = String::new(alloc);
+    let mut ink = Ink::new(alloc);
     for _ in 0..count {
         let index = soonest(jobs.as_slice());
         match jobs.get_mut(index) {
-            Some(job) => add_start(alloc, from, zone, job, &mut text)?,
+            Some(job) => add_start(alloc, from, zone, job, &mut ink),
             None => break,
         }
     }
-    Ok(text)
+    ink.into_text()
 }
 
 // The place of the job that the clock wants first, of several the first; the place behind the jobs if it wants none.
@@ -169,42 +180,31 @@ fn second_of(job: &Job) -> u64 {
 }
 
 // Adds the job's next start, and goes on to the one after.
-fn add_start(
-    alloc: Global,
-    from: u64,
-    zone: &Zone,
-    job: &mut Job,
-    text: &mut String,
-) -> Result<(), AllocError> {
+fn add_start(alloc: Global, from: u64, zone: &Zone, job: &mut Job, ink: &mut Ink) {
     let second = second_of(job);
-    let line = line_of(alloc, from, zone, job, second)?;
-    text.push_str(line.as_str())?;
+    add_line(alloc, from, zone, job, second, ink);
     if job.by_calendar == Some(second) {
         job.by_calendar = calendar_after(job.def.calendar(), zone, second);
     }
     if job.by_interval == Some(second) {
         job.by_interval = interval_of(&job.def, second);
     }
-    Ok(())
 }
 
-fn line_of(
-    alloc: Global,
-    from: u64,
-    zone: &Zone,
-    job: &Job,
-    second: u64,
-) -> Result<String, AllocError> {
-    let time = time_text(alloc, zone, second.min(MAX_WALL))?;
-    let ahead = span_text(alloc, second.saturating_sub(from))?;
-    let label = job.def.label();
+fn add_line(alloc: Global, from: u64, zone: &Zone, job: &Job, second: u64, ink: &mut Ink) {
+    ink.put_moment(alloc, zone, second);
+    ink.put_all(&[Text("  "), Text(job.def.label()), Text("  in ")]);
+    ink.put_made(span_text(alloc, second.saturating_sub(from)));
     match job.def.start_interval() {
         Some(every) if job.by_interval == Some(second) => {
-            let begin = time_text(alloc, zone, from.min(MAX_WALL))?;
-            format!(in alloc;
-                "{time}  {label}  in {ahead} (each {every} s from a load at {begin})\n"
-            )
+            ink.put_all(&[
+                Text(" (each "),
+                Number(u64::from(every)),
+                Text(" s from a load at "),
+            ]);
+            ink.put_moment(alloc, zone, from);
+            ink.put(")\n");
         }
-        _ => format!(in alloc; "{time}  {label}  in {ahead}\n"),
+        _ => ink.put("\n"),
     }
 }

@@ -4,7 +4,7 @@ use crate::charted::{Heard, chart_of};
 use crate::journal::{Feed, read_journal};
 use crate::listener::Listener;
 use crate::page::coming_of;
-use crate::telling::{put, tell_of};
+use crate::telling::{put, put_made, tell_of};
 use crate::words::command::JournalWords;
 use calendar_due::Zone;
 use exit_status::BAD_FILE;
@@ -41,11 +41,25 @@ pub(crate) fn report(
 ) -> io::Result<u8> {
     let mut feed = Feed::new(alloc);
     let mut listener = listener_of(alloc, wanted, of.labels.as_slice());
-    let Some(status) = read_journal(host, alloc, of, &mut feed, &mut listener)? else {
+    let status = report_by(host, alloc, wanted, of, &mut feed, &mut listener);
+    drop(listener);
+    drop(feed);
+    status
+}
+
+fn report_by(
+    host: &HostRuntime,
+    alloc: Global,
+    wanted: Subject,
+    of: &JournalWords,
+    feed: &mut Feed,
+    listener: &mut Listener<'_>,
+) -> io::Result<u8> {
+    let Some(status) = read_journal(host, alloc, of, feed, listener)? else {
         return Ok(BAD_FILE);
     };
     if let Some(journal) = feed.reader.journal() {
-        write_report(host, alloc, wanted, journal, &listener, of)?;
+        write_report(host, alloc, wanted, journal, listener, of)?;
     }
     Ok(status)
 }
@@ -68,15 +82,16 @@ fn write_report(
     let utc = utc();
     let zone = if of.is_utc { &utc } else { &journal.zone };
     let labels = of.labels.as_slice();
-    if let Listener::Chart(heard) = listener {
-        tell_absent(host, journal, labels);
-        return paint(host, alloc, wanted, journal, zone, heard, labels);
-    }
-    let text = match wanted {
-        Subject::Why => why_text(alloc, journal, zone, labels)?,
-        _ => runs_table(alloc, journal, labels)?,
+    let written = match (listener, wanted) {
+        (Listener::Chart(heard), _) => {
+            tell_absent(host, journal, labels);
+            paint(host, alloc, wanted, journal, zone, heard, labels)
+        }
+        (_, Subject::Why) => put_made(host, why_text(alloc, journal, zone, labels)),
+        _ => put_made(host, runs_table(alloc, journal, labels)),
     };
-    put(host, text.as_str())
+    drop(utc);
+    written
 }
 
 // Tells each named label that the journal has no load of. This is no fault.
@@ -99,14 +114,15 @@ fn paint(
     labels: &[Text],
 ) -> io::Result<()> {
     let chart = chart_of(alloc, journal, heard)?;
-    if let Subject::Page = wanted {
-        return paint_page(host, alloc, journal, zone, &chart, labels);
-    }
-    if host.stdout().is_terminal() {
-        let text = blocks_text(alloc, zone, &chart, columns(host))?;
-        return put(host, text.as_str());
-    }
-    paint_svg(host, alloc, zone, &chart)
+    let painted = match wanted {
+        Subject::Page => paint_page(host, alloc, journal, zone, &chart, labels),
+        _ if host.stdout().is_terminal() => {
+            put_made(host, blocks_text(alloc, zone, &chart, columns(host)))
+        }
+        _ => paint_svg(host, alloc, zone, &chart),
+    };
+    drop(chart);
+    painted
 }
 
 fn columns(host: &HostRuntime) -> u16 {

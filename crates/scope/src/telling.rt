@@ -31,11 +31,23 @@ pub(crate) fn put(host: &HostRuntime, text: &str) -> io::Result<()> {
     print!(host; "{text}")
 }
 
+/// Writes a text to the standard output, if there was memory for it.
+pub(crate) fn put_made(host: &HostRuntime, made: Result<String, AllocError>) -> io::Result<()> {
+    match made {
+        Ok(text) => {
+            let is_put = put(host, text.as_str());
+            drop(text);
+            is_put
+        }
+        Err(_) => Err(io::Error::from(ErrorKind::OutOfMemory)),
+    }
+}
+
 /// Writes what a subcommand came to, and answers its exit status.
 pub(crate) fn put_outcome(host: &HostRuntime, made: Result<Outcome, AllocError>) -> io::Result<u8> {
     match made {
         Ok(Outcome { text, status }) => {
-            put(host, text.as_str())?;
+            put_made(host, Ok(text))?;
             Ok(status)
         }
         Err(_) => Err(io::Error::from(ErrorKind::OutOfMemory)),

@@ -4,7 +4,7 @@ ghost use Rattle.std.specs.Prelude.{IfOk};
 ghost use Rattle.scope_check.specs.Verdict.{IsVerdict};
 
 use crate::changes::Change;
-use crate::conduct::add_remarks;
+use crate::conduct::remarks_on;
 use crate::finding::{Place, Remark};
 use crate::refusal::refusal_in;
 use history_model::{KeyName, Reason};
@@ -35,11 +35,13 @@ pub fn check_def(alloc: Global, bytes: &[u8], changes: &[Change]) -> Result<Chec
     ensures { IfOk result (λ checked. IsVerdict bytes.now checked) }
 {
     match read_def(alloc, bytes) {
-        Ok(def) => {
-            let mut remarks = Vec::new(alloc);
-            add_remarks(alloc, bytes, &def, changes, &mut remarks)?;
-            Ok(Checked::Loads { def, remarks })
-        }
+        Ok(def) => match remarks_on(alloc, bytes, &def, changes) {
+            Ok(remarks) => Ok(Checked::Loads { def, remarks }),
+            Err(error) => {
+                drop(def);
+                Err(error)
+            }
+        },
         Err(DefFault::Bad { reason, key }) => {
             let (place, text) = refusal_in(alloc, bytes, reason, key)?;
             Ok(Checked::Refused {

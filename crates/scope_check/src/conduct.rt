@@ -2,65 +2,36 @@
 
 use crate::changes::Change;
 use crate::entries::add_entries;
-use crate::finding::{Grade, Remark};
-use crate::names::ignored_remark;
-use crate::place::{has_key, place_of};
+use crate::finding::Remark;
+use crate::names::add_ignored;
+use crate::place::has_key;
+use crate::remarks::Remarks;
 use crate::variables::add_variables;
 use history_model::KeyName;
 use job_defs::Def;
 use json_kinds::key_name;
 use std::alloc::{AllocError, Global};
 
-/// Adds the remarks on a definition that was read from these bytes: first the keys that nothing acts on, then what it starts, then how.
-pub(crate) fn add_remarks(
+/// The remarks on a definition that was read from these bytes: first the keys that nothing acts on, then what it starts, then how.
+pub(crate) fn remarks_on(
     alloc: Global,
     bytes: &[u8],
     def: &Def,
     changes: &[Change],
-    remarks: &mut Vec<Remark>,
-) -> Result<(), AllocError> {
+) -> Result<Vec<Remark>, AllocError> {
     let Ok(text) = std::str::from_utf8(bytes) else {
-        return Ok(());
+        return Ok(Vec::new(alloc));
     };
+    let mut remarks = Remarks::new(alloc, text);
     for name in def.not_acted_on() {
-        remarks.push(ignored_remark(alloc, text, name.as_str())?)?;
+        add_ignored(&mut remarks, name.as_str());
     }
-    add_starts(alloc, text, def, remarks)?;
-    add_entries(alloc, text, def.calendar(), changes, remarks)?;
-    add_command(alloc, text, def, remarks)?;
-    add_paths(alloc, text, def, remarks)?;
-    add_variables(alloc, text, remarks)
-}
-
-fn add(
-    alloc: Global,
-    text: &str,
-    key: KeyName,
-    told: &str,
-    remarks: &mut Vec<Remark>,
-) -> Result<(), AllocError> {
-    add_if(true, alloc, text, key, told, remarks)
-}
-
-// Adds a remark on the key, if it holds.
-fn add_if(
-    holds: bool,
-    alloc: Global,
-    text: &str,
-    key: KeyName,
-    told: &str,
-    remarks: &mut Vec<Remark>,
-) -> Result<(), AllocError> {
-    if !holds {
-        return Ok(());
-    }
-    let place = place_of(alloc, text.as_bytes(), key, None)?;
-    let grade = match key {
-        KeyName::DisabledKey => Grade::Note,
-        _ => Grade::Warning,
-    };
-    let text = String::from_str(alloc, told)?;
-    Ok(remarks.push(Remark { place, grade, text })?)
+    add_starts(def, &mut remarks);
+    add_entries(def.calendar(), changes, &mut remarks);
+    add_command(def, &mut remarks);
+    add_paths(def, &mut remarks);
+    add_variables(&mut remarks);
+    remarks.into_list()
 }
 
 // Whether something starts the job but a `jobctl start`. `Crashed` alone does not: it holds after the end of a run.
@@ -85,56 +56,39 @@ pub(crate) fn conditions(def: &Def) -> usize {
     count
 }
 
-fn add_starts(
-    alloc: Global,
-    text: &str,
-    def: &Def,
-    remarks: &mut Vec<Remark>,
-) -> Result<(), AllocError> {
+fn add_starts(def: &Def, remarks: &mut Remarks<'_>) {
     let told = "nothing starts this job but jobctl start or kickstart";
-    add_if(!is_started(def), alloc, text, KeyName::Label, told, remarks)?;
+    remarks.add_if(!is_started(def), KeyName::Label, told);
     let told =
         "KeepAlive: one of its conditions suffices to keep the job running; they need not hold together";
-    add_if(
-        conditions(def) > 1,
-        alloc,
-        text,
-        KeyName::KeepAlive,
-        told,
-        remarks,
-    )?;
-    add_interval(alloc, text, def, remarks)?;
-    let is_slow = def.has_sockets() && !has_key(alloc, text, KeyName::ThrottleInterval)?;
-    let told =
-        "Sockets: the default ThrottleInterval of 10 lets a client wait up to 10 s for the next start; give a smaller one, as 0 or 1";
-    add_if(is_slow, alloc, text, KeyName::Sockets, told, remarks)?;
+    remarks.add_if(conditions(def) > 1, KeyName::KeepAlive, told);
+    add_interval(def, remarks);
+    if def.has_sockets() {
+        add_slow(remarks);
+    }
     let told =
         "Disabled: a load leaves this job out, unless jobctl enable or load -w or -F says otherwise";
-    add_if(
-        def.disabled(),
-        alloc,
-        text,
-        KeyName::DisabledKey,
-        told,
-        remarks,
-    )
+    remarks.add_if(def.disabled(), KeyName::DisabledKey, told);
 }
 
-fn add_interval(
-    alloc: Global,
-    text: &str,
-    def: &Def,
-    remarks: &mut Vec<Remark>,
-) -> Result<(), AllocError> {
+fn add_slow(remarks: &mut Remarks<'_>) {
+    let told =
+        "Sockets: the default ThrottleInterval of 10 lets a client wait up to 10 s for the next start; give a smaller one, as 0 or 1";
+    match has_key(remarks.alloc, remarks.text, KeyName::ThrottleInterval) {
+        Ok(has_throttle) => remarks.add_if(!has_throttle, KeyName::Sockets, told),
+        Err(_) => remarks.refuse(),
+    }
+}
+
+fn add_interval(def: &Def, remarks: &mut Remarks<'_>) {
     let throttle = u64::from(def.throttle_interval());
     let interval = u64::from(def.start_interval().unwrap_or(u32::MAX));
-    if interval >= throttle {
-        return Ok(());
+    if interval < throttle {
+        let told = format!(in remarks.alloc;
+            "StartInterval is {interval}, less than ThrottleInterval: starts are {throttle} s apart at least"
+        );
+        remarks.add_made(KeyName::StartInterval, told);
     }
-    let told = format!(in alloc;
-        "StartInterval is {interval}, less than ThrottleInterval: starts are {throttle} s apart at least"
-    )?;
-    add(alloc, text, KeyName::StartInterval, told.as_str(), remarks)
 }
 
 // Whether the text looks like a command line: behind a blank comes an option or a path, or the first word is no whole path.
@@ -143,39 +97,25 @@ fn is_command_line(program: &str) -> bool {
     is_name || program.contains(" -") || program.contains(" /")
 }
 
-fn add_command(
-    alloc: Global,
-    text: &str,
-    def: &Def,
-    remarks: &mut Vec<Remark>,
-) -> Result<(), AllocError> {
+fn add_command(def: &Def, remarks: &mut Remarks<'_>) {
     let program = def.program();
-    let key = KeyName::Program;
     if def.arguments().is_empty() && is_command_line(program) {
-        let told = format!(in alloc;
+        let told = format!(in remarks.alloc;
             "the program is the one word {program:?}, with its blanks; each word of a command line is a member of ProgramArguments"
-        )?;
-        add(alloc, text, key, told.as_str(), remarks)?;
-    } else if program.starts_with('~') {
-        let told = "the program begins with ~, which nothing expands here; write the whole path";
-        add(alloc, text, key, told, remarks)?;
-    } else if !program.starts_with('/') {
-        let told = if program.contains('/') {
-            "the program is a relative path, which goes from the job's folder (WorkingDirectory); write the whole path"
-        } else {
-            "the program is looked for in the job's PATH, since it has no /; write the whole path"
-        };
-        add(alloc, text, key, told, remarks)?;
+        );
+        return remarks.add_made(KeyName::Program, told);
     }
-    Ok(())
+    let told = if program.starts_with('~') {
+        "the program begins with ~, which nothing expands here; write the whole path"
+    } else if program.contains('/') {
+        "the program is a relative path, which goes from the job's folder (WorkingDirectory); write the whole path"
+    } else {
+        "the program is looked for in the job's PATH, since it has no /; write the whole path"
+    };
+    remarks.add_if(!program.starts_with('/'), KeyName::Program, told);
 }
 
-fn add_paths(
-    alloc: Global,
-    text: &str,
-    def: &Def,
-    remarks: &mut Vec<Remark>,
-) -> Result<(), AllocError> {
+fn add_paths(def: &Def, remarks: &mut Remarks<'_>) {
     let keys = [
         (KeyName::WorkingDirectory, def.working_directory()),
         (KeyName::StandardInPath, def.standard_in_path()),
@@ -183,33 +123,22 @@ fn add_paths(
         (KeyName::StandardErrorPath, def.standard_error_path()),
     ];
     for (key, path) in keys.iter() {
-        if let Some(path) = path {
-            add_tilde(alloc, text, *key, path, remarks)?;
-        }
+        add_tilde(*key, path.unwrap_or(""), remarks);
     }
     for path in def.watch_paths() {
-        add_tilde(alloc, text, KeyName::WatchPaths, path.as_str(), remarks)?;
+        add_tilde(KeyName::WatchPaths, path.as_str(), remarks);
     }
-    let key = KeyName::QueueDirectories;
     for path in def.queue_directories() {
-        add_tilde(alloc, text, key, path.as_str(), remarks)?;
+        add_tilde(KeyName::QueueDirectories, path.as_str(), remarks);
     }
-    Ok(())
 }
 
-fn add_tilde(
-    alloc: Global,
-    text: &str,
-    key: KeyName,
-    path: &str,
-    remarks: &mut Vec<Remark>,
-) -> Result<(), AllocError> {
+fn add_tilde(key: KeyName, path: &str, remarks: &mut Remarks<'_>) {
     if path.starts_with('~') {
         let name = key_name(key);
-        let told = format!(in alloc;
+        let told = format!(in remarks.alloc;
             "{name}: {path:?} begins with ~, which nothing expands here; write the whole path"
-        )?;
-        add(alloc, text, key, told.as_str(), remarks)?;
+        );
+        remarks.add_made(key, told);
     }
-    Ok(())
 }

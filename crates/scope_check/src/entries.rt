@@ -1,8 +1,8 @@
 //! What may be wrong with the entries of a calendar.
 
 use crate::changes::Change;
-use crate::finding::{Grade, Remark};
-use crate::place::{Way, place_by};
+use crate::place::Way;
+use crate::remarks::Remarks;
 use calendar_due::Calendar;
 use history_model::{CivilMinute, Entry, KeyName};
 use std::alloc::{AllocError, Global};
@@ -29,39 +29,16 @@ fn month_name(month: u8) -> &'static str {
     }
 }
 
-/// The remarks on entries that never match, and on those of an hour that the clock skips at a change, or shows twice.
-pub(crate) fn add_entries(
-    alloc: Global,
-    text: &str,
-    entries: &[Entry],
-    changes: &[Change],
-    remarks: &mut Vec<Remark>,
-) -> Result<(), AllocError> {
+/// Adds the remarks on entries that never match, and on those of an hour that the clock skips at a change, or shows twice.
+pub(crate) fn add_entries(entries: &[Entry], changes: &[Change], remarks: &mut Remarks<'_>) {
     for (index, entry) in entries.iter().enumerate() {
-        if let Some(told) = told_never(alloc, entry)? {
-            add_at(alloc, text, index, told, remarks)?;
-        } else if entry.hour.is_some() {
-            add_changed(alloc, text, index, entry, changes, remarks)?;
+        let way = Way::to_member(KeyName::StartCalendarInterval, Some(index));
+        match day_that_never_comes(entry) {
+            Some((month, day)) => remarks.add_at(way, told_never(remarks.alloc, month, day)),
+            None if entry.hour.is_some() => add_changed(way, entry, changes, remarks),
+            None => {}
         }
     }
-    Ok(())
-}
-
-fn add_at(
-    alloc: Global,
-    text: &str,
-    index: usize,
-    told: String,
-    remarks: &mut Vec<Remark>,
-) -> Result<(), AllocError> {
-    let way = Way::to_member(KeyName::StartCalendarInterval, Some(index));
-    let place = place_by(alloc, text, way)?;
-    remarks.push(Remark {
-        place,
-        grade: Grade::Warning,
-        text: told,
-    })?;
-    Ok(())
 }
 
 /// The days of a month, 29 for February.
@@ -73,36 +50,26 @@ fn days_in(month: u8) -> u8 {
     }
 }
 
-fn told_never(alloc: Global, entry: &Entry) -> Result<Option<String>, AllocError> {
-    let (Some(day), Some(month), None) = (entry.day, entry.month, entry.weekday) else {
-        return Ok(None);
-    };
-    if day <= days_in(month) {
-        return Ok(None);
+// The month and its day, which it does not have, that the entry waits for.
+fn day_that_never_comes(entry: &Entry) -> Option<(u8, u8)> {
+    match (entry.month, entry.day, entry.weekday) {
+        (Some(month), Some(day), None) if day > days_in(month) => Some((month, day)),
+        _ => None,
     }
-    let name = month_name(month);
-    let day = usize::from(day);
-    let told = format!(in alloc;
-        "StartCalendarInterval: {name} has no day {day}, so this entry never matches"
-    )?;
-    Ok(Some(told))
 }
 
-fn add_changed(
-    alloc: Global,
-    text: &str,
-    index: usize,
-    entry: &Entry,
-    changes: &[Change],
-    remarks: &mut Vec<Remark>,
-) -> Result<(), AllocError> {
+fn told_never(alloc: Global, month: u8, day: u8) -> Result<String, AllocError> {
+    let name = month_name(month);
+    let day = usize::from(day);
+    format!(in alloc; "StartCalendarInterval: {name} has no day {day}, so this entry never matches")
+}
+
+fn add_changed(way: Way<'_>, entry: &Entry, changes: &[Change], remarks: &mut Remarks<'_>) {
     for change in changes {
         if let Some(minute) = first_matched(entry, change.minutes.as_slice()) {
-            let told = told_change(alloc, change.is_skipped, &minute)?;
-            add_at(alloc, text, index, told, remarks)?;
+            remarks.add_at(way, told_change(remarks.alloc, change.is_skipped, &minute));
         }
     }
-    Ok(())
 }
 
 fn first_matched(entry: &Entry, minutes: &[CivilMinute]) -> Option<CivilMinute> {
@@ -124,13 +91,12 @@ fn told_change(
     let day = usize::from(minute.day);
     let hour = usize::from(minute.hour);
     let minute = usize::from(minute.minute);
-    if is_skipped {
-        format!(in alloc;
-            "StartCalendarInterval: this year the clock skips {hour:02}:{minute:02} on {month} {day}: this entry does not match then"
-        )
+    let (shows, times, matches) = if is_skipped {
+        ("skips", "", "does not match then")
     } else {
-        format!(in alloc;
-            "StartCalendarInterval: this year the clock shows {hour:02}:{minute:02} twice on {month} {day}: this entry matches twice"
-        )
-    }
+        ("shows", " twice", "matches twice")
+    };
+    format!(in alloc;
+        "StartCalendarInterval: this year the clock {shows} {hour:02}:{minute:02}{times} on {month} {day}: this entry {matches}"
+    )
 }

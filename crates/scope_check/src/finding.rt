@@ -1,5 +1,7 @@
 //! What is told of a definition.
 
+use run_times::Ink;
+use run_times::Piece::{Number, Text};
 use std::alloc::{AllocError, Global};
 
 /// A place in a text: its line, and its character in the line, both from 1.
@@ -41,10 +43,18 @@ pub fn finding_line(
         Grade::Warning => "warning",
         Grade::Note => "note",
     };
-    match place {
-        Some(Place { line, column }) => {
-            format!(in alloc; "{file}:{line}:{column}: {graded}: {text}\n")
-        }
-        None => format!(in alloc; "{file}: {graded}: {text}\n"),
+    let mut ink = Ink::new(alloc);
+    ink.put(file);
+    if let Some(Place { line, column }) = place {
+        ink.put_all(&[
+            Text(":"),
+            Number(line as u64),
+            Text(":"),
+            Number(column as u64),
+        ]);
     }
+    ink.put_all(&[Text(": "), Text(graded), Text(": ")]);
+    ink.put(text);
+    ink.put("\n");
+    ink.into_text()
 }

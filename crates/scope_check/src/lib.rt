@@ -11,6 +11,7 @@ mod finding;
 mod names;
 mod place;
 mod refusal;
+mod remarks;
 mod sockets;
 mod summary;
 mod variables;

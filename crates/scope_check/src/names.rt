@@ -1,7 +1,8 @@
 //! Keys that nothing acts on, and the key that is meant.
 
-use crate::finding::{Grade, Remark};
+use crate::finding::{Grade, Place};
 use crate::place::{Way, place_at, spot_of};
+use crate::remarks::Remarks;
 use json_kinds::key_name;
 use json_kinds::names::{
     ALL, CRASHED, DAY, FAMILY, HOUR, MINUTE, MONTH, NODE_NAME, PASSIVE, PATH_NAME, PATH_STATE,
@@ -29,8 +30,14 @@ const INNER: [&str; 16] = [
     WAIT,
 ];
 
-/// The remark on a key that nothing acts on; the name of an inner one is behind those of the dictionaries around it.
-pub(crate) fn ignored_remark(alloc: Global, text: &str, name: &str) -> Result<Remark, AllocError> {
+/// Adds the remark on a key that nothing acts on; the name of an inner one is behind those of the dictionaries around it.
+pub(crate) fn add_ignored(remarks: &mut Remarks<'_>, name: &str) {
+    let told = ignored_text(remarks.alloc, name);
+    let place = key_place(remarks.alloc, remarks.text, name);
+    remarks.push(place, Grade::Warning, told);
+}
+
+fn key_place(alloc: Global, text: &str, name: &str) -> Result<Option<Place>, AllocError> {
     let whole = Way {
         key: name,
         index: None,
@@ -41,14 +48,10 @@ pub(crate) fn ignored_remark(alloc: Global, text: &str, name: &str) -> Result<Re
         Some(spot) => Some(spot),
         None => spot_of(alloc, text, inner_way(name))?,
     };
-    Ok(Remark {
-        place: match spot {
-            Some(spot) => Some(place_at(text, spot.key)),
-            None => None,
-        },
-        grade: Grade::Warning,
-        text: ignored_text(alloc, name)?,
-    })
+    match spot {
+        Some(spot) => Ok(Some(place_at(text, spot.key))),
+        None => Ok(None),
+    }
 }
 
 // The way to the key of a dictionary: of a socket's the socket's name stands between.

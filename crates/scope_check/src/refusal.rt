@@ -7,9 +7,10 @@ use crate::place::{Way, begin_at, place_at, place_by, place_of};
 use crate::wanted::Wanted;
 use history_model::{KeyName, Reason};
 use json_kinds::{json_value, key_name};
+use run_times::Ink;
+use run_times::Piece::{Number, Text};
 use serde_json::Value;
 use std::alloc::{AllocError, Global};
-use std::fmt::Write;
 
 /// The place and the text of a refusal.
 pub(crate) fn refusal_in(
@@ -113,32 +114,40 @@ fn told_of(
     }
 }
 
+// Where the value stands, what it is, and what is wanted.
 fn told_wanted(alloc: Global, culprit: &Culprit<'_>, name: &str) -> Result<String, AllocError> {
-    let mut told = String::from_str(alloc, name)?;
-    add_told(alloc, &mut told, culprit)?;
-    Ok(told)
+    let mut ink = Ink::new(alloc);
+    ink.put(name);
+    add_way(&mut ink, culprit);
+    ink.put(" is ");
+    add_shown(alloc, &mut ink, culprit.value);
+    ink.put(", wanted ");
+    add_wanted(&mut ink, culprit.wanted, culprit.value);
+    ink.into_text()
 }
 
-// Adds where the value stands, what it is, and what is wanted.
-fn add_told(alloc: Global, told: &mut String, culprit: &Culprit<'_>) -> Result<(), AllocError> {
-    add_way(told, culprit)?;
-    told.push_str(" is ")?;
-    add_shown(alloc, told, culprit.value)?;
-    told.push_str(", wanted ")?;
-    add_wanted(told, culprit.wanted, culprit.value)
+fn add_way(ink: &mut Ink, culprit: &Culprit<'_>) {
+    match (culprit.inside, culprit.index) {
+        (Some(inside), _) => {
+            ink.put(": ");
+            ink.put(inside);
+            add_below(ink, culprit);
+        }
+        (None, Some(index)) => {
+            ink.put(": member ");
+            ink.put_number(index.saturating_add(1) as u64);
+        }
+        (None, None) => {}
+    }
 }
 
-fn add_way(told: &mut String, culprit: &Culprit<'_>) -> Result<(), AllocError> {
-    match (culprit.inside, culprit.index, culprit.below) {
-        (Some(inside), _, Some((_, below))) if !below.is_empty() => {
-            write!(told, ": {inside}: {below}")
+fn add_below(ink: &mut Ink, culprit: &Culprit<'_>) {
+    match culprit.below {
+        Some((_, below)) if !below.is_empty() => {
+            ink.put(": ");
+            ink.put(below);
         }
-        (Some(inside), _, _) => write!(told, ": {inside}"),
-        (None, Some(index), _) => {
-            let number = index.saturating_add(1);
-            write!(told, ": member {number}")
-        }
-        (None, None, _) => Ok(()),
+        _ => {}
     }
 }
 
@@ -146,49 +155,54 @@ fn add_way(told: &mut String, culprit: &Culprit<'_>) -> Result<(), AllocError> {
 const SHOWN: usize = 40;
 
 // Adds what a value is: a number, a word or a short text itself, of others the kind and the size.
-fn add_shown(alloc: Global, told: &mut String, value: &Value) -> Result<(), AllocError> {
-    if let Some(text) = value.as_str() {
-        return add_shown_text(told, text);
-    }
-    let (kind, count) = match (value.as_array(), value.as_object()) {
-        (Some(items), _) => ("an array of ", items.len()),
-        (_, Some(members)) => ("a dictionary of ", members.len()),
-        _ => {
-            let text = value.to_string(alloc)?;
-            return told.push_str(text.as_str());
+fn add_shown(alloc: Global, ink: &mut Ink, value: &Value) {
+    match (value.as_str(), value.as_array(), value.as_object()) {
+        (Some(text), _, _) => add_shown_text(alloc, ink, text),
+        (_, Some(items), _) => {
+            ink.put("an array of ");
+            ink.put_number(items.len() as u64);
         }
-    };
-    write!(told, "{kind}{count}")
+        (_, _, Some(members)) => {
+            ink.put("a dictionary of ");
+            ink.put_number(members.len() as u64);
+        }
+        _ => ink.put_made(value.to_string(alloc)),
+    }
 }
 
-fn add_shown_text(told: &mut String, text: &str) -> Result<(), AllocError> {
+fn add_shown_text(alloc: Global, ink: &mut Ink, text: &str) {
     let count = text.len();
     if count == 0 {
-        told.push_str("an empty text")
+        ink.put("an empty text");
     } else if count <= SHOWN {
-        write!(told, "{text:?}")
+        ink.put_made(format!(in alloc; "{text:?}"));
     } else {
-        write!(told, "a text of {count} bytes")
+        ink.put_all(&[Text("a text of "), Number(count as u64), Text(" bytes")]);
     }
 }
 
-fn add_wanted(told: &mut String, wanted: Wanted, value: &Value) -> Result<(), AllocError> {
+fn add_wanted(ink: &mut Ink, wanted: Wanted, value: &Value) {
     match wanted {
-        Wanted::Flag => told.push_str("true or false"),
+        Wanted::Flag => ink.put("true or false"),
         Wanted::Number { low, high } => {
-            let kind = if value.as_i64().is_some() {
-                ""
-            } else {
-                "a whole number, "
-            };
-            write!(told, "{kind}{low} to {high}")
+            if value.as_i64().is_none() {
+                ink.put("a whole number, ");
+            }
+            ink.put_all(&[Number(low), Text(" to "), Number(high)]);
         }
         Wanted::Text { limit, is_filled } => {
-            let range = if is_filled { "1 to" } else { "at most" };
-            write!(told, "a text of {range} {limit} bytes, none of them 0")
+            ink.put("a text of ");
+            ink.put(if is_filled { "1 to " } else { "at most " });
+            ink.put_all(&[Number(limit as u64), Text(" bytes, none of them 0")]);
         }
-        Wanted::Array { most, of } => write!(told, "an array of at most {most} {of}"),
-        Wanted::Dictionary { most, of } => write!(told, "a dictionary of at most {most} {of}"),
-        Wanted::Said(words) => told.push_str(words),
+        Wanted::Array { most, of } => {
+            ink.put("an array of at most ");
+            ink.put_all(&[Number(most as u64), Text(" "), Text(of)]);
+        }
+        Wanted::Dictionary { most, of } => {
+            ink.put("a dictionary of at most ");
+            ink.put_all(&[Number(most as u64), Text(" "), Text(of)]);
+        }
+        Wanted::Said(words) => ink.put(words),
     }
 }

@@ -82,18 +82,17 @@ fn in_socket(socket: &Value) -> Option<(&'static str, &Value, &'static str)> {
     if !socket.is_object() {
         return Some(("", socket, "a dictionary"));
     }
-    for of in KEYS.iter() {
-        let (key, fit, wanted) = *of;
-        if let Some(found) = socket.get(key) {
-            if !is_well(fit, found) {
-                return Some((key, found, wanted));
-            }
+    for (key, fit, wanted) in KEYS.iter() {
+        match socket.get(*key) {
+            Some(found) if !is_well(*fit, found) => return Some((*key, found, *wanted)),
+            _ => {}
         }
     }
-    if socket.get(PATH_NAME).is_none() && socket.get(SERVICE_NAME).is_none() {
-        return Some(("", socket, "one with SockPathName or SockServiceName"));
+    let has_place = socket.get(PATH_NAME).is_some() || socket.get(SERVICE_NAME).is_some();
+    if has_place {
+        return None;
     }
-    None
+    Some(("", socket, "one with SockPathName or SockServiceName"))
 }
 
 fn is_well(fit: Fit, found: &Value) -> bool {

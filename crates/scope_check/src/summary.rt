@@ -2,18 +2,28 @@
 
 use crate::conduct::conditions;
 use job_defs::Def;
+use run_times::Ink;
+use run_times::Piece::{Number, Text};
 use std::alloc::{AllocError, Global};
 
 /// The label, that it is well, and what starts the job: `org.example.web: ok, starts at load, kept alive`.
 pub fn summary_of(alloc: Global, def: &Def) -> Result<String, AllocError> {
-    let label = def.label();
-    let mut text = format!(in alloc; "{label}: ok")?;
-    text.push_str(load_text(def))?;
-    text.push_str(keep_text(def))?;
-    add_clocks(alloc, def, &mut text)?;
-    add_paths(alloc, def, &mut text)?;
-    text.push_str(limit_text(def))?;
-    Ok(text)
+    let mut ink = Ink::new(alloc);
+    ink.put(def.label());
+    ink.put(": ok");
+    ink.put(load_text(def));
+    ink.put(keep_text(def));
+    add_clocks(def, &mut ink);
+    add_count(", watches ", def.watch_paths().len(), " path", &mut ink);
+    add_count(
+        ", serves ",
+        def.queue_directories().len(),
+        " queue folder",
+        &mut ink,
+    );
+    add_count(", listens at ", def.sockets().len(), " socket", &mut ink);
+    ink.put(limit_text(def));
+    ink.into_text()
 }
 
 fn load_text(def: &Def) -> &'static str {
@@ -44,37 +54,24 @@ fn limit_text(def: &Def) -> &'static str {
     }
 }
 
-fn add_clocks(alloc: Global, def: &Def, text: &mut String) -> Result<(), AllocError> {
+fn add_clocks(def: &Def, ink: &mut Ink) {
     if let Some(seconds) = def.start_interval() {
-        let seconds = u64::from(seconds);
-        let told = format!(in alloc; ", starts each {seconds} s")?;
-        text.push_str(told.as_str())?;
+        ink.put_all(&[
+            Text(", starts each "),
+            Number(u64::from(seconds)),
+            Text(" s"),
+        ]);
     }
-    if def.calendar().is_empty() {
-        return Ok(());
+    if !def.calendar().is_empty() {
+        ink.put(", starts by the calendar");
     }
-    text.push_str(", starts by the calendar")
 }
 
-fn add_paths(alloc: Global, def: &Def, text: &mut String) -> Result<(), AllocError> {
-    let watched = def.watch_paths().len();
-    let queues = def.queue_directories().len();
-    add_count(alloc, ", watches", watched, "path", text)?;
-    add_count(alloc, ", serves", queues, "queue folder", text)?;
-    add_count(alloc, ", listens at", def.sockets().len(), "socket", text)
-}
-
-fn add_count(
-    alloc: Global,
-    verb: &str,
-    count: usize,
-    noun: &str,
-    text: &mut String,
-) -> Result<(), AllocError> {
-    if count == 0 {
-        return Ok(());
+fn add_count(verb: &str, count: usize, noun: &str, ink: &mut Ink) {
+    if count > 0 {
+        ink.put(verb);
+        ink.put_number(count as u64);
+        ink.put(noun);
+        ink.put(if count == 1 { "" } else { "s" });
     }
-    let end = if count == 1 { "" } else { "s" };
-    let told = format!(in alloc; "{verb} {count} {noun}{end}")?;
-    text.push_str(told.as_str())
 }

@@ -1,60 +1,46 @@
 //! Variables that are not set.
 
-use crate::finding::{Grade, Remark};
-use crate::place::{Way, place_by};
+use crate::place::Way;
+use crate::remarks::Remarks;
 use history_model::KeyName;
 use json_kinds::{json_value, key_name};
 use serde_json::Value;
-use std::alloc::{AllocError, Global};
 
-/// The remarks on variables of the environment whose values are no texts: they are left out.
-pub(crate) fn add_variables(
-    alloc: Global,
-    text: &str,
-    remarks: &mut Vec<Remark>,
-) -> Result<(), AllocError> {
-    match json_value(alloc, text.as_bytes())? {
-        Some(value) => add_from(alloc, text, &value, remarks),
-        None => Ok(()),
+/// Adds the remarks on variables of the environment whose values are no texts: they are left out.
+pub(crate) fn add_variables(remarks: &mut Remarks<'_>) {
+    match json_value(remarks.alloc, remarks.text.as_bytes()) {
+        Ok(Some(value)) => {
+            add_from(&value, remarks);
+            drop(value);
+        }
+        Ok(None) => {}
+        Err(_) => remarks.refuse(),
     }
 }
 
-fn add_from(
-    alloc: Global,
-    text: &str,
-    value: &Value,
-    remarks: &mut Vec<Remark>,
-) -> Result<(), AllocError> {
+fn add_from(value: &Value, remarks: &mut Remarks<'_>) {
     let Some(found) = value.get(key_name(KeyName::EnvironmentVariables)) else {
-        return Ok(());
+        return;
     };
     let Some(members) = found.as_object() else {
-        return Ok(());
+        return;
     };
     for (name, found) in members.iter() {
         if !found.is_string() {
-            add_unset(alloc, text, name.as_str(), remarks)?;
+            add_unset(name.as_str(), remarks);
         }
     }
-    Ok(())
 }
 
-fn add_unset(
-    alloc: Global,
-    text: &str,
-    name: &str,
-    remarks: &mut Vec<Remark>,
-) -> Result<(), AllocError> {
+fn add_unset(name: &str, remarks: &mut Remarks<'_>) {
     let way = Way {
         key: key_name(KeyName::EnvironmentVariables),
         index: Some(0),
         inside: Some(name),
         below: None,
     };
-    let place = place_by(alloc, text, way)?;
-    let text = format!(in alloc;
+    let told = format!(in remarks.alloc;
         "EnvironmentVariables: the value of {name} is no text, so it is not set"
-    )?;
-    let grade = Grade::Warning;
-    Ok(remarks.push(Remark { place, grade, text })?)
+    );
+    remarks.add_at(way, told);
 }

@@ -4,9 +4,9 @@ use crate::entries::{EntriesFault, entries_of};
 use crate::fault::{LineFault, refused};
 use crate::line::When;
 use history_model::Entry;
+use run_times::Ink;
 use serde_json::Value;
 use std::alloc::{AllocError, Global};
-use std::fmt::Write;
 
 /// The longest name that stands in a label, in bytes.
 const LONGEST_NAME: usize = 64;
@@ -19,25 +19,52 @@ pub fn definition_of(
     when: &When,
     command: &str,
 ) -> Result<String, LineFault> {
-    let name = name_in(alloc, command)?;
-    let label = quoted(alloc, label_of(alloc, number, name.as_str())?)?;
-    let command = quoted(alloc, without_escapes(alloc, command)?)?;
     let start = start_of(alloc, when)?;
-    Ok(format!(in alloc;
-        "{{\"Label\": {label}, \"ProgramArguments\": [\"/bin/sh\", \"-c\", {command}], {start}}}\n"
-    )?)
-}
-
-fn label_of(alloc: Global, number: usize, name: &str) -> Result<String, AllocError> {
-    if name.is_empty() {
-        format!(in alloc; "cron.{number}")
-    } else {
-        format!(in alloc; "cron.{number}.{name}")
+    let made = definition_text(alloc, number, command, start.as_str());
+    drop(start);
+    match made {
+        Ok(text) => Ok(text),
+        Err(_) => Err(LineFault::NoMemory),
     }
 }
 
-fn quoted(alloc: Global, text: String) -> Result<String, AllocError> {
-    Value::String(text).to_string(alloc)
+fn definition_text(
+    alloc: Global,
+    number: usize,
+    command: &str,
+    start: &str,
+) -> Result<String, AllocError> {
+    let mut ink = Ink::new(alloc);
+    ink.put("{\"Label\": ");
+    put_quoted(alloc, &mut ink, label_of(alloc, number, command));
+    ink.put(", \"ProgramArguments\": [\"/bin/sh\", \"-c\", ");
+    put_quoted(alloc, &mut ink, without_escapes(alloc, command));
+    ink.put("], ");
+    ink.put(start);
+    ink.put("}\n");
+    ink.into_text()
+}
+
+fn put_quoted(alloc: Global, ink: &mut Ink, text: Result<String, AllocError>) {
+    match text {
+        Ok(text) => {
+            let value = Value::String(text);
+            ink.put_made(value.to_string(alloc));
+            drop(value);
+        }
+        Err(_) => ink.refuse(),
+    }
+}
+
+fn label_of(alloc: Global, number: usize, command: &str) -> Result<String, AllocError> {
+    let name = name_in(alloc, command)?;
+    let between = if name.is_empty() { "" } else { "." };
+    let mut ink = Ink::new(alloc);
+    ink.put("cron.");
+    ink.put_number(number as u64);
+    ink.put(between);
+    ink.put_made(Ok(name));
+    ink.into_text()
 }
 
 // The name of the program that the command begins with: what stands behind the last `/` of its first word, without letters that are no
@@ -60,16 +87,16 @@ fn name_in(alloc: Global, command: &str) -> Result<String, AllocError> {
 
 // The command with `%` for each `\%`.
 fn without_escapes(alloc: Global, command: &str) -> Result<String, AllocError> {
-    let mut text = String::new(alloc);
+    let mut ink = Ink::new(alloc);
     let mut is_first = true;
     for part in command.split("\\%") {
         if !is_first {
-            text.push('%')?;
+            ink.put("%");
         }
+        ink.put(part);
         is_first = false;
-        text.push_str(part)?;
     }
-    Ok(text)
+    ink.into_text()
 }
 
 fn start_of(alloc: Global, when: &When) -> Result<String, LineFault> {
@@ -79,8 +106,9 @@ fn start_of(alloc: Global, when: &When) -> Result<String, LineFault> {
     };
     match entries_of(alloc, fields) {
         Ok(entries) => {
-            let calendar = calendar_text(alloc, entries.as_slice())?;
-            Ok(format!(in alloc; "\"StartCalendarInterval\": [{calendar}]")?)
+            let text = calendar_text(alloc, entries.as_slice());
+            drop(entries);
+            Ok(text?)
         }
         Err(EntriesFault::NoMemory) => Err(LineFault::NoMemory),
         Err(EntriesFault::TooMany(count)) => Err(refused(format!(in alloc;
@@ -94,36 +122,35 @@ fn start_of(alloc: Global, when: &When) -> Result<String, LineFault> {
 }
 
 fn calendar_text(alloc: Global, entries: &[Entry]) -> Result<String, AllocError> {
-    let mut text = String::new(alloc);
+    let mut ink = Ink::new(alloc);
+    ink.put("\"StartCalendarInterval\": [");
+    let mut between = "";
     for entry in entries {
-        if !text.is_empty() {
-            text.push_str(", ")?;
-        }
-        add_entry(&mut text, entry)?;
+        ink.put(between);
+        add_entry(&mut ink, entry);
+        between = ", ";
     }
-    Ok(text)
+    ink.put("]");
+    ink.into_text()
 }
 
-fn add_entry(text: &mut String, entry: &Entry) -> Result<(), AllocError> {
-    text.push('{')?;
-    add_key(text, "Minute", entry.minute)?;
-    add_key(text, "Hour", entry.hour)?;
-    add_key(text, "Day", entry.day)?;
-    add_key(text, "Month", entry.month)?;
-    add_key(text, "Weekday", entry.weekday)?;
-    text.push('}')
-}
-
-// Adds a key of the entry that the text ends with, if it has the value.
-fn add_key(text: &mut String, name: &str, value: Option<u8>) -> Result<(), AllocError> {
-    let Some(value) = value else {
-        return Ok(());
-    };
-    let value = usize::from(value);
-    let between = if text.as_str().ends_with("{") {
-        ""
-    } else {
-        ", "
-    };
-    write!(text, "{between}\"{name}\": {value}")
+fn add_entry(ink: &mut Ink, entry: &Entry) {
+    let keys = [
+        ("\"Minute\": ", entry.minute),
+        ("\"Hour\": ", entry.hour),
+        ("\"Day\": ", entry.day),
+        ("\"Month\": ", entry.month),
+        ("\"Weekday\": ", entry.weekday),
+    ];
+    let mut between = "";
+    ink.put("{");
+    for (key, value) in keys.iter() {
+        if let Some(value) = value {
+            ink.put(between);
+            ink.put(*key);
+            ink.put_number(u64::from(*value));
+            between = ", ";
+        }
+    }
+    ink.put("}");
 }

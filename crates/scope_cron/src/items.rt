@@ -1,7 +1,8 @@
 //! The items of a field's text: `*`, a value, a range, each with a step or without.
 
-use crate::fault::{LineFault, refused};
+use crate::fault::{LineFault, refused, refused_by};
 use crate::kinds::{Kind, number_of, value_of};
+use run_times::Piece::{Number, Text};
 use std::alloc::Global;
 
 /// The values from `first` to `last` that are a multiple of `step` behind `first`.
@@ -38,10 +39,20 @@ fn item_of(alloc: Global, kind: &Kind, text: &str) -> Result<Item, LineFault> {
     let item = span_of(alloc, kind, span)?;
     let name = kind.name;
     if span != "*" && !span.contains('-') {
-        let high = usize::from(kind.high);
-        return Err(refused(format!(in alloc;
-            "{name} is {text}, wanted a range before the step, as {span}-{high}/{step}"
-        )));
+        return Err(refused_by(
+            alloc,
+            &[
+                Text(name),
+                Text(" is "),
+                Text(text),
+                Text(", wanted a range before the step, as "),
+                Text(span),
+                Text("-"),
+                Number(u64::from(kind.high)),
+                Text("/"),
+                Text(step),
+            ],
+        ));
     }
     let most = kind.high.saturating_sub(kind.low).saturating_add(1);
     match number_of(step) {
@@ -72,8 +83,15 @@ fn span_of(alloc: Global, kind: &Kind, text: &str) -> Result<Item, LineFault> {
     let first = bound_of(alloc, kind, from)?;
     let last = bound_of(alloc, kind, to)?;
     if last < first {
-        let name = kind.name;
-        return Err(refused(format!(in alloc; "{name} is {text}, which runs backwards")));
+        return Err(refused_by(
+            alloc,
+            &[
+                Text(kind.name),
+                Text(" is "),
+                Text(text),
+                Text(", which runs backwards"),
+            ],
+        ));
     }
     Ok(Item {
         first,
@@ -86,10 +104,17 @@ fn bound_of(alloc: Global, kind: &Kind, text: &str) -> Result<u8, LineFault> {
     match value_of(kind, text) {
         Some(value) => Ok(value),
         None => {
-            let name = kind.name;
-            let wanted = kind.wanted;
             let shown = if text.is_empty() { "empty" } else { text };
-            Err(refused(format!(in alloc; "{name} is {shown}, wanted {wanted}")))
+            Err(refused_by(
+                alloc,
+                &[
+                    Text(kind.name),
+                    Text(" is "),
+                    Text(shown),
+                    Text(", wanted "),
+                    Text(kind.wanted),
+                ],
+            ))
         }
     }
 }

@@ -41,6 +41,7 @@ pub fn read_line<'a>(alloc: Global, text: &'a str) -> Result<Line<'a>, LineFault
         timed(alloc, text)?
     };
     if has_percent(command) {
+        drop(when);
         return Err(refused(String::from_str(
             alloc,
             "% ends a command and begins its input, which no definition has; wanted \\% for the sign",

@@ -19,37 +19,56 @@ pub(crate) struct Texts<'a> {
 /// The fields that the texts are. Of a day and a weekday either suffices if neither begins with `*`.
 pub(crate) fn fields_of(alloc: Global, texts: Texts<'_>) -> Result<Fields, LineFault> {
     let is_either = !texts.day.starts_with('*') && !texts.weekday.starts_with('*');
-    let minutes = field_of(alloc, &MINUTE, texts.minute, true)?;
-    let hours = field_of(alloc, &HOUR, texts.hour, true)?;
-    let days = field_of(alloc, &DAY, texts.day, !is_either)?;
-    let months = field_of(alloc, &MONTH, texts.month, true)?;
-    let weekdays = field_of(alloc, &WEEKDAY, texts.weekday, !is_either)?;
-    Ok(Fields {
-        minutes,
-        hours,
-        days,
-        months,
-        weekdays,
+    let mut fault = None;
+    let fields = Fields {
+        minutes: field_of(alloc, &MINUTE, texts.minute, true, &mut fault),
+        hours: field_of(alloc, &HOUR, texts.hour, true, &mut fault),
+        days: field_of(alloc, &DAY, texts.day, !is_either, &mut fault),
+        months: field_of(alloc, &MONTH, texts.month, true, &mut fault),
+        weekdays: field_of(alloc, &WEEKDAY, texts.weekday, !is_either, &mut fault),
         is_either,
-    })
+    };
+    match fault {
+        None => Ok(fields),
+        Some(fault) => {
+            drop(fields);
+            Err(fault)
+        }
+    }
 }
 
-// With `may_be_every`, a field that names each value is one that is `*`.
+// With `may_be_every`, a field that names each value is one that is `*`. The first fault is kept; a field behind it has no values.
 fn field_of(
     alloc: Global,
     kind: &Kind,
     text: &str,
     may_be_every: bool,
-) -> Result<Field, LineFault> {
-    let items = items_of(alloc, kind, text)?;
-    let values = values_of(alloc, kind, items.as_slice())?;
-    let is_every = may_be_every && values.len() == usize::from(kind.count);
-    Ok(Field { is_every, values })
+    fault: &mut Option<LineFault>,
+) -> Field {
+    let mut values = Vec::new(alloc);
+    if fault.is_none() {
+        *fault = add_values(alloc, kind, text, &mut values).err();
+    }
+    Field {
+        is_every: may_be_every && values.len() == usize::from(kind.count),
+        values,
+    }
 }
 
-// The values that an item has. A value that means the same as the least one, as the weekday 7, is left out behind that.
-fn values_of(alloc: Global, kind: &Kind, items: &[Item]) -> Result<Vec<u8>, AllocError> {
-    let mut values = Vec::new(alloc);
+fn add_values(
+    alloc: Global,
+    kind: &Kind,
+    text: &str,
+    values: &mut Vec<u8>,
+) -> Result<(), LineFault> {
+    let items = items_of(alloc, kind, text)?;
+    let added = add_those_in(kind, items.as_slice(), values);
+    drop(items);
+    Ok(added?)
+}
+
+// Adds the values that an item has. A value that means the same as the least one, as the weekday 7, is left out behind that.
+fn add_those_in(kind: &Kind, items: &[Item], values: &mut Vec<u8>) -> Result<(), AllocError> {
     let mut has_least = false;
     for value in kind.low..=kind.high {
         let is_least_again = has_least && value.saturating_sub(kind.low) >= kind.count;
@@ -58,7 +77,7 @@ fn values_of(alloc: Global, kind: &Kind, items: &[Item]) -> Result<Vec<u8>, Allo
             has_least = has_least || value == kind.low;
         }
     }
-    Ok(values)
+    Ok(())
 }
 
 // Whether an item has the value.

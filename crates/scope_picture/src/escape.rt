@@ -3,6 +3,7 @@
 ghost use Rattle.std.specs.Prelude.{◌≡◌, ◌++◌, ◌↔◌, true, IsTrue, OnOk, IfOk, string_bytes, chars};
 ghost use Rattle.scope_picture.specs.Escape.{is_unwritable, escaped, escaped_text};
 
+use run_times::Ink;
 use std::alloc::{AllocError, Global};
 
 /// The text as it is written within XML or HTML, in an attribute or outside: `&`, `<`, `>`, `"` and `'` by their names, control
@@ -18,9 +19,8 @@ pub fn escaped(alloc: Global, text: &str) -> Result<String, AllocError>
 }
 
 /// Adds the text as it is written within XML or HTML.
-pub(crate) fn add_escaped(alloc: Global, text: &mut String, part: &str) -> Result<(), AllocError> {
-    let part = escaped(alloc, part)?;
-    text.push_str(part.as_str())
+pub(crate) fn put_escaped(alloc: Global, ink: &mut Ink, part: &str) {
+    ink.put_made(escaped(alloc, part));
 }
 
 fn add_char(written: &mut String, c: char) -> Result<(), AllocError>

@@ -1,12 +1,12 @@
 //! A page that stands alone: the chart, the table of the runs, why each job stands as it does, and the coming starts. No script.
 
 use crate::chart::Chart;
-use crate::escape::add_escaped;
-use crate::svg::figure_piece;
-use crate::words::add_moment;
+use crate::escape::put_escaped;
+use crate::svg::{if_there, with_figure};
 use calendar_due::Zone;
+use run_times::Ink;
+use run_times::Piece::Text;
 use std::alloc::{AllocError, Global};
-use std::fmt::Write;
 
 /// A start that the clock will want.
 #[derive(Drop)]
@@ -71,105 +71,79 @@ pub fn page_piece(
     page: &Page<'_>,
     index: usize,
 ) -> Result<Option<String>, AllocError> {
-    let Some(piece) = figure_piece(alloc, zone, chart, index)? else {
-        return Ok(None);
-    };
-    let mut text = String::new(alloc);
+    let mut ink = Ink::new(alloc);
     if index == 0 {
-        text.push_str(HEAD)?;
+        ink.put(HEAD);
     }
-    text.push_str(piece.as_str())?;
-    if index > chart.rows.len() {
-        add_rest(alloc, &mut text, zone, page)?;
+    let (ink, is_there) = with_figure(ink, alloc, zone, chart, index);
+    let mut ink = ink;
+    if is_there && index > chart.rows.len() {
+        add_rest(alloc, &mut ink, zone, page);
     }
-    Ok(Some(text))
+    if_there(ink, is_there)
 }
 
 // What stands below the chart.
-fn add_rest(
-    alloc: Global,
-    text: &mut String,
-    zone: &Zone,
-    page: &Page<'_>,
-) -> Result<(), AllocError> {
-    text.push_str(
-        "</figure>\n<h2>What the runs came to</h2>\n<p>Times are in seconds.</p>\n<div class=\"wide\"><table>\n",
-    )?;
-    add_table(alloc, text, page.table)?;
-    text.push_str("</table></div>\n<h2>Coming starts by the clock</h2>\n")?;
-    add_coming(alloc, text, zone, page.coming)?;
-    text.push_str("<h2>Why each job stands as it does</h2>\n<pre>")?;
-    add_escaped_lines(alloc, text, page.why)?;
-    text.push_str("</pre>\n</main>\n</body>\n</html>\n")
+fn add_rest(alloc: Global, ink: &mut Ink, zone: &Zone, page: &Page<'_>) {
+    ink.put("</figure>\n<h2>What the runs came to</h2>\n<p>Times are in seconds.</p>\n");
+    ink.put("<div class=\"wide\"><table>\n");
+    add_table(alloc, ink, page.table);
+    ink.put("</table></div>\n<h2>Coming starts by the clock</h2>\n");
+    add_coming(alloc, ink, zone, page.coming);
+    ink.put("<h2>Why each job stands as it does</h2>\n<pre>");
+    add_escaped_lines(alloc, ink, page.why);
+    ink.put("</pre>\n</main>\n</body>\n</html>\n");
 }
 
 // The text escaped line by line, so that its newlines stay.
-fn add_escaped_lines(alloc: Global, text: &mut String, lines: &str) -> Result<(), AllocError> {
+fn add_escaped_lines(alloc: Global, ink: &mut Ink, lines: &str) {
     for line in lines.split('\n') {
-        add_escaped(alloc, text, line)?;
-        text.push_str("\n")?;
+        put_escaped(alloc, ink, line);
+        ink.put("\n");
     }
-    Ok(())
 }
 
-fn add_table(alloc: Global, text: &mut String, table: &str) -> Result<(), AllocError> {
+fn add_table(alloc: Global, ink: &mut Ink, table: &str) {
     let mut is_head = true;
     for line in table.lines() {
-        text.push_str("<tr>")?;
-        add_cells(alloc, text, is_head, line)?;
-        text.push_str("</tr>\n")?;
+        ink.put("<tr>");
+        add_cells(alloc, ink, is_head, line);
+        ink.put("</tr>\n");
         is_head = false;
     }
-    Ok(())
 }
 
-fn add_cells(
-    alloc: Global,
-    text: &mut String,
-    is_head: bool,
-    line: &str,
-) -> Result<(), AllocError> {
+fn add_cells(alloc: Global, ink: &mut Ink, is_head: bool, line: &str) {
     let (open, close) = if is_head {
         ("<th>", "</th>")
     } else {
         ("<td>", "</td>")
     };
     for part in line.split('\t') {
-        text.push_str(open)?;
-        add_escaped(alloc, text, part)?;
-        text.push_str(close)?;
+        ink.put(open);
+        put_escaped(alloc, ink, part);
+        ink.put(close);
     }
-    Ok(())
 }
 
-fn add_coming(
-    alloc: Global,
-    text: &mut String,
-    zone: &Zone,
-    coming: &[Coming],
-) -> Result<(), AllocError> {
+fn add_coming(alloc: Global, ink: &mut Ink, zone: &Zone, coming: &[Coming]) {
     if coming.is_empty() {
-        return text.push_str("<p>None.</p>\n");
+        ink.put("<p>None.</p>\n");
+        return;
     }
-    text.push_str(
+    ink.put(
         "<div class=\"wide\"><table class=\"left\">\n<tr><th>time</th><th>label</th><th>by</th></tr>\n",
-    )?;
+    );
     for start in coming {
-        add_start(alloc, text, zone, start)?;
+        add_start(alloc, ink, zone, start);
     }
-    text.push_str("</table></div>\n")
+    ink.put("</table></div>\n");
 }
 
-fn add_start(
-    alloc: Global,
-    text: &mut String,
-    zone: &Zone,
-    start: &Coming,
-) -> Result<(), AllocError> {
-    text.push_str("<tr><td>")?;
-    add_moment(alloc, text, zone, start.at)?;
-    text.push_str("</td><td>")?;
-    add_escaped(alloc, text, start.label.as_str())?;
-    let key = start.key;
-    write!(text, "</td><td>{key}</td></tr>\n")
+fn add_start(alloc: Global, ink: &mut Ink, zone: &Zone, start: &Coming) {
+    ink.put("<tr><td>");
+    ink.put_moment(alloc, zone, start.at);
+    ink.put("</td><td>");
+    put_escaped(alloc, ink, start.label.as_str());
+    ink.put_all(&[Text("</td><td>"), Text(start.key), Text("</td></tr>\n")]);
 }

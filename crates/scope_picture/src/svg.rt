@@ -2,12 +2,13 @@
 
 use crate::axis::Axis;
 use crate::chart::{Bar, Chart, End, Mark, MarkKind, Row};
-use crate::escape::add_escaped;
+use crate::escape::put_escaped;
 use crate::ticks::{Tick, ticks};
-use crate::words::{add_bar_words, add_moment, cut_text, end_class, missing_words};
+use crate::words::{add_bar_words, cut_text, end_class, missing_count, missing_text};
 use calendar_due::Zone;
+use run_times::Ink;
+use run_times::Piece::{Number, Text};
 use std::alloc::{AllocError, Global};
-use std::fmt::Write;
 
 /// How many places the axis of a chart has that is painted as SVG.
 pub const PLACES: u16 = 980;
@@ -66,7 +67,7 @@ const STYLE: &str = "<style>
 // What is painted, and how moments are shown.
 #[derive(Drop)]
 struct Sheet<'a> {
-    text: String,
+    ink: Ink,
     alloc: Global,
     zone: &'a Zone,
     axis: Axis,
@@ -80,42 +81,40 @@ pub fn svg_piece(
     chart: &Chart,
     index: usize,
 ) -> Result<Option<String>, AllocError> {
-    let Some(piece) = figure_piece(alloc, zone, chart, index)? else {
-        return Ok(None);
-    };
-    if index > 0 {
-        return Ok(Some(piece));
+    let mut ink = Ink::new(alloc);
+    if index == 0 {
+        ink.put("<?xml version=\"1.0\" encoding=\"UTF-8\"?>\n");
     }
-    let mut text = String::from_str(alloc, "<?xml version=\"1.0\" encoding=\"UTF-8\"?>\n")?;
-    text.push_str(piece.as_str())?;
-    Ok(Some(text))
+    let (ink, is_there) = with_figure(ink, alloc, zone, chart, index);
+    if_there(ink, is_there)
 }
 
-/// A piece of the chart as an element `svg` within a document, counted as by `svg_piece`.
-pub(crate) fn figure_piece(
+/// The text, if there is such a piece.
+pub(crate) fn if_there(ink: Ink, is_there: bool) -> Result<Option<String>, AllocError> {
+    match ink.into_text() {
+        Ok(text) if is_there => Ok(Some(text)),
+        Ok(_) => Ok(None),
+        Err(error) => Err(error),
+    }
+}
+
+/// Adds a piece of the chart as an element `svg` within a document, counted as by `svg_piece`. It says whether there is such a piece.
+pub(crate) fn with_figure(
+    ink: Ink,
     alloc: Global,
     zone: &Zone,
     chart: &Chart,
     index: usize,
-) -> Result<Option<String>, AllocError> {
+) -> (Ink, bool) {
     let mut sheet = Sheet {
-        text: String::new(alloc),
+        ink,
         alloc,
         zone,
         axis: chart.axis,
     };
-    let above = index.saturating_sub(1);
-    if index == 0 {
-        sheet.add_head(chart)?;
-    } else if let Some(row) = chart.rows.get(above) {
-        sheet.add_row(row, below_rows(above))?;
-    } else if above == chart.rows.len() {
-        sheet.add_foot(chart)?;
-    } else {
-        return Ok(None);
-    }
-    let Sheet { text, .. } = sheet;
-    Ok(Some(text))
+    let is_there = sheet.add_piece(chart, index);
+    let Sheet { ink, .. } = sheet;
+    (ink, is_there)
 }
 
 // Where so many rows end.
@@ -124,212 +123,293 @@ fn below_rows(rows: usize) -> u64 {
 }
 
 impl Sheet<'_> {
-    fn add_head(&mut self, chart: &Chart) -> Result<(), AllocError> {
-        let bottom = below_rows(chart.rows.len());
-        let missing = missing_words(self.alloc, chart)?;
-        let lines = (missing.len() as u64).saturating_mul(LINE);
-        self.begin(bottom.saturating_add(FOOT).saturating_add(lines))?;
-        self.add_ticks(bottom)
+    // Whether there is such a piece.
+    fn add_piece(&mut self, chart: &Chart, index: usize) -> bool {
+        let above = index.saturating_sub(1);
+        if index == 0 {
+            self.add_head(chart);
+        } else if let Some(row) = chart.rows.get(above) {
+            self.add_row(row, below_rows(above));
+        } else if above == chart.rows.len() {
+            self.add_foot(chart);
+        } else {
+            return false;
+        }
+        true
     }
 
-    fn add_foot(&mut self, chart: &Chart) -> Result<(), AllocError> {
+    fn add_head(&mut self, chart: &Chart) {
         let bottom = below_rows(chart.rows.len());
-        self.add_legend(bottom)?;
-        let missing = missing_words(self.alloc, chart)?;
-        let mut line = bottom.saturating_add(64);
-        for sentence in &missing {
-            self.add_faint(10, line, sentence.as_str())?;
+        let lines = missing_count(chart).saturating_mul(LINE);
+        self.begin(bottom.saturating_add(FOOT).saturating_add(lines));
+        self.add_ticks(bottom);
+    }
+
+    fn add_foot(&mut self, chart: &Chart) {
+        let bottom = below_rows(chart.rows.len());
+        self.add_legend(bottom);
+        match missing_text(self.alloc, chart) {
+            Ok(missing) => self.add_missing(missing.as_str(), bottom.saturating_add(64)),
+            Err(_) => self.ink.refuse(),
+        }
+        self.ink.put("</svg>\n");
+    }
+
+    fn add_missing(&mut self, missing: &str, top: u64) {
+        let mut line = top;
+        for sentence in missing.lines() {
+            self.add_faint(10, line, sentence);
             line = line.saturating_add(LINE);
         }
-        self.text.push_str("</svg>\n")
     }
 
     // A faint text at its place.
-    fn add_faint(&mut self, x: u64, y: u64, text: &str) -> Result<(), AllocError> {
-        write!(
-            self.text,
-            "<text class=\"faint\" x=\"{x}\" y=\"{y}\">{text}</text>\n"
-        )
+    fn add_faint(&mut self, x: u64, y: u64, text: &str) {
+        self.ink.put_all(&[
+            Text("<text class=\"faint\" x=\""),
+            Number(x),
+            Text("\" y=\""),
+            Number(y),
+            Text("\">"),
+            Text(text),
+            Text("</text>\n"),
+        ]);
     }
 
     // Two moments with a word between them.
-    fn add_span(&mut self, from: u64, until: u64) -> Result<(), AllocError> {
-        add_moment(self.alloc, &mut self.text, self.zone, from)?;
-        self.text.push_str(" to ")?;
-        add_moment(self.alloc, &mut self.text, self.zone, until)
+    fn add_span(&mut self, from: u64, until: u64) {
+        self.ink.put_moment(self.alloc, self.zone, from);
+        self.ink.put(" to ");
+        self.ink.put_moment(self.alloc, self.zone, until);
     }
 
     // The head: how large it is, its title, its colours, and the span.
-    fn begin(&mut self, height: u64) -> Result<(), AllocError> {
+    fn begin(&mut self, height: u64) {
         let from = self.axis.from;
         let until = self.axis.until;
-        write!(
-            self.text,
-            "<svg xmlns=\"http://www.w3.org/2000/svg\" class=\"runs\" viewBox=\"0 0 1000 {height}\" width=\"1000\" height=\"{height}\" role=\"img\">\n<title>Runs from "
-        )?;
-        self.add_span(from, until)?;
-        self.text.push_str("</title>\n")?;
-        self.text.push_str(STYLE)?;
-        write!(
-            self.text,
-            "<rect class=\"ground\" width=\"1000\" height=\"{height}\"/>\n<text x=\"10\" y=\"18\">"
-        )?;
-        self.add_span(from, until)?;
-        self.text.push_str("</text>\n")
+        self.ink.put_all(&[
+            Text("<svg xmlns=\"http://www.w3.org/2000/svg\" class=\"runs\" viewBox=\"0 0 1000 "),
+            Number(height),
+            Text("\" width=\"1000\" height=\""),
+            Number(height),
+            Text("\" role=\"img\">\n<title>Runs from "),
+        ]);
+        self.add_span(from, until);
+        self.ink.put("</title>\n");
+        self.ink.put_all(&[
+            Text(STYLE),
+            Text("<rect class=\"ground\" width=\"1000\" height=\""),
+            Number(height),
+            Text("\"/>\n<text x=\"10\" y=\"18\">"),
+        ]);
+        self.add_span(from, until);
+        self.ink.put("</text>\n");
     }
 
     // The ticks, from above the rows to their bottom.
-    fn add_ticks(&mut self, bottom: u64) -> Result<(), AllocError> {
-        let ticks = ticks(self.alloc, self.zone, &self.axis, MOST_TICKS)?;
-        for tick in &ticks {
-            self.add_tick(tick, bottom)?;
+    fn add_ticks(&mut self, bottom: u64) {
+        match ticks(self.alloc, self.zone, &self.axis, MOST_TICKS) {
+            Ok(ticks) => {
+                for tick in &ticks {
+                    self.add_tick(tick, bottom);
+                }
+            }
+            Err(_) => self.ink.refuse(),
         }
-        Ok(())
     }
 
-    fn add_tick(&mut self, tick: &Tick, bottom: u64) -> Result<(), AllocError> {
+    fn add_tick(&mut self, tick: &Tick, bottom: u64) {
         let place = u64::from(self.axis.place(tick.at));
         let x = LEFT + place;
         let anchor = anchor_of(place);
-        let text = tick.text.as_str();
-        let below = tick.below.as_str();
-        write!(
-            self.text,
-            "<path class=\"tick\" d=\"M{x} 58V{bottom}\"/><text class=\"faint\" x=\"{x}\" y=\"38\" text-anchor=\"{anchor}\">{text}</text><text class=\"faint\" x=\"{x}\" y=\"52\" text-anchor=\"{anchor}\">{below}</text>\n"
-        )
+        self.ink.put_all(&[
+            Text("<path class=\"tick\" d=\"M"),
+            Number(x),
+            Text(" 58V"),
+            Number(bottom),
+            Text("\"/>"),
+        ]);
+        self.add_tick_text(38, x, anchor, tick.text.as_str());
+        self.add_tick_text(52, x, anchor, tick.below.as_str());
+        self.ink.put("\n");
     }
 
-    fn add_row(&mut self, row: &Row, top: u64) -> Result<(), AllocError> {
-        self.add_label(row.label.as_str(), top)?;
-        let bars = top.saturating_add(31);
-        for bar in &row.bars {
-            self.add_bar(bar, bars)?;
-        }
-        for bar in &row.bars {
-            let (_, end) = self.axis.edges(bar.from, bar.until);
-            self.add_end(bar.end, LEFT + u64::from(end), bars)?;
-        }
+    fn add_tick_text(&mut self, y: u64, x: u64, anchor: &str, text: &str) {
+        self.ink.put_all(&[
+            Text("<text class=\"faint\" x=\""),
+            Number(x),
+            Text("\" y=\""),
+            Number(y),
+            Text("\" text-anchor=\""),
+            Text(anchor),
+            Text("\">"),
+        ]);
+        self.ink.put(text);
+        self.ink.put("</text>");
+    }
+
+    fn add_row(&mut self, row: &Row, top: u64) {
+        self.add_label(row.label.as_str(), top);
+        self.add_bars(row.bars.as_slice(), top.saturating_add(31));
         let lane = top.saturating_add(18);
-        self.add_marks(MarkKind::Demand, row.demands.as_slice(), lane)?;
-        self.add_marks(MarkKind::Throttle, row.throttles.as_slice(), lane)?;
-        self.add_marks(MarkKind::Refusal, row.refusals.as_slice(), lane)?;
-        self.text.push_str("</g>\n")
+        self.add_marks(MarkKind::Demand, row.demands.as_slice(), lane);
+        self.add_marks(MarkKind::Throttle, row.throttles.as_slice(), lane);
+        self.add_marks(MarkKind::Refusal, row.refusals.as_slice(), lane);
+        self.ink.put("</g>\n");
+    }
+
+    // The bars, and over them their ends.
+    fn add_bars(&mut self, bars: &[Bar], top: u64) {
+        for bar in bars {
+            self.add_bar(bar, top);
+        }
+        for bar in bars {
+            let (_, end) = self.axis.edges(bar.from, bar.until);
+            self.add_end(bar.end, LEFT + u64::from(end), top);
+        }
     }
 
     // The label, cut if it is too wide and whole in its title, and the line on which the bars stand.
-    fn add_label(&mut self, label: &str, top: u64) -> Result<(), AllocError> {
-        let written = top.saturating_add(14);
-        let base = top.saturating_add(47);
-        write!(
-            self.text,
-            "<g><text class=\"label\" x=\"10\" y=\"{written}\">"
-        )?;
-        self.add_cut(label)?;
-        self.text.push_str("<title>")?;
-        add_escaped(self.alloc, &mut self.text, label)?;
-        write!(
-            self.text,
-            "</title></text><path class=\"base\" d=\"M10 {base}h980\"/>\n"
-        )
-    }
-
-    fn add_cut(&mut self, label: &str) -> Result<(), AllocError> {
-        let shown = cut_text(self.alloc, label, LABEL)?;
-        add_escaped(self.alloc, &mut self.text, shown.as_str())
+    fn add_label(&mut self, label: &str, top: u64) {
+        self.ink.put_all(&[
+            Text("<g><text class=\"label\" x=\"10\" y=\""),
+            Number(top.saturating_add(14)),
+            Text("\">"),
+        ]);
+        match cut_text(self.alloc, label, LABEL) {
+            Ok(shown) => put_escaped(self.alloc, &mut self.ink, shown.as_str()),
+            Err(_) => self.ink.refuse(),
+        }
+        self.ink.put("<title>");
+        put_escaped(self.alloc, &mut self.ink, label);
+        self.ink.put_all(&[
+            Text("</title></text><path class=\"base\" d=\"M10 "),
+            Number(top.saturating_add(47)),
+            Text("h980\"/>\n"),
+        ]);
     }
 
     // A bar whose upper edge is there.
-    fn add_bar(&mut self, bar: &Bar, top: u64) -> Result<(), AllocError> {
+    fn add_bar(&mut self, bar: &Bar, top: u64) {
         let (begin, end) = self.axis.edges(bar.from, bar.until);
-        let x = LEFT + u64::from(begin);
-        let width = u64::from(end - begin).max(1);
-        let class = end_class(bar.end);
-        let runs = u64::from(bar.runs);
-        write!(
-            self.text,
-            "<g class=\"{class}\" data-runs=\"{runs}\"><title>"
-        )?;
-        add_bar_words(&mut self.text, bar)?;
-        self.text.push_str(": ")?;
-        self.add_span(bar.from, bar.until)?;
-        write!(
-            self.text,
-            "</title><rect x=\"{x}\" y=\"{top}\" width=\"{width}\" height=\"12\"/></g>\n"
-        )
+        self.ink.put_all(&[
+            Text("<g class=\""),
+            Text(end_class(bar.end)),
+            Text("\" data-runs=\""),
+            Number(u64::from(bar.runs)),
+            Text("\"><title>"),
+        ]);
+        add_bar_words(&mut self.ink, bar);
+        self.ink.put(": ");
+        self.add_span(bar.from, bar.until);
+        self.ink.put_all(&[
+            Text("</title><rect x=\""),
+            Number(LEFT + u64::from(begin)),
+            Text("\" y=\""),
+            Number(top),
+            Text("\" width=\""),
+            Number(u64::from(end - begin).max(1)),
+            Text("\" height=\"12\"/></g>\n"),
+        ]);
     }
 
     // The shape of an end. It stands over the bars, so that one which follows at once does not hide it.
-    fn add_end(&mut self, end: End, x: u64, top: u64) -> Result<(), AllocError> {
+    fn add_end(&mut self, end: End, x: u64, top: u64) {
         let (form, shape) = match end {
-            End::Code(0) | End::Stopped => return Ok(()),
+            End::Code(0) | End::Stopped => return,
             End::Code(_) => ("end", "m-2 -3h4v18h-4z"),
             End::Signal(_) => ("end", "m-2 -3l8 9l-8 9z"),
             End::Crash(_) => ("open", "m-4 1l9 10m0 -10l-9 10"),
             End::Lives => ("open", "m0 -1l7 7l-7 7"),
         };
-        let class = end_class(end);
-        write!(
-            self.text,
-            "<path class=\"{class} {form}\" d=\"M{x} {top}{shape}\"/>\n"
-        )
+        self.ink.put_all(&[
+            Text("<path class=\""),
+            Text(end_class(end)),
+            Text(" "),
+            Text(form),
+            Text("\" d=\"M"),
+            Number(x),
+            Text(" "),
+            Number(top),
+            Text(shape),
+            Text("\"/>\n"),
+        ]);
     }
 
-    fn add_marks(&mut self, kind: MarkKind, marks: &[Mark], top: u64) -> Result<(), AllocError> {
+    fn add_marks(&mut self, kind: MarkKind, marks: &[Mark], top: u64) {
         for mark in marks {
-            self.add_mark(kind, mark, top)?;
+            self.add_mark(kind, mark, top);
         }
-        Ok(())
     }
 
-    fn add_mark(&mut self, kind: MarkKind, mark: &Mark, top: u64) -> Result<(), AllocError> {
+    fn add_mark(&mut self, kind: MarkKind, mark: &Mark, top: u64) {
         let (class, name, shape) = mark_words(kind);
-        let x = LEFT + u64::from(self.axis.place(mark.at));
         let count = u64::from(mark.count);
-        write!(
-            self.text,
-            "<path class=\"{class}\" data-count=\"{count}\" d=\"M{x} {top}{shape}\"><title>{name}: "
-        )?;
-        add_moment(self.alloc, &mut self.text, self.zone, mark.at)?;
+        self.ink.put_all(&[
+            Text("<path class=\""),
+            Text(class),
+            Text("\" data-count=\""),
+            Number(count),
+            Text("\" d=\"M"),
+            Number(LEFT + u64::from(self.axis.place(mark.at))),
+            Text(" "),
+            Number(top),
+            Text(shape),
+            Text("\"><title>"),
+            Text(name),
+            Text(": "),
+        ]);
+        self.ink.put_moment(self.alloc, self.zone, mark.at);
         let more = count.saturating_sub(1);
         if more > 0 {
-            write!(self.text, ", and {more} more beside it")?;
+            self.ink
+                .put_all(&[Text(", and "), Number(more), Text(" more beside it")]);
         }
-        self.text.push_str("</title></path>\n")
+        self.ink.put("</title></path>\n");
     }
 
     // What each colour and shape means.
-    fn add_legend(&mut self, bottom: u64) -> Result<(), AllocError> {
+    fn add_legend(&mut self, bottom: u64) {
         let mut x = LEFT;
         for (end, name) in ENDS.iter() {
-            self.add_swatch(*end, *name, x, bottom)?;
+            self.add_swatch(*end, *name, x, bottom);
             x = x.saturating_add(150);
         }
-        self.add_sign(MarkKind::Demand, 25, bottom)?;
-        self.add_sign(MarkKind::Throttle, 175, bottom)?;
-        self.add_sign(MarkKind::Refusal, 325, bottom)
+        self.add_sign(MarkKind::Demand, 25, bottom);
+        self.add_sign(MarkKind::Throttle, 175, bottom);
+        self.add_sign(MarkKind::Refusal, 325, bottom);
     }
 
     // What a bar and its end mean.
-    fn add_swatch(&mut self, end: End, name: &str, x: u64, bottom: u64) -> Result<(), AllocError> {
-        let class = end_class(end);
+    fn add_swatch(&mut self, end: End, name: &str, x: u64, bottom: u64) {
         let top = bottom.saturating_add(10);
-        write!(
-            self.text,
-            "<rect class=\"{class}\" x=\"{x}\" y=\"{top}\" width=\"22\" height=\"12\"/>"
-        )?;
-        self.add_end(end, x.saturating_add(22), top)?;
-        self.add_faint(x.saturating_add(34), bottom.saturating_add(21), name)
+        self.ink.put_all(&[
+            Text("<rect class=\""),
+            Text(end_class(end)),
+            Text("\" x=\""),
+            Number(x),
+            Text("\" y=\""),
+            Number(top),
+            Text("\" width=\"22\" height=\"12\"/>"),
+        ]);
+        self.add_end(end, x.saturating_add(22), top);
+        self.add_faint(x.saturating_add(34), bottom.saturating_add(21), name);
     }
 
     // What a mark means.
-    fn add_sign(&mut self, kind: MarkKind, x: u64, bottom: u64) -> Result<(), AllocError> {
+    fn add_sign(&mut self, kind: MarkKind, x: u64, bottom: u64) {
         let (class, name, shape) = mark_words(kind);
-        let top = bottom.saturating_add(32);
-        write!(
-            self.text,
-            "<path class=\"{class}\" d=\"M{x} {top}{shape}\"/>"
-        )?;
-        self.add_faint(x.saturating_add(19), bottom.saturating_add(41), name)
+        self.ink.put_all(&[
+            Text("<path class=\""),
+            Text(class),
+            Text("\" d=\"M"),
+            Number(x),
+            Text(" "),
+            Number(bottom.saturating_add(32)),
+            Text(shape),
+            Text("\"/>"),
+        ]);
+        self.add_faint(x.saturating_add(19), bottom.saturating_add(41), name);
     }
 }
 

@@ -1,11 +1,9 @@
 //! What is told of bars and of what is left out, in words, and how wide a text is.
 
 use crate::chart::{Bar, Chart, End};
-use calendar_due::Zone;
-use history_model::MAX_WALL;
-use run_times::time_text;
+use run_times::Ink;
+use run_times::Piece::{Number, Text};
 use std::alloc::{AllocError, Global};
-use std::fmt::Write;
 use unicode_width::UnicodeWidthChar;
 
 /// How many columns the character takes; one that can't be shown takes one.
@@ -40,17 +38,6 @@ pub(crate) fn cut_text(alloc: Global, text: &str, columns: usize) -> Result<Stri
     Ok(cut)
 }
 
-/// Adds the moment as a clock in the zone shows it.
-pub(crate) fn add_moment(
-    alloc: Global,
-    text: &mut String,
-    zone: &Zone,
-    at: u64,
-) -> Result<(), AllocError> {
-    let moment = time_text(alloc, zone, at.min(MAX_WALL))?;
-    text.push_str(moment.as_str())
-}
-
 /// The name of an end's kind, for a picture's style.
 pub(crate) fn end_class(end: End) -> &'static str {
     match end {
@@ -64,18 +51,16 @@ pub(crate) fn end_class(end: End) -> &'static str {
 }
 
 /// Adds how a bar's runs ended: of one its end, of several their number and the gravest end.
-pub(crate) fn add_bar_words(text: &mut String, bar: &Bar) -> Result<(), AllocError> {
+pub(crate) fn add_bar_words(ink: &mut Ink, bar: &Bar) {
     let (words, number) = end_words(bar.end);
-    let run = bar.run;
     let runs = u64::from(bar.runs);
-    if runs == 1 {
-        write!(text, "run {run} {words}")?;
-    } else {
-        write!(text, "{runs} runs from run {run} on; the gravest {words}")?;
+    if runs != 1 {
+        ink.put_all(&[Number(runs), Text(" runs from ")]);
     }
-    match number {
-        Some(number) => write!(text, " {number}"),
-        None => Ok(()),
+    let behind = if runs == 1 { " " } else { " on; the gravest " };
+    ink.put_all(&[Text("run "), Number(bar.run), Text(behind), Text(words)]);
+    if let Some(number) = number {
+        ink.put_all(&[Text(" "), Number(number)]);
     }
 }
 
@@ -90,21 +75,25 @@ fn end_words(end: End) -> (&'static str, Option<u64>) {
     }
 }
 
-/// What is not in the chart, a sentence for each kind of it.
-pub(crate) fn missing_words(alloc: Global, chart: &Chart) -> Result<Vec<String>, AllocError> {
+/// How many sentences say what is not in the chart.
+pub(crate) fn missing_count(chart: &Chart) -> u64 {
+    let is_older = chart.missing_runs > 0 || chart.missing_marks > 0;
+    u64::from(is_older) + u64::from(chart.rowless_refusals > 0)
+}
+
+/// What is not in the chart, a sentence for each kind of it, each in a line.
+pub(crate) fn missing_text(alloc: Global, chart: &Chart) -> Result<String, AllocError> {
     let runs = chart.missing_runs;
     let marks = chart.missing_marks;
     let refusals = chart.rowless_refusals;
-    let mut sentences = Vec::new(alloc);
+    let mut ink = Ink::new(alloc);
     if runs > 0 || marks > 0 {
-        sentences.push(format!(in alloc;
-            "Not drawn, being older than what is kept: runs {runs}, marks {marks}."
-        )?)?;
+        ink.put("Not drawn, being older than what is kept: runs ");
+        ink.put_all(&[Number(runs), Text(", marks "), Number(marks), Text(".\n")]);
     }
     if refusals > 0 {
-        sentences.push(format!(in alloc;
-            "Not drawn, being of jobs that were not loaded before: refusals {refusals}."
-        )?)?;
+        ink.put("Not drawn, being of jobs that were not loaded before: refusals ");
+        ink.put_all(&[Number(refusals), Text(".\n")]);
     }
-    Ok(sentences)
+    ink.into_text()
 }

@@ -7,43 +7,43 @@ use crate::texts::told::Told;
 use calendar_due::{Calendar, Zone};
 use history_model::{MAX_WALL, Reasons};
 use job_defs::Def;
-use std::alloc::AllocError;
-use std::fmt::Write;
+use run_times::Piece::{Number, Text};
 
 /// How far is looked ahead, in seconds: 400 days.
 pub(crate) const FARTHEST: u64 = 34_560_000;
 
 /// That nothing wants it, why its conditions do not, and the ways by which it comes to be wanted.
-pub(crate) fn add_not_wanted(page: &mut Page<'_>, told: &Told<'_>) -> Result<(), AllocError> {
-    page.add("Nothing wants it.")?;
+pub(crate) fn add_not_wanted(page: &mut Page<'_>, told: &Told<'_>) {
+    page.ink.put("Nothing wants it.");
     if told.reasons.is_removing {
-        return Ok(());
+        return;
     }
-    add_conditions(page, told.job, told.def)?;
-    page.add(" It will be wanted")?;
-    let before = page.text.len();
-    add_calendar(page, told.zone, told.def)?;
-    add_interval(page, told.job, told.def)?;
-    add_events(page, told.def)?;
-    let has_way = page.text.len() > before;
-    page.add(if has_way { " or by " } else { " by " })?;
-    page.add(asking_words(&told.reasons))
+    add_conditions(page, told.job, told.def);
+    page.ink.put(" It will be wanted");
+    let before = page.ink.text.len();
+    add_calendar(page, told.zone, told.def);
+    add_interval(page, told.job, told.def);
+    add_events(page, told.def);
+    let has_way = page.ink.text.len() > before;
+    page.ink.put(if has_way { " or by " } else { " by " });
+    page.ink.put(asking_words(&told.reasons));
 }
 
-fn add_events(page: &mut Page<'_>, def: &Def) -> Result<(), AllocError> {
+fn add_events(page: &mut Page<'_>, def: &Def) {
     if !def.watch_paths().is_empty() {
-        page.add(" once a path of WatchPaths changes,")?;
+        page.ink.put(" once a path of WatchPaths changes,");
     }
     if !def.queue_directories().is_empty() {
-        page.add(" once a folder of QueueDirectories has an entry,")?;
+        page.ink
+            .put(" once a folder of QueueDirectories has an entry,");
     }
     if !def.path_state().is_empty() {
-        page.add(" once a path of KeepAlive PathState is as it says,")?;
+        page.ink
+            .put(" once a path of KeepAlive PathState is as it says,");
     }
     if def.has_sockets() {
-        page.add(" once a connection comes to its sockets,")?;
+        page.ink.put(" once a connection comes to its sockets,");
     }
-    Ok(())
 }
 
 // What a client can ask. A start is no demand of a job that runs and is not being stopped.
@@ -56,11 +56,11 @@ fn asking_words(reasons: &Reasons) -> &'static str {
 }
 
 // Why the conditions of its last end do not want it.
-fn add_conditions(page: &mut Page<'_>, job: &Job, def: &Def) -> Result<(), AllocError> {
+fn add_conditions(page: &mut Page<'_>, job: &Job, def: &Def) {
     let Some(last) = job.last else {
-        return Ok(());
+        return;
     };
-    page.add(match (def.successful_exit(), last.end) {
+    page.ink.put(match (def.successful_exit(), last.end) {
         (Some(true), _) => {
             " KeepAlive SuccessfulExit is true, and its last run did not end with code 0."
         }
@@ -68,39 +68,40 @@ fn add_conditions(page: &mut Page<'_>, job: &Job, def: &Def) -> Result<(), Alloc
             " KeepAlive SuccessfulExit is false, and its last run ended with code 0."
         }
         _ => "",
-    })?;
-    page.add(match (def.crashed(), last.is_crash) {
+    });
+    page.ink.put(match (def.crashed(), last.is_crash) {
         (Some(true), false) => " KeepAlive Crashed is true, and its last run did not crash.",
         (Some(false), true) => " KeepAlive Crashed is false, and its last run crashed.",
         _ => "",
-    })
+    });
 }
 
-fn add_calendar(page: &mut Page<'_>, zone: &Zone, def: &Def) -> Result<(), AllocError> {
+fn add_calendar(page: &mut Page<'_>, zone: &Zone, def: &Def) {
     if def.calendar().is_empty() {
-        return Ok(());
+        return;
     }
     let after = page.now.wall;
     let until = after.saturating_add(FARTHEST).min(MAX_WALL);
     match Calendar::next(def.calendar(), zone, after, until) {
         Some(wall) => {
-            page.add(" at ")?;
-            page.add_minute(wall)?;
-            page.add(" (StartCalendarInterval),")
+            page.ink.put(" at ");
+            page.add_minute(wall);
         }
-        None => page.add(" in no minute of the next 400 days (StartCalendarInterval),"),
+        None => page.ink.put(" in no minute of the next 400 days"),
     }
+    page.ink.put(" (StartCalendarInterval),");
 }
 
 // An interval is counted from the load.
-fn add_interval(page: &mut Page<'_>, job: &Job, def: &Def) -> Result<(), AllocError> {
+fn add_interval(page: &mut Page<'_>, job: &Job, def: &Def) {
     let Some(seconds) = def.start_interval() else {
-        return Ok(());
+        return;
     };
-    let length = u64::from(seconds).saturating_mul(1000).max(1);
+    let seconds = u64::from(seconds);
+    let length = seconds.saturating_mul(1000).max(1);
     let gone = page.now.up.saturating_sub(job.loaded.up) / length;
     let next = gone.saturating_add(1).saturating_mul(length);
-    page.add(" at ")?;
-    page.add_coming(job.loaded.up.saturating_add(next))?;
-    write!(page.text, " (StartInterval is {seconds}),")
+    page.ink.put(" at ");
+    page.add_coming(job.loaded.up.saturating_add(next));
+    page.ink.put_all(&[Text(" (StartInterval is "), Number(seconds), Text("),")]);
 }

@@ -7,8 +7,8 @@ use crate::texts::page::Page;
 use crate::texts::words::{asked_name, demand_words, end_words, refusal_name};
 use calendar_due::Zone;
 use history_model::{DemandKind, Text, Wants};
+use run_times::Piece;
 use std::alloc::{AllocError, Global};
-use std::fmt::Write;
 
 /// What the last line of the journal gave, a line each, of the labels that are named, or of all if none is. Moments are shown in
 /// the zone.
@@ -24,21 +24,19 @@ pub fn log_lines(
     let mut page = Page::new(alloc, zone, journal.reading())?;
     for news in &journal.news {
         if is_asked_for(labels, news.label.as_str()) {
-            page.add_now()?;
-            add_news(&mut page, journal, news)?;
+            page.add_now();
+            add_news(&mut page, journal, news);
         }
     }
-    let Page { text, .. } = page;
-    Ok(text)
+    page.into_text()
 }
 
 /// That a launcher began, behind the journal's header. The moment is shown in the zone.
 pub fn begin_line(alloc: Global, journal: &Journal, zone: &Zone) -> Result<String, AllocError> {
     let mut page = Page::new(alloc, zone, journal.reading())?;
-    page.add_now()?;
-    page.add("  the launcher began\n")?;
-    let Page { text, .. } = page;
-    Ok(text)
+    page.add_now();
+    page.ink.put("  the launcher began\n");
+    page.into_text()
 }
 
 fn is_asked_for(labels: &[Text], label: &str) -> bool {
@@ -53,13 +51,13 @@ fn is_asked_for(labels: &[Text], label: &str) -> bool {
     false
 }
 
-fn add_news(page: &mut Page<'_>, journal: &Journal, news: &News) -> Result<(), AllocError> {
+fn add_news(page: &mut Page<'_>, journal: &Journal, news: &News) {
     let label = news.label.as_str();
-    page.add("  ")?;
+    page.ink.put("  ");
     if !label.is_empty() {
-        write!(page.text, "{label}: ")?;
+        page.ink.put_all(&[Piece::Text(label), Piece::Text(": ")]);
     }
-    let added = match &news.what {
+    match &news.what {
         What::Ordered {
             run,
             connection,
@@ -72,28 +70,27 @@ fn add_news(page: &mut Page<'_>, journal: &Journal, news: &News) -> Result<(), A
                 demand: *demand,
                 path: journal.table.path_that_holds(label),
             };
-            add_order(page, &order, wants)
-        }
-        What::NotBegun { run, wait } => {
-            write!(page.text, "run {run} was refused")?;
-            add_wait(page, wait)
+            add_order(page, &order, wants);
         }
         What::Ended { run, wait } => add_ended(page, run, wait),
         what => add_what(page, what),
-    };
-    added?;
-    page.add("\n")
+    }
+    page.ink.put("\n");
 }
 
-fn add_what(page: &mut Page<'_>, what: &What) -> Result<(), AllocError> {
-    let (before, number, behind) = match numbered(what) {
-        Some(parts) => parts,
-        None => return add_words(page, what),
+fn add_what(page: &mut Page<'_>, what: &What) {
+    let Some((before, number, behind)) = numbered(what) else {
+        return add_words(page, what);
     };
-    write!(page.text, "{before}{number}{behind}")?;
+    page.ink.put_all(&[
+        Piece::Text(before),
+        Piece::Number(number),
+        Piece::Text(behind),
+    ]);
     match what {
-        What::Began { pid, .. } => write!(page.text, "{pid}"),
-        _ => Ok(()),
+        What::Began { pid, .. } => page.ink.put_number(u64::from(*pid)),
+        What::NotBegun { wait, .. } => add_wait(page, wait),
+        _ => {}
     }
 }
 
@@ -110,6 +107,7 @@ fn numbered(what: &What) -> Option<(&'static str, u64, &'static str)> {
             ))
         }
         What::Began { run, .. } => Some(("run ", *run, " began, process ")),
+        What::NotBegun { run, .. } => Some(("run ", *run, " was refused")),
         What::Told { run, kills: true } => Some(("KILL was ordered for run ", *run, "")),
         What::Told { run, .. } => Some(("TERM was ordered for run ", *run, "")),
         What::Untold { run, kills: true } => Some(("KILL could not be sent to run ", *run, "")),
@@ -119,7 +117,7 @@ fn numbered(what: &What) -> Option<(&'static str, u64, &'static str)> {
 }
 
 // What has no number: three pieces that follow one another.
-fn add_words(page: &mut Page<'_>, what: &What) -> Result<(), AllocError> {
+fn add_words(page: &mut Page<'_>, what: &What) {
     let (first, second, third) = match what {
         What::Loaded => ("loaded", "", ""),
         What::LoadRefused(refusal) => ("load refused: ", refusal_name(*refusal), ""),
@@ -131,34 +129,37 @@ fn add_words(page: &mut Page<'_>, what: &What) -> Result<(), AllocError> {
         ),
         _ => ("removed", "", ""),
     };
-    write!(page.text, "{first}{second}{third}")
+    page.ink.put(first);
+    page.ink.put(second);
+    page.ink.put(third);
 }
 
-fn add_ended(page: &mut Page<'_>, run: &Run, wait: &Wait) -> Result<(), AllocError> {
-    let number = run.run;
+fn add_ended(page: &mut Page<'_>, run: &Run, wait: &Wait) {
     let (words, end) = end_words(run.end);
-    write!(page.text, "run {number} ended {words}{end}")?;
-    page.add(if run.is_crash {
+    page.ink.put_all(&[
+        Piece::Text("run "),
+        Piece::Number(run.run),
+        Piece::Text(" ended "),
+        Piece::Text(words),
+        Piece::Number(u64::from(end)),
+    ]);
+    page.ink.put(if run.is_crash {
         " (a crash) after "
     } else {
         " after "
-    })?;
-    page.add_span(run.lived(page.now))?;
-    add_wait(page, wait)
+    });
+    page.add_span(run.lived(page.now));
+    add_wait(page, wait);
 }
 
 // The wait that follows.
-fn add_wait(page: &mut Page<'_>, wait: &Wait) -> Result<(), AllocError> {
+fn add_wait(page: &mut Page<'_>, wait: &Wait) {
     if !wait.is_wanted {
-        return page.add("; nothing wants it");
-    }
-    match wait.throttled_until {
-        Some(up) => {
-            page.add("; it waits until ")?;
-            page.add_coming(up)?;
-            page.add(" (throttled)")
-        }
-        None => Ok(()),
+        page.ink.put("; nothing wants it");
+    } else if let Some(up) = wait.throttled_until {
+        page.ink.put("; it waits until ");
+        page.add_coming(up);
+        page.ink.put(" (throttled)");
     }
 }
 
@@ -171,22 +172,35 @@ struct Order<'a> {
     path: Option<&'a str>,
 }
 
-fn add_order(page: &mut Page<'_>, order: &Order<'_>, wants: &Wants) -> Result<(), AllocError> {
-    let run = order.run;
-    write!(page.text, "run {run} was ordered: ")?;
+fn add_order(page: &mut Page<'_>, order: &Order<'_>, wants: &Wants) {
+    page.ink.put_all(&[
+        Piece::Text("run "),
+        Piece::Number(order.run),
+        Piece::Text(" was ordered: "),
+    ]);
     if let Some(number) = order.connection {
-        return write!(page.text, "connection {number} waits");
+        page.ink.put_all(&[
+            Piece::Text("connection "),
+            Piece::Number(number),
+            Piece::Text(" waits"),
+        ]);
+    } else if wants.demand {
+        page.ink.put(demand_words(order.demand));
+    } else {
+        add_level(page, order.path, wants);
     }
-    if wants.demand {
-        return page.add(demand_words(order.demand));
-    }
-    match order.path {
-        Some(path) if wants.path_state => {
-            write!(page.text, "{path} is as KeepAlive PathState says")
-        }
-        Some(path) => write!(page.text, "{path} has an entry (QueueDirectories)"),
-        None => page.add(level_words(wants)),
-    }
+}
+
+fn add_level(page: &mut Page<'_>, path: Option<&str>, wants: &Wants) {
+    let Some(path) = path else {
+        return page.ink.put(level_words(wants));
+    };
+    page.ink.put(path);
+    page.ink.put(if wants.path_state {
+        " is as KeepAlive PathState says"
+    } else {
+        " has an entry (QueueDirectories)"
+    });
 }
 
 fn level_words(wants: &Wants) -> &'static str {

@@ -1,11 +1,11 @@
 //! What the runs of each job came to, in columns with a tab between them.
 
-use crate::job::Job;
+use crate::job::{Job, Totals};
 use crate::reader::Journal;
 use crate::run::RunEnd;
 use history_model::Text;
+use run_times::{Ink, Piece};
 use std::alloc::{AllocError, Global};
-use std::fmt::Write;
 
 const HEAD: &str =
     "label\tstarts\trefused\tcode\tsignal\tcrashes\tshortest\tmedian\tlongest\tup\tgap\n";
@@ -15,20 +15,22 @@ const HEAD: &str =
 /// lower of the two in the middle), the share of the time that it was up while it was loaded, and the longest time without a
 /// run in seconds. `-` stands where there is none.
 pub fn runs_table(alloc: Global, journal: &Journal, labels: &[Text]) -> Result<String, AllocError> {
-    let mut text = String::from_str(alloc, HEAD)?;
     let lengths = lengths(alloc, journal)?;
+    let mut ink = Ink::new(alloc);
+    ink.put(HEAD);
     if labels.is_empty() {
         for (label, job) in &journal.past.jobs {
-            add_row(&mut text, journal, lengths.as_slice(), label.as_str(), job)?;
+            add_row(&mut ink, journal, lengths.as_slice(), label.as_str(), job);
         }
     }
     for label in labels {
         let label = label.as_str();
         if let Some(job) = journal.past.job(label) {
-            add_row(&mut text, journal, lengths.as_slice(), label, job)?;
+            add_row(&mut ink, journal, lengths.as_slice(), label, job);
         }
     }
-    Ok(text)
+    drop(lengths);
+    ink.into_text()
 }
 
 // The job of each run that is kept, and how long it lived, in rising order.
@@ -45,31 +47,32 @@ fn lengths(alloc: Global, journal: &Journal) -> Result<Vec<(u64, u64)>, AllocErr
     Ok(lengths)
 }
 
-fn add_row(
-    text: &mut String,
-    journal: &Journal,
-    lengths: &[(u64, u64)],
-    label: &str,
-    job: &Job,
-) -> Result<(), AllocError> {
+fn add_row(ink: &mut Ink, journal: &Journal, lengths: &[(u64, u64)], label: &str, job: &Job) {
     let totals = job.totals_at(journal.reading());
-    let starts = totals.starts;
-    let refused = totals.refused;
-    let codes = totals.codes;
-    let signals = totals.signals;
-    let crashes = totals.crashes;
-    write!(
-        text,
-        "{label}\t{starts}\t{refused}\t{codes}\t{signals}\t{crashes}"
-    )?;
-    add_lengths(text, lengths, job.serial)?;
-    add_share(text, totals.lived, totals.loaded)?;
-    add_seconds(text, totals.gap)?;
-    text.push_str("\n")
+    ink.put(label);
+    add_counts(ink, &totals);
+    add_lengths(ink, lengths, job.serial);
+    add_share(ink, totals.lived, totals.loaded);
+    add_seconds(ink, totals.gap);
+    ink.put("\n");
+}
+
+fn add_counts(ink: &mut Ink, totals: &Totals) {
+    let counts = [
+        totals.starts,
+        totals.refused,
+        totals.codes,
+        totals.signals,
+        totals.crashes,
+    ];
+    for count in counts.iter() {
+        ink.put("\t");
+        ink.put_number(*count);
+    }
 }
 
 // The shortest, the median and the longest of the job.
-fn add_lengths(text: &mut String, lengths: &[(u64, u64)], job: u64) -> Result<(), AllocError> {
+fn add_lengths(ink: &mut Ink, lengths: &[(u64, u64)], job: u64) {
     let from = first_from(lengths, job);
     let to = first_from(lengths, job.saturating_add(1));
     let own = lengths.get(from..to).unwrap_or(&[]);
@@ -77,11 +80,10 @@ fn add_lengths(text: &mut String, lengths: &[(u64, u64)], job: u64) -> Result<()
     let indexes = [0, last / 2, last];
     for index in indexes.iter() {
         match own.get(*index) {
-            Some((_, length)) => add_seconds(text, *length)?,
-            None => text.push_str("\t-")?,
+            Some((_, length)) => add_seconds(ink, *length),
+            None => ink.put("\t-"),
         }
     }
-    Ok(())
 }
 
 // Where the lengths of the job begin, or those of the next that has some.
@@ -89,18 +91,29 @@ fn first_from(lengths: &[(u64, u64)], job: u64) -> usize {
     lengths.partition_point(|of| of.0 < job)
 }
 
-fn add_seconds(text: &mut String, milliseconds: u64) -> Result<(), AllocError> {
-    let seconds = milliseconds / 1000;
+// Seconds with three digits behind the point.
+fn add_seconds(ink: &mut Ink, milliseconds: u64) {
     let rest = milliseconds % 1000;
-    write!(text, "\t{seconds}.{rest:03}")
+    ink.put_all(&[
+        Piece::Text("\t"),
+        Piece::Number(milliseconds / 1000),
+        Piece::Text("."),
+        Piece::Number(rest / 100),
+        Piece::Number(rest / 10 % 10),
+        Piece::Number(rest % 10),
+    ]);
 }
 
-fn add_share(text: &mut String, lived: u64, loaded: u64) -> Result<(), AllocError> {
+fn add_share(ink: &mut Ink, lived: u64, loaded: u64) {
     if loaded == 0 {
-        return text.push_str("\t-");
+        return ink.put("\t-");
     }
     let share = lived.saturating_mul(1000) / loaded;
-    let percent = share / 10;
-    let tenths = share % 10;
-    write!(text, "\t{percent}.{tenths}%")
+    ink.put_all(&[
+        Piece::Text("\t"),
+        Piece::Number(share / 10),
+        Piece::Text("."),
+        Piece::Number(share % 10),
+        Piece::Text("%"),
+    ]);
 }

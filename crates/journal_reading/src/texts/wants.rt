@@ -6,42 +6,35 @@ use crate::texts::told::Told;
 use crate::texts::words::demand_words;
 use history_model::{DemandKind, Wants};
 use job_defs::Def;
-use std::alloc::AllocError;
-use std::fmt::Write;
+use run_times::Piece::{Number, Text};
 
 /// One way by which it is wanted, as a sentence.
-pub(crate) fn add_want(
-    page: &mut Page<'_>,
-    told: &Told<'_>,
-    cause: Cause,
-) -> Result<(), AllocError> {
-    page.add("It is wanted: ")?;
+pub(crate) fn add_want(page: &mut Page<'_>, told: &Told<'_>, cause: Cause) {
+    page.ink.put("It is wanted: ");
     let def = told.def;
-    let added = match cause {
+    match cause {
         Cause::Demand => add_demand(page, def, told.demand),
-        Cause::Connections(1) => page.add("a connection waits"),
-        Cause::Connections(count) => write!(page.text, "{count} connections wait"),
-        Cause::KeepAlive => page.add("KeepAlive is true"),
-        Cause::SuccessfulExit => page.add(exit_words(def)),
-        Cause::Crashed => page.add(crash_words(def)),
+        Cause::Connections(1) => page.ink.put("a connection waits"),
+        Cause::Connections(count) => {
+            page.ink
+                .put_all(&[Number(count as u64), Text(" connections wait")]);
+        }
+        Cause::KeepAlive => page.ink.put("KeepAlive is true"),
+        Cause::SuccessfulExit => page.ink.put(exit_words(def)),
+        Cause::Crashed => page.ink.put(crash_words(def)),
         Cause::PathState => add_path_state(page, def, told.path),
         _ => add_queue(page, &told.reasons.wants, told.path),
-    };
-    added?;
-    page.add(".")
+    }
+    page.ink.put(".");
 }
 
-fn add_demand(
-    page: &mut Page<'_>,
-    def: &Def,
-    demand: Option<DemandKind>,
-) -> Result<(), AllocError> {
-    page.add(demand_words(demand))?;
-    match demand {
-        Some(DemandKind::Load) if def.run_at_load() => page.add(" (RunAtLoad is true)"),
-        Some(DemandKind::Load) => page.add(" (by KeepAlive SuccessfulExit)"),
-        _ => Ok(()),
-    }
+fn add_demand(page: &mut Page<'_>, def: &Def, demand: Option<DemandKind>) {
+    page.ink.put(demand_words(demand));
+    page.ink.put(match demand {
+        Some(DemandKind::Load) if def.run_at_load() => " (RunAtLoad is true)",
+        Some(DemandKind::Load) => " (by KeepAlive SuccessfulExit)",
+        _ => "",
+    });
 }
 
 fn exit_words(def: &Def) -> &'static str {
@@ -58,7 +51,7 @@ fn crash_words(def: &Def) -> &'static str {
     }
 }
 
-fn add_path_state(page: &mut Page<'_>, def: &Def, path: Option<&str>) -> Result<(), AllocError> {
+fn add_path_state(page: &mut Page<'_>, def: &Def, path: Option<&str>) {
     let path = path.unwrap_or("a path");
     let mut state = "as it says";
     for condition in def.path_state() {
@@ -71,20 +64,18 @@ fn add_path_state(page: &mut Page<'_>, def: &Def, path: Option<&str>) -> Result<
             break;
         }
     }
-    write!(
-        page.text,
-        "KeepAlive PathState, and {path} was last seen {state}"
-    )
+    page.ink.put("KeepAlive PathState, and ");
+    page.ink
+        .put_all(&[Text(path), Text(" was last seen "), Text(state)]);
 }
 
 // A path of `PathState` is named in place of a folder.
-fn add_queue(page: &mut Page<'_>, wants: &Wants, path: Option<&str>) -> Result<(), AllocError> {
+fn add_queue(page: &mut Page<'_>, wants: &Wants, path: Option<&str>) {
     let folder = match path {
         Some(path) if !wants.path_state => path,
         _ => "a folder",
     };
-    write!(
-        page.text,
-        "QueueDirectories, and {folder} was last seen with an entry"
-    )
+    page.ink.put("QueueDirectories, and ");
+    page.ink
+        .put_all(&[Text(folder), Text(" was last seen with an entry")]);
 }

@@ -1,0 +1,126 @@
+//! A text that is written piece by piece.
+
+ghost use Rattle.std.specs.Prelude.{◌≡◌, ◌++◌, ◌↔◌, [], false, true, IfOk, IsOk, OnErr, string_bytes, encode_utf8};
+ghost use Rattle.std.specs.Fmt.{decimal};
+ghost use Rattle.run_times.specs.Written.{piece_text, pieces_text};
+
+use crate::moment::time_text;
+use calendar_due::Zone;
+use history_model::MAX_WALL;
+use std::alloc::{AllocError, Global};
+use std::fmt::Write;
+
+/// A piece of a text.
+#[derive(Clone, Copy)]
+pub enum Piece<'a> {
+    Text(&'a str),
+    Number(u64),
+}
+
+/// A text that is written piece by piece. A refusal of memory is kept, and told once the text is taken: so those who write it have
+/// one way out.
+#[derive(Drop)]
+pub struct Ink {
+    /// What is written.
+    pub text: String,
+    /// Whether memory was refused for a piece of it.
+    pub is_refused: bool,
+}
+
+impl Ink {
+    /// Nothing is written.
+    pub fn new(alloc: Global) -> Ink
+        ensures empty { string_bytes result.text ≡ [] }
+        ensures well { result.is_refused ≡ false }
+    {
+        Ink {
+            text: String::new(alloc),
+            is_refused: false,
+        }
+    }
+
+    /// Adds the text, if there is memory for it.
+    pub fn put(&mut self, part: &str)
+        ensures added { self.new.is_refused ≡ false → string_bytes self.new.text ≡ string_bytes self.old.text ++ part.now }
+        ensures kept { self.new.is_refused ≡ false → self.old.is_refused ≡ false }
+    {
+        let is_put = self.text.push_str(part).is_ok();
+        self.is_refused = self.is_refused || !is_put;
+    }
+
+    /// Adds the number in decimal digits, if there is memory for it.
+    pub fn put_number(&mut self, number: u64)
+        ensures added { self.new.is_refused ≡ false → string_bytes self.new.text ≡ string_bytes self.old.text ++ decimal number }
+        ensures kept { self.new.is_refused ≡ false → self.old.is_refused ≡ false }
+    {
+        let is_put = write!(self.text, "{number}").is_ok();
+        self.is_refused = self.is_refused || !is_put;
+    }
+
+    /// Adds the character, if there is memory for it.
+    pub fn put_char(&mut self, c: char)
+        ensures added { self.new.is_refused ≡ false → string_bytes self.new.text ≡ string_bytes self.old.text ++ encode_utf8 c }
+        ensures kept { self.new.is_refused ≡ false → self.old.is_refused ≡ false }
+    {
+        let is_put = self.text.push(c).is_ok();
+        self.is_refused = self.is_refused || !is_put;
+    }
+
+    /// Adds the pieces in order, each as by `put` or `put_number`.
+    pub fn put_all(&mut self, pieces: &[Piece<'_>])
+        ensures added { self.new.is_refused ≡ false → string_bytes self.new.text ≡ string_bytes self.old.text ++ pieces_text pieces.now }
+        ensures kept { self.new.is_refused ≡ false → self.old.is_refused ≡ false }
+    {
+        for piece in pieces {
+            self.put_piece(piece);
+        }
+    }
+
+    fn put_piece(&mut self, piece: &Piece<'_>)
+        ensures added { self.new.is_refused ≡ false → string_bytes self.new.text ≡ string_bytes self.old.text ++ piece_text piece.now }
+        ensures kept { self.new.is_refused ≡ false → self.old.is_refused ≡ false }
+    {
+        match *piece {
+            Piece::Text(part) => self.put(part),
+            Piece::Number(number) => self.put_number(number),
+        }
+    }
+
+    /// Adds a text for which memory may have been refused.
+    pub fn put_made(&mut self, made: Result<String, AllocError>)
+        ensures refused { OnErr made (self.new.is_refused ≡ true) }
+        ensures kept { self.new.is_refused ≡ false → self.old.is_refused ≡ false }
+    {
+        match made {
+            Ok(part) => self.put(part.as_str()),
+            Err(_) => self.is_refused = true,
+        }
+    }
+
+    /// Adds the moment as a clock in the zone shows it.
+    pub fn put_moment(&mut self, alloc: Global, zone: &Zone, at: u64)
+        ensures kept { self.new.is_refused ≡ false → self.old.is_refused ≡ false }
+    {
+        self.put_made(time_text(alloc, zone, at.min(MAX_WALL)));
+    }
+
+    /// Memory was refused for what would be added.
+    pub fn refuse(&mut self)
+        ensures { self.new.is_refused ≡ true }
+    {
+        self.is_refused = true;
+    }
+
+    /// The text, if memory was never refused.
+    pub fn into_text(self) -> Result<String, AllocError>
+        ensures value { IfOk result (λ text. string_bytes text ≡ string_bytes self.text) }
+        ensures succeeds { IsOk result ↔ self.is_refused ≡ false }
+    {
+        let Ink { text, is_refused } = self;
+        if is_refused {
+            drop(text);
+            return Err(AllocError);
+        }
+        Ok(text)
+    }
+}
