@@ -89,7 +89,10 @@ pub fn set_stage(
 
 /// Says whether the journal holds the first lines, then the last one, and no more.
 pub fn holds(stage: Stage, first: &[u8], last: &[u8]) -> bool {
-    let (_table, _store, _edge, journal) = stage.into_parts();
+    let (table, store, edge, journal) = stage.into_parts();
+    drop(table);
+    drop(store);
+    drop(edge);
     match journal {
         Some(sink) => sink.taken.as_slice().strip_prefix(first) == Some(last),
         None => false,

@@ -110,12 +110,19 @@ fn at(up: u64, passed: u64) -> Reading {
 type Stage = Host<MemoryStore, HandedEdge, Sink>;
 
 fn set_stage(alloc: Global, orders: &[(EdgeCall, Scripted)]) -> Result<Stage, Refusal> {
+    let header = header(alloc, "UTC0", 0)?;
+    let orders = match edge(alloc, orders) {
+        Ok(orders) => orders,
+        Err(refusal) => {
+            drop(header);
+            return Err(refusal);
+        }
+    };
     let edge = HandedEdge {
-        orders: edge(alloc, orders)?,
+        orders,
         now: reading(0),
         sights: [ABSENT, ABSENT],
     };
-    let header = header(alloc, "UTC0", 0)?;
     let store = store(alloc, Vec::new(alloc), true);
     let sink = Sink {
         taken: Vec::new(alloc),
@@ -129,7 +136,10 @@ fn set_stage(alloc: Global, orders: &[(EdgeCall, Scripted)]) -> Result<Stage, Re
 
 // How many lines the launcher's journal could still take.
 fn lines_left(host: Stage) -> usize {
-    let (_table, _store, _edge, journal) = host.into_parts();
+    let (table, store, edge, journal) = host.into_parts();
+    drop(table);
+    drop(store);
+    drop(edge);
     match journal {
         Some(sink) => sink.writes,
         None => 0,
@@ -141,27 +151,37 @@ fn set_pair(
     orders: &[(EdgeCall, Scripted)],
 ) -> Result<Pair<MemoryStore, HandedEdge, Sink>, Refusal> {
     let host = set_stage(alloc, orders)?;
-    let whole = set_stage(alloc, orders)?;
-    let Ok(looks) = Sights::new(alloc) else {
-        return Err(Refusal::NoMemory);
-    };
-    Ok(Pair {
-        spared: RoundLauncher::new(host),
-        looks,
-        whole,
-        at: reading(0),
-        seen: [ABSENT, ABSENT],
-    })
+    match (set_stage(alloc, orders), Sights::new(alloc)) {
+        (Ok(whole), Ok(looks)) => Ok(Pair {
+            spared: RoundLauncher::new(host),
+            looks,
+            whole,
+            at: reading(0),
+            seen: [ABSENT, ABSENT],
+        }),
+        (whole, looks) => {
+            drop(host);
+            drop(whole);
+            drop(looks);
+            Err(Refusal::NoMemory)
+        }
+    }
 }
 
 /// Says whether both launchers answer each step of the stream alike, have ordered the same after each step, and in the end what
 /// stands beside the steps, and whether the journal of the one is shorter by so many lines.
 pub fn is_spared(alloc: Global, stream: &Stream) -> Result<bool, Refusal> {
     let mut pair = set_pair(alloc, stream.orders)?;
-    if !pair.play_all(alloc, stream) {
-        return Ok(false);
-    }
-    let Pair { spared, whole, .. } = pair;
+    let are_alike = pair.play_all(alloc, stream);
+    let Pair {
+        spared,
+        looks,
+        whole,
+        ..
+    } = pair;
+    drop(looks);
     let RoundLauncher { host, .. } = spared;
-    Ok(lines_left(host) == lines_left(whole).saturating_add(stream.left_out))
+    let spared = lines_left(host);
+    let whole = lines_left(whole);
+    Ok(are_alike && spared == whole.saturating_add(stream.left_out))
 }

@@ -1,8 +1,7 @@
 //! Rounds over a system that refuses, with one job.
 
 use crate::refusing::Refusing;
-use crate::scene::{goes_on, journal_of, launcher_over, new_folder};
-use control_socket::ControlSocket;
+use crate::scene::{control_in, goes_on, journal_of, launcher_over, new_folder};
 use launcher::Input;
 use live_loop::Live;
 use memory_stage::{MemoryStore, Sink};
@@ -31,8 +30,10 @@ fn is_journaled(rt: &Refusing, live: Live<Refusing, MemoryStore, Sink>) -> bool 
     let mut live = live;
     let first = goes_on(rt, &mut live);
     let second = goes_on(rt, &mut live);
-    let journal = journal_of(live);
-    first && second && journal.is_some_and(|journal| journal.as_slice() == JOURNAL)
+    match journal_of(live) {
+        Some(journal) => first && second && journal.as_slice() == JOURNAL,
+        None => false,
+    }
 }
 
 /// The rounds of a launcher that has the job.
@@ -41,26 +42,36 @@ fn live_over(
     rt: &Refusing,
     folder: &str,
 ) -> Option<Live<Refusing, MemoryStore, Sink>> {
-    let path = format!(in rt.alloc(); "{folder}/socket").ok()?;
     let mut host = launcher_over(rt, rt.clone().ok()?, folder)?;
-    let _reply = host.turn(rt.alloc(), Input::Line(LOAD));
-    let control = ControlSocket::open(host_rt, rt.alloc(), path.as_str()).ok()?;
-    Live::new(rt, rt.alloc(), host, control).ok()
+    drop(host.turn(rt.alloc(), Input::Line(LOAD)));
+    match control_in(host_rt, folder) {
+        Some(control) => Live::new(rt, rt.alloc(), host, control).ok(),
+        None => {
+            drop(host);
+            None
+        }
+    }
 }
 
 /// Whether a round takes each refusal as it should, goes on, and tells it.
 pub fn are_taken(rt: &HostRuntime) -> Option<bool> {
+    let host = rt.clone().ok()?;
     let told = Rc::new(rt.alloc(), RefCell::new(String::new(rt.alloc()))).ok()?;
-    let folder = new_folder(rt, "refusals")?;
-    let refusing = Refusing {
-        host: rt.clone().ok()?,
-        told,
+    let refusing = Refusing { host, told };
+    let Some(folder) = new_folder(rt, "refusals") else {
+        drop(refusing);
+        return None;
     };
     let is_journaled = match live_over(rt, &refusing, folder.as_str()) {
         Some(live) => is_journaled(&refusing, live),
         None => false,
     };
-    fs::remove_dir_all(rt, folder.as_str()).ok()?;
-    let told = refusing.told.try_borrow().ok()?;
-    Some(is_journaled && told.as_str() == TOLD)
+    let is_clear = fs::remove_dir_all(rt, folder.as_str()).is_ok();
+    let is_told = match refusing.told.try_borrow() {
+        Ok(told) => told.as_str() == TOLD,
+        Err(_) => false,
+    };
+    drop(refusing);
+    drop(folder);
+    Some(is_journaled && is_clear && is_told)
 }

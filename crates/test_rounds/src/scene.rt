@@ -66,7 +66,10 @@ pub fn launcher_over<R: System>(
     let alloc = rt.alloc();
     let spool = String::from_str(alloc, folder).ok()?;
     let edge = OsEdge::new(own, alloc, spool).ok()?;
-    let header = header(alloc, "UTC0", 0).ok()?;
+    let Ok(header) = header(alloc, "UTC0", 0) else {
+        drop(edge);
+        return None;
+    };
     let sink = Sink {
         taken: Vec::new(alloc),
         writes: LINES,
@@ -75,20 +78,30 @@ pub fn launcher_over<R: System>(
     Host::new(alloc, header, store, edge, Some(sink)).ok()
 }
 
-/// The launcher's rounds, with a control socket in the folder.
-pub fn rounds_of<R: System>(
-    rt: &R,
-    host: Host<MemoryStore, OsEdge<R>, Sink>,
-    folder: &str,
-) -> Option<Live<R, MemoryStore, Sink>> {
+/// A control socket in the folder.
+pub fn control_in(rt: &HostRuntime, folder: &str) -> Option<ControlSocket> {
     let path = format!(in rt.alloc(); "{folder}/socket").ok()?;
-    let control = ControlSocket::open(rt, rt.alloc(), path.as_str()).ok()?;
-    Live::new(rt, rt.alloc(), host, control).ok()
+    ControlSocket::open(rt, rt.alloc(), path.as_str()).ok()
+}
+
+/// The rounds of a launcher with no job, with a control socket in the folder.
+fn live_in(rt: &HostRuntime, folder: &str) -> Option<Live<HostRuntime, MemoryStore, Sink>> {
+    let host = launcher_over(rt, rt.clone().ok()?, folder)?;
+    match control_in(rt, folder) {
+        Some(control) => Live::new(rt, rt.alloc(), host, control).ok(),
+        None => {
+            drop(host);
+            None
+        }
+    }
 }
 
 /// What the journal holds, if it was not closed.
 pub fn journal_of<R: System>(live: Live<R, MemoryStore, Sink>) -> Option<Vec<u8>> {
-    let (_table, _store, _edge, journal) = live.into_host().into_parts();
+    let (table, store, edge, journal) = live.into_host().into_parts();
+    drop(table);
+    drop(store);
+    drop(edge);
     let sink = journal?;
     Some(sink.taken)
 }
@@ -102,15 +115,22 @@ fn client_at(rt: &HostRuntime, folder: &str) -> Option<UnixStream> {
 
 fn new_scene(rt: &HostRuntime, name: &str) -> Option<Scene> {
     let folder = new_folder(rt, name)?;
-    let host = launcher_over(rt, rt.clone().ok()?, folder.as_str())?;
-    let live = rounds_of(rt, host, folder.as_str())?;
-    let client = client_at(rt, folder.as_str())?;
-    Some(Scene {
-        folder,
-        live,
-        client,
-        replies: Vec::new(rt.alloc()),
-    })
+    let live = live_in(rt, folder.as_str());
+    let client = client_at(rt, folder.as_str());
+    match (live, client) {
+        (Some(live), Some(client)) => Some(Scene {
+            folder,
+            live,
+            client,
+            replies: Vec::new(rt.alloc()),
+        }),
+        (live, client) => {
+            drop(folder);
+            drop(live);
+            drop(client);
+            None
+        }
+    }
 }
 
 /// Makes a round, and says whether the launcher goes on.
@@ -212,13 +232,16 @@ pub fn is_played(rt: &HostRuntime, name: &str, steps: &[Step]) -> bool {
     let Scene {
         folder,
         live,
+        client,
         replies,
-        ..
     } = scene;
+    drop(client);
     let is_clear = fs::remove_dir_all(rt, folder.as_str()).is_ok();
+    drop(folder);
     let is_same = match journal_of(live) {
         Some(journal) => is_replayed(rt.alloc(), journal.as_slice(), replies.as_slice()),
         None => false,
     };
+    drop(replies);
     is_done && is_clear && is_same
 }
