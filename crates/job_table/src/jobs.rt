@@ -36,7 +36,6 @@ use slab::Slab;
 use timer_heap::TimerHeap;
 
 /// The loaded jobs in byte order of labels, what decides over them, and the orders of the last event.
-#[derive(Drop)]
 pub struct Jobs {
     pub reading: Reading,
     pub zone: Zone,
@@ -53,6 +52,26 @@ pub struct Jobs {
     pub has_calendars: bool,
     /// What touches those jobs, in order.
     pub triggers: Vec<Listed>,
+}
+
+// It is written out, so that a function which lets it go calls this, in place of letting each part go.
+impl Drop for Jobs {
+    fn drop(self) {
+        let Jobs {
+            reading: _,
+            zone: _,
+            settings: _,
+            is_shutting_down: _,
+            seats: _,
+            numbers: _,
+            orders: _,
+            visited: _,
+            index: _,
+            gone: _,
+            has_calendars: _,
+            triggers: _,
+        } = self;
+    }
 }
 
 /// What finds the jobs that an event touches.

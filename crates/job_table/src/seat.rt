@@ -33,12 +33,23 @@ use job_defs::{Def, PathState};
 pub const ORDERS: usize = MAX_CONNECTIONS + 2;
 
 /// A job with its definition and its number. One that is gone stays until the next event.
-#[derive(Drop)]
 pub struct Seat {
     pub number: JobNo,
     pub def: HeldDef,
     pub core: HeldCore,
     pub has_gone: bool,
+}
+
+// It is written out, so that a function which lets it go calls this, in place of letting each part go.
+impl Drop for Seat {
+    fn drop(self) {
+        let Seat {
+            number: _,
+            def: _,
+            core: _,
+            has_gone: _,
+        } = self;
+    }
 }
 
 /// How an event touches the jobs that it is for: what they hear of it.
