@@ -5,6 +5,7 @@ use crate::place::Way;
 use crate::remarks::Remarks;
 use calendar_due::Calendar;
 use history_model::{CivilMinute, Entry, KeyName};
+use run_times::Ink;
 use std::alloc::{AllocError, Global};
 
 const MONTHS: [&str; 12] = [
@@ -87,16 +88,27 @@ fn told_change(
     is_skipped: bool,
     minute: &CivilMinute,
 ) -> Result<String, AllocError> {
-    let month = month_name(minute.month);
-    let day = usize::from(minute.day);
-    let hour = usize::from(minute.hour);
-    let minute = usize::from(minute.minute);
     let (shows, times, matches) = if is_skipped {
-        ("skips", "", "does not match then")
+        ("skips ", "", ": this entry does not match then")
     } else {
-        ("shows", " twice", "matches twice")
+        ("shows ", " twice", ": this entry matches twice")
     };
-    format!(in alloc;
-        "StartCalendarInterval: this year the clock {shows} {hour:02}:{minute:02}{times} on {month} {day}: this entry {matches}"
-    )
+    let mut ink = Ink::new(alloc);
+    ink.put("StartCalendarInterval: this year the clock ");
+    ink.put(shows);
+    put_two_digits(&mut ink, minute.hour);
+    ink.put(":");
+    put_two_digits(&mut ink, minute.minute);
+    ink.put(times);
+    ink.put(" on ");
+    ink.put(month_name(minute.month));
+    ink.put(" ");
+    ink.put_number(u64::from(minute.day));
+    ink.put(matches);
+    ink.into_text()
+}
+
+fn put_two_digits(ink: &mut Ink, number: u8) {
+    ink.put_number(u64::from(number / 10));
+    ink.put_number(u64::from(number % 10));
 }

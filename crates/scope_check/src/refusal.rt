@@ -191,18 +191,19 @@ fn add_wanted(ink: &mut Ink, wanted: Wanted, value: &Value) {
             ink.put_all(&[Number(low), Text(" to "), Number(high)]);
         }
         Wanted::Text { limit, is_filled } => {
+            let range = if is_filled { "1 to " } else { "at most " };
             ink.put("a text of ");
-            ink.put(if is_filled { "1 to " } else { "at most " });
-            ink.put_all(&[Number(limit as u64), Text(" bytes, none of them 0")]);
+            add_most(ink, range, limit, "bytes, none of them 0");
         }
-        Wanted::Array { most, of } => {
-            ink.put("an array of at most ");
-            ink.put_all(&[Number(most as u64), Text(" "), Text(of)]);
-        }
-        Wanted::Dictionary { most, of } => {
-            ink.put("a dictionary of at most ");
-            ink.put_all(&[Number(most as u64), Text(" "), Text(of)]);
-        }
+        Wanted::Array { most, of } => add_most(ink, "an array of at most ", most, of),
+        Wanted::Dictionary { most, of } => add_most(ink, "a dictionary of at most ", most, of),
         Wanted::Said(words) => ink.put(words),
     }
+}
+
+fn add_most(ink: &mut Ink, before: &str, most: usize, of: &str) {
+    ink.put(before);
+    ink.put_number(most as u64);
+    ink.put(" ");
+    ink.put(of);
 }

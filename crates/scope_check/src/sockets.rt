@@ -88,11 +88,15 @@ fn in_socket(socket: &Value) -> Option<(&'static str, &Value, &'static str)> {
             _ => {}
         }
     }
-    let has_place = socket.get(PATH_NAME).is_some() || socket.get(SERVICE_NAME).is_some();
-    if has_place {
+    if has_place(socket) {
         return None;
     }
     Some(("", socket, "one with SockPathName or SockServiceName"))
+}
+
+fn has_place(socket: &Value) -> bool {
+    let has_path = socket.get(PATH_NAME).is_some();
+    has_path || socket.get(SERVICE_NAME).is_some()
 }
 
 fn is_well(fit: Fit, found: &Value) -> bool {
