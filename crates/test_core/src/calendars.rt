@@ -39,7 +39,9 @@ fn is_shown(alloc: Global, line: &str) -> Option<bool> {
         weekday,
     };
     let zone = zone_of(alloc, name)?;
-    Some(seconds <= LATEST && zone.civil_minute(seconds) == wanted)
+    let is_shown = seconds <= LATEST && zone.civil_minute(seconds) == wanted;
+    drop(zone);
+    Some(is_shown)
 }
 
 // The first line that is not shown so.
@@ -71,17 +73,14 @@ const AN_HOUR_EAST: CivilMinute = CivilMinute {
 
 fn crosses_one(alloc: Global) -> Option<bool> {
     let zone = Zone::fixed(3600).ok()?;
-    let crossed = zone.crossed(alloc, 1_700_000_000, 1_700_000_040).ok()?;
-    let is_crossed = crossed.as_slice() == [AN_HOUR_EAST].as_slice();
+    let crossed = zone.crossed(alloc, 1_700_000_000, 1_700_000_040).ok();
     let is_shown = zone.civil_minute(1_700_000_040) == AN_HOUR_EAST;
-    Some(is_crossed && is_shown)
+    drop(zone);
+    Some(crossed?.as_slice() == [AN_HOUR_EAST].as_slice() && is_shown)
 }
 
 fn is_no_zone(made: Result<Zone, ZoneFault>) -> bool {
-    match made {
-        Err(ZoneFault::BadZone) => true,
-        _ => false,
-    }
+    matches!(made.err(), Some(ZoneFault::BadZone))
 }
 
 /// Whether a file of so many bytes, each of them 0, is none.
@@ -106,7 +105,10 @@ fn zones_of(offsets: &[i32]) -> (usize, usize) {
     let mut refused = 0usize;
     for seconds in offsets {
         match Zone::fixed(*seconds) {
-            Ok(_) => made = made.saturating_add(1),
+            Ok(zone) => {
+                drop(zone);
+                made = made.saturating_add(1);
+            }
             Err(ZoneFault::BadZone) => refused = refused.saturating_add(1),
             Err(_) => {}
         }

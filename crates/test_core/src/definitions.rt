@@ -280,7 +280,11 @@ fn is_read(def: &Def, read: &Read) -> bool {
 /// Whether the text is a definition of which this is read.
 fn is_example(alloc: Global, text: &str, read: &Read) -> bool {
     match read_def(alloc, text.as_bytes()) {
-        Ok(def) => is_read(&def, read),
+        Ok(def) => {
+            let is_read = is_read(&def, read);
+            drop(def);
+            is_read
+        }
         Err(_) => false,
     }
 }
@@ -295,7 +299,9 @@ fn the_examples_are_read(rt: HostRuntime) {
 
 fn is_echo_read(alloc: Global) -> Result<bool, DefFault> {
     let def = read_def(alloc, SOCKET.as_bytes())?;
-    Ok(def.label() == "org.example.echo")
+    let is_echo = def.label() == "org.example.echo";
+    drop(def);
+    Ok(is_echo)
 }
 
 /// With one growth refused (`rt try --test --fail-alloc N`) the answer is that memory ran out, and the same call then

@@ -124,8 +124,8 @@ fn goes(exchange: &mut Exchange, step: Step, filler: &[u8]) -> bool {
 
 /// How many steps go as they say, before one that does not. None without memory.
 fn gone(alloc: Global, steps: &[Step]) -> Option<usize> {
-    let mut exchange = Exchange::new(alloc).ok()?;
     let filler = vec![in alloc; b'x'; 65_536].ok()?;
+    let mut exchange = Exchange::new(alloc).ok()?;
     let mut passed = 0usize;
     for step in steps {
         if !goes(&mut exchange, *step, filler.as_slice()) {
@@ -133,6 +133,7 @@ fn gone(alloc: Global, steps: &[Step]) -> Option<usize> {
         }
         passed = passed.saturating_add(1);
     }
+    drop(exchange);
     Some(passed)
 }
 

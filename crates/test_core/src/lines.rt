@@ -51,17 +51,23 @@ fn placed(alloc: Global, text: &str) -> Result<String, AllocError> {
 
 fn event_again(alloc: Global, line: &str) -> Result<Vec<u8>, ReadFault> {
     let event = read_event(alloc, line.as_bytes())?;
-    Ok(event_line(alloc, &event)?)
+    let line = event_line(alloc, &event);
+    drop(event);
+    Ok(line?)
 }
 
 fn request_again(alloc: Global, line: &str) -> Result<Vec<u8>, ReadFault> {
     let event = read_request(alloc, line.as_bytes())?;
-    Ok(request_line(alloc, &event)?)
+    let line = request_line(alloc, &event);
+    drop(event);
+    Ok(line?)
 }
 
 fn header_again(alloc: Global, line: &str) -> Result<Vec<u8>, ReadFault> {
     let header = read_header(alloc, line.as_bytes())?;
-    Ok(header_line(alloc, &header)?)
+    let line = header_line(alloc, &header);
+    drop(header);
+    Ok(line?)
 }
 
 /// A target has no line of its own: its label is written, and a newline.

@@ -167,14 +167,12 @@ pub fn stands(alloc: Global, trial: Trial) -> bool {
         Trial::Answers => answers_arrive(alloc, &mut table),
         Trial::LateAnswers => late_answers_are_refused(alloc, &mut table),
     };
+    drop(table);
     is_so == Ok(true)
 }
 
 /// Says whether an override of an empty label is refused.
 pub fn is_refused(alloc: Global) -> bool {
-    let Ok(zone) = Zone::fixed(0) else {
-        return false;
-    };
     let Ok(label) = Text::copy_of(alloc, "") else {
         return false;
     };
@@ -183,6 +181,10 @@ pub fn is_refused(alloc: Global) -> bool {
         disabled: true,
     };
     let Ok(overrides) = vec![in alloc; setting] else {
+        return false;
+    };
+    let Ok(zone) = Zone::fixed(0) else {
+        drop(overrides);
         return false;
     };
     JobTable::new(alloc, at(0, 0), zone, overrides).err() == Some(Refusal::BadRequest)

@@ -353,7 +353,11 @@ fn fault_in(alloc: Global, table: &mut JobTable, rows: Rows) -> Option<usize> {
 /// The position of the first row that goes another way than it says, of a new table.
 fn fault_from_new(alloc: Global, rows: Rows) -> Option<usize> {
     match empty_table(alloc) {
-        Ok(mut table) => fault_in(alloc, &mut table, rows),
+        Ok(mut table) => {
+            let fault = fault_in(alloc, &mut table, rows);
+            drop(table);
+            fault
+        }
         Err(_) => Some(usize::MAX),
     }
 }

@@ -23,6 +23,7 @@ pub fn connected<D: Disk + Drop>(
     number: u64,
 ) -> Option<Connection<FileStore<D>>> {
     if !files.may_be_used() {
+        drop(files);
         return None;
     }
     Connection::open_files(alloc, files, Options::new(number)).ok()
@@ -34,10 +35,6 @@ pub fn runs<S: Alter>(conn: &mut Connection<S>, sql: &str) -> bool {
 
 pub fn opened<S: Alter + Drop>(alloc: Global, conn: Connection<S>) -> Option<OverrideStore<S>> {
     OverrideStore::open_on(alloc, conn).ok()
-}
-
-pub fn closed<D: Disk + Drop>(store: OverrideStore<FileStore<D>>) -> Option<Files<D>> {
-    files_of(store.close_on())
 }
 
 /// The files of a connection that is closed.
@@ -86,8 +83,11 @@ pub fn tell_all(changes: &[(String, u64)], want: &[Row<'_>]) -> bool {
 pub fn has<S: Alter>(alloc: Global, store: &mut OverrideStore<S>, want: &[Row<'_>]) -> bool {
     let all = all_of(alloc, store);
     let changes = changes_of(alloc, store);
-    match (all, changes) {
-        (Ok(all), Ok(changes)) => show_all(&all, want) && tell_all(&changes, want),
+    let are_so = match (&all, &changes) {
+        (Ok(all), Ok(changes)) => show_all(all, want) && tell_all(changes, want),
         _ => false,
-    }
+    };
+    drop(all);
+    drop(changes);
+    are_so
 }

@@ -67,7 +67,12 @@ fn store_on<S: Alter + Drop>(
     }
     let mut conn = store.close_on();
     let is_run = runs(&mut conn, between);
-    if is_run { opened(alloc, conn) } else { None }
+    if is_run {
+        opened(alloc, conn)
+    } else {
+        drop(conn);
+        None
+    }
 }
 
 /// The store of the case, with its settings made.
@@ -80,7 +85,12 @@ fn store_of<S: Alter + Drop>(
     let is_made = runs(&mut conn, case.made);
     let mut store = store_on(alloc, conn, case.between)?;
     let is_set = set_all(&mut store, case.sets);
-    if is_made && is_set { Some(store) } else { None }
+    if is_made && is_set {
+        Some(store)
+    } else {
+        drop(store);
+        None
+    }
 }
 
 /// Whether the store makes all of these settings.
@@ -95,7 +105,10 @@ pub fn set_all<S: Alter>(store: &mut OverrideStore<S>, rows: &[Row<'_>]) -> bool
 /// Whether a store that is opened again on its connection has these settings.
 fn has_again<S: Alter + Drop>(alloc: Global, store: OverrideStore<S>, want: &[Row<'_>]) -> bool {
     match all_again(alloc, store) {
-        Ok((_store, all)) => show_all(&all, want),
+        Ok((store, all)) => {
+            drop(store);
+            show_all(&all, want)
+        }
         Err(_) => false,
     }
 }
@@ -123,6 +136,7 @@ fn is_foreign<S: Alter + Drop>(alloc: Global, conn: Connection<S>) -> bool {
     };
     let all = all_of(alloc, &mut store).err();
     let changes = changes_of(alloc, &mut store).err();
+    drop(store);
     all == Some(StoreFault::Foreign) && changes == Some(StoreFault::Foreign)
 }
 

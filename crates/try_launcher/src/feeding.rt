@@ -3,6 +3,7 @@
 use ctl_protocol::{LINE_LIMIT, LineFault, LineFeed};
 use scarce_memory::{Answer, Trial};
 use std::alloc::Global;
+use std::mem;
 
 /// What the feed is given first: a line, and the front of a second.
 const BEFORE: &[u8] = b"first\nsec";
@@ -37,11 +38,13 @@ impl Feeding {
 /// A feed that was given the first piece, and also the second if a line is to be taken.
 fn fed(alloc: Global, is_whole: bool) -> Option<LineFeed> {
     let mut feed = LineFeed::new(alloc, LINE_LIMIT);
-    feed.feed(BEFORE).ok()?;
-    if is_whole {
-        feed.feed(PIECE).ok()?;
+    let is_begun = feed.feed(BEFORE).is_ok();
+    if is_begun && (!is_whole || feed.feed(PIECE).is_ok()) {
+        Some(feed)
+    } else {
+        drop(feed);
+        None
     }
-    Some(feed)
 }
 
 /// Whether the feed gives this line next.
@@ -70,7 +73,7 @@ fn takes(feed: &mut LineFeed) -> Answer {
 
 impl Trial for Feeding {
     fn prepare(&mut self, alloc: Global) -> bool {
-        self.feed = fed(alloc, self.is_taking);
+        drop(mem::replace(&mut self.feed, fed(alloc, self.is_taking)));
         self.feed.is_some()
     }
 

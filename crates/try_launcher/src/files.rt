@@ -1,10 +1,10 @@
 //! Stores over files that are closed and opened again, on disks in memory: each acknowledged setting is there.
 
-use crate::calls::{FIRST_VERSION, Row, SECOND, closed, connected, files_of, has, opened, runs};
+use crate::calls::{FIRST_VERSION, Row, SECOND, connected, files_of, has, opened, runs};
 use crate::cases::set_all;
 use override_store::OverrideStore;
 use override_store::again::on_files;
-use sqlite::{Connection, FileStore, Files, Options};
+use sqlite::{Alter, Connection, FileStore, Files, Options};
 use sqlite_disk::{Disk, Memory};
 use std::alloc::Global;
 
@@ -14,12 +14,15 @@ struct Round {
     want: &'static [Row<'static>],
 }
 
+/// Nothing is set, and nothing is there.
+const NOTHING: Round = Round {
+    sets: &[],
+    want: &[],
+};
+
 /// Files that hold nothing yet.
 static NEW: &[Round] = &[
-    Round {
-        sets: &[],
-        want: &[],
-    },
+    NOTHING,
     Round {
         sets: &[("b", true, SECOND), ("a", true, SECOND)],
         want: &[("a", true, SECOND), ("b", true, SECOND)],
@@ -54,12 +57,15 @@ static OLD: &[Round] = &[
     },
 ];
 
-/// A store over the files, if that can be opened.
-fn store_over<D: Disk + Drop>(
+/// The store on the connection, and whether all of these settings are made.
+fn set_on<S: Alter + Drop>(
     alloc: Global,
-    files: Files<D>,
-) -> Option<OverrideStore<FileStore<D>>> {
-    opened(alloc, connected(alloc, files, 5)?)
+    conn: Connection<S>,
+    rows: &[Row<'_>],
+) -> Option<(OverrideStore<S>, bool)> {
+    let mut store = opened(alloc, conn)?;
+    let is_set = set_all(&mut store, rows);
+    Some((store, is_set))
 }
 
 /// The store opened again over the files of one that was closed.
@@ -70,16 +76,26 @@ fn reopened<D: Disk + Drop>(
     on_files(alloc, store, Options::new(6))
 }
 
-/// The files after one round, if it passes.
+/// The store's connection, and whether it has these settings.
+fn listed<S: Alter + Drop>(
+    alloc: Global,
+    store: OverrideStore<S>,
+    want: &[Row<'_>],
+) -> (Connection<S>, bool) {
+    let mut store = store;
+    let is_there = has(alloc, &mut store, want);
+    (store.close_on(), is_there)
+}
+
+/// The files after one round, if it passes. What is generic over the store is called twice and no more: each such call is dear to prove.
 fn played<D: Disk + Drop>(alloc: Global, files: Files<D>, round: &Round) -> Option<Files<D>> {
-    let mut store = store_over(alloc, files)?;
-    let is_set = set_all(&mut store, round.sets);
-    let mut store = reopened(alloc, store)?;
-    let is_there = has(alloc, &mut store, round.want);
-    let files = closed(store)?;
+    let (store, is_set) = set_on(alloc, connected(alloc, files, 5)?, round.sets)?;
+    let (conn, is_there) = listed(alloc, reopened(alloc, store)?, round.want);
+    let files = files_of(conn)?;
     if is_set && is_there {
         Some(files)
     } else {
+        drop(files);
         None
     }
 }
@@ -92,6 +108,7 @@ fn passes<D: Disk + Drop>(alloc: Global, files: Files<D>, rounds: &[Round]) -> b
             None => return false,
         }
     }
+    drop(files);
     true
 }
 
@@ -103,7 +120,7 @@ fn new_files(alloc: Global) -> Files<Memory> {
 
 /// The files of a store with no setting.
 pub fn empty_files(alloc: Global) -> Option<Files<Memory>> {
-    closed(store_over(alloc, new_files(alloc))?)
+    played(alloc, new_files(alloc), &NOTHING)
 }
 
 /// The connection's files once the text was run.
@@ -111,7 +128,12 @@ fn ran<D: Disk + Drop>(conn: Connection<FileStore<D>>, sql: &str) -> Option<File
     let mut conn = conn;
     let is_run = runs(&mut conn, sql);
     let files = files_of(conn)?;
-    if is_run { Some(files) } else { None }
+    if is_run {
+        Some(files)
+    } else {
+        drop(files);
+        None
+    }
 }
 
 /// Files of the first version, with two settings.

@@ -132,23 +132,30 @@ fn becomes(alloc: Global, row: Row, header: &Header, event: &Event) -> bool {
     is_told && holds
 }
 
-fn is_so(alloc: Global, row: Row) -> Result<bool, AllocError> {
-    let header = header(alloc)?;
-    let event = event(alloc)?;
-    Ok(becomes(alloc, row, &header, &event))
+fn is_so(alloc: Global, row: Row) -> bool {
+    let header = header(alloc);
+    let event = event(alloc);
+    let is_so = match (&header, &event) {
+        (Ok(header), Ok(event)) => becomes(alloc, row, header, event),
+        _ => false,
+    };
+    drop(header);
+    drop(event);
+    is_so
 }
 
 /// Says whether no journal stays silent: nothing is told and nothing is given back.
 fn is_silent(alloc: Global) -> Result<bool, AllocError> {
     let event = event(alloc)?;
     let told = turned(alloc, Journal::none(), &event);
+    drop(event);
     Ok(!told.first && !told.second && !told.given)
 }
 
 fn rows_are_so(alloc: Global) -> bool {
     let mut are_so = true;
     for row in ROWS {
-        let is_so = is_so(alloc, row) == Ok(true);
+        let is_so = is_so(alloc, row);
         are_so = are_so && is_so;
     }
     are_so
@@ -163,7 +170,7 @@ fn fronts_are_so(alloc: Global, is_full: bool) -> bool {
             is_full,
             ..FRONT
         };
-        let is_so = is_so(alloc, row) == Ok(true);
+        let is_so = is_so(alloc, row);
         are_so = are_so && is_so;
     }
     are_so

@@ -442,6 +442,10 @@ fn leaves(stage: Stage, case: &Case) -> bool {
     let is_left = is_left(&table, &edge, case);
     let has_stored = has_stored(&store, case);
     let has_noted = has_noted(journal.as_ref(), case);
+    drop(table);
+    drop(store);
+    drop(edge);
+    drop(journal);
     is_left && has_stored && has_noted
 }
 

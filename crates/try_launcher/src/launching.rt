@@ -5,6 +5,7 @@ use crate::turning::LOAD;
 use launcher::{HostFault, Input};
 use scarce_memory::{Answer, Trial};
 use std::alloc::Global;
+use std::mem;
 
 /// `Host::new` over a store that has one setting. What it refuses is gone, so all is made anew for each call.
 #[derive(Drop)]
@@ -36,7 +37,8 @@ fn made<H>(made: Result<H, HostFault>) -> (Option<H>, Answer) {
 impl<H: Launched + Drop, M: Launching<H>> Trial for Making<H, M> {
     fn prepare(&mut self, alloc: Global) -> bool {
         self.host = None;
-        self.parts = parts_of(alloc, "UTC0", 0, &["a"], &[]).ok();
+        let parts = parts_of(alloc, "UTC0", 0, &["a"], &[]).ok();
+        drop(mem::replace(&mut self.parts, parts));
         self.parts.is_some()
     }
 

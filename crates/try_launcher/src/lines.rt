@@ -164,7 +164,11 @@ fn is_serve(command: &DaemonCommand) -> bool {
 
 fn header_read(alloc: Global) -> Answer {
     match read_header(alloc, HEADER) {
-        Ok(header) => told(is_header(&header)),
+        Ok(header) => {
+            let answer = told(is_header(&header));
+            drop(header);
+            answer
+        }
         Err(ReadFault::NoMemory) => Answer::NoMemory,
         Err(ReadFault::BadRequest) => Answer::Other,
     }
@@ -172,7 +176,11 @@ fn header_read(alloc: Global) -> Answer {
 
 fn event_read(alloc: Global) -> Answer {
     match read_event(alloc, LOAD) {
-        Ok(event) => told(is_load(&event)),
+        Ok(event) => {
+            let answer = told(is_load(&event));
+            drop(event);
+            answer
+        }
         Err(ReadFault::NoMemory) => Answer::NoMemory,
         Err(ReadFault::BadRequest) => Answer::Other,
     }
@@ -195,7 +203,11 @@ fn written(line: Result<Vec<u8>, AllocError>, wanted: &[u8]) -> Answer {
 
 fn words_read(alloc: Global, words: &[String]) -> Answer {
     match read_words(alloc, words) {
-        Ok(read) => told(read.socket.as_str() == "jobd.sock" && is_command(&read.command)),
+        Ok(read) => {
+            let answer = told(read.socket.as_str() == "jobd.sock" && is_command(&read.command));
+            drop(read);
+            answer
+        }
         Err(WordFault::NoMemory) => Answer::NoMemory,
         Err(WordFault::Usage) => Answer::Other,
     }
@@ -203,7 +215,11 @@ fn words_read(alloc: Global, words: &[String]) -> Answer {
 
 fn daemon_words_read(alloc: Global, words: &[String]) -> Answer {
     match read_daemon_words(alloc, words) {
-        Ok(command) => told(is_serve(&command)),
+        Ok(command) => {
+            let answer = told(is_serve(&command));
+            drop(command);
+            answer
+        }
         Err(WordFault::NoMemory) => Answer::NoMemory,
         Err(WordFault::Usage) => Answer::Other,
     }
@@ -213,6 +229,7 @@ fn zone_read(alloc: Global) -> Answer {
     match Zone::tzif(alloc, &PYONGYANG) {
         Ok(zone) => {
             let shown = zone.civil_minute(BEFORE_THE_CHANGE);
+            drop(zone);
             told(shown.day == 14 && shown.hour == 23 && shown.minute == 59)
         }
         Err(ZoneFault::NoMemory) => Answer::NoMemory,
@@ -222,7 +239,11 @@ fn zone_read(alloc: Global) -> Answer {
 
 fn edge_made(alloc: Global) -> Answer {
     match MemoryEdge::new(alloc, Vec::new(alloc), 100) {
-        Ok(edge) => told(edge.calls().is_empty()),
+        Ok(edge) => {
+            let answer = told(edge.calls().is_empty());
+            drop(edge);
+            answer
+        }
         Err(_) => Answer::NoMemory,
     }
 }

@@ -125,15 +125,21 @@ fn turns(rt: &impl Print, alloc: Global, hoard: &mut Hoard) -> Result<()> {
     Ok(())
 }
 
+fn try_short(rt: &HostRuntime, hoard: &mut Hoard) -> Result<()> {
+    parts(rt, rt.alloc(), hoard)?;
+    texts(rt, rt.alloc(), hoard)?;
+    streams(rt, rt.alloc(), hoard)?;
+    openings_of_stores(rt, hoard)?;
+    open_stores(rt, rt.alloc(), hoard)?;
+    new_launchers(rt, rt.alloc(), hoard)?;
+    turns(rt, rt.alloc(), hoard)
+}
+
 fn short(rt: &HostRuntime) -> Result<()> {
     let mut hoard = Hoard::new(rt.alloc())?;
-    parts(rt, rt.alloc(), &mut hoard)?;
-    texts(rt, rt.alloc(), &mut hoard)?;
-    streams(rt, rt.alloc(), &mut hoard)?;
-    openings_of_stores(rt, &mut hoard)?;
-    open_stores(rt, rt.alloc(), &mut hoard)?;
-    new_launchers(rt, rt.alloc(), &mut hoard)?;
-    turns(rt, rt.alloc(), &mut hoard)
+    let done = try_short(rt, &mut hoard);
+    drop(hoard);
+    done
 }
 
 fn main(rt: HostRuntime) -> Result<()> {

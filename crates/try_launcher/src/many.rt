@@ -76,12 +76,15 @@ fn are_changes(alloc: Global, changes: &[(String, u64)]) -> Result<bool, AllocEr
 fn lists_all<S: Alter>(alloc: Global, store: &mut OverrideStore<S>) -> bool {
     let all = all_of(alloc, store);
     let changes = changes_of(alloc, store);
-    match (all, changes) {
+    let are_so = match (&all, &changes) {
         (Ok(all), Ok(changes)) => {
-            are_settings(alloc, &all) == Ok(true) && are_changes(alloc, &changes) == Ok(true)
+            are_settings(alloc, all) == Ok(true) && are_changes(alloc, changes) == Ok(true)
         }
         _ => false,
-    }
+    };
+    drop(all);
+    drop(changes);
+    are_so
 }
 
 /// Whether a store on the connection lists a thousand of them once they are set.
@@ -91,5 +94,6 @@ pub fn has_many<S: Alter + Drop>(alloc: Global, conn: Connection<S>) -> bool {
     };
     let is_set = sets_all(alloc, &mut store);
     let is_listed = lists_all(alloc, &mut store);
+    drop(store);
     is_set && is_listed
 }

@@ -127,7 +127,10 @@ fn fault_of(alloc: Global, opening: &Opening) -> Result<u8, Refusal> {
     let (header, mut store, edge) = parts_of(alloc, opening.zone, opening.up, opening.held, &[])?;
     store.fault = opening.fault;
     Ok(match opened(alloc, header, store, edge, 10) {
-        Ok(_) => 0,
+        Ok(host) => {
+            drop(host);
+            0
+        }
         Err(fault) => number_of(fault),
     })
 }

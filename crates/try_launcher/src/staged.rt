@@ -103,8 +103,14 @@ pub fn parts_of(
     held: &[&str],
     calls: &[(EdgeCall, Scripted)],
 ) -> Result<Parts, Refusal> {
-    let held = disabled(alloc, held)?;
     let edge = edge(alloc, calls)?;
-    let header = header(alloc, zone, up)?;
-    Ok((header, store(alloc, held, true), edge))
+    match (header(alloc, zone, up), disabled(alloc, held)) {
+        (Ok(header), Ok(held)) => Ok((header, store(alloc, held, true), edge)),
+        (header, held) => {
+            drop(edge);
+            drop(header);
+            drop(held);
+            Err(Refusal::NoMemory)
+        }
+    }
 }

@@ -4,7 +4,7 @@
 use crate::calls::connected;
 use crate::disks::{fused, left};
 use crate::stops::found;
-use child_edge::{ChildEdge, EdgeCall, MemoryEdge, Scripted, SocketEdge};
+use child_edge::{EdgeCall, MemoryEdge, Scripted};
 use history_model::Setting;
 use launcher::{Host, Input};
 use memory_stage::{Sink, edge, header};
@@ -13,7 +13,6 @@ use override_store::opened;
 use sqlite::{Alter, Connection, Files};
 use sqlite_disk::{Disk, Memory};
 use std::alloc::Global;
-use std::io::Write;
 
 const DISABLE: &[u8] = b"{\"req\":\"disable\",\"job\":\"a\"}";
 
@@ -25,17 +24,19 @@ type Codes = (u8, u8);
 
 /// A launcher over this store; none if the store refused.
 fn launched<T: SettingStore + Drop>(alloc: Global, store: T) -> Option<Host<T, MemoryEdge, Sink>> {
-    let header = header(alloc, "UTC0", 0).ok()?;
     let calls: [(EdgeCall, Scripted); 0] = [];
-    let edge = edge(alloc, &calls).ok()?;
-    Host::new(alloc, header, store, edge, None).ok()
+    match (header(alloc, "UTC0", 0), edge(alloc, &calls)) {
+        (Ok(header), Ok(edge)) => Host::new(alloc, header, store, edge, None).ok(),
+        (header, edge) => {
+            drop(store);
+            drop(header);
+            drop(edge);
+            None
+        }
+    }
 }
 
-fn code<T: SettingStore, E: ChildEdge + SocketEdge, W: Write>(
-    alloc: Global,
-    host: &mut Host<T, E, W>,
-    line: &[u8],
-) -> u8 {
+fn code<T: SettingStore>(alloc: Global, host: &mut Host<T, MemoryEdge, Sink>, line: &[u8]) -> u8 {
     match host.turn(alloc, Input::Line(line)).refusal {
         Some(refusal) => refusal.code(),
         None => 0,
@@ -43,20 +44,21 @@ fn code<T: SettingStore, E: ChildEdge + SocketEdge, W: Write>(
 }
 
 /// The store once `a` was disabled and loaded.
-fn turned<T: SettingStore + Drop, E: ChildEdge + SocketEdge + Drop, W: Write + Drop>(
-    alloc: Global,
-    host: Host<T, E, W>,
-) -> (Codes, T) {
+fn turned<T: SettingStore + Drop>(alloc: Global, host: Host<T, MemoryEdge, Sink>) -> (Codes, T) {
     let mut host = host;
     let disabled = code(alloc, &mut host, DISABLE);
     let loaded = code(alloc, &mut host, LOAD);
-    let (_table, store, _edge, _journal) = host.into_parts();
+    let (table, store, edge, journal) = host.into_parts();
+    drop(table);
+    drop(edge);
+    drop(journal);
     ((disabled, loaded), store)
 }
 
 /// What stays of the connection, closed as far as that goes; none if a disk stopped before the launcher was made.
 fn run_over<S: Alter + Drop>(alloc: Global, conn: Connection<S>) -> Option<(Codes, S)> {
-    let (settings, _) = opened(alloc, conn).ok()?;
+    let (settings, all) = opened(alloc, conn).ok()?;
+    drop(all);
     let (codes, settings) = turned(alloc, launched(alloc, settings)?);
     Some((codes, settings.store.close_on().into_store()))
 }

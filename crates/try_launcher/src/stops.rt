@@ -54,6 +54,7 @@ fn run_over<S: Alter + Drop>(alloc: Global, conn: Connection<S>) -> (Said, S) {
 /// The same from the opening of the files.
 fn run_from<D: Disk + Drop>(alloc: Global, files: Files<D>) -> Option<(Said, Files<D>)> {
     if !files.may_be_used() {
+        drop(files);
         return None;
     }
     match Connection::open_files(alloc, files, Options::new(7)) {
@@ -68,7 +69,9 @@ fn run_from<D: Disk + Drop>(alloc: Global, files: Files<D>) -> Option<(Said, Fil
 /// The settings that a store on the connection has.
 fn settings_on<S: Alter + Drop>(alloc: Global, conn: Connection<S>) -> Option<Vec<Setting>> {
     let mut store = opened(alloc, conn)?;
-    all_of(alloc, &mut store).ok()
+    let all = all_of(alloc, &mut store).ok();
+    drop(store);
+    all
 }
 
 /// The settings that a store over these files has.
@@ -153,7 +156,11 @@ fn each_stop_is_followed(alloc: Global, run: Run, from: &Files<Memory>, is_log: 
 
 fn all_stops_are_followed(alloc: Global, run: Run, is_log: bool) -> bool {
     match first_files(alloc, run) {
-        Some(from) => each_stop_is_followed(alloc, run, &from, is_log),
+        Some(from) => {
+            let is_so = each_stop_is_followed(alloc, run, &from, is_log);
+            drop(from);
+            is_so
+        }
         None => false,
     }
 }

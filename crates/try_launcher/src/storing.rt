@@ -102,6 +102,7 @@ fn first_version<S: Alter + Drop>(conn: Connection<S>) -> Option<Connection<S>> 
     if is_emptied && is_made {
         Some(conn)
     } else {
+        drop(conn);
         None
     }
 }
@@ -169,7 +170,10 @@ impl<S: Alter + Drop, P: Place<S>> Storing<S, P> {
         match self.take() {
             State::Opened(store) => Some(store),
             State::Refused => opened(alloc, self.place.connect(alloc)?),
-            State::Ready(_conn) => None,
+            State::Ready(conn) => {
+                drop(conn);
+                None
+            }
             State::Nothing => None,
         }
     }
@@ -177,7 +181,11 @@ impl<S: Alter + Drop, P: Place<S>> Storing<S, P> {
     /// Whether the store that was opened, or is opened now, has the settings of the first version.
     fn has_moved(&mut self, alloc: Global) -> bool {
         match self.store(alloc) {
-            Some(mut store) => has(alloc, &mut store, &MOVED),
+            Some(mut store) => {
+                let has_moved = has(alloc, &mut store, &MOVED);
+                drop(store);
+                has_moved
+            }
             None => false,
         }
     }
@@ -191,7 +199,8 @@ impl<S: Alter + Drop, P: Place<S>> Trial for Storing<S, P> {
         };
         match conn {
             Some(conn) => {
-                self.state = begun(alloc, conn, self.call);
+                let begun = begun(alloc, conn, self.call);
+                drop(mem::replace(&mut self.state, begun));
                 !matches!(self.state, State::Refused)
             }
             None => false,
@@ -201,7 +210,7 @@ impl<S: Alter + Drop, P: Place<S>> Trial for Storing<S, P> {
     fn call(&mut self, alloc: Global) -> Answer {
         if matches!(self.call, Call::Open) {
             let (state, answer) = open(alloc, self.take());
-            self.state = state;
+            drop(mem::replace(&mut self.state, state));
             return answer;
         }
         match &mut self.state {

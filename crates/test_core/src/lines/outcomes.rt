@@ -150,10 +150,11 @@ fn is_told(alloc: Global, told: &Told) -> Result<bool, AllocError> {
     let text = Text::copy_of(alloc, text)?;
     let reply = Reply { refusal, text };
     let line = match orders {
-        Some(orders) => outcome_line(alloc, &reply, orders)?,
-        None => reply_line(alloc, &reply)?,
+        Some(orders) => outcome_line(alloc, &reply, orders),
+        None => reply_line(alloc, &reply),
     };
-    Ok(is_line(line.as_slice(), wanted))
+    drop(reply);
+    Ok(is_line(line?.as_slice(), wanted))
 }
 
 #[test]
