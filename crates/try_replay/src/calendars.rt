@@ -49,6 +49,13 @@ fn show(rt: &impl Eprint, is_timed: bool, name: &str, micros: u128) -> io::Resul
     Ok(())
 }
 
+/// The crossed minutes of the 400 days, and how many microseconds it took to find them.
+fn crossed(rt: &impl Clock, alloc: Global, zone: &Zone) -> io::Result<(Vec<CivilMinute>, u128)> {
+    let start = Instant::now(rt)?;
+    let minutes = zone.crossed(alloc, NOW - DAYS_400, NOW)?;
+    Ok((minutes, start.elapsed(rt)?.as_micros()))
+}
+
 /// Counts, and says how long each count took if that is asked for.
 pub fn count_all<R: Print + Eprint + Clock>(
     rt: &R,
@@ -58,13 +65,23 @@ pub fn count_all<R: Print + Eprint + Clock>(
     let Ok(zone) = Zone::posix(RULE) else {
         return println!(rt; "the rule was refused");
     };
-    let start = Instant::now(rt)?;
-    let minutes = zone.crossed(alloc, NOW - DAYS_400, NOW)?;
-    show(rt, is_timed, "minutes", start.elapsed(rt)?.as_micros())?;
+    let crossed = crossed(rt, alloc, &zone);
+    drop(zone);
+    let (minutes, micros) = crossed?;
+    show(rt, is_timed, "minutes", micros)?;
     println!(rt; "minutes {}", minutes.len())?;
+    count_jobs(rt, is_timed, minutes.as_slice())
+}
+
+/// Counts the jobs that fire: first of those of each hour, and then of idle ones.
+fn count_jobs<R: Print + Eprint + Clock>(
+    rt: &R,
+    is_timed: bool,
+    minutes: &[CivilMinute],
+) -> io::Result<()> {
     for (jobs, name) in [(1024, "hourly jobs"), (8, "eight idle jobs")] {
         let start = Instant::now(rt)?;
-        let fire = count(minutes.as_slice(), jobs, jobs == 1024);
+        let fire = count(minutes, jobs, jobs == 1024);
         println!(rt; "{name} that fire {fire}")?;
         show(rt, is_timed, name, start.elapsed(rt)?.as_micros())?;
     }

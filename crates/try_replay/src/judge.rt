@@ -14,11 +14,15 @@ pub fn judge<R: Print + AllocGlobal>(
     let mut reader = input;
     let mut written = Vec::new(rt.alloc());
     let status = status_of(replay(rt.alloc(), &mut reader, &mut written));
+    let is_wanted = written.as_slice() == wanted;
+    drop(written);
     if status != wanted_status {
-        println!(rt; "{name}: status {status}, wanted {wanted_status}")
-    } else if written.as_slice() != wanted {
-        println!(rt; "{name}: other outcomes than wanted")
-    } else {
-        println!(rt; "{name}")
+        return println!(rt; "{name}: status {status}, wanted {wanted_status}");
     }
+    let fault = if is_wanted {
+        ""
+    } else {
+        ": other outcomes than wanted"
+    };
+    println!(rt; "{name}{fault}")
 }

@@ -68,22 +68,7 @@ fn many_loaded(alloc: Global) -> Result<String, AllocError> {
     Ok(wanted)
 }
 
-/// Judges each of them.
-pub fn judge_all<R: Print + AllocGlobal>(rt: &R) -> io::Result<()> {
-    let long_list = [(HEADER, 0), (LIST, 262_144)];
-    judge_lines(rt, "longest_line", &long_list, NO_JOB, 0)?;
-    let longer_list = [(HEADER, 0), (LIST, 0), (LIST, 262_145), (LIST, 0)];
-    judge_lines(rt, "line_that_is_too_long", &longer_list, NO_JOB, 4)?;
-    let mixed = [
-        (HEADER, 0),
-        (LIST, 262_144),
-        ("ab", 0),
-        (LIST, 262_145),
-        (LIST, 0),
-    ];
-    judge_lines(rt, "long_lines_and_a_longer_one", &mixed, LIST_AND_BAD, 4)?;
-    judge_lines(rt, "longest_header", &[(HEADER, 262_144)], "", 0)?;
-    judge_lines(rt, "header_that_is_too_long", &[(HEADER, 262_145)], "", 2)?;
+fn judge_many_jobs<R: Print + AllocGlobal>(rt: &R) -> io::Result<()> {
     let input = many_jobs(rt.alloc())?;
     let wanted = many_loaded(rt.alloc())?;
     judge(
@@ -93,4 +78,44 @@ pub fn judge_all<R: Print + AllocGlobal>(rt: &R) -> io::Result<()> {
         wanted.as_bytes(),
         0,
     )
+}
+
+/// A name, the lines, what is written for them, and the exit status that is wanted.
+type Row = (
+    &'static str,
+    &'static [(&'static str, usize)],
+    &'static str,
+    u8,
+);
+
+static ROWS: &[Row] = &[
+    ("longest_line", &[(HEADER, 0), (LIST, 262_144)], NO_JOB, 0),
+    (
+        "line_that_is_too_long",
+        &[(HEADER, 0), (LIST, 0), (LIST, 262_145), (LIST, 0)],
+        NO_JOB,
+        4,
+    ),
+    (
+        "long_lines_and_a_longer_one",
+        &[
+            (HEADER, 0),
+            (LIST, 262_144),
+            ("ab", 0),
+            (LIST, 262_145),
+            (LIST, 0),
+        ],
+        LIST_AND_BAD,
+        4,
+    ),
+    ("longest_header", &[(HEADER, 262_144)], "", 0),
+    ("header_that_is_too_long", &[(HEADER, 262_145)], "", 2),
+];
+
+/// Judges each of them.
+pub fn judge_all<R: Print + AllocGlobal>(rt: &R) -> io::Result<()> {
+    for (name, lines, wanted, status) in ROWS {
+        judge_lines(rt, name, lines, wanted, *status)?;
+    }
+    judge_many_jobs(rt)
 }

@@ -4,9 +4,13 @@ use crate::judge::judge;
 use std::rt::Files;
 use std::{fs, io};
 
+fn read_stored<R: Files + AllocGlobal>(rt: &R, name: &str, kind: &str) -> io::Result<Vec<u8>> {
+    fs::read(rt, format!(in rt.alloc(); "{name}.{kind}")?)
+}
+
 fn judge_one<R: Files + Print + AllocGlobal>(rt: &R, name: &str, status: &str) -> io::Result<()> {
-    let input = fs::read(rt, format!(in rt.alloc(); "{name}.in")?)?;
-    let wanted = fs::read(rt, format!(in rt.alloc(); "{name}.out")?)?;
+    let input = read_stored(rt, name, "in")?;
+    let wanted = read_stored(rt, name, "out")?;
     match status.parse::<u8>() {
         Ok(status) => judge(rt, name, input.as_slice(), wanted.as_slice(), status),
         Err(_) => println!(rt; "{name}: no status is wanted"),
