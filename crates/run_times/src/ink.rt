@@ -88,6 +88,7 @@ impl Ink {
 
     /// Adds a text for which memory may have been refused.
     pub fn put_made(&mut self, made: Result<String, AllocError>)
+        ensures added { IfOk made (λ part. self.new.is_refused ≡ false → string_bytes self.new.text ≡ string_bytes self.old.text ++ string_bytes part) }
         ensures refused { OnErr made (self.new.is_refused ≡ true) }
         ensures kept { self.new.is_refused ≡ false → self.old.is_refused ≡ false }
     {
