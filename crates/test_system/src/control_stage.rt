@@ -62,27 +62,57 @@ struct Stage {
     clients: Vec<Option<UnixStream>>,
 }
 
-fn new_stage(rt: &HostRuntime, name: &str) -> Option<Stage> {
-    let path = folder_name(rt, name)?;
-    let poll = Poll::new(rt).ok()?;
-    let events = Events::with_capacity(rt.alloc(), 8).ok()?;
-    let mut socket = ControlSocket::open(rt, rt.alloc(), path.as_str()).ok()?;
-    socket.register(poll.registry(), Token(3)).ok()?;
-    Some(Stage {
+/// The socket at the path, registered with the poll.
+fn socket_at(rt: &HostRuntime, path: &str, poll: &Poll) -> Option<ControlSocket> {
+    let mut socket = ControlSocket::open(rt, rt.alloc(), path).ok()?;
+    if socket.register(poll.registry(), Token(3)).is_ok() {
+        Some(socket)
+    } else {
+        drop(socket);
+        None
+    }
+}
+
+/// A stage with no client.
+fn stage_of(
+    alloc: Global,
+    path: String,
+    poll: Poll,
+    events: Events,
+    socket: ControlSocket,
+) -> Stage {
+    Stage {
         path,
         poll,
         events,
         socket,
         echo: Echo {
-            asked: Vec::new(rt.alloc()),
+            asked: Vec::new(alloc),
         },
         budget: Budget {
             lines: u32::MAX,
             up: 0,
             left: 0,
         },
-        clients: Vec::new(rt.alloc()),
-    })
+        clients: Vec::new(alloc),
+    }
+}
+
+fn new_stage(rt: &HostRuntime, name: &str) -> Option<Stage> {
+    let path = folder_name(rt, name)?;
+    let poll = Poll::new(rt).ok()?;
+    let events = Events::with_capacity(rt.alloc(), 8);
+    let socket = socket_at(rt, path.as_str(), &poll);
+    match (events, socket) {
+        (Ok(events), Some(socket)) => Some(stage_of(rt.alloc(), path, poll, events, socket)),
+        (events, socket) => {
+            drop(path);
+            drop(poll);
+            drop(events);
+            drop(socket);
+            None
+        }
+    }
 }
 
 /// Plays the steps. The number of the first that goes wrong, or of none; or None if the socket can't be opened.
@@ -96,6 +126,7 @@ pub fn played(rt: &HostRuntime, name: &str, steps: &[Step]) -> Option<usize> {
         passed = passed.saturating_add(1);
     }
     stage.socket.remove(rt);
+    drop(stage);
     Some(passed)
 }
 

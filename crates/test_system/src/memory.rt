@@ -201,7 +201,11 @@ fn is_so(edge: &mut MemoryEdge, jobs: Jobs<'_>, case: &Case) -> bool {
 /// The same, over an edge of its own.
 fn passes_with(alloc: Global, jobs: Jobs<'_>, case: &Case) -> bool {
     match edge_with(alloc, case) {
-        Some(mut edge) => is_so(&mut edge, jobs, case),
+        Some(mut edge) => {
+            let is_so = is_so(&mut edge, jobs, case);
+            drop(edge);
+            is_so
+        }
         None => false,
     }
 }
@@ -209,14 +213,15 @@ fn passes_with(alloc: Global, jobs: Jobs<'_>, case: &Case) -> bool {
 /// The same, with a second definition.
 fn passes_after(alloc: Global, first: &Def, case: &Case) -> bool {
     match def_of(alloc, "{\"Label\":\"b\",\"Program\":\"/bin/x\"}") {
-        Some(second) => passes_with(
-            alloc,
-            Jobs {
+        Some(second) => {
+            let jobs = Jobs {
                 first,
                 second: &second,
-            },
-            case,
-        ),
+            };
+            let passes = passes_with(alloc, jobs, case);
+            drop(second);
+            passes
+        }
         None => false,
     }
 }
@@ -224,7 +229,11 @@ fn passes_after(alloc: Global, first: &Def, case: &Case) -> bool {
 /// The same, with two definitions.
 fn passes(alloc: Global, case: &Case) -> bool {
     match def_of(alloc, "{\"Label\":\"a\",\"Program\":\"/bin/x\"}") {
-        Some(first) => passes_after(alloc, &first, case),
+        Some(first) => {
+            let passes = passes_after(alloc, &first, case);
+            drop(first);
+            passes
+        }
         None => false,
     }
 }

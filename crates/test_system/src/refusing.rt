@@ -295,7 +295,10 @@ fn tells(edge: &mut OsEdge<Refusing>, lines: &[&str]) -> bool {
 /// An edge over this system, that spools in the folder.
 fn edge_over(system: Refusing, folder: &str) -> Option<OsEdge<Refusing>> {
     let alloc = system.alloc;
-    let spool = String::from_str(alloc, folder).ok()?;
+    let Ok(spool) = String::from_str(alloc, folder) else {
+        drop(system);
+        return None;
+    };
     OsEdge::new(system, alloc, spool).ok()
 }
 
@@ -319,7 +322,11 @@ fn passes_with(alloc: Global, jobs: Jobs<'_>, case: &Case) -> bool {
         host: None,
     };
     match edge_over(system, "/none") {
-        Some(mut edge) => is_so(&mut edge, jobs, case),
+        Some(mut edge) => {
+            let is_so = is_so(&mut edge, jobs, case);
+            drop(edge);
+            is_so
+        }
         None => false,
     }
 }
@@ -328,14 +335,15 @@ fn passes_with(alloc: Global, jobs: Jobs<'_>, case: &Case) -> bool {
 fn passes_after(alloc: Global, first: &Def, case: &Case) -> bool {
     let other = if case.pid.is_none() { FILED } else { PLAIN };
     match def_of(alloc, other) {
-        Some(second) => passes_with(
-            alloc,
-            Jobs {
+        Some(second) => {
+            let jobs = Jobs {
                 first,
                 second: &second,
-            },
-            case,
-        ),
+            };
+            let passes = passes_with(alloc, jobs, case);
+            drop(second);
+            passes
+        }
         None => false,
     }
 }
@@ -343,7 +351,11 @@ fn passes_after(alloc: Global, first: &Def, case: &Case) -> bool {
 /// The same, with two definitions.
 fn passes(alloc: Global, case: &Case) -> bool {
     match def_of(alloc, PLAIN) {
-        Some(first) => passes_after(alloc, &first, case),
+        Some(first) => {
+            let passes = passes_after(alloc, &first, case);
+            drop(first);
+            passes
+        }
         None => false,
     }
 }
@@ -361,7 +373,10 @@ fn near_end(rt: &HostRuntime) -> Option<UnixStream> {
 fn takes(alloc: Global, edge: &mut OsEdge<Refusing>, near: UnixStream) -> bool {
     match Exchange::new(alloc) {
         Ok(exchange) => edge.take(0, 1, Client::Unix(near), exchange).is_ok(),
-        Err(_) => false,
+        Err(_) => {
+            drop(near);
+            false
+        }
     }
 }
 
@@ -415,7 +430,11 @@ fn lets_go_with(rt: &HostRuntime, folder: &str, def: &Def) -> bool {
         host: rt.clone().ok(),
     };
     match edge_over(system, folder) {
-        Some(mut edge) => lets_go(rt, &mut edge, folder, def),
+        Some(mut edge) => {
+            let lets_go = lets_go(rt, &mut edge, folder, def);
+            drop(edge);
+            lets_go
+        }
         None => false,
     }
 }
@@ -434,10 +453,13 @@ fn lets_go_one_who_takes_nothing(rt: &HostRuntime) -> Option<bool> {
     let port = free_port(rt)?;
     let folder = folder_name(rt, "minute")?;
     fs::create_dir(rt, folder.as_str()).ok()?;
-    Some(match def_at(rt, port) {
-        Some(def) => lets_go_with(rt, folder.as_str(), &def),
+    let def = def_at(rt, port);
+    let lets_go = match &def {
+        Some(def) => lets_go_with(rt, folder.as_str(), def),
         None => false,
-    })
+    };
+    drop(def);
+    Some(lets_go)
 }
 
 #[test]

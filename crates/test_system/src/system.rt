@@ -261,7 +261,10 @@ fn new_watch(rt: &HostRuntime) -> Option<Watch> {
 
 /// Whether the edge takes the client under number 1.
 fn takes(rt: &HostRuntime, edge: &mut OsEdge<HostRuntime>, client: Client) -> Option<bool> {
-    let exchange = Exchange::new(rt.alloc()).ok()?;
+    let Ok(exchange) = Exchange::new(rt.alloc()) else {
+        drop(client);
+        return None;
+    };
     Some(edge.take(0, 1, client, exchange).is_ok())
 }
 
@@ -392,7 +395,9 @@ fn watched(
     steps: &[Step],
 ) -> Option<usize> {
     let mut watch = new_watch(rt)?;
-    Some(passed(rt, place, edge, &mut watch, steps))
+    let passed = passed(rt, place, edge, &mut watch, steps);
+    drop(watch);
+    Some(passed)
 }
 
 /// The same, over an edge that is left to the end of the test's process, which closes what it holds.
@@ -417,7 +422,9 @@ fn played_with<'x>(
                 first,
                 second: &second,
             };
-            played_at(rt, Place { folder, port, jobs }, case.steps)
+            let played = played_at(rt, Place { folder, port, jobs }, case.steps);
+            drop(second);
+            played
         }
         None => None,
     }
@@ -426,7 +433,11 @@ fn played_with<'x>(
 /// The same, with both.
 fn played_in(rt: &HostRuntime, folder: &str, port: u16, case: &Case) -> Option<usize> {
     match job_of(rt, folder, port, case.scripts[0]) {
-        Some(first) => played_with(rt, folder, port, &first, case),
+        Some(first) => {
+            let played = played_with(rt, folder, port, &first, case);
+            drop(first);
+            played
+        }
         None => None,
     }
 }
