@@ -5,7 +5,8 @@
 
 First: `rm -r crates/CRATE/out/incremental; cd crates/CRATE; rt check --jobs 1`. The check keeps what it proved as files in out/incremental,
 one for each module, written as it goes. So the time between two files is what the later one took, by the clock. The NUMBER (25) dearest
-modules are listed, then what each kind of module took together:
+modules are listed, then what each kind of module took together. If the crate's library was built too (`rt lib`), a line of an Lts ends with
+how many values are let go within the function, part by part: each is a step, on each way out (docs/ARCHITECTURE.md, "Cheap to prove").
 
     F.Lts        the steps of the function F: grows with its calls, and with each way out that lets values go
     F.Proof      the proof that F meets its clauses; F.Answers, what was written of it
@@ -18,6 +19,7 @@ A check of several jobs writes modules side by side, and tells nothing here. The
 modules of a function's callers to the function that is checked first.
 """
 import collections
+import json
 import os
 import sys
 
@@ -35,6 +37,18 @@ def modules_of(crate):
     return sorted(found)
 
 
+def let_go_in(crate):
+    """How many values each function of the crate lets go, by the name of its module."""
+    path = f"{TOP}/crates/{crate}/out/rlib/{crate}.rlib/toolchain/mir.json"
+    if not os.path.isfile(path):
+        return {}
+    with open(path, encoding="utf-8") as it:
+        functions = json.load(it)
+    prefix = f"{crate}::"
+    named = {name.removeprefix(prefix).replace("::", "."): json.dumps(code.get("body")) for name, code in functions}
+    return {f"Rattle-{crate}-proofs.{name}.Lts": text.count('::drop"') for name, text in named.items()}
+
+
 def kind_of(module, crate):
     name = module.removesuffix(".decls")
     last = name.rpartition(".")[2]
@@ -50,8 +64,10 @@ def main(crate, number="25"):
     if len(modules) < 2:
         sys.exit(f"crates/{crate}/out/incremental has no modules: check the crate first, with --jobs 1")
     spent = [(later - earlier, name) for (earlier, _), (later, name) in zip(modules, modules[1:])]
+    let_go = let_go_in(crate)
     for seconds, name in sorted(spent, reverse=True)[: int(number)]:
-        print(f"{seconds:8.1f} {name}")
+        count = let_go.get(name.removesuffix(".decls"), 0)
+        print(f"{seconds:8.1f} {name}{f', {count} let go' if count else ''}")
     sums = collections.Counter()
     for seconds, name in spent:
         sums[kind_of(name, crate)] += seconds
