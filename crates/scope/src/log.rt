@@ -37,10 +37,14 @@ pub(crate) fn log<W: Wait>(
         labels: of.labels.as_slice(),
         text: String::new(alloc),
     });
+    let mut feed = Feed::new(alloc);
     let status = match &path {
-        Some(path) if follows => follow(host, waits, alloc, path.as_str(), &mut listener),
-        _ => log_once(host, alloc, &path, &mut listener),
+        Some(path) if follows => {
+            follow(host, waits, alloc, path.as_str(), &mut feed, &mut listener)
+        }
+        _ => log_once(host, alloc, &path, &mut feed, &mut listener),
     };
+    drop(feed);
     drop(listener);
     drop(path);
     status
@@ -50,20 +54,18 @@ fn log_once(
     host: &HostRuntime,
     alloc: Global,
     path: &Option<String>,
+    feed: &mut Feed,
     listener: &mut Listener<'_>,
 ) -> io::Result<u8> {
-    let mut feed = Feed::new(alloc);
     let name = name_of(path);
-    let status = match show_path(host, alloc, path, &mut feed, listener) {
+    match show_path(host, alloc, path, feed, listener) {
         Ok(Some(fault)) => tell_fault(host, name, fault),
         Ok(None) => match feed.reader.journal() {
             Some(_) => Ok(tell_bad(host, name, &feed.reader)),
             None => tell_fault(host, name, JournalFault::NoHeader),
         },
         Err(error) => Err(error),
-    };
-    drop(feed);
-    status
+    }
 }
 
 fn show_path(
@@ -114,19 +116,6 @@ fn write_text(host: &HostRuntime, listener: &mut Listener<'_>) -> io::Result<()>
 
 // Shows the journal as it grows. A file that is away for a while, as when a new launcher puts it aside, is waited for.
 fn follow<W: Wait>(
-    host: &HostRuntime,
-    waits: &W,
-    alloc: Global,
-    path: &str,
-    listener: &mut Listener<'_>,
-) -> io::Result<u8> {
-    let mut feed = Feed::new(alloc);
-    let status = follow_on(host, waits, alloc, path, &mut feed, listener);
-    drop(feed);
-    status
-}
-
-fn follow_on<W: Wait>(
     host: &HostRuntime,
     waits: &W,
     alloc: Global,
