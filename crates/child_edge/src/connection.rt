@@ -45,7 +45,7 @@ pub(crate) struct Connection {
     pub(crate) moved: Instant,
 }
 
-// It is written out, so that a function which lets it go calls this, in place of letting each part go.
+// for the proof: who lets it go calls this, in place of letting each part go
 impl Drop for Connection {
     fn drop(self) {
         let Connection {

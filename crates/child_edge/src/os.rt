@@ -39,7 +39,7 @@ pub struct OsEdge<R: Processes> {
     failures: u64,
 }
 
-// It is written out, so that a function which lets it go calls this, in place of letting each part go.
+// for the proof: who lets it go calls this, in place of letting each part go
 impl<R: Drop + Processes> Drop for OsEdge<R> {
     fn drop(self) {
         let OsEdge {

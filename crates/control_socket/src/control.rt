@@ -49,7 +49,7 @@ pub struct ControlSocket {
     is_whole: bool,
 }
 
-// It is written out, so that a function which lets it go calls this, in place of letting each part go.
+// for the proof: who lets it go calls this, in place of letting each part go
 impl Drop for ControlSocket {
     fn drop(self) {
         let ControlSocket {

@@ -18,7 +18,7 @@ pub struct Def {
     pub(crate) not_acted_on: Vec<Text>,
 }
 
-// It is written out, so that a function which lets it go calls this, in place of letting each part go.
+// for the proof: who lets it go calls this, in place of letting each part go
 impl Drop for Def {
     fn drop(self) {
         let Def {

@@ -50,7 +50,7 @@ pub(crate) struct Launch {
     pub(crate) disabled: bool,
 }
 
-// It is written out, so that a function which lets it go calls this, in place of letting each part go.
+// for the proof: who lets it go calls this, in place of letting each part go
 impl Drop for Launch {
     fn drop(self) {
         let Launch {
@@ -80,7 +80,7 @@ pub(crate) struct Demand {
     pub(crate) calendar: Vec<Entry>,
 }
 
-// It is written out, so that a function which lets it go calls this, in place of letting each part go.
+// for the proof: who lets it go calls this, in place of letting each part go
 impl Drop for Demand {
     fn drop(self) {
         let Demand {
@@ -107,7 +107,7 @@ pub(crate) struct Surroundings {
     pub(crate) standard_error_path: Option<Text>,
 }
 
-// It is written out, so that a function which lets it go calls this, in place of letting each part go.
+// for the proof: who lets it go calls this, in place of letting each part go
 impl Drop for Surroundings {
     fn drop(self) {
         let Surroundings {

@@ -54,7 +54,7 @@ pub struct Jobs {
     pub triggers: Vec<Listed>,
 }
 
-// It is written out, so that a function which lets it go calls this, in place of letting each part go.
+// for the proof: who lets it go calls this, in place of letting each part go
 impl Drop for Jobs {
     fn drop(self) {
         let Jobs {

@@ -40,7 +40,7 @@ pub struct Seat {
     pub has_gone: bool,
 }
 
-// It is written out, so that a function which lets it go calls this, in place of letting each part go.
+// for the proof: who lets it go calls this, in place of letting each part go
 impl Drop for Seat {
     fn drop(self) {
         let Seat {
