@@ -7,11 +7,12 @@ use exit_status::{CLOCK_OR_WAITING, NO_MEMORY, STORE};
 use history_model::Setting;
 use launchctl_words::ZoneWords;
 use launcher::{Host, HostFault};
-use live_loop::{Live, ServeFault, System, serve};
+use live_loop::{ServeFault, System, serve};
 use outside::SettingStore;
 use override_store::StoredSettings;
 use own_files::LockFile;
 use own_process::{Standing, open_null_streams};
+use round_launcher::{Live, RoundLauncher};
 use sqlite::FileStore;
 use startup::{
     Places, Plan, begun, bound, hold_spool, journal_at, no_clock, open_store, read_wishes, refuse,
@@ -330,7 +331,7 @@ fn start_with<R: System, T: SettingStore + Drop>(
 ) -> Result<Started<R, T>, u8> {
     let Made { launcher, lock } = made;
     let mark = control.mark();
-    match Live::new(rt, alloc, launcher, control) {
+    match Live::new(rt, alloc, RoundLauncher::new(launcher), control) {
         Ok(live) => Ok(Started {
             live: as_wished(plan, live),
             lock,
