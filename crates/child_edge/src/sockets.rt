@@ -3,7 +3,7 @@
 use crate::listener::Listener;
 use crate::notices::{Asked, Notices};
 use crate::{Client, words};
-use history_model::{JobNo, Text};
+use history_model::{JobNo, MAX_JOBS, Text};
 use job_defs::{Address, Def, Socket};
 use mio::{Registry, Token};
 use std::alloc::Global;
@@ -28,6 +28,8 @@ pub(crate) struct Sockets {
     jobs: BTreeMap<JobNo, Bound>,
     // How many binds were made.
     binds: u64,
+    // A poll may not know each socket.
+    may_be_unknown: bool,
 }
 
 /// Which socket of a definition was refused, by its place in it, and why. A place past the last is none of them.
@@ -52,6 +54,7 @@ impl Sockets {
             alloc,
             jobs: BTreeMap::new(alloc),
             binds: 0,
+            may_be_unknown: false,
         }
     }
 
@@ -85,6 +88,7 @@ impl Sockets {
             registered: 0,
         };
         self.binds = self.binds.wrapping_add(1);
+        self.may_be_unknown = true;
         match self.jobs.insert(job, bound) {
             Ok(other) => {
                 drop(other);
@@ -163,18 +167,43 @@ impl Sockets {
         registry: &Registry,
         token: Token,
     ) -> io::Result<()> {
+        if !self.may_be_unknown {
+            return Ok(());
+        }
         let mut answer = Ok(());
-        for (job, bound) in self.jobs.iter_mut() {
-            if bound.registered >= bound.listeners.len() {
-                continue;
+        let mut next = 0;
+        for _ in 0..MAX_JOBS {
+            let Some(job) = self.listener_from(next) else {
+                break;
+            };
+            next = job.saturating_add(1);
+            if let Err(error) = self.register_job(notices, registry, token, job) {
+                answer = Err(error);
             }
-            match bound.register(registry, token) {
-                Ok(()) => notices.done(*job, Asked::Watch),
-                Err(error) => {
-                    let what = words::cannot(self.alloc, "wait for clients", error);
-                    notices.refused(*job, Asked::Watch, bound.label.as_str(), None, what);
-                    answer = Err(error);
-                }
+        }
+        self.may_be_unknown = answer.is_err();
+        answer
+    }
+
+    fn register_job(
+        &mut self,
+        notices: &mut Notices,
+        registry: &Registry,
+        token: Token,
+        job: JobNo,
+    ) -> io::Result<()> {
+        let Some(bound) = self.jobs.get_mut(&job) else {
+            return Ok(());
+        };
+        if bound.registered >= bound.listeners.len() {
+            return Ok(());
+        }
+        let answer = bound.register(registry, token);
+        match answer {
+            Ok(()) => notices.done(job, Asked::Watch),
+            Err(error) => {
+                let what = words::cannot(self.alloc, "wait for clients", error);
+                notices.refused(job, Asked::Watch, bound.label.as_str(), None, what);
             }
         }
         answer
