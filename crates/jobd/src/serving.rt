@@ -82,17 +82,17 @@ struct Prepared {
 /// 7, how the process was started and the clock 9, the control socket 6, the journal 8, the store 5, the spool 10, waiting 9; 1
 /// for want of memory. A journal is emptied only after the spool. The files of the control socket and of locks are removed in
 /// each case, and what else was made is left.
-pub(crate) fn serve_at<R: System + Wait>(
+pub(crate) fn serve_at<L: Wait>(
     host: &HostRuntime,
-    rt: &R,
+    waits: &L,
     alloc: Global,
     places: Places,
     zone: ZoneWords,
 ) -> u8 {
-    match prepare(host, rt, alloc, places) {
+    match prepare(host, host, alloc, places) {
         Ok(prepared) => {
             let store = InFile { rt: host };
-            let status = serve_by(host, rt, alloc, &prepared.plan, zone, &store);
+            let status = serve_by(host, waits, host, alloc, &prepared.plan, zone, &store);
             drop(prepared);
             status
         }
@@ -132,8 +132,9 @@ fn prepare<R: System>(
     }
 }
 
-fn serve_by<R: System + Wait, O: Opens>(
+fn serve_by<L: Wait, R: System, O: Opens>(
     host: &HostRuntime,
+    waits: &L,
     rt: &R,
     alloc: Global,
     plan: &Plan,
@@ -147,7 +148,7 @@ fn serve_by<R: System + Wait, O: Opens>(
     tell_standing(rt, plan);
     // Nobody has to hear it.
     let _written = println!(host; "jobd: ready");
-    let status = match serve(rt, alloc, live) {
+    let status = match serve(waits, rt, alloc, live) {
         Ok(()) => 0,
         Err(fault) => report_loop(rt, plan, fault),
     };

@@ -1,5 +1,5 @@
 -- Which program a name means: one file is three programs, and acts by the name that it was started under.
-use Rattle.std.specs.Prelude.{ℕ, List, ◌∷◌, Bool, ◌||◌, if◌then◌else◌}
+use Rattle.std.specs.Prelude.{ℕ, List, [], ◌∷◌, Bool, ◌||◌, if◌then◌else◌}
 use Rattle.std.specs.Prelude.{codes, nat_eq}
 use Rattle.std.specs.Cmp.Lexicographic.{pointwise}
 use Rattle.std.specs.List.{ends_with}
@@ -15,3 +15,8 @@ abbrev pub program_meant : List ℕ → Program
 program_meant path =
     if is_named path (codes "jobctl") then Jobctl else (
     if is_named path (codes "jobscope") then Jobscope else Jobd)
+
+-- the program that the words mean with which it was started, the first of which is its name
+abbrev pub program_of : List (List ℕ) → Program
+program_of [] = Jobd
+program_of (name ∷ words) = program_meant name

@@ -9,7 +9,7 @@ mod streams;
 mod words;
 
 pub use child::sees_children;
-pub use program::{Program, program_at};
+pub use program::{Program, program_of};
 pub use standing::{Signal, Standing};
 pub use streams::open_null_streams;
 pub use words::{own_program, own_words};

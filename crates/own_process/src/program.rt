@@ -1,19 +1,28 @@
 //! Which of its three programs a file is, by the name that it was started under.
-ghost use Rattle.std.specs.Prelude.{◌≡◌};
-ghost use Rattle.own_process.specs.Programs.{program_meant};
+ghost use Rattle.std.specs.Prelude.{◌≡◌, map, string_bytes};
+ghost use Rattle.own_process.specs.Programs as spec;
 
 /// The programs that are one file.
-#[derive(Clone, Copy)]
 pub enum Program {
     Jobd,
     Jobctl,
     Jobscope,
 }
 
-/// The program that a path means by its last part, as the first word of a process does: `jobctl` and `jobscope` by their names, and
-/// `jobd` by every other.
-pub fn program_at(path: &[u8]) -> Program
-    ensures { result ≡ program_meant path.now }
+/// The program that these words mean, the name of which is the first: by the last part of its path `jobctl`, `jobscope`, and by every
+/// other `jobd`.
+pub fn program_of(words: &[String]) -> Program
+    ensures { result ≡ spec.program_of (map string_bytes words.now) }
+{
+    match words.first() {
+        Some(name) => program_meant(name.as_str().as_bytes()),
+        None => Program::Jobd,
+    }
+}
+
+/// The program that a path means.
+pub(crate) fn program_meant(path: &[u8]) -> Program
+    ensures { result ≡ spec.program_meant path.now }
 {
     if path == b"jobctl".as_slice() || path.ends_with(b"/jobctl") {
         Program::Jobctl

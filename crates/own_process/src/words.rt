@@ -1,6 +1,6 @@
 //! The words that a program was started with.
 
-use crate::program::{Program, program_at};
+use crate::program::{Program, program_meant};
 use std::alloc::AllocError;
 use std::rt::Env;
 use std::{env, io};
@@ -21,7 +21,7 @@ pub fn own_words<R: Env + AllocGlobal>(rt: &R) -> io::Result<Vec<String>> {
 pub fn own_program<R: Env + AllocGlobal>(rt: &R) -> Result<Program, AllocError> {
     let mut room = Vec::from_elem(rt.alloc(), 0, LONGEST)?;
     match rt.arg(0, room.as_mut_slice()) {
-        Ok(length) => Ok(program_at(&room.as_slice()[..length])),
+        Ok(length) => Ok(program_meant(&room.as_slice()[..length])),
         Err(_) => Ok(Program::Jobd),
     }
 }
