@@ -7,11 +7,12 @@ use exit_status::{CLOCK_OR_WAITING, NO_MEMORY, STORE};
 use history_model::Setting;
 use launchctl_words::ZoneWords;
 use launcher::{Host, HostFault};
-use live_loop::{Live, ServeFault, System, serve};
+use live_loop::{ServeFault, System, serve};
 use outside::SettingStore;
 use override_store::StoredSettings;
 use own_files::LockFile;
 use own_process::{Standing, open_null_streams};
+use round_launcher::{Live, RoundLauncher};
 use sqlite::FileStore;
 use startup::{
     Places, Plan, begun, bound, hold_spool, journal_at, no_clock, open_store, read_wishes, refuse,
@@ -82,7 +83,7 @@ struct Prepared {
 /// 7, how the process was started and the clock 9, the control socket 6, the journal 8, the store 5, the spool 10, waiting 9; 1
 /// for want of memory. A journal is emptied only after the spool. The files of the control socket and of locks are removed in
 /// each case, and what else was made is left.
-pub(crate) fn serve_at<L: Wait>(
+pub(crate) fn serve_at<L: System + Wait>(
     host: &HostRuntime,
     waits: &L,
     alloc: Global,
@@ -132,7 +133,7 @@ fn prepare<R: System>(
     }
 }
 
-fn serve_by<L: Wait, R: System, O: Opens>(
+fn serve_by<L: System + Wait, R: System, O: Opens>(
     host: &HostRuntime,
     waits: &L,
     rt: &R,
@@ -148,7 +149,7 @@ fn serve_by<L: Wait, R: System, O: Opens>(
     tell_standing(rt, plan);
     // Nobody has to hear it.
     let _written = println!(host; "jobd: ready");
-    let status = match serve(waits, rt, alloc, live) {
+    let status = match serve(waits, alloc, live) {
         Ok(()) => 0,
         Err(fault) => report_loop(rt, plan, fault),
     };
@@ -331,7 +332,7 @@ fn start_with<R: System, T: SettingStore + Drop>(
 ) -> Result<Started<R, T>, u8> {
     let Made { launcher, lock } = made;
     let mark = control.mark();
-    match Live::new(rt, alloc, launcher, control) {
+    match Live::new(rt, alloc, RoundLauncher::new(launcher), control) {
         Ok(live) => Ok(Started {
             live: as_wished(plan, live),
             lock,

@@ -1,2 +1,1 @@
-pub mod News
 pub mod Waiting

@@ -1,17 +1,13 @@
 //! The clients of jobs' sockets, from their coming to the end of their request. Then the edge of the system has them.
 
 use crate::label_room::LabelRoom;
-use crate::round_launcher::RoundLauncher;
-use crate::round_time::RoundTime;
-use child_edge::{Client, OsEdge, SocketEdge, System};
+use crate::loop_host::{Connection, HandedIn, LoopHost};
+use child_edge::Client;
 use control_socket::Limit;
-use history_model::{JobNo, MAX_JOBS, Refusal, Text};
+use history_model::{JobNo, MAX_JOBS, Text};
 use job_clients::{CALLERS, Caller, Callers, Gathered, Loss, Losses, Origin, Place};
-use launcher::Input;
 use mio::{Registry, Token};
-use outside::SettingStore;
 use std::alloc::{AllocError, Global};
-use std::io::Write;
 
 /// Under this token clients that come wake the poll.
 const COMING: Token = Token(1);
@@ -25,7 +21,6 @@ const TAKEN: usize = 128;
 pub(crate) struct JobSockets {
     callers: Callers,
     losses: Losses,
-    label: LabelRoom,
     conn: u64,
     // Clients may have come since all sockets were tried.
     may_have_come: bool,
@@ -40,11 +35,9 @@ pub(crate) struct JobSockets {
 impl JobSockets {
     pub(crate) fn new(alloc: Global) -> Result<JobSockets, AllocError> {
         let callers = Callers::new(alloc)?;
-        let label = LabelRoom::new(alloc)?;
         Ok(JobSockets {
             callers,
             losses: Losses::new(alloc),
-            label,
             conn: 1,
             may_have_come: true,
             first_job: 0,
@@ -86,14 +79,14 @@ impl JobSockets {
 
     /// Takes the clients that wait at the sockets, if some may have come. Where there is no time left, those of the other jobs are
     /// left for the next round.
-    pub(crate) fn accept<T: SettingStore, R: System, W: Write>(
+    pub(crate) fn accept<H: LoopHost, L: Limit>(
         &mut self,
         registry: &Registry,
-        inputs: &mut RoundLauncher<T, OsEdge<R>, W>,
-        time: &mut RoundTime<'_, R>,
+        host: &mut H,
+        time: &mut L,
     ) {
         // Sockets that the poll refuses are tried in each round.
-        if inputs.host.edge().register(registry, COMING).is_err() {
+        if !host.register(registry, COMING) {
             self.may_have_come = true;
         }
         if !self.may_have_come {
@@ -104,11 +97,11 @@ impl JobSockets {
         let mut next = self.first_job;
         self.first_job = 0;
         for _ in 0..MAX_JOBS {
-            let Some(job) = inputs.host.edge().listener_from(next) else {
+            let Some(job) = host.listener_from(next) else {
                 return;
             };
             next = job.saturating_add(1);
-            if self.accept_for(registry, inputs, job) && !time.has_time() {
+            if self.accept_for(registry, host, job) && !time.has_time() {
                 self.first_job = next;
                 self.may_have_come = true;
                 return;
@@ -118,88 +111,73 @@ impl JobSockets {
 
     // Takes the clients of one job. If they are many, or there is no room for all before the first are read, the others are left
     // for the next round. It says whether one came.
-    fn accept_for<T: SettingStore, R: System, W: Write>(
-        &mut self,
-        registry: &Registry,
-        inputs: &mut RoundLauncher<T, OsEdge<R>, W>,
-        job: JobNo,
-    ) -> bool {
-        let Some(bind) = inputs.host.edge().bind_of(job) else {
+    fn accept_for<H: LoopHost>(&mut self, registry: &Registry, host: &mut H, job: JobNo) -> bool {
+        let Some(bind) = host.bind_of(job) else {
             return false;
         };
         let origin = Origin { job, bind };
         for count in 0..TAKEN {
-            let place = self.callers.place(bind, inputs.at().up);
+            let place = self.callers.place(bind, host.up());
             if !matches!(place, Place::Free) && self.callers.has_new(bind) {
                 break;
             }
-            let Some(client) = inputs.host.edge().accept(job) else {
+            let Some(client) = host.accept(job) else {
                 return count > 0;
             };
-            inputs.stir();
-            self.welcome(registry, inputs, origin, client, place);
+            host.stir();
+            self.welcome(registry, host, origin, client, place);
         }
         self.may_have_come = true;
         true
     }
 
-    fn welcome<T: SettingStore, R: System, W: Write>(
+    fn welcome<H: LoopHost>(
         &mut self,
         registry: &Registry,
-        inputs: &mut RoundLauncher<T, OsEdge<R>, W>,
+        host: &mut H,
         origin: Origin,
         client: Client,
         place: Place,
     ) {
         match place {
             Place::Free => {}
-            Place::Of(key) => self.let_go(inputs, key, Some(Loss::Displaced)),
+            Place::Of(key) => self.let_go(host, key, Some(Loss::Displaced)),
             Place::Nowhere => {
-                self.tell(inputs, origin, Loss::Crowded);
+                self.tell(host, origin, Loss::Crowded);
                 return;
             }
         }
-        let up = inputs.at().up;
+        let up = host.up();
         if let Err(loss) = self.callers.welcome(registry, origin, client, up) {
-            self.tell(inputs, origin, loss);
+            self.tell(host, origin, loss);
         }
     }
 
-    fn let_go<T: SettingStore, R: System, W: Write>(
-        &mut self,
-        inputs: &mut RoundLauncher<T, OsEdge<R>, W>,
-        key: usize,
-        loss: Option<Loss>,
-    ) {
+    fn let_go<H: LoopHost>(&mut self, host: &mut H, key: usize, loss: Option<Loss>) {
         let Some(caller) = self.callers.remove(key) else {
             return;
         };
         if let Some(loss) = loss {
-            self.tell(inputs, caller.origin, loss);
+            self.tell(host, caller.origin, loss);
         }
     }
 
     // A loss is told of a job that has its sockets still.
-    fn tell<T: SettingStore, R: System, W: Write>(
-        &mut self,
-        inputs: &mut RoundLauncher<T, OsEdge<R>, W>,
-        origin: Origin,
-        loss: Loss,
-    ) {
-        if has_sockets(inputs, origin) {
-            let up = inputs.at().up;
-            let label = inputs.host.table().last_step().label(origin.job);
-            self.losses.note(origin, label, loss, up);
+    fn tell<H: LoopHost>(&mut self, host: &mut H, origin: Origin, loss: Loss) {
+        if has_sockets(host, origin) {
+            let up = host.up();
+            self.losses.note(origin, host.label(origin.job), loss, up);
         }
     }
 
     /// Takes what the clients have sent, and hands in those whose request is whole. Where there is no time left, the other clients
     /// are left for the next round. It says whether one may go on at once.
-    pub(crate) fn gather<T: SettingStore, R: System, W: Write>(
+    pub(crate) fn gather<H: LoopHost, L: Limit>(
         &mut self,
         alloc: Global,
-        inputs: &mut RoundLauncher<T, OsEdge<R>, W>,
-        time: &mut RoundTime<'_, R>,
+        host: &mut H,
+        label: &mut LabelRoom,
+        time: &mut L,
     ) -> bool {
         if self.callers.is_empty() {
             return false;
@@ -208,11 +186,11 @@ impl JobSockets {
         let mut is_busy = false;
         for step in 0..CALLERS {
             let key = first.wrapping_add(step) % CALLERS;
-            match self.gathered(inputs, key) {
+            match self.gathered(host, key) {
                 Gathered::Waits => continue,
                 Gathered::MayGoOn => is_busy = true,
-                Gathered::Whole => self.hand_in(alloc, inputs, key),
-                Gathered::Lost(loss) => self.let_go(inputs, key, loss),
+                Gathered::Whole => self.hand_in(alloc, host, label, key),
+                Gathered::Lost(loss) => self.let_go(host, key, loss),
             }
             if !time.has_time() {
                 self.first_key = key.wrapping_add(1) % CALLERS;
@@ -224,30 +202,27 @@ impl JobSockets {
 
     // What became of one client. One that came to sockets which were given up since is let go, also if the number has new
     // ones.
-    fn gathered<T: SettingStore, R: System, W: Write>(
-        &mut self,
-        inputs: &mut RoundLauncher<T, OsEdge<R>, W>,
-        key: usize,
-    ) -> Gathered {
+    fn gathered<H: LoopHost>(&mut self, host: &mut H, key: usize) -> Gathered {
         let Some(caller) = self.callers.get_mut(key) else {
             return Gathered::Waits;
         };
-        if !has_sockets(inputs, caller.origin) {
+        if !has_sockets(host, caller.origin) {
             return Gathered::Lost(None);
         }
-        let up = inputs.at().up;
+        let up = host.up();
         let gathered = caller.gather(up);
         if caller.heard_at == up {
-            inputs.stir();
+            host.stir();
         }
         gathered
     }
 
-    // Hands in a connection, under its number. One that the edge can't hold is no event; one that is refused is closed.
-    fn hand_in<T: SettingStore, R: System, W: Write>(
+    // Hands in a connection, under its number. Why one is closed that the launcher refused is told.
+    fn hand_in<H: LoopHost>(
         &mut self,
         alloc: Global,
-        inputs: &mut RoundLauncher<T, OsEdge<R>, W>,
+        host: &mut H,
+        label: &mut LabelRoom,
         key: usize,
     ) {
         let Some(caller) = self.callers.remove(key) else {
@@ -260,20 +235,20 @@ impl JobSockets {
             ..
         } = caller;
         self.is_whole = true;
-        let job = origin.job;
         let conn = self.conn;
         self.conn = conn.saturating_add(1);
-        let taken = inputs.host.edge().take(job, conn, client, exchange);
-        if taken.is_err() {
-            return;
-        }
-        self.label.copy(inputs.host.table().last_step().label(job));
-        match came(alloc, inputs, self.label.as_str(), conn) {
-            None => self.losses.came_through(job, inputs.at().up),
-            Some(refusal) => {
-                inputs.host.edge().close(job, conn);
+        let connection = Connection {
+            job: origin.job,
+            conn,
+            client,
+            exchange,
+        };
+        match host.hand_in(alloc, label, connection) {
+            HandedIn::Dropped => {}
+            HandedIn::Heard => self.losses.came_through(origin.job, host.up()),
+            HandedIn::Refused(refusal) => {
                 if let Some(loss) = Loss::of_refusal(refusal) {
-                    self.tell(inputs, origin, loss);
+                    self.tell(host, origin, loss);
                 }
             }
         }
@@ -281,18 +256,6 @@ impl JobSockets {
 }
 
 // Whether the job has the same sockets still.
-fn has_sockets<T: SettingStore, R: System, W: Write>(
-    inputs: &mut RoundLauncher<T, OsEdge<R>, W>,
-    origin: Origin,
-) -> bool {
-    inputs.host.edge().bind_of(origin.job) == Some(origin.bind)
-}
-
-fn came<T: SettingStore, R: System, W: Write>(
-    alloc: Global,
-    inputs: &mut RoundLauncher<T, OsEdge<R>, W>,
-    label: &str,
-    conn: u64,
-) -> Option<Refusal> {
-    inputs.give(alloc, Input::Came(label, conn)).refusal
+fn has_sockets<H: LoopHost>(host: &mut H, origin: Origin) -> bool {
+    host.bind_of(origin.job) == Some(origin.bind)
 }

@@ -11,7 +11,7 @@ const LONGEST_LABEL: usize = 255;
 
 /// Room for a label. To a contract, the text that stands in it.
 #[derive(Drop)]
-pub(crate) struct LabelRoom {
+pub struct LabelRoom {
     text: String,
 }
 
@@ -31,7 +31,7 @@ impl LabelRoom {
     }
 
     /// Copies a text of at most 255 bytes, as each label is. Takes no memory for it.
-    pub(crate) fn copy(&mut self, text: &str)
+    pub fn copy(&mut self, text: &str)
         ensures { length text.now ≤ 255 → self.new ≡ text.now }
     {
         self.text.clear();
@@ -39,7 +39,7 @@ impl LabelRoom {
     }
 
     /// The text, lent.
-    pub(crate) fn as_str(&self) -> &str
+    pub fn as_str(&self) -> &str
         ensures text { result.now ≡ self.now }
         ensures utf8 { IsUtf8 result.now }
     {

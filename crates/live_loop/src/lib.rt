@@ -1,6 +1,6 @@
 //! The live loop: rounds of waiting, reading the clock, polling children, looking at paths, and serving the clients of the
-//! control socket and of jobs' sockets. A round decides nothing. What it finds it hands to the launcher as an input, one by
-//! one, each after the reading of its round; readings of the clocks and sights of paths only if they may change something.
+//! control socket and of jobs' sockets. A round decides nothing. What it finds it hands to its launcher, one by one. The loop is over
+//! any launcher that answers as `LoopHost` says; that of `jobd` is `round_launcher::RoundLauncher`.
 #![tactic(auto)]
 
 mod children;
@@ -8,9 +8,8 @@ mod fault;
 mod job_sockets;
 mod label_room;
 mod live;
-mod news;
+mod loop_host;
 mod paths;
-mod round_launcher;
 mod round_time;
 mod rounds;
 mod telling;
@@ -19,9 +18,9 @@ mod waiting;
 
 pub use child_edge::System;
 pub use fault::ServeFault;
+pub use label_room::LabelRoom;
 pub use live::Live;
-pub use news::is_news;
+pub use loop_host::{Connection, HandedIn, LoopHost, PathHost};
 pub use paths::Sights;
-pub use round_launcher::RoundLauncher;
 pub use rounds::{round, serve};
 pub use waiting::{next_pause, quick_rounds, round_wait};

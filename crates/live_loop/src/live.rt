@@ -5,18 +5,15 @@ ghost use Rattle.std.specs.Prelude.{◌≡◌};
 use crate::fault::ServeFault;
 use crate::job_sockets::JobSockets;
 use crate::label_room::LabelRoom;
+use crate::loop_host::LoopHost;
 use crate::paths::Sights;
-use crate::round_launcher::RoundLauncher;
 use crate::voice::Voice;
 use crate::waiting::SHORTEST;
-use child_edge::{Notice, OsEdge, System};
+use child_edge::{Notice, System};
 use control_socket::ControlSocket;
 use history_model::JobNo;
-use launcher::Host;
 use mio::{Events, Poll, Token};
-use outside::SettingStore;
 use std::alloc::{AllocError, Global};
-use std::io::Write;
 use std::net::Net;
 
 /// Under this token the control socket and its clients wake the poll.
@@ -25,11 +22,10 @@ const CONTROL: Token = Token(0);
 /// As many events are told at a time. The others are told in the next round.
 const EVENTS: usize = 128;
 
-/// A launcher over the real system, with its control socket, the poll that both wait on, and what its rounds remember of one
-/// another.
+/// A launcher with its control socket, the poll that both wait on, and what its rounds remember of one another.
 #[derive(Drop)]
-pub struct Live<R: System, T: SettingStore, W: Write> {
-    pub(crate) inputs: RoundLauncher<T, OsEdge<R>, W>,
+pub struct Live<H> {
+    pub(crate) host: H,
     pub(crate) control: ControlSocket,
     pub(crate) poll: Poll,
     pub(crate) events: Events,
@@ -121,16 +117,16 @@ fn poll_and_rooms<R: System>(
     }
 }
 
-impl<R: System, T: SettingStore + Drop, W: Write + Drop> Live<R, T, W> {
+impl<H: LoopHost + Drop> Live<H> {
     /// A launcher that waits for its first round. NoMemory, or Poll, if the system refuses the poll or the control socket's
     /// registration. After an `Err` what was handed in is dropped: the control socket's lock is let go, and its file and the
     /// lock's are left. Who has the socket's mark can remove its file by that.
-    pub fn new(
+    pub fn new<R: System>(
         rt: &R,
         alloc: Global,
-        host: Host<T, OsEdge<R>, W>,
+        host: H,
         control: ControlSocket,
-    ) -> Result<Live<R, T, W>, ServeFault> {
+    ) -> Result<Live<H>, ServeFault> {
         let mut control = control;
         match poll_and_rooms(rt, alloc, &mut control) {
             Ok((poll, rooms)) => Ok(live_in(host, control, poll, rooms)),
@@ -143,12 +139,7 @@ impl<R: System, T: SettingStore + Drop, W: Write + Drop> Live<R, T, W> {
     }
 }
 
-fn live_in<R: System, T: SettingStore, W: Write>(
-    host: Host<T, OsEdge<R>, W>,
-    control: ControlSocket,
-    poll: Poll,
-    rooms: Rooms,
-) -> Live<R, T, W> {
+fn live_in<H>(host: H, control: ControlSocket, poll: Poll, rooms: Rooms) -> Live<H> {
     let Rooms {
         events,
         sights,
@@ -157,7 +148,7 @@ fn live_in<R: System, T: SettingStore, W: Write>(
         voice,
     } = rooms;
     Live {
-        inputs: RoundLauncher::new(host),
+        host,
         control,
         poll,
         events,
@@ -175,21 +166,21 @@ fn live_in<R: System, T: SettingStore, W: Write>(
     }
 }
 
-impl<R: System, T: SettingStore, W: Write> Live<R, T, W> {
+impl<H> Live<H> {
     /// The launcher. Whoever wants to ask something of it does so by the control socket.
-    pub fn host(&self) -> &Host<T, OsEdge<R>, W>
-        ensures { result.now ≡ self.now.inputs.host }
+    pub fn host(&self) -> &H
+        ensures { result.now ≡ self.now.host }
     {
-        &self.inputs.host
+        &self.host
     }
 
     /// The launcher, for whoever wants no further round. All else is dropped: the control socket's lock is let go, and its file
     /// and the lock's are left.
-    pub fn into_host(self) -> Host<T, OsEdge<R>, W>
-        ensures { result ≡ self.inputs.host }
+    pub fn into_host(self) -> H
+        ensures { result ≡ self.host }
     {
         let Live {
-            inputs,
+            host,
             control,
             poll,
             events,
@@ -202,7 +193,6 @@ impl<R: System, T: SettingStore, W: Write> Live<R, T, W> {
         } = self;
         drop((control, poll, events, untold));
         drop((sights, sockets, label, voice));
-        let RoundLauncher { host, .. } = inputs;
         host
     }
 

@@ -1,14 +1,9 @@
 //! The paths that jobs list, each looked at once a second.
 
-use crate::round_launcher::RoundLauncher;
-use child_edge::{ChildEdge, PathEdge, SocketEdge};
+use crate::loop_host::PathHost;
 use history_model::{Obs, SECOND};
-use job_table::JobTable;
-use launcher::Input;
-use outside::SettingStore;
 use std::alloc::{AllocError, Global};
 use std::collections::BTreeMap;
-use std::io::Write;
 
 /// As many milliseconds of `up` lie between two looks.
 const BETWEEN: u64 = SECOND;
@@ -41,8 +36,8 @@ impl Sights {
     }
 
     /// The moment of `up` of the next look, if a path is listed.
-    pub fn next_look(&self, table: &JobTable) -> Option<u64> {
-        match table.path_after("") {
+    pub fn next_look<H: PathHost>(&self, host: &H) -> Option<u64> {
+        match host.path_after("") {
             None => None,
             Some(_) => Some(self.next),
         }
@@ -50,49 +45,41 @@ impl Sights {
 
     /// Looks at each listed path, if it is time: in byte order, and hands in what is new. A refused look is no event. It says
     /// whether it was time.
-    pub fn look<T: SettingStore, E: ChildEdge + SocketEdge + PathEdge, W: Write>(
-        &mut self,
-        alloc: Global,
-        inputs: &mut RoundLauncher<T, E, W>,
-    ) -> bool {
-        let up = inputs.at().up;
+    pub fn look<H: PathHost>(&mut self, alloc: Global, host: &mut H) -> bool {
+        let up = host.up();
         if up < self.next {
             return false;
         }
         self.next = up.saturating_add(BETWEEN);
-        if inputs.take_loaded() {
+        if host.take_loaded() {
             self.seen.clear();
         }
         self.path.clear();
         for _ in 0..MOST_PATHS {
-            if !self.goes_on(inputs.host.table()) {
+            if !self.goes_on(host) {
                 break;
             }
-            self.look_here(alloc, inputs);
+            self.look_here(alloc, host);
         }
         true
     }
 
     // Goes on to the next listed path, if there is one.
-    fn goes_on(&mut self, table: &JobTable) -> bool {
-        let Some(next) = table.path_after(self.path.as_str()) else {
+    fn goes_on<H: PathHost>(&mut self, host: &H) -> bool {
+        let Some(next) = host.path_after(self.path.as_str()) else {
             return false;
         };
         self.path.clear();
         self.path.push_str(next).is_ok()
     }
 
-    fn look_here<T: SettingStore, E: ChildEdge + SocketEdge + PathEdge, W: Write>(
-        &mut self,
-        alloc: Global,
-        inputs: &mut RoundLauncher<T, E, W>,
-    ) {
+    fn look_here<H: PathHost>(&mut self, alloc: Global, host: &mut H) {
         let path = self.path.as_str();
-        let Ok(obs) = inputs.host.edge().look(path) else {
+        let Some(obs) = host.look(path) else {
             return;
         };
         if self.seen.get(path).copied() != Some(obs) {
-            inputs.give(alloc, Input::Saw(path, obs));
+            host.saw(alloc, path, obs);
             self.remember(obs);
         }
     }

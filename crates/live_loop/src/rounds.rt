@@ -3,15 +3,14 @@
 use crate::children::poll_children;
 use crate::fault::ServeFault;
 use crate::live::Live;
+use crate::loop_host::LoopHost;
 use crate::round_time::RoundTime;
 use crate::telling::tell;
 use crate::waiting::{next_pause, quick_rounds, round_wait};
 use child_edge::System;
 use control_socket::Limit;
 use history_model::SECOND;
-use outside::SettingStore;
 use std::alloc::Global;
-use std::io::Write;
 use std::sync::Wait;
 use std::thread;
 use std::time::Duration;
@@ -35,22 +34,22 @@ const QUICK_WAIT: u64 = 200;
 ///
 /// True: a shutdown was accepted, no job is left, and the control clients have their replies, or a second has passed since.
 /// Poll, if the system refuses to wait; nothing was done then.
-pub fn round<R: System, T: SettingStore, W: Write>(
+pub fn round<R: System, H: LoopHost>(
     rt: &R,
     alloc: Global,
-    live: &mut Live<R, T, W>,
+    live: &mut Live<H>,
 ) -> Result<bool, ServeFault> {
     wait(rt, live)?;
-    live.inputs.begin(alloc);
-    let mut time = RoundTime::begin(rt, live.inputs.at().up);
+    live.host.begin(alloc);
+    let mut time = RoundTime::begin(rt, live.host.up());
     live.next_child = poll_children(
         alloc,
-        &mut live.inputs,
+        &mut live.host,
         &mut live.label,
         live.next_child,
         &mut time,
     );
-    if live.sights.look(alloc, &mut live.inputs) {
+    if live.sights.look(alloc, &mut live.host) {
         live.sockets.wake();
     }
     serve_clients(rt, alloc, live);
@@ -60,16 +59,14 @@ pub fn round<R: System, T: SettingStore, W: Write>(
 }
 
 /// Rounds, until one says that it was the last, or the system refuses to wait. In each case the control socket's file is then
-/// removed, and the connections of jobs are let go with their files; the children live on. Only `waits` may wait for ever: it is a
-/// parameter of its own, so that who puts the launcher together can name its types without the leave to wait.
-pub fn serve<L: Wait, R: System, T: SettingStore + Drop, W: Write + Drop>(
-    waits: &L,
+/// removed, and the connections of jobs are let go with their files; the children live on.
+pub fn serve<R: System + Wait, H: LoopHost + Drop>(
     rt: &R,
     alloc: Global,
-    live: Live<R, T, W>,
+    live: Live<H>,
 ) -> Result<(), ServeFault> {
     let mut live = live;
-    for _ in waits.forever() {
+    for _ in rt.forever() {
         let end = match round(rt, alloc, &mut live) {
             Ok(false) => None,
             Ok(true) => Some(Ok(())),
@@ -84,25 +81,22 @@ pub fn serve<L: Wait, R: System, T: SettingStore + Drop, W: Write + Drop>(
     unreachable!()
 }
 
-fn close<R: System, T: SettingStore, W: Write>(rt: &R, alloc: Global, live: &mut Live<R, T, W>) {
+fn close<R: System, H: LoopHost>(rt: &R, alloc: Global, live: &mut Live<H>) {
     live.control.remove(rt);
-    live.inputs.host.edge().let_all_go();
+    live.host.let_all_go();
     tell(rt, alloc, live);
 }
 
 // How the next rounds wait. A quick round is none that is quiet: the pauses begin behind it.
-fn pace<R: System, T: SettingStore, W: Write>(live: &mut Live<R, T, W>) {
-    let is_active = live.inputs.is_active() || live.quick > 0;
+fn pace<H: LoopHost>(live: &mut Live<H>) {
+    let is_active = live.host.is_active() || live.quick > 0;
     live.pause = next_pause(is_active, live.pause);
     live.quick = quick_rounds(live.sockets.take_whole(), live.quick);
 }
 
 // Waits for readiness, no longer than until the next moment of the table and the next look. The poll knows whole milliseconds alone,
 // so a quick round sleeps before it.
-fn wait<R: System, T: SettingStore, W: Write>(
-    rt: &R,
-    live: &mut Live<R, T, W>,
-) -> Result<(), ServeFault> {
+fn wait<R: System, H: LoopHost>(rt: &R, live: &mut Live<H>) -> Result<(), ServeFault> {
     let mut wait = next_wait(live);
     if live.quick > 0 && wait > 0 {
         thread::sleep(rt, Duration::from_micros(QUICK_WAIT));
@@ -121,48 +115,42 @@ fn wait<R: System, T: SettingStore, W: Write>(
     Ok(())
 }
 
-fn next_wait<R: System, T: SettingStore, W: Write>(live: &mut Live<R, T, W>) -> u64 {
+fn next_wait<H: LoopHost>(live: &mut Live<H>) -> u64 {
     if live.is_busy {
         return 0;
     }
-    let up = live.inputs.up_now();
-    let look = live.sights.next_look(live.inputs.host.table());
-    round_wait(live.pause, up, live.inputs.next_moment(), look)
+    let up = live.host.up_now();
+    let look = live.sights.next_look(&live.host);
+    round_wait(live.pause, up, live.host.next_moment(), look)
 }
 
-fn serve_clients<R: System, T: SettingStore, W: Write>(
-    rt: &R,
-    alloc: Global,
-    live: &mut Live<R, T, W>,
-) {
+fn serve_clients<R: System, H: LoopHost>(rt: &R, alloc: Global, live: &mut Live<H>) {
     let mut is_asking = serve_control(rt, alloc, live);
-    let mut time = RoundTime::begin(rt, live.inputs.at().up);
+    let mut time = RoundTime::begin(rt, live.host.up());
     live.sockets
-        .accept(live.poll.registry(), &mut live.inputs, &mut time);
-    let is_sending = live.sockets.gather(alloc, &mut live.inputs, &mut time);
+        .accept(live.poll.registry(), &mut live.host, &mut time);
+    let is_sending = live
+        .sockets
+        .gather(alloc, &mut live.host, &mut live.label, &mut time);
     if !time.has_time() {
         is_asking = serve_control(rt, alloc, live);
     }
-    let is_taking = live.inputs.host.edge().forward();
+    let is_taking = live.host.forward();
     live.is_busy = is_asking || is_sending || is_taking || live.next_child > 0;
 }
 
 // Takes new control clients and serves all. True: one of them may go on at once.
-fn serve_control<R: System, T: SettingStore, W: Write>(
-    rt: &R,
-    alloc: Global,
-    live: &mut Live<R, T, W>,
-) -> bool {
+fn serve_control<R: System, H: LoopHost>(rt: &R, alloc: Global, live: &mut Live<H>) -> bool {
     live.control.accept(rt, live.poll.registry());
-    let mut time = RoundTime::begin(rt, live.inputs.at().up);
-    live.control.serve(alloc, &mut live.inputs, &mut time)
+    let mut time = RoundTime::begin(rt, live.host.up());
+    live.control.serve(alloc, &mut live.host, &mut time)
 }
 
-fn is_over<R: System, T: SettingStore, W: Write>(live: &mut Live<R, T, W>) -> bool {
-    if !live.inputs.has_ended() {
+fn is_over<H: LoopHost>(live: &mut Live<H>) -> bool {
+    if !live.host.has_ended() {
         return false;
     }
-    let up = live.inputs.at().up;
+    let up = live.host.up();
     let ended_at = live.ended_at.unwrap_or(up);
     live.ended_at = Some(ended_at);
     let is_quiet = !live.is_busy && live.untold.is_none() && live.control.is_quiet();

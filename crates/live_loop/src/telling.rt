@@ -2,21 +2,16 @@
 //! sockets, and what became of runs.
 
 use crate::live::Live;
-use child_edge::{Notice, NoticeKind, System};
+use crate::loop_host::LoopHost;
+use child_edge::{Notice, NoticeKind};
 use history_model::Text;
-use outside::SettingStore;
 use std::alloc::Global;
-use std::io::Write;
 
 /// As many lines a round tells at most.
 const LINES: usize = 256;
 
 /// Tells what there is to tell, in a line each. Where standard error would wait, the rest is left for a later round.
-pub(crate) fn tell<R: System, T: SettingStore, W: Write>(
-    rt: &R,
-    alloc: Global,
-    live: &mut Live<R, T, W>,
-) {
+pub(crate) fn tell<R: Eprint, H: LoopHost>(rt: &R, alloc: Global, live: &mut Live<H>) {
     for _ in 0..LINES {
         let Some(notice) = next_notice(alloc, live) else {
             return;
@@ -28,14 +23,11 @@ pub(crate) fn tell<R: System, T: SettingStore, W: Write>(
     }
 }
 
-fn next_notice<R: System, T: SettingStore, W: Write>(
-    alloc: Global,
-    live: &mut Live<R, T, W>,
-) -> Option<Notice> {
+fn next_notice<H: LoopHost>(alloc: Global, live: &mut Live<H>) -> Option<Notice> {
     if let Some(notice) = live.untold.take() {
         return Some(notice);
     }
-    if let Some(notice) = live.inputs.host.edge().next_notice() {
+    if let Some(notice) = live.host.next_notice() {
         return Some(notice);
     }
     let text = next_refusal(alloc, live)?;
@@ -45,11 +37,8 @@ fn next_notice<R: System, T: SettingStore, W: Write>(
     })
 }
 
-fn next_refusal<R: System, T: SettingStore, W: Write>(
-    alloc: Global,
-    live: &mut Live<R, T, W>,
-) -> Option<Text> {
-    if live.inputs.host.report_journal_closing() {
+fn next_refusal<H: LoopHost>(alloc: Global, live: &mut Live<H>) -> Option<Text> {
+    if live.host.report_journal_closing() {
         live.has_journal_closed = true;
     }
     if live.has_journal_closed {

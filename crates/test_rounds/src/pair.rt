@@ -7,9 +7,10 @@ use child_edge::{EdgeCall, Scripted};
 use control_socket::Answers;
 use history_model::{Reading, Refusal, Reply};
 use launcher::{Host, Input};
-use live_loop::{RoundLauncher, Sights};
+use live_loop::Sights;
 use memory_stage::{MemoryStore, Sink, edge, header, reading, store};
 use outside::SettingStore;
+use round_launcher::RoundLauncher;
 use std::alloc::Global;
 use std::io::Write;
 

@@ -3,8 +3,8 @@
 use crate::refusing::Refusing;
 use crate::scene::{control_in, goes_on, journal_of, launcher_over, new_folder};
 use launcher::Input;
-use live_loop::Live;
 use memory_stage::{MemoryStore, Sink};
+use round_launcher::{Live, RoundLauncher};
 use std::cell::RefCell;
 use std::fs;
 use std::rc::Rc;
@@ -45,7 +45,7 @@ fn live_over(
     let mut host = launcher_over(rt, rt.clone().ok()?, folder)?;
     drop(host.turn(rt.alloc(), Input::Line(LOAD)));
     match control_in(host_rt, folder) {
-        Some(control) => Live::new(rt, rt.alloc(), host, control).ok(),
+        Some(control) => Live::new(rt, rt.alloc(), RoundLauncher::new(host), control).ok(),
         None => {
             drop(host);
             None

@@ -4,8 +4,9 @@ use crate::replayed::is_replayed;
 use child_edge::OsEdge;
 use control_socket::ControlSocket;
 use launcher::Host;
-use live_loop::{Live, System, round};
+use live_loop::{System, round};
 use memory_stage::{MemoryStore, Sink, header, store};
+use round_launcher::{Live, RoundLauncher};
 use std::alloc::{AllocError, Global};
 use std::io::{Read, Write};
 use std::os::unix::net::UnixStream;
@@ -88,7 +89,7 @@ pub fn control_in(rt: &HostRuntime, folder: &str) -> Option<ControlSocket> {
 fn live_in(rt: &HostRuntime, folder: &str) -> Option<Live<HostRuntime, MemoryStore, Sink>> {
     let host = launcher_over(rt, rt.clone().ok()?, folder)?;
     match control_in(rt, folder) {
-        Some(control) => Live::new(rt, rt.alloc(), host, control).ok(),
+        Some(control) => Live::new(rt, rt.alloc(), RoundLauncher::new(host), control).ok(),
         None => {
             drop(host);
             None
@@ -98,7 +99,8 @@ fn live_in(rt: &HostRuntime, folder: &str) -> Option<Live<HostRuntime, MemorySto
 
 /// What the journal holds, if it was not closed.
 pub fn journal_of<R: System>(live: Live<R, MemoryStore, Sink>) -> Option<Vec<u8>> {
-    let (table, store, edge, journal) = live.into_host().into_parts();
+    let RoundLauncher { host, .. } = live.into_host();
+    let (table, store, edge, journal) = host.into_parts();
     drop(table);
     drop(store);
     drop(edge);
@@ -173,7 +175,7 @@ impl Scene {
     }
 
     fn shows(&self, alloc: Global, label: &str, part: &str) -> bool {
-        match self.live.host().table().print(alloc, label) {
+        match self.live.host().host.table().print(alloc, label) {
             Ok(text) => text.as_str().contains(part),
             Err(_) => false,
         }

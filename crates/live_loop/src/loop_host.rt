@@ -1,0 +1,104 @@
+//! A launcher as its live loop sees it: what a round asks of it and of its edge, and what it hands in. The loop knows neither the
+//! table nor the store nor the journal behind it.
+
+use crate::label_room::LabelRoom;
+use child_edge::{Client, Notice};
+use control_socket::Answers;
+use history_model::{JobNo, Obs, Refusal};
+use mio::{Registry, Token};
+use socket_demand::Exchange;
+use std::alloc::Global;
+
+/// A launcher as the looks at paths see it.
+pub trait PathHost {
+    /// The `up` of the present round's reading.
+    fn up(&self) -> u64;
+
+    /// Whether a load was accepted since this was asked last.
+    fn take_loaded(&mut self) -> bool;
+
+    /// The first path behind this one, in byte order, that a job lists.
+    fn path_after(&self, path: &str) -> Option<&str>;
+
+    /// What is at the path now. None if the system refuses to look.
+    fn look(&mut self, path: &str) -> Option<Obs>;
+
+    /// Hands in a sight.
+    fn saw(&mut self, alloc: Global, path: &str, obs: Obs);
+}
+
+/// What became of a connection that was handed in.
+pub enum HandedIn {
+    /// The edge could not hold it, so it is no event. It was let go, and that was told.
+    Dropped,
+    /// Its job heard that it came.
+    Heard,
+    /// The launcher refused it, and it was closed.
+    Refused(Refusal),
+}
+
+/// A launcher as the rounds of a live loop see it. Its answers to the lines of control clients are those of `Answers`.
+pub trait LoopHost: PathHost + Answers {
+    /// Begins a round at a new reading, which is handed in if it may change something. If the clock can't be read, the round
+    /// is at the reading of the one before.
+    fn begin(&mut self, alloc: Global);
+
+    /// The `up` of now, or of the round if the clock can't be read.
+    fn up_now(&mut self) -> u64;
+
+    /// Whether something happened in this round.
+    fn is_active(&self) -> bool;
+
+    /// Something happened that is no input, as bytes that came.
+    fn stir(&mut self);
+
+    /// Whether a shutdown was accepted, and no job is left.
+    fn has_ended(&self) -> bool;
+
+    /// The next moment of `up` at which time alone may make an order due. None also while readings are refused, so that a
+    /// moment that was reached does not keep the loop from waiting.
+    fn next_moment(&self) -> Option<u64>;
+
+    /// Asks about the child of this job, or of the next above it, whose run is over, and hands in how it ended, or that the wait was
+    /// refused. It gives the number of that job; none if no run is over.
+    fn poll_from(&mut self, alloc: Global, room: &mut LabelRoom, first: JobNo) -> Option<JobNo>;
+
+    /// From now on clients that come to sockets of jobs wake the poll under this token. False if the system refuses that for a socket.
+    fn register(&mut self, registry: &Registry, token: Token) -> bool;
+
+    /// The job of this number, or the next above it, that listens at sockets.
+    fn listener_from(&mut self, job: JobNo) -> Option<JobNo>;
+
+    /// The number of the job's present sockets, which no other sockets had or have.
+    fn bind_of(&mut self, job: JobNo) -> Option<u64>;
+
+    /// A client that waits at the job's sockets.
+    fn accept(&mut self, job: JobNo) -> Option<Client>;
+
+    /// The label of the job, also of one that is just gone; the empty text for a number that no job has.
+    fn label(&self, job: JobNo) -> &str;
+
+    /// Hands in a connection whose request came whole, under a number that it has had for no other.
+    fn hand_in(&mut self, alloc: Global, room: &mut LabelRoom, connection: Connection) -> HandedIn;
+
+    /// Sends clients what their runs have written. It says whether one may go on at once.
+    fn forward(&mut self) -> bool;
+
+    /// Lets each connection go that is held, with its files.
+    fn let_all_go(&mut self);
+
+    /// The next line on what the edge was refused, and on what became of runs.
+    fn next_notice(&mut self) -> Option<Notice>;
+
+    /// Whether the journal was closed since this was asked last.
+    fn report_journal_closing(&mut self) -> bool;
+}
+
+/// A connection of a job, whose request came whole.
+#[derive(Drop)]
+pub struct Connection {
+    pub job: JobNo,
+    pub conn: u64,
+    pub client: Client,
+    pub exchange: Exchange,
+}

@@ -1,0 +1,218 @@
+//! What a round of the live loop finds, handed to the launcher one by one.
+
+use crate::news::is_news;
+use child_edge::{ChildEdge, Client, ClockEdge, Notice, OsEdge, PathEdge, SocketEdge, System};
+use control_socket::Answers;
+use history_model::{JobNo, Obs, Reading, Reply};
+use launcher::{Host, Input};
+use live_loop::{Connection, HandedIn, LabelRoom, LoopHost, PathHost};
+use mio::{Registry, Token};
+use outside::SettingStore;
+use std::alloc::Global;
+use std::io::Write;
+
+/// A launcher at the reading of the present round. That reading is handed to it before any other input of the round, and
+/// else only if it may change something.
+#[derive(Drop)]
+pub struct RoundLauncher<T: SettingStore, E: ChildEdge + SocketEdge, W: Write> {
+    pub host: Host<T, E, W>,
+    at: Reading,
+    // The launcher did not take the reading.
+    is_refused: bool,
+    // Something happened in this round.
+    is_active: bool,
+    // A load was accepted since the paths were looked at.
+    has_loaded: bool,
+}
+
+impl<T: SettingStore, E: ChildEdge + SocketEdge, W: Write> RoundLauncher<T, E, W> {
+    /// The launcher at its own last reading.
+    pub fn new(host: Host<T, E, W>) -> RoundLauncher<T, E, W> {
+        let at = host.table().reading();
+        RoundLauncher {
+            host,
+            at,
+            is_refused: false,
+            is_active: false,
+            has_loaded: false,
+        }
+    }
+
+    /// Begins a round at a new reading, which is handed in if it may change something. If the clock can't be read, the round
+    /// is at the reading of the one before.
+    pub fn begin(&mut self, alloc: Global)
+    where
+        E: ClockEdge,
+    {
+        self.is_active = false;
+        if let Ok(at) = self.host.edge().read() {
+            self.at = at;
+        }
+        if is_news(self.host.table(), self.at) {
+            self.hand_in_time(alloc);
+        }
+    }
+
+    // Hands in the reading of the round, unless it is the launcher's own already.
+    fn hand_in_time(&mut self, alloc: Global) {
+        if self.host.table().reading() != self.at {
+            let reply = self.host.turn(alloc, Input::Clock(self.at));
+            self.is_refused = reply.refusal.is_some();
+            if !self.is_refused {
+                self.is_active = true;
+            }
+        }
+    }
+
+    /// Hands in what happened, after the reading of the round. A refused wait is told each round, so it is no reason to wait
+    /// less.
+    pub fn give(&mut self, alloc: Global, input: Input<'_>) -> Reply {
+        let was_active = self.is_active;
+        self.hand_in_time(alloc);
+        self.is_active = match input {
+            Input::WaitRefused(_, _) => was_active,
+            _ => true,
+        };
+        self.host.turn(alloc, input)
+    }
+}
+
+impl<T: SettingStore, E: ChildEdge + SocketEdge, W: Write> Answers for RoundLauncher<T, E, W> {
+    fn answer(&mut self, alloc: Global, line: &[u8]) -> Reply {
+        let reply = self.give(alloc, Input::Line(line));
+        if self.host.has_loaded() {
+            self.has_loaded = true;
+        }
+        reply
+    }
+}
+
+impl<T: SettingStore, E: ChildEdge + SocketEdge + PathEdge, W: Write> PathHost
+    for RoundLauncher<T, E, W> {
+    fn up(&self) -> u64 {
+        self.at.up
+    }
+
+    fn take_loaded(&mut self) -> bool {
+        let has_loaded = self.has_loaded;
+        self.has_loaded = false;
+        has_loaded
+    }
+
+    fn path_after(&self, path: &str) -> Option<&str> {
+        self.host.table().path_after(path)
+    }
+
+    fn look(&mut self, path: &str) -> Option<Obs> {
+        self.host.edge().look(path).ok()
+    }
+
+    fn saw(&mut self, alloc: Global, path: &str, obs: Obs) {
+        self.give(alloc, Input::Saw(path, obs));
+    }
+}
+
+impl<T: SettingStore, R: System, W: Write> LoopHost for RoundLauncher<T, OsEdge<R>, W> {
+    fn begin(&mut self, alloc: Global) {
+        RoundLauncher::begin(self, alloc);
+    }
+
+    fn up_now(&mut self) -> u64 {
+        match self.host.edge().read() {
+            Ok(now) => now.up,
+            Err(_) => self.at.up,
+        }
+    }
+
+    fn is_active(&self) -> bool {
+        self.is_active
+    }
+
+    fn stir(&mut self) {
+        self.is_active = true;
+    }
+
+    fn has_ended(&self) -> bool {
+        let table = self.host.table();
+        table.is_shutting_down() && table.is_empty()
+    }
+
+    fn next_moment(&self) -> Option<u64> {
+        if self.is_refused {
+            None
+        } else {
+            self.host.table().next_up()
+        }
+    }
+
+    // The table can't lend the label while the child is polled.
+    fn poll_from(&mut self, alloc: Global, room: &mut LabelRoom, first: JobNo) -> Option<JobNo> {
+        let (job, run) = self.host.edge().over_from(first)?;
+        room.copy(self.host.table().last_step().label(job));
+        let label = room.as_str();
+        let input = match self.host.edge().poll(job, run) {
+            Ok(None) => return Some(job),
+            Ok(Some(how)) => Input::Ended(label, run, how),
+            Err(_) => Input::WaitRefused(label, run),
+        };
+        self.give(alloc, input);
+        Some(job)
+    }
+
+    fn register(&mut self, registry: &Registry, token: Token) -> bool {
+        self.host.edge().register(registry, token).is_ok()
+    }
+
+    fn listener_from(&mut self, job: JobNo) -> Option<JobNo> {
+        self.host.edge().listener_from(job)
+    }
+
+    fn bind_of(&mut self, job: JobNo) -> Option<u64> {
+        self.host.edge().bind_of(job)
+    }
+
+    fn accept(&mut self, job: JobNo) -> Option<Client> {
+        self.host.edge().accept(job)
+    }
+
+    fn label(&self, job: JobNo) -> &str {
+        self.host.table().last_step().label(job)
+    }
+
+    fn hand_in(&mut self, alloc: Global, room: &mut LabelRoom, connection: Connection) -> HandedIn {
+        let Connection {
+            job,
+            conn,
+            client,
+            exchange,
+        } = connection;
+        let taken = self.host.edge().take(job, conn, client, exchange);
+        if taken.is_err() {
+            return HandedIn::Dropped;
+        }
+        room.copy(self.host.table().last_step().label(job));
+        match self.give(alloc, Input::Came(room.as_str(), conn)).refusal {
+            None => HandedIn::Heard,
+            Some(refusal) => {
+                self.host.edge().close(job, conn);
+                HandedIn::Refused(refusal)
+            }
+        }
+    }
+
+    fn forward(&mut self) -> bool {
+        self.host.edge().forward()
+    }
+
+    fn let_all_go(&mut self) {
+        self.host.edge().let_all_go();
+    }
+
+    fn next_notice(&mut self) -> Option<Notice> {
+        self.host.edge().next_notice()
+    }
+
+    fn report_journal_closing(&mut self) -> bool {
+        self.host.report_journal_closing()
+    }
+}
