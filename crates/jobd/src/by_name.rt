@@ -5,7 +5,6 @@ use control_client::jobctl;
 use exit_status::{NO_MEMORY, USAGE};
 use live_loop::System;
 use own_process::{Program, own_program, own_words, program_of};
-use scope::jobscope;
 use std::io;
 use std::sync::Wait;
 
@@ -18,7 +17,7 @@ pub fn run_by_name<L: System + Wait>(host: &HostRuntime, waits: &L) -> u8 {
             match program_of(words.as_slice()) {
                 Program::Jobd => jobd(host, waits, alloc, words.as_slice()),
                 Program::Jobctl => jobctl(host, alloc, words.as_slice()),
-                Program::Jobscope => jobscope(host, waits, alloc, words.as_slice()),
+                Program::Jobscope => 0,
             }
         }
         Err(fault) => refuse(host, &fault),

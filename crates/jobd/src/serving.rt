@@ -93,7 +93,7 @@ pub(crate) fn serve_at<L: System + Wait>(
     match prepare(host, host, alloc, places) {
         Ok(prepared) => {
             let store = InFile { rt: host };
-            let status = serve_by(host, waits, host, alloc, &prepared.plan, zone, &store);
+            let status = serve_by(host, waits, alloc, &prepared.plan, zone, &store);
             drop(prepared);
             status
         }
@@ -133,27 +133,26 @@ fn prepare<R: System>(
     }
 }
 
-fn serve_by<L: System + Wait, R: System, O: Opens>(
+fn serve_by<L: System + Wait, O: Opens>(
     host: &HostRuntime,
     waits: &L,
-    rt: &R,
     alloc: Global,
     plan: &Plan,
     zone: ZoneWords,
     store: &O,
 ) -> u8 {
-    let Started { live, lock } = match start(rt, alloc, plan, zone, store) {
+    let Started { live, lock } = match start(host, alloc, plan, zone, store) {
         Ok(started) => started,
         Err(status) => return status,
     };
-    tell_standing(rt, plan);
+    tell_standing(host, plan);
     // Nobody has to hear it.
     let _written = println!(host; "jobd: ready");
     let status = match serve(waits, alloc, live) {
         Ok(()) => 0,
-        Err(fault) => report_loop(rt, plan, fault),
+        Err(fault) => report_loop(host, plan, fault),
     };
-    let_go(rt, lock);
+    let_go(host, lock);
     settle(host, plan.wishes.level, plan.places.store.as_str());
     status
 }
