@@ -1,14 +1,16 @@
-# make build: proves the programs and all that they stand on (build_all.py: as many crates side by side as there are processors), and
-# leaves them as build/jobd, build/jobctl and build/jobscope. What did not change since is taken as it stands.
-PROGRAMS := jobd_program jobctl_program jobscope_program
-# Which commit and which kit stand behind the programs of build/.
+# make build: proves the program and all that it stands on (build_all.py: as many crates side by side as there are processors), and
+# leaves it as build/jobd, with build/jobctl and build/jobscope as links to it. What did not change since is taken as it stands.
+PROGRAM := jobd_program
+# The program acts by the name that it is started under.
+put_program = install -m 755 crates/$(PROGRAM)/out/$(PROGRAM) build/jobd && ln -sf jobd build/jobctl && ln -sf jobd build/jobscope
+# Which commit and which kit stand behind the program of build/.
 say_proved = { echo "Commit: $$(git rev-parse HEAD)"; echo "Kit: $$(rt version)"; \
-    echo "Programs: $$(cd build && sha256sum jobd jobctl jobscope | tr '\n' ' ')"; } > build/proved.txt
+    echo "Program: $$(cd build && sha256sum jobd)"; } > build/proved.txt
 
 .PHONY: build
 build: need_rt
 	@mkdir -p build
 	@rm -f build/proved.txt
-	@python3 build_all.py $(PROGRAMS)
-	@for it in $(PROGRAMS); do cp crates/$$it/out/$$it build/$${it%_program} || exit 1; done
+	@python3 build_all.py $(PROGRAM)
+	@$(put_program)
 	@$(say_proved)

@@ -1,5 +1,5 @@
-# make dist: dist/kivgrond-VERSION-x86_64-linux.tar.gz; make deb: dist/jobd_VERSION_amd64.deb. Both take the programs of build/ as they
-# are, and say of them whether `make build` proved them at this commit. They need no kit, no compiler and no network.
+# make dist: dist/kivgrond-VERSION-x86_64-linux.tar.gz; make deb: dist/jobd_VERSION_amd64.deb. Both take the program of build/ as it
+# is, and say of it whether `make build` proved it at this commit. They need no kit, no compiler and no network.
 .PHONY: dist deb
 dist:
 	@sh packaging/dist.sh

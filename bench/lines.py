@@ -292,8 +292,8 @@ def running(jobd, jobctl, folder):
 
 def main():
     named = sys.argv[1:] or [os.path.join(HERE, "..", "build", "jobd")]
-    jobd = os.path.realpath(named[0])
-    jobctl = os.path.realpath(named[1] if len(named) > 1 else os.path.join(os.path.dirname(jobd), "jobctl"))
+    jobd = os.path.abspath(named[0])
+    jobctl = os.path.abspath(named[1] if len(named) > 1 else os.path.join(os.path.dirname(jobd), "jobctl"))
     parts = os.environ.get("PARTS", "counts,split,dear,live").split(",")
     if not shutil.which("valgrind"):
         print("lines.py: valgrind is missing, so no instructions are counted")

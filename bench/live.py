@@ -294,7 +294,7 @@ def calls(launcher):
 
 
 def figures_of(part, jobd, jobctl):
-    launcher = Launcher(os.path.realpath(jobd), os.path.realpath(jobctl))
+    launcher = Launcher(os.path.abspath(jobd), os.path.abspath(jobctl))
     try:
         return list(part(launcher))
     finally:

@@ -18,9 +18,9 @@ fail() {
 SOURCE_DATE_EPOCH=${SOURCE_DATE_EPOCH:-$(git log -1 --format=%ct)}
 export SOURCE_DATE_EPOCH
 
-# The packages of the libraries that the programs ask for.
+# The packages of the libraries that the program asks for.
 depends="libc6 (>= $(sed -n 's/^C library: \([0-9.]*\) .*/\1/p' "$source/PROVED.txt"))"
-for library in $(objdump -p "$source/bin/jobd" "$source/bin/jobctl" "$source/bin/jobscope" | sed -n 's/^ *NEEDED *//p' | sort -u); do
+for library in $(objdump -p "$source/bin/jobd" | sed -n 's/^ *NEEDED *//p' | sort -u); do
     case $library in
     libc.so.6 | libm.so.6 | libdl.so.2 | libpthread.so.0 | librt.so.1 | ld-linux-x86-64.so.2) ;;
     libgcc_s.so.1) depends="$depends, libgcc-s1" ;;

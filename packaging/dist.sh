@@ -1,5 +1,5 @@
 #!/bin/sh
-# Makes dist/kivgrond-VERSION-x86_64-linux.tar.gz of the programs in build/ and the files beside them. Two runs over one tree give
+# Makes dist/kivgrond-VERSION-x86_64-linux.tar.gz of the program in build/ and the files beside it. Two runs over one tree give
 # the same bytes: names are sorted, each file has the moment of the commit, and root owns it. Needs git, GNU tar and binutils.
 set -eu
 
@@ -14,17 +14,17 @@ fail() {
     echo "dist: $*" >&2
     exit 1
 }
-for program in jobd jobctl jobscope; do
-    [ -x "build/$program" ] || fail "build/$program is not there: make build first"
-    grep -aqF "Kivgrond $version" "build/$program" || fail "build/$program is not of version $version"
-done
+[ -x build/jobd ] || fail "build/jobd is not there: make build first"
+grep -aqF "Kivgrond $version" build/jobd || fail "build/jobd is not of version $version"
 SOURCE_DATE_EPOCH=${SOURCE_DATE_EPOCH:-$(git log -1 --format=%ct)}
 
 stage=dist/$name
 rm -rf "$stage" "dist/$name.tar.gz"
 mkdir -p "$stage/bin" "$stage/man" "$stage/contrib" "$stage/docs" "$stage/examples/jobs"
-install -m 755 build/jobd build/jobctl build/jobscope "$stage/bin"
-strip "$stage/bin/jobd" "$stage/bin/jobctl" "$stage/bin/jobscope"
+install -m 755 build/jobd "$stage/bin"
+strip "$stage/bin/jobd"
+ln -s jobd "$stage/bin/jobctl"
+ln -s jobd "$stage/bin/jobscope"
 install -m 644 man/*.[158] "$stage/man"
 cp -r completions "$stage"
 install -m 644 contrib/jobd.service contrib/jobd@.service contrib/jobd.logrotate "$stage/contrib"
@@ -34,9 +34,9 @@ install -m 644 examples/jobs/*.json "$stage/examples/jobs"
 install -m 644 README.md CHANGELOG.md LICENSE-MIT LICENSE-APACHE VERSION "$stage"
 install -m 755 packaging/install.sh "$stage"
 
-# The newest version of the C library that a program asks for.
-libc=$(objdump -T build/jobd build/jobctl build/jobscope | grep -o 'GLIBC_[0-9.]*' | sort -V | tail -n 1)
-[ -n "$libc" ] || fail "no program asks for a version of the C library"
+# The newest version of the C library that the program asks for.
+libc=$(objdump -T build/jobd | grep -o 'GLIBC_[0-9.]*' | sort -V | tail -n 1)
+[ -n "$libc" ] || fail "the program asks for no version of the C library"
 packaging/proved.sh "$libc" "$stage/bin" >"$stage/PROVED.txt"
 
 (cd "$stage" && find . -type f | sort | sed 's|^\./||' | xargs sha256sum) >"dist/SHA256SUMS"

@@ -1,7 +1,7 @@
 #!/bin/sh
-# Puts the programs, manual pages, completions and documents below PREFIX (/usr/local), each path behind DESTDIR; with the word
-# `uninstall` removes them. `make install` runs it in the repository, where the programs are in build/; in an unpacked archive
-# they are in bin/. Nothing is compiled or fetched.
+# Puts the program, manual pages, completions and documents below PREFIX (/usr/local), each path behind DESTDIR; with the word
+# `uninstall` removes them. The program is one file, jobd; jobctl and jobscope are links to it in the same folder. `make install` runs this
+# in the repository, where it is in build/; in an unpacked archive it is in bin/. Nothing is compiled or fetched.
 set -eu
 
 case $0 in
@@ -27,13 +27,14 @@ filled() {
 }
 
 put() {
-    for program in jobd jobctl jobscope; do
-        [ -x "$programs/$program" ] || fail "$programs/$program is not there: make build first"
-    done
+    [ -x "$programs/jobd" ] || fail "$programs/jobd is not there: make build first"
     install -d "$root/bin" "$root/libexec" "$root/share/man/man1" "$root/share/man/man5" "$root/share/man/man8" \
         "$doc/contrib" "$doc/examples" "$root/share/bash-completion/completions" "$root/share/fish/vendor_completions.d" \
         "$root/share/zsh/site-functions"
-    install -m 755 "$programs/jobd" "$programs/jobctl" "$programs/jobscope" contrib/jobctl-reload "$root/bin"
+    install -m 755 "$programs/jobd" contrib/jobctl-reload "$root/bin"
+    for name in jobctl jobscope; do
+        ln -sfn jobd "$root/bin/$name"
+    done
     install -m 644 man/jobctl.1 man/jobctl-reload.1 man/jobscope.1 "$root/share/man/man1"
     install -m 644 man/jobd.json.5 "$root/share/man/man5"
     install -m 644 man/jobd.8 man/jobd-run.8 "$root/share/man/man8"

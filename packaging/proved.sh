@@ -1,8 +1,8 @@
 #!/bin/sh
-# Prints what stands behind the programs in build/: the commit, the kit's line, what the gate said last, and the promises. The first
-# word is the version of the C library that they ask for, the second the folder that has them without their symbols. `make build` and
-# `make test` leave what they proved in build/proved.txt, `make test` also what it passed in build/gate.txt. If these speak of other
-# programs or of another commit, that is said.
+# Prints what stands behind the program in build/: the commit, the kit's line, what the gate said last, and the promises. The first
+# word is the version of the C library that it asks for, the second the folder that has it without its symbols. `make build` and
+# `make test` leave what they proved in build/proved.txt, `make test` also what it passed in build/gate.txt. If these speak of another
+# program or of another commit, that is said.
 set -eu
 
 commit=$(git rev-parse HEAD)
@@ -10,17 +10,16 @@ changed=$(git status --porcelain --untracked-files=no)
 line() {
     sed -n "s/^$1: //p" "build/$2" 2>/dev/null || true
 }
-sums=$(cd build && sha256sum jobd jobctl jobscope)
-row=$(echo "$sums" | tr '\n' ' ')
+sum=$(cd build && sha256sum jobd)
 
 echo "Kivgrond $(cat VERSION)"
 echo
 echo "Commit: $commit${changed:+, with changes that are not committed}"
-if [ -z "$changed" ] && [ "$(line Commit proved.txt)" = "$commit" ] && [ "$(line Programs proved.txt)" = "$row" ]; then
+if [ -z "$changed" ] && [ "$(line Commit proved.txt)" = "$commit" ] && [ "$(line Program proved.txt)" = "$sum" ]; then
     echo "Standing: proved at this commit"
     echo "Kit: $(line Kit proved.txt)"
 else
-    echo "Standing: NOT PROVED; these programs were not built by make build or make test at this commit, so nothing below is said of them"
+    echo "Standing: NOT PROVED; this program was not built by make build or make test at this commit, so nothing below is said of it"
     echo "Kit: none"
 fi
 if [ -z "$changed" ] && [ "$(line Commit gate.txt)" = "$commit" ]; then
@@ -29,9 +28,9 @@ else
     echo "Gate: not run at this commit on this machine"
 fi
 echo "C library: ${1#GLIBC_} of glibc, or newer"
-echo "Programs as built:"
-echo "$sums" | sed 's/^/    /'
-echo "The same without their symbols, as shipped:"
-(cd "$2" && sha256sum jobd jobctl jobscope) | sed 's/^/    /'
+echo "The program as built, which is jobctl and jobscope too, by links to it:"
+echo "    $sum"
+echo "The same without its symbols, as shipped:"
+(cd "$2" && sha256sum jobd) | sed 's/^/    /'
 echo
 sed -n '/^## What is proved, and what is trusted/,/^## /p' README.md | sed '/^## /d' | sed -n '/^1\. /,$p' | sed '/^10\. /,$d'

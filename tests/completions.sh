@@ -5,7 +5,7 @@
 set -euo pipefail
 
 cd "$(dirname "$0")/.."
-python3 - "$PWD/completions" "$(realpath -m "${1:-build/jobd}")" "$(realpath -m "${2:-build/jobctl}")" <<'END'
+python3 - "$PWD/completions" "$(realpath -ms "${1:-build/jobd}")" "$(realpath -ms "${2:-build/jobctl}")" <<'END'
 import contextlib, os, pty, re, select, shutil, subprocess, sys, tempfile, time
 
 FOLDER, JOBD, CONTROL = sys.argv[1:]

@@ -52,6 +52,9 @@ inside dpkg --verify jobd
 for path in usr/bin/jobd usr/bin/jobctl usr/bin/jobscope usr/bin/jobctl-reload usr/libexec/jobd-run; do
     [ -x "$root/$path" ] || fail "no program /$path"
 done
+for name in jobctl jobscope; do
+    inside "$name" --help | grep -q "^Usage: $name " || fail "$name does not act by its name"
+done
 [ "$(stat -c %a "$root/etc/jobd")" = 755 ] || fail "/etc/jobd is not there"
 inside jobd --help | grep -qx "Kivgrond $(cat VERSION)" || fail "the help does not tell the version"
 inside systemd-analyze verify --man=no /lib/systemd/system/jobd.service /lib/systemd/system/jobd@.service 2>"$root/root/verified" || true

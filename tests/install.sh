@@ -1,8 +1,8 @@
 #!/usr/bin/env bash
 # Installs into a scratch DESTDIR and removes again, by `make install` in the tree and by install.sh of the archive: every file that
 # has to be there is, with its mode; no place of it still says @PREFIX@; what another package put there stays; and nothing else is
-# left. The archive is made twice with the same bytes, and its sums agree. Without built programs, stand-ins are installed from
-# a copy of the tree. It is run by hand; of the archive, the part that measures the C library needs real programs.
+# left. The archive is made twice with the same bytes, and its sums agree. Without a built program, a stand-in is installed from
+# a copy of the tree. It is run by hand; of the archive, the part that measures the C library needs a real program.
 set -euo pipefail
 
 cd "$(dirname "$0")/.."
@@ -13,20 +13,18 @@ fail() {
     exit 1
 }
 
-# A copy of what an install reads, so that stand-ins of programs touch no build.
+# A copy of what an install reads, so that a stand-in touches no build.
 mkdir -p "$scratch/tree/build"
 cp -r .gitignore Makefile ./*.mk crates.txt VERSION man completions contrib docs examples packaging README.md CHANGELOG.md LICENSE-MIT LICENSE-APACHE \
     "$scratch/tree"
 stand_ins=0
-for program in jobd jobctl jobscope; do
-    if [ -x "build/$program" ]; then
-        cp "build/$program" "$scratch/tree/build"
-    else
-        printf '#!/bin/sh\n' >"$scratch/tree/build/$program"
-        chmod +x "$scratch/tree/build/$program"
-        stand_ins=$((stand_ins + 1))
-    fi
-done
+if [ -x build/jobd ]; then
+    cp build/jobd "$scratch/tree/build"
+else
+    printf '#!/bin/sh\n' >"$scratch/tree/build/jobd"
+    chmod +x "$scratch/tree/build/jobd"
+    stand_ins=1
+fi
 
 # by_make and by_archive WORD PREFIX: install or uninstall.
 by_make() {
@@ -47,6 +45,10 @@ tries() {
     "$way" install "$1" >"$scratch/log" 2>&1 || fail "$(cat "$scratch/log")"
     for path in bin/jobd bin/jobctl bin/jobscope bin/jobctl-reload libexec/jobd-run share/doc/jobd/contrib/split-users share/doc/jobd/contrib/jobd.openrc share/doc/jobd/contrib/jobd.runit; do
         [ -x "$root/$path" ] || fail "$1: no program $path"
+    done
+    for path in bin/jobctl bin/jobscope; do
+        [ "$(readlink "$root/$path")" = jobd ] || fail "$1: $path is no link to jobd"
+        [ "$stand_ins" -gt 0 ] || "$root/$path" --help | grep -q "^Usage: ${path#bin/} " || fail "$1: $path does not act by its name"
     done
     for path in share/man/man1/jobctl.1 share/man/man1/jobctl-reload.1 share/man/man1/jobscope.1 share/man/man5/jobd.json.5 share/man/man8/jobd.8 share/man/man8/jobd-run.8 \
         share/bash-completion/completions/{jobctl,jobd,jobscope} share/fish/vendor_completions.d/{jobctl,jobd,jobscope}.fish \
@@ -75,18 +77,18 @@ make -s -C "$scratch/tree" install "DESTDIR=$scratch/root" >"$scratch/log" 2>&1 
 make -s -C "$scratch/tree" uninstall "DESTDIR=$scratch/root" >"$scratch/log" 2>&1 || fail "$(cat "$scratch/log")"
 left=$(find "$scratch/root" -mindepth 1 | grep -vx "$scratch/root/usr\|$scratch/root/usr/local" || true)
 [ -z "$left" ] || fail "an empty DESTDIR is not empty again: $left"
-rm "$scratch/tree/build/jobctl"
-if make -s -C "$scratch/tree" install "DESTDIR=$scratch/root" >"$scratch/log" 2>&1; then fail "a program was not there, and the install went on"; fi
+rm "$scratch/tree/build/jobd"
+if make -s -C "$scratch/tree" install "DESTDIR=$scratch/root" >"$scratch/log" 2>&1; then fail "the program was not there, and the install went on"; fi
 for script in contrib/jobd-run contrib/jobctl-reload contrib/jobd.runit contrib/jobd.openrc packaging/*.sh packaging/debian/p*; do
     sh -n "$script"
 done
 
 # The archive, made twice at different times under another mask.
 if [ "$stand_ins" -gt 0 ]; then
-    echo "install: passed, with $stand_ins stand-ins for programs; the archive was not tried"
+    echo "install: passed, with a stand-in for the program; the archive was not tried"
     exit
 fi
-cp build/jobctl "$scratch/tree/build"
+cp build/jobd "$scratch/tree/build"
 git -C "$scratch/tree" init -q
 git -C "$scratch/tree" add -A
 git -C "$scratch/tree" -c user.name=tests -c user.email=tests@localhost commit -qm "The tree of a test"

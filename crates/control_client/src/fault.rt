@@ -6,44 +6,55 @@ ghost use Rattle.control_client.specs.declared.fault.Fault.TheVariants.{NoMemory
 use exit_status::{BAD_FILE, BAD_OUTPUT, NO_ANSWER, NO_MEMORY, READER_GONE};
 use job_defs::DefFault;
 use std::alloc::AllocError;
-use std::io;
+use std::fmt::{Display, Formatter};
 use std::io::ErrorKind;
+use std::{fmt, io};
 
 /// What keeps a request from its reply.
-#[derive(Debug, Drop, thiserror::Error)]
+#[derive(Drop)]
 pub enum Fault {
-    #[error("no memory")]
     NoMemory,
     /// The file, or the folder, can't be read.
-    #[error("{0}")]
     File(io::Error),
-    #[error("not UTF-8")]
     NotText,
     /// The request would be longer than a line may be.
-    #[error("too long for a request")]
     TooLong,
     /// The journal's line of the request would be longer than a line may be, so that `jobd replay` could not read it.
-    #[error("too long for a line of the journal")]
     LongRecord,
     /// The file is no definition, so its label is not known.
-    #[error("{0}")]
     Definition(DefFault),
     /// The launcher can't be reached, or the connection failed.
-    #[error("{0}")]
     Connection(io::Error),
     /// The launcher took the connection, and no answer came within so many seconds.
-    #[error("no answer within {0} s (JOBCTL_TIMEOUT)")]
     Silent(u32),
     /// The connection ended before the reply did.
-    #[error("no reply came")]
     NoReply,
-    #[error("the reply is too long")]
     LongReply,
-    #[error("what came is no reply")]
     BadReply,
     /// The text of a reply can't be printed.
-    #[error("{0}")]
     Output(io::Error),
+}
+
+impl Display for Fault {
+    fn fmt<W: fmt::Write>(&self, f: &mut Formatter<W>) -> fmt::Result {
+        let text = match self {
+            Fault::File(error) | Fault::Connection(error) | Fault::Output(error) => {
+                return error.fmt(f);
+            }
+            Fault::Definition(fault) => return fault.fmt(f),
+            Fault::Silent(seconds) => {
+                return write!(f, "no answer within {seconds} s (JOBCTL_TIMEOUT)");
+            }
+            Fault::NoMemory => "no memory",
+            Fault::NotText => "not UTF-8",
+            Fault::TooLong => "too long for a request",
+            Fault::LongRecord => "too long for a line of the journal",
+            Fault::NoReply => "no reply came",
+            Fault::LongReply => "the reply is too long",
+            Fault::BadReply => "what came is no reply",
+        };
+        f.write_str(text)
+    }
 }
 
 impl Fault {

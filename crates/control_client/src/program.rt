@@ -175,16 +175,16 @@ fn hand_in<R: Net + Files + Print + Eprint + AllocGlobal + Clone + Drop>(
     };
     let is_named = files.len() > 1;
     for file in files.iter() {
-        match hand_in_one(rt, alloc, session, deed, file, is_named) {
-            Ok(()) => {}
-            Err(fault) => {
-                session.fail(rt, file.path.as_str(), &fault);
-                if fault.is_last() {
-                    return;
-                }
+        if let Err(fault) = hand_in_one(rt, alloc, session, deed, file, is_named) {
+            session.fail(rt, file.path.as_str(), &fault);
+            let is_last = fault.is_last();
+            drop(fault);
+            if is_last {
+                break;
             }
         }
     }
+    drop(files);
 }
 
 fn hand_in_one<R: Net + Files + Print + Eprint>(

@@ -48,7 +48,11 @@ pub(crate) fn unload_event<R: Files>(
 
 fn label_of(alloc: Global, text: &Text) -> Result<Text, Fault> {
     match read_def(alloc, text.as_str().as_bytes()) {
-        Ok(def) => Ok(Text::copy_of(alloc, def.label())?),
+        Ok(def) => {
+            let label = Text::copy_of(alloc, def.label());
+            drop(def);
+            Ok(label?)
+        }
         Err(DefFault::NoMemory) => Err(Fault::NoMemory),
         Err(fault) => Err(Fault::Definition(fault)),
     }

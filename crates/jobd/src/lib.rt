@@ -2,32 +2,37 @@
 //! made of is had from here too: the host of its turns, its inputs, the loop of its rounds, and the replay.
 #![tactic(auto)]
 
+mod by_name;
 mod serving;
 mod words;
 
+pub use by_name::run_by_name;
 use exit_status::NO_MEMORY;
 use launchctl_words::{DaemonCommand, WordFault, read_daemon_words};
 pub use launcher::{Host, HostFault, Input};
 use live_loop::System;
 pub use live_loop::{ServeFault, round, serve};
-use own_process::own_words;
 use replay::replay_input;
 pub use replay::{ReplayFault, replay};
 pub use round_launcher::Live;
 use startup::{Places, list_store};
 use std::alloc::Global;
-use std::io;
 use std::sync::Wait;
 
-/// Does what the words ask for, the program's own name being the first, and gives the exit status. Both `host` and `rt` are
-/// the runtime of `main`: only what takes it as `rt` may wait.
+/// Does what the words ask for, the program's own name being the first, and gives the exit status. Both `host` and `waits` are
+/// the runtime of `main`: only what takes it as `waits` may wait.
 ///
 /// `replay`: the statuses of `replay::status_of`. `overrides`: 0, 1 for want of memory, 3 if the output is refused, 5 if
 /// the store can't be read. `serve`: 0 once a shutdown was accepted and no job is left; 1 for want of memory at the start,
 /// 5 the store, 6 the control socket, 7 the zone, 8 the journal, 9 the clock or waiting. Any of them: 64 for words that are
 /// no command. Each fault but want of memory is told on standard error, those of `replay` by the status alone. A call for
 /// help prints it, with 0.
-pub fn jobd<R: System + Wait>(host: &HostRuntime, rt: &R, alloc: Global, words: &[String]) -> u8 {
+pub fn jobd<L: System + Wait>(
+    host: &HostRuntime,
+    waits: &L,
+    alloc: Global,
+    words: &[String],
+) -> u8 {
     match read_daemon_words(alloc, words) {
         Ok(DaemonCommand::Replay) => replay_input(host),
         Ok(DaemonCommand::Overrides { store }) => { list_store(host, alloc, store.as_str()) }
@@ -46,18 +51,9 @@ pub fn jobd<R: System + Wait>(host: &HostRuntime, rt: &R, alloc: Global, words: 
                 spool,
                 journal,
             };
-            serving::serve_at(host, rt, alloc, places, zone)
+            serving::serve_at(host, waits, alloc, places, zone)
         }
         Err(WordFault::Usage) => words::explain(host, alloc, words),
         Err(WordFault::NoMemory) => NO_MEMORY,
-    }
-}
-
-/// As `jobd`, by the words that this program was started with. Words that are not all UTF-8 are no command.
-pub fn jobd_by_own_words<R: System + Wait>(host: &HostRuntime, rt: &R) -> u8 {
-    match own_words(host) {
-        Ok(words) => jobd(host, rt, host.alloc(), words.as_slice()),
-        Err(fault) if fault.kind() == io::ErrorKind::OutOfMemory => NO_MEMORY,
-        Err(_) => words::refuse_bytes(host),
     }
 }

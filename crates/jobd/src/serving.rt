@@ -2,74 +2,32 @@
 
 use child_edge::OsEdge;
 use control_socket::ControlSocket;
-use ctl_protocol::{Header, Settings};
+use ctl_protocol::{Header, Settings, ZoneText};
 use exit_status::{CLOCK_OR_WAITING, NO_MEMORY, STORE};
-use history_model::Setting;
+use history_model::{Reading, Setting};
 use launchctl_words::ZoneWords;
 use launcher::{Host, HostFault};
-use live_loop::{ServeFault, System, serve};
+use live_loop::{Live, ServeFault, System, serve};
 use outside::SettingStore;
-use override_store::StoredSettings;
 use own_files::LockFile;
 use own_process::{Standing, open_null_streams};
-use round_launcher::{Live, RoundLauncher};
-use sqlite::FileStore;
+use round_launcher::RoundLauncher;
 use startup::{
     Places, Plan, begun, bound, hold_spool, journal_at, no_clock, open_store, read_wishes, refuse,
-    report, room_of, settle, stored, system_of, tell_long_header, tell_standing, zone_of,
+    report, room_of, settle, system_of, tell_long_header, tell_standing, zone_of,
 };
 use std::alloc::Global;
 use std::fs::File;
 use std::io::BufWriter;
 use std::sync::Wait;
 
-/// Opens a store of settings. The launcher is put together over any, since each place that lets one go is proved for its whole type.
-trait Opens {
-    type Store: SettingStore + Drop;
-
-    /// The store and its settings, or the status of a fault, which is told.
-    fn open(&self, alloc: Global, plan: &Plan) -> Result<(Self::Store, Vec<Setting>), u8>;
-}
-
-/// Opens the store in its file.
-#[derive(Clone, Copy)]
-struct InFile<'a> {
-    rt: &'a HostRuntime,
-}
-
-impl Opens for InFile<'_> {
-    type Store = StoredSettings<FileStore<sqlite::File>>;
-
-    fn open(&self, alloc: Global, plan: &Plan) -> Result<(Self::Store, Vec<Setting>), u8> {
-        let level = plan.wishes.level;
-        let path = plan.places.store.as_str();
-        match open_store(self.rt, alloc, level, path) {
-            Ok(conn) => stored(self.rt, alloc, level, path, conn),
-            Err(status) => Err(status),
-        }
-    }
-}
-
 /// What a launcher has before its store is opened.
 #[derive(Drop)]
 struct Parts<R: System> {
-    header: Header,
+    reading: Reading,
+    zone: ZoneText,
     edge: OsEdge<R>,
     journal: Option<File>,
-}
-
-/// A launcher that is not yet served, and the lock on its spool.
-#[derive(Drop)]
-struct Made<R: System, T: SettingStore> {
-    launcher: Host<T, OsEdge<R>, BufWriter<File>>,
-    lock: Option<LockFile>,
-}
-
-/// The same with its control socket.
-#[derive(Drop)]
-struct Started<R: System, T: SettingStore> {
-    live: Live<R, T, BufWriter<File>>,
-    lock: Option<LockFile>,
 }
 
 /// What is read before anything is opened, and what is held as long as the launcher lives.
@@ -83,17 +41,16 @@ struct Prepared {
 /// 7, how the process was started and the clock 9, the control socket 6, the journal 8, the store 5, the spool 10, waiting 9; 1
 /// for want of memory. A journal is emptied only after the spool. The files of the control socket and of locks are removed in
 /// each case, and what else was made is left.
-pub(crate) fn serve_at<R: System + Wait>(
+pub(crate) fn serve_at<L: System + Wait>(
     host: &HostRuntime,
-    rt: &R,
+    waits: &L,
     alloc: Global,
     places: Places,
     zone: ZoneWords,
 ) -> u8 {
-    match prepare(host, rt, alloc, places) {
+    match prepare(host, host, alloc, places) {
         Ok(prepared) => {
-            let store = InFile { rt: host };
-            let status = serve_by(host, rt, alloc, &prepared.plan, zone, &store);
+            let status = serve_by(host, waits, alloc, &prepared.plan, zone);
             drop(prepared);
             status
         }
@@ -133,130 +90,141 @@ fn prepare<R: System>(
     }
 }
 
-fn serve_by<R: System + Wait, O: Opens>(
+// Here alone the runtime and the store are of real types: each place that lets a launcher go is proved for its whole type.
+fn serve_by<L: System + Wait>(
     host: &HostRuntime,
-    rt: &R,
+    waits: &L,
     alloc: Global,
     plan: &Plan,
     zone: ZoneWords,
-    store: &O,
 ) -> u8 {
-    let Started { live, lock } = match start(rt, alloc, plan, zone, store) {
-        Ok(started) => started,
+    let (parts, control) = match parts_of(host, alloc, plan, zone) {
+        Ok(found) => found,
         Err(status) => return status,
     };
-    tell_standing(rt, plan);
-    // Nobody has to hear it.
-    let _written = println!(host; "jobd: ready");
-    let status = match serve(rt, alloc, live) {
-        Ok(()) => 0,
-        Err(fault) => report_loop(rt, plan, fault),
-    };
-    let_go(rt, lock);
-    settle(host, plan.wishes.level, plan.places.store.as_str());
-    status
-}
-
-fn let_go<R: System>(rt: &R, lock: Option<LockFile>) {
-    if let Some(lock) = lock {
-        lock.remove(rt);
+    let level = plan.wishes.level;
+    let path = plan.places.store.as_str();
+    match open_store(host, alloc, level, path) {
+        Ok(kept) => match serve_on(host, waits, alloc, plan, parts, control, kept) {
+            Ok(status) => {
+                settle(host, level, path);
+                status
+            }
+            Err(status) => status,
+        },
+        Err(status) => {
+            drop(parts);
+            control.remove(host);
+            status
+        }
     }
 }
 
-fn start<R: System, O: Opens>(
+// What is opened before the store.
+fn parts_of<R: System>(
     rt: &R,
     alloc: Global,
     plan: &Plan,
     zone: ZoneWords,
-    store: &O,
-) -> Result<Started<R, O::Store>, u8> {
+) -> Result<(Parts<R>, ControlSocket), u8> {
     let zone = zone_of(rt, alloc, plan.wishes.level, zone)?;
     match system_of(rt, alloc, plan) {
-        Ok((edge, reading)) => {
-            let header = Header {
-                reading,
-                zone,
-                overrides: Settings::new(Vec::new(alloc)),
-            };
-            start_over(rt, alloc, plan, header, edge, store)
+        Ok((edge, reading)) => parts_over(rt, alloc, plan, zone, edge, reading),
+        Err(status) => {
+            drop(zone);
+            Err(status)
         }
-        Err(status) => Err(status),
     }
 }
 
-fn start_over<R: System, O: Opens>(
+fn parts_over<R: System>(
     rt: &R,
     alloc: Global,
     plan: &Plan,
-    header: Header,
+    zone: ZoneText,
     edge: OsEdge<R>,
-    store: &O,
-) -> Result<Started<R, O::Store>, u8> {
+    reading: Reading,
+) -> Result<(Parts<R>, ControlSocket), u8> {
     let control = match bound(rt, alloc, plan) {
         Ok(control) => control,
         Err(status) => {
-            drop((header, edge));
+            drop((zone, edge));
             return Err(status);
         }
     };
-    match make(rt, alloc, plan, header, edge, store) {
-        Ok(made) => start_with(rt, alloc, plan, made, control),
+    match journal_at(rt, plan) {
+        Ok(journal) => {
+            let parts = Parts {
+                reading,
+                zone,
+                edge,
+                journal,
+            };
+            Ok((parts, control))
+        }
         Err(status) => {
+            drop((zone, edge));
             control.remove(rt);
             Err(status)
         }
     }
 }
 
-fn make<R: System, O: Opens>(
+// Holds the spool, and serves. Err: nothing was served, and what was opened is let go.
+fn serve_on<L: System + Wait, R: System + Print, T: SettingStore + Drop>(
     rt: &R,
-    alloc: Global,
-    plan: &Plan,
-    header: Header,
-    edge: OsEdge<R>,
-    store: &O,
-) -> Result<Made<R, O::Store>, u8> {
-    let parts = match journal_at(rt, plan) {
-        Ok(journal) => Parts {
-            header,
-            edge,
-            journal,
-        },
-        Err(status) => {
-            drop((header, edge));
-            return Err(status);
-        }
-    };
-    match store.open(alloc, plan) {
-        Ok((store, settings)) => make_on(rt, alloc, plan, parts, store, settings),
-        Err(status) => {
-            drop(parts);
-            Err(status)
-        }
-    }
-}
-
-fn make_on<R: System, T: SettingStore + Drop>(
-    rt: &R,
+    waits: &L,
     alloc: Global,
     plan: &Plan,
     parts: Parts<R>,
-    store: T,
-    settings: Vec<Setting>,
-) -> Result<Made<R, T>, u8> {
+    control: ControlSocket,
+    kept: (T, Vec<Setting>),
+) -> Result<u8, u8> {
     let lock = match hold_spool(rt, alloc, plan) {
         Ok(lock) => lock,
         Err(status) => {
-            drop((parts, store, settings));
+            drop((parts, kept));
+            control.remove(rt);
             return Err(status);
         }
     };
-    match launcher_of(rt, alloc, plan, parts, store, settings) {
-        Ok(launcher) => Ok(Made { launcher, lock }),
+    let (store, settings) = kept;
+    let served = match launcher_of(rt, alloc, plan, parts, store, settings) {
+        Ok(launcher) => serve_with(rt, waits, alloc, plan, launcher, control),
         Err(status) => {
-            let_go(rt, lock);
+            control.remove(rt);
             Err(status)
         }
+    };
+    if let Some(lock) = lock {
+        lock.remove(rt);
+    }
+    served
+}
+
+fn serve_with<L: System + Wait, R: System + Print, T: SettingStore + Drop>(
+    rt: &R,
+    waits: &L,
+    alloc: Global,
+    plan: &Plan,
+    launcher: Host<T, OsEdge<R>, BufWriter<File>>,
+    control: ControlSocket,
+) -> Result<u8, u8> {
+    let mark = control.mark();
+    let mut live = match Live::new(rt, alloc, RoundLauncher::new(launcher), control) {
+        Ok(live) => live,
+        Err(fault) => {
+            socket_file::remove(rt, plan.places.socket.as_str(), mark);
+            return Err(report_loop(rt, plan, fault));
+        }
+    };
+    set_wishes(plan, &mut live);
+    tell_standing(rt, plan);
+    // Nobody has to hear it.
+    let _written = println!(rt; "jobd: ready");
+    match serve(waits, alloc, live) {
+        Ok(()) => Ok(0),
+        Err(fault) => Ok(report_loop(rt, plan, fault)),
     }
 }
 
@@ -269,11 +237,11 @@ fn launcher_of<R: System, T: SettingStore + Drop>(
     settings: Vec<Setting>,
 ) -> Result<Host<T, OsEdge<R>, BufWriter<File>>, u8> {
     let Parts {
-        header,
+        reading,
+        zone,
         edge,
         journal,
     } = parts;
-    let Header { reading, zone, .. } = header;
     let header = Header {
         reading,
         zone,
@@ -322,40 +290,13 @@ fn report_host(rt: &impl Eprint, plan: &Plan, fault: HostFault) -> u8 {
     }
 }
 
-fn start_with<R: System, T: SettingStore + Drop>(
-    rt: &R,
-    alloc: Global,
-    plan: &Plan,
-    made: Made<R, T>,
-    control: ControlSocket,
-) -> Result<Started<R, T>, u8> {
-    let Made { launcher, lock } = made;
-    let mark = control.mark();
-    match Live::new(rt, alloc, RoundLauncher::new(launcher), control) {
-        Ok(live) => Ok(Started {
-            live: as_wished(plan, live),
-            lock,
-        }),
-        Err(fault) => {
-            socket_file::remove(rt, plan.places.socket.as_str(), mark);
-            let_go(rt, lock);
-            Err(report_loop(rt, plan, fault))
-        }
-    }
-}
-
-fn as_wished<R: System, T: SettingStore>(
-    plan: &Plan,
-    live: Live<R, T, BufWriter<File>>,
-) -> Live<R, T, BufWriter<File>> {
-    let mut live = live;
+fn set_wishes<H>(plan: &Plan, live: &mut Live<H>) {
     if plan.wishes.level.is_told {
         live.set_leveled();
     }
     if let Some(room) = room_of(&plan.standing) {
         live.set_room(room);
     }
-    live
 }
 
 fn report_loop(rt: &impl Eprint, plan: &Plan, fault: ServeFault) -> u8 {

@@ -4,12 +4,6 @@ use exit_status::{NO_MEMORY, STREAMS, USAGE};
 use launchctl_words::explain_daemon;
 use std::alloc::Global;
 
-/// Says that a word is not UTF-8.
-pub(crate) fn refuse_bytes(rt: &impl Eprint) -> u8 {
-    let _written = eprintln!(rt; "jobd: a word is not UTF-8");
-    USAGE
-}
-
 /// Says why the words are no command, on standard error with 64. The help that they ask for goes to standard output with 0.
 pub(crate) fn explain<R: Eprint + Print>(rt: &R, alloc: Global, words: &[String]) -> u8 {
     match explain_daemon(alloc, words) {

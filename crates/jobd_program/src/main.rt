@@ -1,12 +1,9 @@
-//! The program `jobd`: the launcher, the replay of a journal, and the list of the stored overrides.
+//! The programs `jobd`, `jobctl` and `jobscope` in one file: it acts by the name that it was started under.
 #![tactic(auto)]
 
-use jobd::jobd_by_own_words;
-use std::net::{TcpListener, TcpStream};
+use jobd::run_by_name;
 use std::process::ExitCode;
 
 fn main(rt: HostRuntime) -> ExitCode {
-    // The borrow checker covers a call that is generic over the runtime only where the types of its sockets are named.
-    let _sockets: Option<(TcpListener, TcpStream)> = None;
-    ExitCode::from(jobd_by_own_words(&rt, &rt))
+    ExitCode::from(run_by_name(&rt, &rt))
 }

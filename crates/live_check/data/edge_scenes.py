@@ -3,7 +3,7 @@
 
     edge_scenes.py [--jobd WORDS] [--jobctl WORDS] [--jobscope WORDS] [--by PROGRAM] [--at-once N] [--times] [SCENE..]
 
-WORDS start a program; blanks part them. With --by it is PROGRAM, which started this script, as each of the three.
+WORDS start a program; blanks part them. With --by each is PROGRAM, which started this script, through a link of the program's name.
 Without scenes all are played, those of the five other files too, N at a time. Each prints `ok NAME` or
 `FAILED NAME: why`, and the last line counts; --times adds how long it took. The status is 1 if one failed. Each scene has a folder of its
 own below TMPDIR, and every process that it started is ended.
@@ -1118,26 +1118,35 @@ def chosen(words, given, played):
     return [it for it in played if not given.names or it.__name__ in given.names]
 
 
+def name_thrice(given, folder):
+    """The program that started this script, under each of the three names. It has words before its own if a loader runs it, as under
+    `rt try`: then the loader is told the name."""
+    front = [word for word in text_at(f"/proc/{os.getppid()}/cmdline").split("\0")[1:] if word and word != "scenes"]
+    for name in ("jobd", "jobctl", "jobscope"):
+        link = os.path.join(folder, name)
+        os.symlink(given.by, link)
+        setattr(given, name, [given.by, "--argv0", name, *front] if front else [link])
+
+
 def read_words():
     words = program_words()
     words.add_argument("--by", metavar="PROGRAM")
     words.add_argument("--at-once", type=int, default=4)
     words.add_argument("--times", action="store_true")
     given = words.parse_args()
-    if given.by:
-        # It was started with words before its own if a loader runs it, as under `rt try`.
-        front = [word for word in text_at(f"/proc/{os.getppid()}/cmdline").split("\0")[1:] if word]
-        given.jobd, given.jobctl, given.jobscope = ([given.by, *front, name] for name in ("jobd", "jobctl", "jobscope"))
-    return given, chosen(words, given, SCENES)
+    return words, given
 
 
 def main():
-    given, scenes = read_words()
+    words, given = read_words()
     heed_signals()
     adopt_orphans()
     failed = 0
     folder = tempfile.mkdtemp(prefix="edge.")
     try:
+        if given.by:
+            name_thrice(given, folder)
+        scenes = chosen(words, given, SCENES)
         with concurrent.futures.ThreadPoolExecutor(given.at_once) as pool:
             for line in pool.map(lambda scene: play(scene, given, folder), scenes):
                 failed += line.startswith("FAILED")

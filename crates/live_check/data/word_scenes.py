@@ -5,6 +5,7 @@ the programs' own help.
 """
 import json
 import os
+import shutil
 import stat
 import subprocess
 
@@ -299,6 +300,51 @@ def help_and_what_is_wrong(stage):
         check(got[0] == (0 if is_help else 64) and is_told and not silent, f"{line!r} gives {got}")
 
 
+# A first word, and the program that it means.
+NAMES = [
+    (b"jobd", b"jobd"), (b"jobctl", b"jobctl"), (b"jobscope", b"jobscope"), (b"./jobctl", b"jobctl"), (b"/no/such/folder/jobscope", b"jobscope"),
+    (b"x/jobd", b"jobd"), (b"", b"jobd"), (b"jobctl/", b"jobd"), (b"jobctl/x", b"jobd"), (b"ajobctl", b"jobd"), (b"jobctla", b"jobd"),
+    (b"job", b"jobd"), (b"JOBCTL", b"jobd"), (b"another", b"jobd"), (b"a/b/ajobscope", b"jobd"),
+]
+
+# What each program says of a word that is not UTF-8.
+NO_TEXT = {b"jobd": b"jobd: a word is not UTF-8\n", b"jobctl": b"jobctl: invalid data\n", b"jobscope": b"jobscope: invalid data\n"}
+
+# A subcommand of each program alone, whose help is asked for.
+OWN_WORD = {b"jobd": b"replay", b"jobctl": b"kickstart", b"jobscope": b"picture"}
+
+
+def ran_as(stage, name, words):
+    """What the file ends with and writes that is started by these words, its name first."""
+    program = os.path.realpath(stage.given.jobd[-1])
+    ran = subprocess.run(
+        [name, *words], executable=program, cwd=stage.folder, stdin=subprocess.DEVNULL, capture_output=True, timeout=BOUND
+    )
+    return ran.returncode, ran.stdout, ran.stderr
+
+
+def one_file_under_three_names(stage):
+    """The file acts by the name that it is started under, through a link or a copy too, and by the bytes of a name that is not UTF-8."""
+    for name, meant in NAMES:
+        for program, word in OWN_WORD.items():
+            status, printed, told = ran_as(stage, name, [word, b"--help"])
+            got = (status, bool(printed), bool(told))
+            wanted = (0, True, False) if program == meant else (64, False, True)
+            check(got == wanted, f"as {name!r} it gives {got} for the help of {word!r}")
+        for front in (b"", b"\xff/"):
+            got = ran_as(stage, front + name, [b"\xff"])
+            check(got == (64, b"", NO_TEXT[meant]), f"as {front + name!r} it gives {got} for a word that is not UTF-8")
+    program = os.path.realpath(stage.given.jobd[-1])
+    os.symlink(program, stage.at("jobscope"))
+    shutil.copy(program, stage.at("jobctl"))
+    shutil.copy(program, stage.at("copy"))
+    for name, word in (("jobscope", "cron"), ("jobctl", "unload"), ("copy", "overrides")):
+        ran = subprocess.run([stage.at(name), word, "--help"], stdin=subprocess.DEVNULL, capture_output=True, timeout=BOUND, text=True)
+        got = (ran.returncode, f"Usage: {name} {word} " in ran.stdout, ran.stderr)
+        check(got == (0, True, ""), f"{name} gives {got} for the help of {word}: {ran.stdout!r}")
+
+
 SCENES = [
     words_of_jobctl, words_that_are_no_command_of_jobctl, words_of_jobd, words_that_are_no_command_of_jobd, help_and_what_is_wrong,
+    one_file_under_three_names,
 ]

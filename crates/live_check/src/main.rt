@@ -1,15 +1,9 @@
-//! Runs the three programs as their users do. The program starts itself: with no word it has the scenes of its `data/` played, which
-//! start it again as `live_check jobd ..`, the launcher, as `live_check jobctl ..`, the control program, and as
-//! `live_check jobscope ..`, which reads definitions and journals.
+//! Has the three programs tried as their users run them. By the word `scenes` those of its `data/` are played, which start this file again
+//! through links that are named as the programs are. Else it is what `jobd_program` is: the program that its name means.
 #![tactic(auto)]
 
-use control_client::jobctl;
-use jobd::jobd;
-use live_loop::System;
-use scope::jobscope;
-use std::net::{TcpListener, TcpStream};
+use jobd::run_by_name;
 use std::process::{Command, ExitCode};
-use std::sync::Wait;
 use std::{env, io};
 
 const PYTHON: &str = "/usr/bin/python3";
@@ -26,28 +20,19 @@ fn are_well(rt: &HostRuntime) -> io::Result<bool> {
     Ok(command.status(rt)?.success())
 }
 
-fn words_of(rt: &HostRuntime) -> io::Result<Vec<String>> {
-    let mut words = Vec::new(rt.alloc());
-    for word in env::args(rt)?.skip(1) {
-        words.push(word)?;
-    }
-    Ok(words)
-}
-
-fn status_of<W: System + Wait>(rt: &HostRuntime, waits: &W, words: &[String]) -> u8 {
-    match words.first() {
-        None => u8::from(!are_well(rt).unwrap_or(false)),
-        Some(word) if word.as_str() == "jobd" => jobd(rt, waits, rt.alloc(), words),
-        Some(word) if word.as_str() == "jobscope" => jobscope(rt, waits, rt.alloc(), words),
-        Some(_) => jobctl(rt, rt.alloc(), words),
+fn plays_scenes(rt: &HostRuntime) -> bool {
+    let Ok(mut words) = env::args(rt) else {
+        return false;
+    };
+    match words.nth(1) {
+        Some(word) => word.as_str() == "scenes",
+        None => false,
     }
 }
 
 fn main(rt: HostRuntime) -> ExitCode {
-    // The borrow checker covers a call that is generic over the runtime only where the types of its sockets are named.
-    let _sockets: Option<(TcpListener, TcpStream)> = None;
-    match words_of(&rt) {
-        Ok(words) => ExitCode::from(status_of(&rt, &rt, words.as_slice())),
-        Err(_) => ExitCode::FAILURE,
+    if plays_scenes(&rt) {
+        return ExitCode::from(u8::from(!are_well(&rt).unwrap_or(false)));
     }
+    ExitCode::from(run_by_name(&rt, &rt))
 }

@@ -3,11 +3,13 @@
 #![tactic(auto)]
 
 mod child;
+mod program;
 mod standing;
 mod streams;
 mod words;
 
 pub use child::sees_children;
+pub use program::{Program, program_of};
 pub use standing::{Signal, Standing};
 pub use streams::open_null_streams;
-pub use words::own_words;
+pub use words::{own_program, own_words};

@@ -21,5 +21,5 @@ pub use plan::{Places, Plan, Wishes, read_wishes};
 pub use reporting::{Level, refuse, report};
 pub use spool::hold_spool;
 pub use standing::{room_of, tell_standing};
-pub use store::{open_store, settle, stored};
+pub use store::{open_store, settle};
 pub use zone::zone_of;

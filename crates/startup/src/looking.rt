@@ -1,5 +1,6 @@
 //! Whether a file is a store of overrides, found out without a write: a copy of it in memory is looked at.
 
+use crate::overrides::read_all;
 use override_store::{OverrideStore, StoreFault};
 use sqlite::{Alter, Connection, Error, ErrorCode, Files, Options};
 use sqlite_disk::{Disk, Memory};
@@ -35,34 +36,51 @@ pub enum LookFault {
     Store(StoreFault),
 }
 
-impl From<io::Error> for LookFault {
-    fn from(error: io::Error) -> LookFault {
-        LookFault::System(error)
-    }
-}
-
-impl From<StoreFault> for LookFault {
-    fn from(fault: StoreFault) -> LookFault {
-        LookFault::Store(fault)
-    }
-}
-
 /// Looks at the plain file at the path, with the log beside it. Neither is written to.
 pub fn look(rt: &HostRuntime, alloc: Global, path: &str) -> Result<Found, LookFault> {
-    let real = fs::canonicalize(rt, path)?;
-    let file = bytes_at(rt, alloc, real.as_str())?;
-    let log = match log_beside(rt, alloc, real.as_str()) {
-        Ok(log) => log,
-        Err(error) => return Err(LookFault::Log(error)),
+    let read = match fs::canonicalize(rt, path) {
+        Ok(real) => read_both(rt, alloc, real.as_str()),
+        Err(error) => return Err(LookFault::System(error)),
     };
+    match read {
+        Ok((file, log)) => look_in(alloc, file, log),
+        Err(fault) => Err(fault),
+    }
+}
+
+// The bytes of the file, and those of its log.
+fn read_both(rt: &HostRuntime, alloc: Global, real: &str) -> Result<(Vec<u8>, Vec<u8>), LookFault> {
+    let file = match bytes_at(rt, alloc, real) {
+        Ok(file) => file,
+        Err(error) => return Err(LookFault::System(error)),
+    };
+    match log_beside(rt, alloc, real) {
+        Ok(log) => Ok((file, log)),
+        Err(error) => {
+            drop(file);
+            Err(LookFault::Log(error))
+        }
+    }
+}
+
+fn look_in(alloc: Global, file: Vec<u8>, log: Vec<u8>) -> Result<Found, LookFault> {
     if file.is_empty() && log.is_empty() {
         return Ok(Found::Empty);
     }
-    let files = Files {
-        log: in_memory(alloc, log.as_slice())?,
-        db: in_memory(alloc, file.as_slice())?,
+    let log = match in_memory(alloc, log) {
+        Ok(log) => log,
+        Err(error) => {
+            drop(file);
+            return Err(LookFault::System(error));
+        }
     };
-    look_at(alloc, files)
+    match in_memory(alloc, file) {
+        Ok(db) => look_at(alloc, Files { log, db }),
+        Err(error) => {
+            drop(log);
+            Err(LookFault::System(error))
+        }
+    }
 }
 
 fn look_at(alloc: Global, files: Files<Memory>) -> Result<Found, LookFault> {
@@ -81,25 +99,52 @@ fn look_at(alloc: Global, files: Files<Memory>) -> Result<Found, LookFault> {
 
 fn look_through<S: Alter + Drop>(alloc: Global, conn: Connection<S>) -> Result<Found, LookFault> {
     let mut conn = conn;
-    let tables = conn.schema().tables.len();
-    let first = has(&mut conn, "SELECT label, disabled FROM overrides")?;
-    let second = has(&mut conn, "SELECT label, disabled, changed FROM settings")?;
-    let own = match (first, second) {
-        (true, true) => 2,
-        (false, false) => 0,
-        _ => 1,
-    };
-    if own < tables {
-        return Ok(Found::Foreign);
+    match found_in(&mut conn) {
+        Ok(Found::Foreign) => {
+            drop(conn);
+            Ok(Found::Foreign)
+        }
+        Ok(found) => match read_through(alloc, conn) {
+            Ok(()) => Ok(found),
+            Err(fault) => Err(LookFault::Store(fault)),
+        },
+        Err(fault) => {
+            drop(conn);
+            Err(fault)
+        }
     }
-    let mut store = OverrideStore::open_on(alloc, conn)?;
-    let _settings = store.all(alloc)?;
-    let _changes = store.changes(alloc)?;
-    Ok(if tables == 0 {
+}
+
+// What the tables say, whose settings are not yet read.
+fn found_in<S: Alter>(conn: &mut Connection<S>) -> Result<Found, LookFault> {
+    let tables = conn.schema().tables.len();
+    let first = has(conn, "SELECT label, disabled FROM overrides")?;
+    let second = has(conn, "SELECT label, disabled, changed FROM settings")?;
+    Ok(if usize::from(first) + usize::from(second) < tables {
+        Found::Foreign
+    } else if tables == 0 {
         Found::Empty
     } else {
         Found::Store
     })
+}
+
+// Reads all settings, with the seconds in which they were set.
+fn read_through<S: Alter + Drop>(alloc: Global, conn: Connection<S>) -> Result<(), StoreFault> {
+    match OverrideStore::open_on(alloc, conn) {
+        Ok(mut store) => {
+            let read = read_all(alloc, &mut store);
+            drop(store);
+            match read {
+                Ok(both) => {
+                    drop(both);
+                    Ok(())
+                }
+                Err(fault) => Err(fault),
+            }
+        }
+        Err(fault) => Err(fault),
+    }
 }
 
 // Whether the database has what the statement reads.
@@ -136,8 +181,15 @@ fn log_beside(rt: &HostRuntime, alloc: Global, real: &str) -> io::Result<Vec<u8>
     }
 }
 
-fn in_memory(alloc: Global, bytes: &[u8]) -> io::Result<Memory> {
+fn in_memory(alloc: Global, bytes: Vec<u8>) -> io::Result<Memory> {
     let mut disk = Memory::new(alloc);
-    disk.write_at(0, bytes)?;
-    Ok(disk)
+    let written = disk.write_at(0, bytes.as_slice());
+    drop(bytes);
+    match written {
+        Ok(()) => Ok(disk),
+        Err(error) => {
+            drop(disk);
+            Err(error)
+        }
+    }
 }

@@ -50,7 +50,8 @@ fn list_all<S: Alter>(
     }
 }
 
-fn read_all<S: Alter>(
+/// The settings, and the second in which each was set.
+pub(crate) fn read_all<S: Alter>(
     alloc: Global,
     store: &mut OverrideStore<S>,
 ) -> Result<(Vec<Setting>, Vec<(String, u64)>), StoreFault> {

@@ -58,19 +58,24 @@ pub fn found(rt: &HostRuntime, alloc: Global, level: Level, path: &str) -> Resul
     }
 }
 
-/// A connection to the database at the path, which is made, for this user alone, if it is not there. Status 5 if it is no store
-/// or can't be opened, as while another launcher has it open.
+/// The store at the path, which is made, for this user alone, if it is not there, and its settings. Status 5 if it is no store or
+/// can't be opened, as while another launcher has it open, or if its tables or its settings are refused.
 pub fn open_store(
     rt: &HostRuntime,
     alloc: Global,
     level: Level,
     path: &str,
-) -> Result<Connection<FileStore<File>>, u8> {
+) -> Result<(StoredSettings<FileStore<File>>, Vec<Setting>), u8> {
     if let Err(error) = make_private(rt, path) {
         return Err(refuse(rt, level, STORE, "store", path, &error));
     }
-    found(rt, alloc, level, path)?;
-    connect(rt, level, path)
+    match found(rt, alloc, level, path) {
+        Ok(_) => match connect(rt, level, path) {
+            Ok(conn) => stored(rt, alloc, level, path, conn),
+            Err(status) => Err(status),
+        },
+        Err(status) => Err(status),
+    }
 }
 
 /// A connection to the database at the path. Status 5 if it can't be opened.
@@ -133,8 +138,8 @@ pub fn report_fault(rt: &impl Eprint, level: Level, path: &str, fault: StoreFaul
     STORE
 }
 
-/// The store on the connection, and its settings. Status 5 if its tables or its settings are refused.
-pub fn stored<S: Alter + Drop>(
+// The store on the connection, and its settings.
+fn stored<S: Alter + Drop>(
     rt: &impl Eprint,
     alloc: Global,
     level: Level,

@@ -1,0 +1,34 @@
+//! Which of its three programs a file is, by the name that it was started under.
+ghost use Rattle.std.specs.Prelude.{◌≡◌, map, string_bytes};
+ghost use Rattle.own_process.specs.Programs as spec;
+
+/// The programs that are one file.
+pub enum Program {
+    Jobd,
+    Jobctl,
+    Jobscope,
+}
+
+/// The program that these words mean, the name of which is the first: by the last part of its path `jobctl`, `jobscope`, and by every
+/// other `jobd`.
+pub fn program_of(words: &[String]) -> Program
+    ensures { result ≡ spec.program_of (map string_bytes words.now) }
+{
+    match words.first() {
+        Some(name) => program_meant(name.as_str().as_bytes()),
+        None => Program::Jobd,
+    }
+}
+
+/// The program that a path means.
+pub(crate) fn program_meant(path: &[u8]) -> Program
+    ensures { result ≡ spec.program_meant path.now }
+{
+    if path == b"jobctl".as_slice() || path.ends_with(b"/jobctl") {
+        Program::Jobctl
+    } else if path == b"jobscope".as_slice() || path.ends_with(b"/jobscope") {
+        Program::Jobscope
+    } else {
+        Program::Jobd
+    }
+}
