@@ -60,29 +60,28 @@ impl JournalReader {
         }
     }
 
-    // Takes in a whole line.
+    // Takes in a whole line. One that is no event is counted.
     fn take_line(&mut self, alloc: Global, line: &[u8]) -> Result<bool, JournalFault> {
         self.lines = self.lines.saturating_add(1);
         match &mut self.journal {
-            Some(journal) => {
-                let is_event = journal.take(alloc, line)?;
-                self.count(is_event);
-            }
-            None => {
-                let journal = open(alloc, line)?;
-                drop(mem::replace(&mut self.journal, Some(journal)));
-            }
-        }
-        Ok(true)
-    }
-
-    fn count(&mut self, is_event: bool) {
-        if is_event {
-            return;
-        }
-        self.bad = self.bad.saturating_add(1);
-        if self.bad == 1 {
-            self.first_bad = self.lines;
+            Some(journal) => match journal.take(alloc, line) {
+                Ok(true) => Ok(true),
+                Ok(false) => {
+                    self.bad = self.bad.saturating_add(1);
+                    if self.bad == 1 {
+                        self.first_bad = self.lines;
+                    }
+                    Ok(true)
+                }
+                Err(_) => Err(JournalFault::NoMemory),
+            },
+            None => match open(alloc, line) {
+                Ok(journal) => {
+                    drop(mem::replace(&mut self.journal, Some(journal)));
+                    Ok(true)
+                }
+                Err(fault) => Err(fault),
+            },
         }
     }
 

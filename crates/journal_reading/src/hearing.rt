@@ -88,19 +88,22 @@ struct LoadWords {
 }
 
 fn load(alloc: Global, table: &mut JobTable, def: &str, words: LoadWords) -> Result<bool, Refusal> {
-    let ready = table.prepare_load(alloc, def.as_bytes(), words.writes_setting, words.force)?;
-    let lacks_socket = ready.def().has_sockets() && !words.bind;
-    let lacks_store = words.writes_setting && !words.store;
-    if lacks_socket || lacks_store {
-        drop(ready);
-        return Err(if lacks_socket {
-            Refusal::SocketRefused
-        } else {
-            Refusal::StoreRefused
-        });
+    match table.prepare_load(alloc, def.as_bytes(), words.writes_setting, words.force) {
+        Ok(ready) => {
+            let lacks_socket = ready.def().has_sockets() && !words.bind;
+            if lacks_socket || (words.writes_setting && !words.store) {
+                drop(ready);
+                return Err(if lacks_socket {
+                    Refusal::SocketRefused
+                } else {
+                    Refusal::StoreRefused
+                });
+            }
+            table.commit_load(ready);
+            Ok(true)
+        }
+        Err(refusal) => Err(refusal),
     }
-    table.commit_load(ready);
-    Ok(true)
 }
 
 fn set(
@@ -111,13 +114,17 @@ fn set(
     unload: bool,
     store: bool,
 ) -> Result<bool, Refusal> {
-    let ready = table.prepare_set(alloc, job, disabled, unload)?;
-    if !store {
-        drop(ready);
-        return Err(Refusal::StoreRefused);
+    match table.prepare_set(alloc, job, disabled, unload) {
+        Ok(ready) if store => {
+            table.commit_set(ready);
+            Ok(true)
+        }
+        Ok(ready) => {
+            drop(ready);
+            Err(Refusal::StoreRefused)
+        }
+        Err(refusal) => Err(refusal),
     }
-    table.commit_set(ready);
-    Ok(true)
 }
 
 /// The table hears the event, as a launcher's would. It says whether the event made a step: a question makes none. After a

@@ -1,7 +1,8 @@
 //! What is kept of one job: of its present load, and over all its loads.
 
+use crate::hearing::{Wait, What};
 use crate::run::{Run, RunEnd, is_crash};
-use history_model::{DemandKind, Ended, Reading};
+use history_model::{Answer, DemandKind, Ended, JobItem, Reading};
 use job_defs::Def;
 use std::mem;
 
@@ -60,8 +61,9 @@ pub struct Job {
     pub refused: Option<Run>,
     /// When the last start of this load was ordered.
     pub ordered: Option<Reading>,
-    /// The last stop, strike, unload or shutdown since the last start was ordered.
+    /// The last stop, strike or unload since the last start was ordered, and which of the questions to all jobs it was.
     pub asked: Option<(Asked, Reading)>,
+    pub(crate) ask: u64,
     /// Whether the system refused to wait for the present run.
     pub is_lost: bool,
     /// When TERM, and when KILL, was ordered for the present run.
@@ -88,6 +90,7 @@ impl Job {
             refused: None,
             ordered: None,
             asked: None,
+            ask: 0,
             is_lost: false,
             term: None,
             kill: None,
@@ -140,11 +143,47 @@ impl Job {
         }
     }
 
-    /// The system refused to wait for the present run. It says whether this is the first time.
-    pub(crate) fn lose(&mut self) -> bool {
-        let was_lost = self.is_lost;
-        self.is_lost = true;
-        !was_lost
+    /// What came to its sockets, an answer to an order, or an end: what is told of it, and the run that is over then. A signal that was sent
+    /// is told by its order. A launcher is refused the wait for a run again in each of its rounds; that is told once.
+    pub(crate) fn note(
+        &mut self,
+        item: JobItem,
+        wait: Wait,
+        at: Reading,
+    ) -> (Option<What>, Option<Run>) {
+        match item {
+            JobItem::Asked(_) => (None, None),
+            JobItem::Came(conn) => (Some(What::Came(conn)), None),
+            JobItem::Left(conn) => (Some(What::Left(conn)), None),
+            JobItem::Answered(answer) => self.note_answer(answer, wait, at),
+            JobItem::Ended { how, .. } => match self.end(how, at) {
+                Some(run) => (Some(What::Ended { run, wait }), Some(run)),
+                None => (None, None),
+            },
+            JobItem::WaitRefused { .. } if self.is_lost => (None, None),
+            JobItem::WaitRefused { run } => {
+                self.is_lost = true;
+                (Some(What::Lost { run }), None)
+            }
+        }
+    }
+
+    fn note_answer(
+        &mut self,
+        answer: Answer,
+        wait: Wait,
+        at: Reading,
+    ) -> (Option<What>, Option<Run>) {
+        match answer {
+            Answer::Spawned { run, pid } => {
+                self.begin(at);
+                (Some(What::Began { run, pid }), None)
+            }
+            Answer::SpawnRefused { run } => (Some(What::NotBegun { run, wait }), self.refuse(at)),
+            Answer::Termed { run, ok: false } => (Some(What::Untold { run, kills: false }), None),
+            Answer::Killed { run, ok: false } => (Some(What::Untold { run, kills: true }), None),
+            Answer::Termed { .. } | Answer::Killed { .. } => (None, None),
+        }
     }
 
     /// The start that was ordered went well.

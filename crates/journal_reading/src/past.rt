@@ -23,6 +23,9 @@ pub struct Past {
     /// How many labels were forgotten.
     pub forgotten: u64,
     next: u64,
+    /// How many questions were kept, and which of them asked for the last shutdown, and when.
+    asks: u64,
+    shut_down: Option<(u64, Reading)>,
 }
 
 impl Past {
@@ -32,6 +35,8 @@ impl Past {
             runs: VecDeque::new(alloc),
             forgotten: 0,
             next: 0,
+            asks: 0,
+            shut_down: None,
         }
     }
 
@@ -104,22 +109,34 @@ impl Past {
         None
     }
 
-    /// All jobs are asked to end.
-    pub(crate) fn ask_all(&mut self, asked: Asked, at: Reading) {
-        for job in self.jobs.values_mut() {
-            job.asked = Some((asked, at));
+    /// What keeps the job of this label from a start, or asks for its end, is kept until the next order; a shutdown is asked of all jobs.
+    pub(crate) fn ask(&mut self, label: &str, asked: Asked, at: Reading) {
+        self.asks = self.asks.saturating_add(1);
+        match asked {
+            Asked::Shutdown => self.shut_down = Some((self.asks, at)),
+            Asked::Start | Asked::Kickstart | Asked::Enable | Asked::Disable => {}
+            Asked::Stop | Asked::Strike | Asked::Unload | Asked::UnloadForGood => {
+                if let Some(job) = self.jobs.get_mut(label) {
+                    job.asked = Some((asked, at));
+                    job.ask = self.asks;
+                }
+            }
+        }
+    }
+
+    /// What was asked last of the job, or of all.
+    pub(crate) fn asked_of(&self, job: &Job) -> Option<(Asked, Reading)> {
+        match self.shut_down {
+            Some((ask, at)) if ask > job.ask => Some((Asked::Shutdown, at)),
+            _ => job.asked,
         }
     }
 
     /// A run is over.
-    pub(crate) fn keep(&mut self, run: Option<Run>) -> Result<(), AllocError> {
-        let Some(run) = run else {
-            return Ok(());
-        };
+    pub(crate) fn keep(&mut self, run: Run) -> Result<(), AllocError> {
         if self.runs.len() >= MOST_RUNS {
             let _oldest = self.runs.pop_front();
         }
-        self.runs.push_back(run)?;
-        Ok(())
+        Ok(self.runs.push_back(run)?)
     }
 }

@@ -6,7 +6,7 @@ use crate::job::Asked;
 use crate::past::Past;
 use calendar_due::Zone;
 use ctl_protocol::{Header, LineReader, ReadFault, read_header};
-use history_model::{Act, Answer, Ask, Ended, Event, JobItem, Reading, Refusal};
+use history_model::{Act, Ask, Event, JobItem, Reading, Refusal};
 use job_defs::read_def;
 use job_table::JobTable;
 use std::alloc::{AllocError, Global};
@@ -49,18 +49,6 @@ fn wait_of(table: &JobTable, label: &str) -> Wait {
 
 /// The journal that a header opens.
 pub(crate) fn open(alloc: Global, line: &[u8]) -> Result<Journal, JournalFault> {
-    let reader = LineReader::new(alloc)?;
-    let (zone, table) = opened(alloc, line)?;
-    Ok(Journal {
-        table,
-        zone,
-        past: Past::new(alloc),
-        news: Vec::new(alloc),
-        reader,
-    })
-}
-
-fn opened(alloc: Global, line: &[u8]) -> Result<(Zone, JobTable), JournalFault> {
     match read_header(alloc, line) {
         Ok(header) => opened_by(alloc, header),
         Err(ReadFault::NoMemory) => Err(JournalFault::NoMemory),
@@ -68,20 +56,43 @@ fn opened(alloc: Global, line: &[u8]) -> Result<(Zone, JobTable), JournalFault> 
     }
 }
 
-fn opened_by(alloc: Global, header: Header) -> Result<(Zone, JobTable), JournalFault> {
+fn opened_by(alloc: Global, header: Header) -> Result<Journal, JournalFault> {
     match zone_of(alloc, &header.zone) {
-        Ok(Some(zone)) => table_in(alloc, zone, header),
+        Ok(Some(zone)) => opened_in(alloc, zone, header),
         Ok(None) => Err(JournalFault::BadZone),
         Err(_) => Err(JournalFault::NoMemory),
     }
 }
 
-fn table_in(alloc: Global, zone: Zone, header: Header) -> Result<(Zone, JobTable), JournalFault> {
+fn opened_in(alloc: Global, zone: Zone, header: Header) -> Result<Journal, JournalFault> {
     match table_of(alloc, header) {
-        Ok(table) => Ok((zone, table)),
-        Err(OpeningFault::NoMemory) => Err(JournalFault::NoMemory),
-        Err(OpeningFault::BadZone) => Err(JournalFault::BadZone),
-        Err(_) => Err(JournalFault::BadSettings),
+        Ok(table) => made(alloc, zone, table),
+        Err(fault) => {
+            drop(zone);
+            Err(match fault {
+                OpeningFault::NoMemory => JournalFault::NoMemory,
+                OpeningFault::BadZone => JournalFault::BadZone,
+                _ => JournalFault::BadSettings,
+            })
+        }
+    }
+}
+
+// No line is read but the header.
+fn made(alloc: Global, zone: Zone, table: JobTable) -> Result<Journal, JournalFault> {
+    match LineReader::new(alloc) {
+        Ok(reader) => Ok(Journal {
+            table,
+            zone,
+            past: Past::new(alloc),
+            news: Vec::new(alloc),
+            reader,
+        }),
+        Err(_) => {
+            drop(zone);
+            drop(table);
+            Err(JournalFault::NoMemory)
+        }
     }
 }
 
@@ -109,214 +120,170 @@ impl Journal {
     }
 
     fn hear(&mut self, alloc: Global, event: &Event) -> Result<(), AllocError> {
-        match hear(alloc, &mut self.table, event) {
+        let heard = hear(alloc, &mut self.table, event);
+        let news = &mut self.news;
+        match heard {
             Ok(true) => {
-                self.note(alloc, event)?;
-                self.note_orders(alloc)
+                note(alloc, &self.table, &mut self.past, news, event)?;
+                note_orders(alloc, &self.table, &mut self.past, news)
             }
             Ok(false) => Ok(()),
             Err(Refusal::NoMemory) => Err(AllocError),
-            Err(refusal) => self.note_refusal(alloc, event, refusal),
+            Err(refusal) => note_refusal(alloc, news, event, refusal),
         }
-    }
-
-    // Tells what the line gave.
-    fn tell(&mut self, alloc: Global, label: &str, what: What) -> Result<(), AllocError> {
-        add_news(alloc, &mut self.news, label, what)
-    }
-
-    // What a load, a question to a job or an answer was refused. Answers out of turn are left aside.
-    fn note_refusal(
-        &mut self,
-        alloc: Global,
-        event: &Event,
-        refusal: Refusal,
-    ) -> Result<(), AllocError> {
-        if let Event::Load { def, .. } = event {
-            return self.note_bad_load(alloc, def.as_str(), refusal);
-        }
-        match asked_in(event) {
-            Some((label, asked)) => self.tell(alloc, label, What::Declined(asked, refusal)),
-            None => Ok(()),
-        }
-    }
-
-    fn note_bad_load(
-        &mut self,
-        alloc: Global,
-        def: &str,
-        refusal: Refusal,
-    ) -> Result<(), AllocError> {
-        let what = What::LoadRefused(refusal);
-        match read_def(alloc, def.as_bytes()) {
-            Ok(def) => {
-                let told = self.tell(alloc, def.label(), what);
-                drop(def);
-                told
-            }
-            Err(_) => self.tell(alloc, "", what),
-        }
-    }
-
-    // An event that was accepted.
-    fn note(&mut self, alloc: Global, event: &Event) -> Result<(), AllocError> {
-        if let Some((label, asked)) = asked_in(event) {
-            self.note_asked(label, asked);
-            return self.tell(alloc, label, What::Asked(asked));
-        }
-        match event {
-            Event::Load { def, .. } => self.note_load(alloc, def.as_str()),
-            Event::OfJob { job, item } => self.note_item(alloc, job.as_str(), *item),
-            _ => Ok(()),
-        }
-    }
-
-    fn note_load(&mut self, alloc: Global, def: &str) -> Result<(), AllocError> {
-        let at = self.reading();
-        match read_def(alloc, def.as_bytes()) {
-            Ok(def) => {
-                let told = self.tell(alloc, def.label(), What::Loaded);
-                let kept = self.past.load(alloc, def, at);
-                told?;
-                kept
-            }
-            Err(_) => Ok(()),
-        }
-    }
-
-    // What keeps from a start, or asks for an end, is kept until the next order.
-    fn note_asked(&mut self, label: &str, asked: Asked) {
-        let at = self.reading();
-        match asked {
-            Asked::Shutdown => self.past.ask_all(asked, at),
-            Asked::Start | Asked::Kickstart | Asked::Enable | Asked::Disable => {}
-            _ => {
-                if let Some(job) = self.past.jobs.get_mut(label) {
-                    job.asked = Some((asked, at));
-                }
-            }
-        }
-    }
-
-    // What came to a job's sockets, an answer, or an end.
-    fn note_item(&mut self, alloc: Global, label: &str, item: JobItem) -> Result<(), AllocError> {
-        match item {
-            JobItem::Asked(_) => Ok(()),
-            JobItem::Came(conn) => self.tell(alloc, label, What::Came(conn)),
-            JobItem::Left(conn) => self.tell(alloc, label, What::Left(conn)),
-            JobItem::Answered(answer) => self.note_answer(alloc, label, answer),
-            JobItem::Ended { how, .. } => self.note_ended(alloc, label, how),
-            JobItem::WaitRefused { run } => self.note_lost(alloc, label, run),
-        }
-    }
-
-    // The answer to an order. A signal that was sent is told by its order.
-    fn note_answer(
-        &mut self,
-        alloc: Global,
-        label: &str,
-        answer: Answer,
-    ) -> Result<(), AllocError> {
-        let (run, kills) = match answer {
-            Answer::Spawned { run, pid } => return self.note_begun(alloc, label, run, pid),
-            Answer::SpawnRefused { run } => return self.note_refused(alloc, label, run),
-            Answer::Termed { run, ok: false } => (run, false),
-            Answer::Killed { run, ok: false } => (run, true),
-            Answer::Termed { .. } | Answer::Killed { .. } => return Ok(()),
-        };
-        self.tell(alloc, label, What::Untold { run, kills })
-    }
-
-    fn note_begun(
-        &mut self,
-        alloc: Global,
-        label: &str,
-        run: u64,
-        pid: u32,
-    ) -> Result<(), AllocError> {
-        let at = self.reading();
-        if let Some(job) = self.past.jobs.get_mut(label) {
-            job.begin(at);
-        }
-        self.tell(alloc, label, What::Began { run, pid })
-    }
-
-    fn note_refused(&mut self, alloc: Global, label: &str, run: u64) -> Result<(), AllocError> {
-        let at = self.reading();
-        let wait = wait_of(&self.table, label);
-        let mut over = None;
-        if let Some(job) = self.past.jobs.get_mut(label) {
-            over = job.refuse(at);
-        }
-        self.past.keep(over)?;
-        self.tell(alloc, label, What::NotBegun { run, wait })
-    }
-
-    fn note_ended(&mut self, alloc: Global, label: &str, how: Ended) -> Result<(), AllocError> {
-        let at = self.reading();
-        let wait = wait_of(&self.table, label);
-        let mut over = None;
-        if let Some(job) = self.past.jobs.get_mut(label) {
-            over = job.end(how, at);
-        }
-        self.past.keep(over)?;
-        match over {
-            Some(run) => self.tell(alloc, label, What::Ended { run, wait }),
-            None => Ok(()),
-        }
-    }
-
-    // A launcher is refused the wait again in each of its rounds; it is told once.
-    fn note_lost(&mut self, alloc: Global, label: &str, run: u64) -> Result<(), AllocError> {
-        let is_first = match self.past.jobs.get_mut(label) {
-            Some(job) => job.lose(),
-            None => false,
-        };
-        if is_first {
-            self.tell(alloc, label, What::Lost { run })?;
-        }
-        Ok(())
-    }
-
-    // The orders of the last step.
-    fn note_orders(&mut self, alloc: Global) -> Result<(), AllocError> {
-        let at = self.table.reading();
-        let step = self.table.last_step();
-        for order in step.orders {
-            let label = step.label(order.job);
-            if let Some(what) = ordered(&self.table, &mut self.past, label, order.act, at) {
-                add_news(alloc, &mut self.news, label, what)?;
-            }
-        }
-        Ok(())
     }
 }
 
+// Tells what an event gave.
 fn add_news(
     alloc: Global,
     news: &mut Vec<News>,
     label: &str,
     what: What,
 ) -> Result<(), AllocError> {
-    let label = String::from_str(alloc, label)?;
-    news.push(News { label, what })?;
+    match String::from_str(alloc, label) {
+        Ok(label) => Ok(news.push(News { label, what })?),
+        Err(error) => Err(error),
+    }
+}
+
+// What a load, a question to a job or an answer was refused. Answers out of turn are left aside.
+fn note_refusal(
+    alloc: Global,
+    news: &mut Vec<News>,
+    event: &Event,
+    refusal: Refusal,
+) -> Result<(), AllocError> {
+    match event {
+        Event::Load { def, .. } => note_bad_load(alloc, news, def.as_str(), refusal),
+        event => match asked_in(event) {
+            Some((label, asked)) => { add_news(alloc, news, label, What::Declined(asked, refusal)) }
+            None => Ok(()),
+        },
+    }
+}
+
+fn note_bad_load(
+    alloc: Global,
+    news: &mut Vec<News>,
+    def: &str,
+    refusal: Refusal,
+) -> Result<(), AllocError> {
+    let what = What::LoadRefused(refusal);
+    match read_def(alloc, def.as_bytes()) {
+        Ok(def) => {
+            let told = add_news(alloc, news, def.label(), what);
+            drop(def);
+            told
+        }
+        Err(_) => add_news(alloc, news, "", what),
+    }
+}
+
+// An event that was accepted.
+fn note(
+    alloc: Global,
+    table: &JobTable,
+    past: &mut Past,
+    news: &mut Vec<News>,
+    event: &Event,
+) -> Result<(), AllocError> {
+    let at = table.reading();
+    if let Some((label, asked)) = asked_in(event) {
+        past.ask(label, asked, at);
+        return add_news(alloc, news, label, What::Asked(asked));
+    }
+    match event {
+        Event::Load { def, .. } => note_load(alloc, past, news, def.as_str(), at),
+        Event::OfJob { job, item } => {
+            let label = job.as_str();
+            let wait = wait_of(table, label);
+            note_item(alloc, past, news, label, *item, wait, at)
+        }
+        _ => Ok(()),
+    }
+}
+
+fn note_load(
+    alloc: Global,
+    past: &mut Past,
+    news: &mut Vec<News>,
+    def: &str,
+    at: Reading,
+) -> Result<(), AllocError> {
+    match read_def(alloc, def.as_bytes()) {
+        Ok(def) => {
+            let told = add_news(alloc, news, def.label(), What::Loaded);
+            let kept = past.load(alloc, def, at);
+            match told {
+                Ok(()) => kept,
+                Err(error) => Err(error),
+            }
+        }
+        Err(_) => Ok(()),
+    }
+}
+
+// What came to a job's sockets, an answer, or an end. A run that is over is kept.
+fn note_item(
+    alloc: Global,
+    past: &mut Past,
+    news: &mut Vec<News>,
+    label: &str,
+    item: JobItem,
+    wait: Wait,
+    at: Reading,
+) -> Result<(), AllocError> {
+    let (what, over) = match past.jobs.get_mut(label) {
+        Some(job) => job.note(item, wait, at),
+        None => (None, None),
+    };
+    let kept = match over {
+        Some(run) => past.keep(run),
+        None => Ok(()),
+    };
+    match (what, kept) {
+        (Some(what), Ok(())) => add_news(alloc, news, label, what),
+        (_, kept) => kept,
+    }
+}
+
+// The orders of the last step.
+fn note_orders(
+    alloc: Global,
+    table: &JobTable,
+    past: &mut Past,
+    news: &mut Vec<News>,
+) -> Result<(), AllocError> {
+    let at = table.reading();
+    let step = table.last_step();
+    for order in step.orders {
+        let label = step.label(order.job);
+        if let Some(what) = ordered(table, past, label, order.act, at) {
+            add_news(alloc, news, label, what)?;
+        }
+    }
     Ok(())
 }
 
 // Takes in an order.
 fn ordered(table: &JobTable, past: &mut Past, label: &str, act: Act, at: Reading) -> Option<What> {
-    let job = past.jobs.get_mut(label)?;
+    let Some(job) = past.jobs.get_mut(label) else {
+        return None;
+    };
     match act {
         Act::Spawn { run, conn } => {
             let demand = table.latest_demand(label);
             job.order(run, demand, at);
-            let wants = table.reasons(label)?.wants;
-            Some(What::Ordered {
-                run,
-                connection: conn,
-                demand,
-                wants,
-            })
+            match table.reasons(label) {
+                Some(reasons) => Some(What::Ordered {
+                    run,
+                    connection: conn,
+                    demand,
+                    wants: reasons.wants,
+                }),
+                None => None,
+            }
         }
         Act::Term { run } => {
             job.tell(false, at);

@@ -1,6 +1,6 @@
 -- A reading so many seconds later makes the spawn due by the clock alone, or by a calendar entry; and the least such number.
 use Rattle.std.proofs.Common.{◌≡◌, ℕ, ◌+◌, ◌*◌, ◌<◌, ◌≤◌, Bool, true, false, not, ◌&&◌, ◌||◌, cond, List, [], ◌∷◌, length, ◌==◌, ap, Option, Some, None, unwrap_or, refl, sym, ◌∙◌, nat_lt, nat_le, arith}
-use Rattle.std.specs.Prelude.{IfSome}
+use Rattle.std.specs.Prelude.{◌-◌, max, IfSome}
 use Rattle.std.specs.List.{list_any}
 use Rattle.std.proofs.lemmas.Bool.Decides.{nat_tests}
 use Rattle.history_model.specs.declared.Entry.{Entry}
@@ -51,6 +51,24 @@ pub none_starts : (zone : Zone) (entries : List Entry) (previous wall : ℕ) (ne
     → false ≡ (not needs && calendar_fires zone entries previous wall && free)
 none_starts zone entries previous wall true free none = refl
 none_starts zone entries previous wall false free none = ap (λ fires. not false && fires && free) (sym (none_fires zone entries previous wall none))
+
+-- an event is needed first
+pub kept_out : (needs fires free : Bool) → needs ≡ true → false ≡ (not needs && fires && free)
+kept_out needs fires free some = ap (λ b. not b && fires && free) (sym some)
+
+-- no entry fires
+pub not_fired : (needs fires free : Bool) → fires ≡ false → false ≡ (not needs && fires && free)
+not_fired true fires free none = refl
+not_fired false fires free none = ap (λ b. not false && b && free) (sym none)
+
+later_of : (minute wall soon d : ℕ) → nat_le (max (minute - wall) soon) d ≡ (nat_le minute (wall + d) && nat_le soon d)
+later_of minute wall soon d = grind (arith, nat_tests)
+
+-- the later of the minute that fires and the throttle's end
+pub minute_starts : (needs fires free : Bool) (minute wall soon d : ℕ) → needs ≡ false → fires ≡ nat_le minute (wall + d) → free ≡ nat_le soon d
+    → nat_le (max (minute - wall) soon) d ≡ (not needs && fires && free)
+minute_starts needs fires free minute wall soon d none fired over =
+    later_of minute wall soon d ∙ (λ i. not (sym none i) && sym fired i && sym over i)
 
 pub spawns-after : (zone : Zone) (t : History) → HasPeriod t → (d : ℕ) → spawns_after zone t d
     ≡ (has_come (spawns_from t) ((now t).up + SECOND * d)

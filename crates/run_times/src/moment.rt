@@ -2,11 +2,15 @@
 
 ghost use Rattle.std.specs.Prelude.{◌≤◌};
 
+use crate::ink::Ink;
+use crate::ink::Piece::{Number, Text};
 use calendar_due::Zone;
 use history_model::{CivilMinute, MAX_WALL};
 use std::alloc::{AllocError, Global};
 
-const WEEKDAYS: [&str; 7] = ["Sun", "Mon", "Tue", "Wed", "Thu", "Fri", "Sat"];
+const WEEKDAYS: [&str; 7] = [
+    " Sun ", " Mon ", " Tue ", " Wed ", " Thu ", " Fri ", " Sat ",
+];
 
 const DAY: u32 = 1440;
 
@@ -25,51 +29,33 @@ pub fn time_text(alloc: Global, zone: &Zone, second: u64) -> Result<String, Allo
     requires { second ≤ MAX_WALL }
 {
     let at = zone.civil_minute(second);
-    let weekday = name_of(at.weekday);
-    let shown = shown_after(&at, second);
+    let (sign, offset) = offset_of(&at, second);
+    // Each number has two digits; the words stand before it.
+    let parts = [
+        ("-", u64::from(at.month)),
+        ("-", u64::from(at.day)),
+        (WEEKDAYS[usize::from(at.weekday % 7)], u64::from(at.hour)),
+        (":", u64::from(at.minute)),
+        (":", second % 60),
+        (sign, offset / 60),
+        ("", offset % 60),
+    ];
+    let mut ink = Ink::new(alloc);
+    // No year is before 1969, nor after 9999.
+    ink.put_number(u64::from(at.year.unsigned_abs()));
+    for (before, number) in parts.iter() {
+        ink.put_all(&[Text(*before), Number(*number / 10), Number(*number % 10)]);
+    }
+    ink.into_text()
+}
+
+// How far the minute that is shown at the second is from that of UTC: behind or ahead, and by how many minutes. Both are counted from the
+// beginning of the second last day before that of UTC. An offset is less than two days, so the weekdays tell it; UTC's first was a Thursday.
+fn offset_of(at: &CivilMinute, second: u64) -> (&'static str, u64) {
+    let utc_days = ((second / 86_400) % 7) as u32;
+    let days = (u32::from(at.weekday) + 12 - utc_days) % 7;
+    let shown = days * DAY + u32::from(at.hour) * 60 + u32::from(at.minute);
     let utc = 2 * DAY + ((second / 60) % 1440) as u32;
-    let sign = if shown < utc { "-" } else { "+" };
-    let size = shown.abs_diff(utc);
-    let hours = size / 60;
-    let minutes = size % 60;
-    let rest = second % 60;
-    let CivilMinute {
-        year,
-        month,
-        day,
-        hour,
-        minute,
-        ..
-    } = at;
-    format!(in alloc;
-        "{year:04}-{month:02}-{day:02} {weekday} {hour:02}:{minute:02}:{rest:02} {sign}{hours:02}{minutes:02}"
-    )
-}
-
-fn name_of(weekday: u8) -> &'static str {
-    match WEEKDAYS.get(usize::from(weekday)) {
-        Some(name) => name,
-        None => "?",
-    }
-}
-
-// The minute that is shown, counted from the beginning of the second last day before that of the second by UTC.
-fn shown_after(at: &CivilMinute, second: u64) -> u32 {
-    let days = days_after(at.weekday, ((second / 86_400) % 7) as u32);
-    days * DAY + u32::from(at.hour) * 60 + u32::from(at.minute)
-}
-
-// How many days the weekday that is shown is after the second last day before that of UTC, which is counted from a Thursday. An
-// offset is less than two days, so the weekdays tell it.
-fn days_after(weekday: u8, utc_days: u32) -> u32
-    requires { utc_days ≤ 6 }
-    ensures { result ≤ 4 }
-{
-    match (u32::from(weekday) + 10 - utc_days) % 7 {
-        0 => 2,
-        1 => 3,
-        2 => 4,
-        5 => 0,
-        _ => 1,
-    }
+    let sign = if shown < utc { " -" } else { " +" };
+    (sign, u64::from(shown.abs_diff(utc)))
 }

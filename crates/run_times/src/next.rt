@@ -115,7 +115,6 @@ fn seconds_until(moment: u64, up: u64) -> u64
 
 /// The least number of seconds after which a calendar entry has fired, the throttle is over, and no event is needed. Without entries no
 /// minute is looked at.
-#[tactic(auto, using(crate::proofs::NextRunLemmas::none_starts))]
 fn by_calendar(
     reasons: &Reasons,
     entries: &[Entry],
@@ -137,13 +136,14 @@ fn by_calendar(
     if needs_event(reasons) {
         return None;
     }
-    let minute = Calendar::next(entries, zone, now.wall, now.wall + ahead)?;
     let free = reasons.throttled_until.unwrap_or(0);
-    Some(
-        minute
-            .saturating_sub(now.wall)
-            .max(seconds_until(free, now.up)),
-    )
+    match Calendar::next(entries, zone, now.wall, now.wall + ahead) {
+        Some(minute) => {
+            let fires = minute.saturating_sub(now.wall);
+            Some(fires.max(seconds_until(free, now.up)))
+        }
+        None => None,
+    }
 }
 
 /// Whether a reason holds that no reading ends.

@@ -1,12 +1,15 @@
 //! The chart in lines of a terminal: bars of block characters, and a line of marks under a row that has some.
 
 use crate::axis::Axis;
-use crate::chart::{Bar, Chart, Mark, Row, gravity};
+use crate::chart::{Bar, Chart, Mark, Row, grade};
 use crate::escape::is_unwritable;
+use crate::form::Hole::{Moment, Number};
+use crate::form::{Hole, Pen, put_form};
 use crate::ticks::{Tick, ticks};
-use crate::words::{columns_of, cut_text, missing_text};
+use crate::words::{columns_of, cut, missing};
 use calendar_due::Zone;
 use run_times::Ink;
+use run_times::Piece::Text;
 use std::alloc::{AllocError, Global};
 
 /// The block of a bar by how grave its end is.
@@ -22,12 +25,9 @@ const LEAST: usize = 8;
 const LEGEND: &str =
     "█ code 0\n▓ another code\n▒ a signal\n▚ a crash\n▄ stopped\n▀ lives\nv demand\n~ throttle\nx refusal";
 
-// The lines, how they are laid out, and how moments are shown.
+/// How lines are laid out.
 #[derive(Drop)]
-struct Screen<'a> {
-    ink: Ink,
-    alloc: Global,
-    zone: &'a Zone,
+struct Grid {
     /// The columns of the labels.
     column: usize,
     axis: Axis,
@@ -49,22 +49,18 @@ pub fn blocks_text(
     }
     let column = column.min(width / 3);
     let room = width.saturating_sub(column).saturating_sub(1).max(LEAST);
-    let axis = Axis::new(chart.axis.from, chart.axis.until, room as u16);
-    let mut screen = Screen {
-        ink: Ink::new(alloc),
-        alloc,
-        zone,
+    let mut grid = Grid {
         column,
-        axis,
-        cells: empty_cells(alloc, axis.places)?,
+        axis: Axis::new(chart.axis.from, chart.axis.until, room as u16),
+        cells: empty_cells(alloc, room)?,
     };
-    screen.fill(chart, width);
-    let Screen { ink, cells, .. } = screen;
-    drop(cells);
+    let mut ink = Ink::new(alloc);
+    put_lines(&mut ink, &Pen { alloc, zone }, &mut grid, chart, width);
+    drop(grid);
     ink.into_text()
 }
 
-fn empty_cells(alloc: Global, places: u16) -> Result<Vec<char>, AllocError> {
+fn empty_cells(alloc: Global, places: usize) -> Result<Vec<char>, AllocError> {
     let mut cells = Vec::new(alloc);
     for _ in 0..places {
         cells.push(' ')?;
@@ -72,53 +68,45 @@ fn empty_cells(alloc: Global, places: u16) -> Result<Vec<char>, AllocError> {
     Ok(cells)
 }
 
-impl Screen<'_> {
-    fn fill(&mut self, chart: &Chart, width: usize) {
-        self.add_span(width);
-        for row in &chart.rows {
-            self.add_row(row);
-        }
-        self.add_axis();
-        self.add_pieces(LEGEND, '\n', "  ", width);
-        match missing_text(self.alloc, chart) {
-            Ok(missing) => {
-                for sentence in missing.as_str().lines() {
-                    self.add_pieces(sentence, ' ', " ", width);
-                }
-            }
-            Err(_) => self.ink.refuse(),
+fn put_lines(ink: &mut Ink, pen: &Pen<'_>, grid: &mut Grid, chart: &Chart, width: usize) {
+    let span = [Moment(grid.axis.from), Moment(grid.axis.until)];
+    put_pieces(ink, pen, "$\nto $", &span, '\n', width);
+    for row in &chart.rows {
+        grid.put_row(ink, pen.alloc, row);
+    }
+    grid.put_axis(ink, pen);
+    put_pieces(ink, pen, LEGEND, &[], '\n', width);
+    for (sentence, one, other) in missing(chart).iter() {
+        if *one > 0 || *other > 0 {
+            let numbers = [Number(*one), Number(*other)];
+            put_pieces(ink, pen, *sentence, &numbers, ' ', width);
         }
     }
+}
 
+impl Grid {
     // Adds a line: the label in its column, cut if it is longer and with control characters as question marks, a space, and the cells,
     // which are empty then. Spaces at its end are left out.
-    fn add_line(&mut self, label: &str) {
-        match cut_text(self.alloc, label, self.column) {
-            Ok(shown) => {
-                let line = self.line_of(shown.as_str());
-                self.put_trimmed(line);
+    fn put_line(&mut self, ink: &mut Ink, alloc: Global, label: &str) {
+        match self.line_of(alloc, label) {
+            Ok(line) => {
+                let line = line.as_str().trim_end_matches(' ');
+                ink.put_all(&[Text(line), Text("\n")]);
             }
-            Err(_) => self.ink.refuse(),
+            Err(_) => ink.refuse(),
         }
-        for cell in self.cells.iter_mut() {
-            *cell = ' ';
-        }
+        self.cells.fill(' ');
     }
 
-    fn put_trimmed(&mut self, line: Result<String, AllocError>) {
-        match line {
-            Ok(line) => self.ink.put(line.as_str().trim_end_matches(' ')),
-            Err(_) => self.ink.refuse(),
-        }
-        self.ink.put("\n");
-    }
-
-    fn line_of(&self, label: &str) -> Result<String, AllocError> {
-        let mut line = Ink::new(self.alloc);
-        for c in label.chars() {
+    fn line_of(&self, alloc: Global, label: &str) -> Result<String, AllocError> {
+        let (front, rest) = cut(label, self.column);
+        let mut line = Ink::new(alloc);
+        for c in front.chars() {
             line.put_char(if is_unwritable(c) { '?' } else { c });
         }
-        for _ in columns_of(label)..self.column.saturating_add(1) {
+        line.put(rest);
+        let used = columns_of(front).saturating_add(columns_of(rest));
+        for _ in used..self.column.saturating_add(1) {
             line.put(" ");
         }
         for c in &self.cells {
@@ -127,128 +115,115 @@ impl Screen<'_> {
         line.into_text()
     }
 
-    // The graver bar stands over the others of its place.
-    fn add_row(&mut self, row: &Row) {
+    // A row's bars, and below them its marks, if it has some. The graver ones stand over the others of their place.
+    fn put_row(&mut self, ink: &mut Ink, alloc: Global, row: &Row) {
         for (grave, block) in BLOCKS.iter().enumerate() {
-            self.put_bars(row.bars.as_slice(), grave, *block);
+            self.set_bars(row.bars.as_slice(), grave, *block);
         }
-        self.add_line(row.label.as_str());
-        self.add_marks(row);
+        self.put_line(ink, alloc, row.label.as_str());
+        if row.demands.is_empty() && row.throttles.is_empty() && row.refusals.is_empty() {
+            return;
+        }
+        self.set_marks(row.demands.as_slice(), 'v');
+        self.set_marks(row.throttles.as_slice(), '~');
+        self.set_marks(row.refusals.as_slice(), 'x');
+        self.put_line(ink, alloc, "");
     }
 
-    // Puts the bars whose end is so grave.
-    fn put_bars(&mut self, bars: &[Bar], grave: usize, block: char) {
+    // Sets the bars whose end is so grave.
+    fn set_bars(&mut self, bars: &[Bar], grave: usize, block: char) {
         for bar in bars {
-            if usize::from(gravity(bar.end)) == grave {
+            if grade(bar.end).0 == grave {
                 let (first, past) = self.axis.filled(bar.from, bar.until);
                 for place in first..past {
-                    put(&mut self.cells, usize::from(place), block);
+                    self.set(usize::from(place), block);
                 }
             }
         }
     }
 
-    // The graver mark stands over the others of its place.
-    fn add_marks(&mut self, row: &Row) {
-        if row.demands.is_empty() && row.throttles.is_empty() && row.refusals.is_empty() {
-            return;
-        }
-        self.put_marks(row.demands.as_slice(), 'v');
-        self.put_marks(row.throttles.as_slice(), '~');
-        self.put_marks(row.refusals.as_slice(), 'x');
-        self.add_line("");
-    }
-
-    fn put_marks(&mut self, marks: &[Mark], sign: char) {
+    fn set_marks(&mut self, marks: &[Mark], sign: char) {
         for mark in marks {
-            let place = self.place_of(mark.at);
-            put(&mut self.cells, place, sign);
+            let (place, _) = self.axis.filled(mark.at, mark.at);
+            self.set(usize::from(place), sign);
         }
-    }
-
-    // The place of the moment, the last one if it is behind all.
-    fn place_of(&self, at: u64) -> usize {
-        let last = self.axis.places.saturating_sub(1);
-        usize::from(self.axis.place(at).min(last))
     }
 
     // The ticks: a line with their texts, and one with what stands below them.
-    fn add_axis(&mut self) {
+    fn put_axis(&mut self, ink: &mut Ink, pen: &Pen<'_>) {
         let most = u64::from(self.axis.places / 11).max(1);
-        match ticks(self.alloc, self.zone, &self.axis, most) {
+        match ticks(pen.alloc, pen.zone, &self.axis, most) {
             Ok(ticks) => {
-                self.add_tick_line(ticks.as_slice(), false);
-                self.add_tick_line(ticks.as_slice(), true);
+                for tick in &ticks {
+                    let (text, _) = tick.parts();
+                    self.set_tick(tick, '|', text);
+                }
+                self.put_line(ink, pen.alloc, "");
+                for tick in &ticks {
+                    let (_, below) = tick.parts();
+                    self.set_tick(tick, ' ', below);
+                }
+                self.put_line(ink, pen.alloc, "");
             }
-            Err(_) => self.ink.refuse(),
+            Err(_) => ink.refuse(),
         }
     }
 
-    fn add_tick_line(&mut self, ticks: &[Tick], is_below: bool) {
-        for tick in ticks {
-            let place = self.place_of(tick.at);
-            let (sign, text) = if is_below {
-                (' ', tick.below.as_str())
-            } else {
-                ('|', tick.text.as_str())
-            };
-            put(&mut self.cells, place, sign);
-            put_text(&mut self.cells, place.saturating_add(1), text);
-        }
-        self.add_line("");
-    }
-
-    // From when to when.
-    fn add_span(&mut self, width: usize) {
-        let mut span = Ink::new(self.alloc);
-        span.put_moment(self.alloc, self.zone, self.axis.from);
-        span.put("\nto ");
-        span.put_moment(self.alloc, self.zone, self.axis.until);
-        match span.into_text() {
-            Ok(span) => self.add_pieces(span.as_str(), '\n', "  ", width),
-            Err(_) => self.ink.refuse(),
+    // Sets the sign at the tick's place, and the text behind it, if it has room there.
+    fn set_tick(&mut self, tick: &Tick, sign: char, text: &str) {
+        let (place, _) = self.axis.filled(tick.at, tick.at);
+        let mut at = usize::from(place);
+        self.set(at, sign);
+        let end = at.saturating_add(1).saturating_add(text.len());
+        if end <= self.cells.len() {
+            for c in text.chars() {
+                at = at.saturating_add(1);
+                self.set(at, c);
+            }
         }
     }
 
-    // The text's pieces with the gap between them, in lines of the width.
-    fn add_pieces(&mut self, text: &str, between: char, gap: &str, width: usize) {
-        let mut used: usize = 0;
-        for piece in text.split(between) {
-            used = self.add_piece(piece, gap, used, width);
+    fn set(&mut self, place: usize, c: char) {
+        if let Some(cell) = self.cells.get_mut(place) {
+            *cell = c;
         }
-        self.ink.put("\n");
     }
+}
 
-    // The piece behind the gap, or in a new line if so many columns are used that it has no room. It gives how many are used then.
-    fn add_piece(&mut self, piece: &str, gap: &str, used: usize, width: usize) -> usize {
+// Adds the pieces of a form whose holes are filled, in lines of the width.
+fn put_pieces(
+    ink: &mut Ink,
+    pen: &Pen<'_>,
+    form: &str,
+    holes: &[Hole<'_>],
+    between: char,
+    width: usize,
+) {
+    let mut text = Ink::new(pen.alloc);
+    put_form(&mut text, pen, form, holes);
+    match text.into_text() {
+        Ok(text) => put_wrapped(ink, text.as_str(), between, width),
+        Err(_) => ink.refuse(),
+    }
+}
+
+// Adds the text's pieces, words with a space between them and others with two, and a piece in a new line if it has no room in the last.
+fn put_wrapped(ink: &mut Ink, text: &str, between: char, width: usize) {
+    let gap = if between == ' ' { " " } else { "  " };
+    let mut used: usize = 0;
+    for piece in text.split(between) {
         let wide = columns_of(piece);
         let behind = used.saturating_add(gap.len()).saturating_add(wide);
-        let has_room = behind <= width;
-        let before = match used {
-            0 => "",
-            _ if has_room => gap,
-            _ => "\n",
+        let has_room = used > 0 && behind <= width;
+        let before = if has_room {
+            gap
+        } else if used > 0 {
+            "\n"
+        } else {
+            ""
         };
-        self.ink.put(before);
-        self.ink.put(piece);
-        if used > 0 && has_room { behind } else { wide }
+        ink.put_all(&[Text(before), Text(piece)]);
+        used = if has_room { behind } else { wide };
     }
-}
-
-fn put(cells: &mut Vec<char>, place: usize, c: char) {
-    if let Some(cell) = cells.get_mut(place) {
-        *cell = c;
-    }
-}
-
-// Puts the text from the place on, if it has room there.
-fn put_text(cells: &mut Vec<char>, place: usize, text: &str) {
-    if place.saturating_add(text.len()) > cells.len() {
-        return;
-    }
-    let mut at = place;
-    for c in text.chars() {
-        put(cells, at, c);
-        at = at.saturating_add(1);
-    }
+    ink.put("\n");
 }

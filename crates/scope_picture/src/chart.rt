@@ -1,6 +1,6 @@
 //! What a chart shows: a row for each job, with its runs as bars, and with the demands, throttles and refusals as marks.
 
-ghost use Rattle.std.specs.Prelude.{◌≡◌, ◌+◌, OnOk, IfSome};
+ghost use Rattle.std.specs.Prelude.{◌≡◌, ◌≤◌, ◌+◌, OnOk, IfSome};
 ghost use Rattle.scope_picture.specs.Bars.{runs_in, bar_end};
 
 use crate::axis::Axis;
@@ -93,15 +93,17 @@ impl Bar {
     }
 }
 
-/// How grave an end is: 0 for one that lives, 5 for a crash.
-pub(crate) fn gravity(end: End) -> u8 {
+/// How grave an end is, from 0 for a run that lives to 5 for a crash; and its code or signal, 0 if it has none.
+pub(crate) fn grade(end: End) -> (usize, u64)
+    ensures { result.0 ≤ 5 }
+{
     match end {
-        End::Lives => 0,
-        End::Code(0) => 1,
-        End::Stopped => 2,
-        End::Code(_) => 3,
-        End::Signal(_) => 4,
-        End::Crash(_) => 5,
+        End::Lives => (0, 0),
+        End::Code(0) => (1, 0),
+        End::Stopped => (2, 0),
+        End::Code(code) => (3, u64::from(code)),
+        End::Signal(signal) => (4, u64::from(signal)),
+        End::Crash(signal) => (5, u64::from(signal)),
     }
 }
 
@@ -115,7 +117,7 @@ fn joined(axis: &Axis, last: Bar, next: Bar) -> Option<Bar>
         return None;
     }
     let runs = last.runs.checked_add(next.runs)?;
-    let is_graver = gravity(next.end) > gravity(last.end);
+    let is_graver = grade(next.end).0 > grade(last.end).0;
     Some(Bar {
         from: last.from,
         until: next.until.max(last.until),

@@ -3,7 +3,6 @@
 ghost use Rattle.std.specs.Prelude.{◌≡◌, ◌++◌, ◌↔◌, true, IsTrue, OnOk, IfOk, string_bytes, chars};
 ghost use Rattle.scope_picture.specs.Escape.{is_unwritable, escaped, escaped_text};
 
-use run_times::Ink;
 use std::alloc::{AllocError, Global};
 
 /// The text as it is written within XML or HTML, in an attribute or outside: `&`, `<`, `>`, `"` and `'` by their names, control
@@ -16,11 +15,6 @@ pub fn escaped(alloc: Global, text: &str) -> Result<String, AllocError>
         add_char(&mut written, c)?;
     }
     Ok(written)
-}
-
-/// Adds the text as it is written within XML or HTML.
-pub(crate) fn put_escaped(alloc: Global, ink: &mut Ink, part: &str) {
-    ink.put_made(escaped(alloc, part));
 }
 
 fn add_char(written: &mut String, c: char) -> Result<(), AllocError>

@@ -1,11 +1,11 @@
 //! A page that stands alone: the chart, the table of the runs, why each job stands as it does, and the coming starts. No script.
 
 use crate::chart::Chart;
-use crate::escape::put_escaped;
-use crate::svg::{if_there, with_figure};
+use crate::form::Hole::{Escaped, Moment, Text};
+use crate::form::{Pen, put_form};
+use crate::svg::{if_there, put_figure};
 use calendar_due::Zone;
 use run_times::Ink;
-use run_times::Piece::Text;
 use std::alloc::{AllocError, Global};
 
 /// A start that the clock will want.
@@ -71,79 +71,68 @@ pub fn page_piece(
     page: &Page<'_>,
     index: usize,
 ) -> Result<Option<String>, AllocError> {
+    let pen = Pen { alloc, zone };
     let mut ink = Ink::new(alloc);
     if index == 0 {
         ink.put(HEAD);
     }
-    let (ink, is_there) = with_figure(ink, alloc, zone, chart, index);
-    let mut ink = ink;
+    let is_there = put_figure(&mut ink, &pen, chart, index);
     if is_there && index > chart.rows.len() {
-        add_rest(alloc, &mut ink, zone, page);
+        put_rest(&mut ink, &pen, page);
     }
     if_there(ink, is_there)
 }
 
-// What stands below the chart.
-fn add_rest(alloc: Global, ink: &mut Ink, zone: &Zone, page: &Page<'_>) {
-    ink.put("</figure>\n<h2>What the runs came to</h2>\n<p>Times are in seconds.</p>\n");
-    ink.put("<div class=\"wide\"><table>\n");
-    add_table(alloc, ink, page.table);
+// What stands below the chart. The last text is escaped line by line, so that its newlines stay.
+fn put_rest(ink: &mut Ink, pen: &Pen<'_>, page: &Page<'_>) {
+    ink.put(
+        "</figure>\n<h2>What the runs came to</h2>\n<p>Times are in seconds.</p>\n<div class=\"wide\"><table>\n",
+    );
+    put_table(ink, pen, page.table);
     ink.put("</table></div>\n<h2>Coming starts by the clock</h2>\n");
-    add_coming(alloc, ink, zone, page.coming);
+    put_coming(ink, pen, page.coming);
     ink.put("<h2>Why each job stands as it does</h2>\n<pre>");
-    add_escaped_lines(alloc, ink, page.why);
+    for line in page.why.split('\n') {
+        put_form(ink, pen, "$\n", &[Escaped(line)]);
+    }
     ink.put("</pre>\n</main>\n</body>\n</html>\n");
 }
 
-// The text escaped line by line, so that its newlines stay.
-fn add_escaped_lines(alloc: Global, ink: &mut Ink, lines: &str) {
-    for line in lines.split('\n') {
-        put_escaped(alloc, ink, line);
-        ink.put("\n");
-    }
-}
-
-fn add_table(alloc: Global, ink: &mut Ink, table: &str) {
+fn put_table(ink: &mut Ink, pen: &Pen<'_>, table: &str) {
     let mut is_head = true;
     for line in table.lines() {
+        let cell = if is_head { "<th>$</th>" } else { "<td>$</td>" };
         ink.put("<tr>");
-        add_cells(alloc, ink, is_head, line);
+        put_cells(ink, pen, cell, line);
         ink.put("</tr>\n");
         is_head = false;
     }
 }
 
-fn add_cells(alloc: Global, ink: &mut Ink, is_head: bool, line: &str) {
-    let (open, close) = if is_head {
-        ("<th>", "</th>")
-    } else {
-        ("<td>", "</td>")
-    };
+fn put_cells(ink: &mut Ink, pen: &Pen<'_>, cell: &str, line: &str) {
     for part in line.split('\t') {
-        ink.put(open);
-        put_escaped(alloc, ink, part);
-        ink.put(close);
+        put_form(ink, pen, cell, &[Escaped(part)]);
     }
 }
 
-fn add_coming(alloc: Global, ink: &mut Ink, zone: &Zone, coming: &[Coming]) {
-    if coming.is_empty() {
-        ink.put("<p>None.</p>\n");
-        return;
-    }
-    ink.put(
-        "<div class=\"wide\"><table class=\"left\">\n<tr><th>time</th><th>label</th><th>by</th></tr>\n",
-    );
+fn put_coming(ink: &mut Ink, pen: &Pen<'_>, coming: &[Coming]) {
+    let (before, behind) = if coming.is_empty() {
+        ("<p>None.</p>\n", "")
+    } else {
+        (
+            "<div class=\"wide\"><table class=\"left\">\n<tr><th>time</th><th>label</th><th>by</th></tr>\n",
+            "</table></div>\n",
+        )
+    };
+    ink.put(before);
     for start in coming {
-        add_start(alloc, ink, zone, start);
+        let holes = [
+            Moment(start.at),
+            Escaped(start.label.as_str()),
+            Text(start.key),
+        ];
+        let row = "<tr><td>$</td><td>$</td><td>$</td></tr>\n";
+        put_form(ink, pen, row, &holes);
     }
-    ink.put("</table></div>\n");
-}
-
-fn add_start(alloc: Global, ink: &mut Ink, zone: &Zone, start: &Coming) {
-    ink.put("<tr><td>");
-    ink.put_moment(alloc, zone, start.at);
-    ink.put("</td><td>");
-    put_escaped(alloc, ink, start.label.as_str());
-    ink.put_all(&[Text("</td><td>"), Text(start.key), Text("</td></tr>\n")]);
+    ink.put(behind);
 }

@@ -6,6 +6,7 @@ mod axis;
 mod blocks;
 mod chart;
 mod escape;
+mod form;
 mod html;
 mod svg;
 mod ticks;

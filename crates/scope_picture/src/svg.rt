@@ -1,13 +1,13 @@
 //! The chart as SVG.
 
 use crate::axis::Axis;
-use crate::chart::{Bar, Chart, End, Mark, MarkKind, Row};
-use crate::escape::put_escaped;
+use crate::chart::{Bar, Chart, End, Mark, Row, grade};
+use crate::form::Hole::{Escaped, Moment, Number, Text};
+use crate::form::{Pen, put_form};
 use crate::ticks::{Tick, ticks};
-use crate::words::{add_bar_words, cut_text, end_class, missing_count, missing_text};
+use crate::words::{cut, missing};
 use calendar_due::Zone;
 use run_times::Ink;
-use run_times::Piece::{Number, Text};
 use std::alloc::{AllocError, Global};
 
 /// How many places the axis of a chart has that is painted as SVG.
@@ -42,7 +42,54 @@ const ENDS: [(End, &str); 6] = [
     (End::Lives, "lives"),
 ];
 
-const STYLE: &str = "<style>
+/// How an end looks, by how grave it is: the class of its bar, that of its own shape, and the shape from the bar's upper corner; and the end
+/// in words, with a hole for its code or signal.
+const LOOKS: [(&str, &str, &str, &str); 6] = [
+    ("lives", "open", "m0 -1l7 7l-7 7", "lives"),
+    ("well", "", "", "ended with code $"),
+    ("stopped", "", "", "was stopped"),
+    ("code", "end", "m-2 -3h4v18h-4z", "ended with code $"),
+    ("signal", "end", "m-2 -3l8 9l-8 9z", "ended by signal $"),
+    (
+        "crash",
+        "open",
+        "m-4 1l9 10m0 -10l-9 10",
+        "crashed by signal $",
+    ),
+];
+
+/// The class of a mark, its name, and its shape from the middle of its upper edge.
+#[derive(Clone, Copy)]
+struct Sign {
+    class: &'static str,
+    name: &'static str,
+    shape: &'static str,
+}
+
+/// Of a demand, a throttle and a refusal.
+const SIGNS: [Sign; 3] = [
+    Sign {
+        class: "demand",
+        name: "a demand",
+        shape: "m-5 0h10l-5 9z",
+    },
+    Sign {
+        class: "throttle",
+        name: "a throttle",
+        shape: "m0 0l4.5 4.5l-4.5 4.5l-4.5 -4.5z",
+    },
+    Sign {
+        class: "refusal",
+        name: "a refusal",
+        shape: "m-4 0.5l8 8m0 -8l-8 8",
+    },
+];
+
+/// The head: how large it is, its title, its colours, and the span.
+const OPENING: &str =
+    "<svg xmlns=\"http://www.w3.org/2000/svg\" class=\"runs\" viewBox=\"0 0 1000 $\" width=\"1000\" height=\"$\" role=\"img\">
+<title>Runs from $ to $</title>
+<style>
 .runs { color-scheme: light dark; --ground: #ffffff; --ink: #1c2733; --faint: #5b6875; --line: #d9dfe5; --well: #2e7d5b; --code: #b86200; --signal: #7b4fb5; --crash: #c62828; --stopped: #4a6a8a; --lives: #1b76c4; }
 @media (prefers-color-scheme: dark) { .runs { --ground: #11171d; --ink: #e6ebf0; --faint: #9aa7b4; --line: #2c3742; --well: #56b88c; --code: #f0a040; --signal: #b794f0; --crash: #ff6b6b; --stopped: #8fb0d0; --lives: #5fb0f5; } }
 .runs text { font: 12px ui-monospace, 'DejaVu Sans Mono', Menlo, Consolas, monospace; fill: var(--ink); }
@@ -62,16 +109,23 @@ const STYLE: &str = "<style>
 .runs .throttle { fill: var(--ground); stroke: var(--code); stroke-width: 1.5; }
 .runs .refusal { fill: none; stroke: var(--crash); stroke-width: 2; }
 </style>
+<rect class=\"ground\" width=\"1000\" height=\"$\"/>
+<text x=\"10\" y=\"18\">$ to $</text>
 ";
 
-// What is painted, and how moments are shown.
-#[derive(Drop)]
-struct Sheet<'a> {
-    ink: Ink,
-    alloc: Global,
-    zone: &'a Zone,
-    axis: Axis,
-}
+const TICK: &str =
+    "<path class=\"tick\" d=\"M$ 58V$\"/><text class=\"faint\" x=\"$\" y=\"38\" text-anchor=\"$\">$</text><text class=\"faint\" x=\"$\" y=\"52\" text-anchor=\"$\">$</text>\n";
+
+/// A label, cut if it is too wide and whole in its title, and the line on which the bars stand.
+const TOP: &str =
+    "<g><text class=\"label\" x=\"10\" y=\"$\">$$<title>$</title></text><path class=\"base\" d=\"M10 $h980\"/>\n";
+
+const BAR: &str = ": $ to $</title><rect x=\"$\" y=\"$\" width=\"$\" height=\"12\"/></g>\n";
+
+const MARK: &str = "<path class=\"$\" data-count=\"$\" d=\"M$ $$\"><title>$: $</title></path>\n";
+
+const MARKS: &str =
+    "<path class=\"$\" data-count=\"$\" d=\"M$ $$\"><title>$: $, and $ more beside it</title></path>\n";
 
 /// A piece of the chart as an SVG document, from 0: its head, one for each row, its foot. None behind these. Moments are shown in the zone.
 /// So no more than a row's text is held at once.
@@ -85,7 +139,7 @@ pub fn svg_piece(
     if index == 0 {
         ink.put("<?xml version=\"1.0\" encoding=\"UTF-8\"?>\n");
     }
-    let (ink, is_there) = with_figure(ink, alloc, zone, chart, index);
+    let is_there = put_figure(&mut ink, &Pen { alloc, zone }, chart, index);
     if_there(ink, is_there)
 }
 
@@ -93,28 +147,27 @@ pub fn svg_piece(
 pub(crate) fn if_there(ink: Ink, is_there: bool) -> Result<Option<String>, AllocError> {
     match ink.into_text() {
         Ok(text) if is_there => Ok(Some(text)),
-        Ok(_) => Ok(None),
+        Ok(text) => {
+            drop(text);
+            Ok(None)
+        }
         Err(error) => Err(error),
     }
 }
 
 /// Adds a piece of the chart as an element `svg` within a document, counted as by `svg_piece`. It says whether there is such a piece.
-pub(crate) fn with_figure(
-    ink: Ink,
-    alloc: Global,
-    zone: &Zone,
-    chart: &Chart,
-    index: usize,
-) -> (Ink, bool) {
-    let mut sheet = Sheet {
-        ink,
-        alloc,
-        zone,
-        axis: chart.axis,
-    };
-    let is_there = sheet.add_piece(chart, index);
-    let Sheet { ink, .. } = sheet;
-    (ink, is_there)
+pub(crate) fn put_figure(ink: &mut Ink, pen: &Pen<'_>, chart: &Chart, index: usize) -> bool {
+    let rows = chart.rows.len();
+    let above = index.saturating_sub(1);
+    let bottom = below_rows(rows);
+    if index == 0 {
+        put_head(ink, pen, chart, bottom);
+    } else if let Some(row) = chart.rows.get(above) {
+        put_row(ink, pen, &chart.axis, row, below_rows(above));
+    } else if above == rows {
+        put_foot(ink, pen, chart, bottom);
+    }
+    above <= rows
 }
 
 // Where so many rows end.
@@ -122,313 +175,200 @@ fn below_rows(rows: usize) -> u64 {
     (rows as u64).saturating_mul(ROW).saturating_add(HEAD)
 }
 
-impl Sheet<'_> {
-    // Whether there is such a piece.
-    fn add_piece(&mut self, chart: &Chart, index: usize) -> bool {
-        let above = index.saturating_sub(1);
-        if index == 0 {
-            self.add_head(chart);
-        } else if let Some(row) = chart.rows.get(above) {
-            self.add_row(row, below_rows(above));
-        } else if above == chart.rows.len() {
-            self.add_foot(chart);
-        } else {
-            return false;
-        }
-        true
-    }
-
-    fn add_head(&mut self, chart: &Chart) {
-        let bottom = below_rows(chart.rows.len());
-        let lines = missing_count(chart).saturating_mul(LINE);
-        self.begin(bottom.saturating_add(FOOT).saturating_add(lines));
-        self.add_ticks(bottom);
-    }
-
-    fn add_foot(&mut self, chart: &Chart) {
-        let bottom = below_rows(chart.rows.len());
-        self.add_legend(bottom);
-        match missing_text(self.alloc, chart) {
-            Ok(missing) => self.add_missing(missing.as_str(), bottom.saturating_add(64)),
-            Err(_) => self.ink.refuse(),
-        }
-        self.ink.put("</svg>\n");
-    }
-
-    fn add_missing(&mut self, missing: &str, top: u64) {
-        let mut line = top;
-        for sentence in missing.lines() {
-            self.add_faint(10, line, sentence);
-            line = line.saturating_add(LINE);
+// The head, and the ticks from above the rows to their bottom.
+fn put_head(ink: &mut Ink, pen: &Pen<'_>, chart: &Chart, bottom: u64) {
+    let axis = &chart.axis;
+    let mut height = bottom.saturating_add(FOOT);
+    for (_, one, other) in missing(chart).iter() {
+        if *one > 0 || *other > 0 {
+            height = height.saturating_add(LINE);
         }
     }
-
-    // A faint text at its place.
-    fn add_faint(&mut self, x: u64, y: u64, text: &str) {
-        self.ink.put_all(&[
-            Text("<text class=\"faint\" x=\""),
-            Number(x),
-            Text("\" y=\""),
-            Number(y),
-            Text("\">"),
-            Text(text),
-            Text("</text>\n"),
-        ]);
-    }
-
-    // Two moments with a word between them.
-    fn add_span(&mut self, from: u64, until: u64) {
-        self.ink.put_moment(self.alloc, self.zone, from);
-        self.ink.put(" to ");
-        self.ink.put_moment(self.alloc, self.zone, until);
-    }
-
-    // The head: how large it is, its title, its colours, and the span.
-    fn begin(&mut self, height: u64) {
-        let from = self.axis.from;
-        let until = self.axis.until;
-        self.ink.put_all(&[
-            Text("<svg xmlns=\"http://www.w3.org/2000/svg\" class=\"runs\" viewBox=\"0 0 1000 "),
-            Number(height),
-            Text("\" width=\"1000\" height=\""),
-            Number(height),
-            Text("\" role=\"img\">\n<title>Runs from "),
-        ]);
-        self.add_span(from, until);
-        self.ink.put("</title>\n");
-        self.ink.put_all(&[
-            Text(STYLE),
-            Text("<rect class=\"ground\" width=\"1000\" height=\""),
-            Number(height),
-            Text("\"/>\n<text x=\"10\" y=\"18\">"),
-        ]);
-        self.add_span(from, until);
-        self.ink.put("</text>\n");
-    }
-
-    // The ticks, from above the rows to their bottom.
-    fn add_ticks(&mut self, bottom: u64) {
-        match ticks(self.alloc, self.zone, &self.axis, MOST_TICKS) {
-            Ok(ticks) => {
-                for tick in &ticks {
-                    self.add_tick(tick, bottom);
-                }
+    let holes = [
+        Number(height),
+        Number(height),
+        Moment(axis.from),
+        Moment(axis.until),
+        Number(height),
+        Moment(axis.from),
+        Moment(axis.until),
+    ];
+    put_form(ink, pen, OPENING, &holes);
+    match ticks(pen.alloc, pen.zone, axis, MOST_TICKS) {
+        Ok(ticks) => {
+            for tick in &ticks {
+                put_tick(ink, pen, axis, tick, bottom);
             }
-            Err(_) => self.ink.refuse(),
         }
-    }
-
-    fn add_tick(&mut self, tick: &Tick, bottom: u64) {
-        let place = u64::from(self.axis.place(tick.at));
-        let x = LEFT + place;
-        let anchor = anchor_of(place);
-        self.ink.put_all(&[
-            Text("<path class=\"tick\" d=\"M"),
-            Number(x),
-            Text(" 58V"),
-            Number(bottom),
-            Text("\"/>"),
-        ]);
-        self.add_tick_text(38, x, anchor, tick.text.as_str());
-        self.add_tick_text(52, x, anchor, tick.below.as_str());
-        self.ink.put("\n");
-    }
-
-    fn add_tick_text(&mut self, y: u64, x: u64, anchor: &str, text: &str) {
-        self.ink.put_all(&[
-            Text("<text class=\"faint\" x=\""),
-            Number(x),
-            Text("\" y=\""),
-            Number(y),
-            Text("\" text-anchor=\""),
-            Text(anchor),
-            Text("\">"),
-        ]);
-        self.ink.put(text);
-        self.ink.put("</text>");
-    }
-
-    fn add_row(&mut self, row: &Row, top: u64) {
-        self.add_label(row.label.as_str(), top);
-        self.add_bars(row.bars.as_slice(), top.saturating_add(31));
-        let lane = top.saturating_add(18);
-        self.add_marks(MarkKind::Demand, row.demands.as_slice(), lane);
-        self.add_marks(MarkKind::Throttle, row.throttles.as_slice(), lane);
-        self.add_marks(MarkKind::Refusal, row.refusals.as_slice(), lane);
-        self.ink.put("</g>\n");
-    }
-
-    // The bars, and over them their ends.
-    fn add_bars(&mut self, bars: &[Bar], top: u64) {
-        for bar in bars {
-            self.add_bar(bar, top);
-        }
-        for bar in bars {
-            let (_, end) = self.axis.edges(bar.from, bar.until);
-            self.add_end(bar.end, LEFT + u64::from(end), top);
-        }
-    }
-
-    // The label, cut if it is too wide and whole in its title, and the line on which the bars stand.
-    fn add_label(&mut self, label: &str, top: u64) {
-        self.ink.put_all(&[
-            Text("<g><text class=\"label\" x=\"10\" y=\""),
-            Number(top.saturating_add(14)),
-            Text("\">"),
-        ]);
-        match cut_text(self.alloc, label, LABEL) {
-            Ok(shown) => put_escaped(self.alloc, &mut self.ink, shown.as_str()),
-            Err(_) => self.ink.refuse(),
-        }
-        self.ink.put("<title>");
-        put_escaped(self.alloc, &mut self.ink, label);
-        self.ink.put_all(&[
-            Text("</title></text><path class=\"base\" d=\"M10 "),
-            Number(top.saturating_add(47)),
-            Text("h980\"/>\n"),
-        ]);
-    }
-
-    // A bar whose upper edge is there.
-    fn add_bar(&mut self, bar: &Bar, top: u64) {
-        let (begin, end) = self.axis.edges(bar.from, bar.until);
-        self.ink.put_all(&[
-            Text("<g class=\""),
-            Text(end_class(bar.end)),
-            Text("\" data-runs=\""),
-            Number(u64::from(bar.runs)),
-            Text("\"><title>"),
-        ]);
-        add_bar_words(&mut self.ink, bar);
-        self.ink.put(": ");
-        self.add_span(bar.from, bar.until);
-        self.ink.put_all(&[
-            Text("</title><rect x=\""),
-            Number(LEFT + u64::from(begin)),
-            Text("\" y=\""),
-            Number(top),
-            Text("\" width=\""),
-            Number(u64::from(end - begin).max(1)),
-            Text("\" height=\"12\"/></g>\n"),
-        ]);
-    }
-
-    // The shape of an end. It stands over the bars, so that one which follows at once does not hide it.
-    fn add_end(&mut self, end: End, x: u64, top: u64) {
-        let (form, shape) = match end {
-            End::Code(0) | End::Stopped => return,
-            End::Code(_) => ("end", "m-2 -3h4v18h-4z"),
-            End::Signal(_) => ("end", "m-2 -3l8 9l-8 9z"),
-            End::Crash(_) => ("open", "m-4 1l9 10m0 -10l-9 10"),
-            End::Lives => ("open", "m0 -1l7 7l-7 7"),
-        };
-        self.ink.put_all(&[
-            Text("<path class=\""),
-            Text(end_class(end)),
-            Text(" "),
-            Text(form),
-            Text("\" d=\"M"),
-            Number(x),
-            Text(" "),
-            Number(top),
-            Text(shape),
-            Text("\"/>\n"),
-        ]);
-    }
-
-    fn add_marks(&mut self, kind: MarkKind, marks: &[Mark], top: u64) {
-        for mark in marks {
-            self.add_mark(kind, mark, top);
-        }
-    }
-
-    fn add_mark(&mut self, kind: MarkKind, mark: &Mark, top: u64) {
-        let (class, name, shape) = mark_words(kind);
-        let count = u64::from(mark.count);
-        self.ink.put_all(&[
-            Text("<path class=\""),
-            Text(class),
-            Text("\" data-count=\""),
-            Number(count),
-            Text("\" d=\"M"),
-            Number(LEFT + u64::from(self.axis.place(mark.at))),
-            Text(" "),
-            Number(top),
-            Text(shape),
-            Text("\"><title>"),
-            Text(name),
-            Text(": "),
-        ]);
-        self.ink.put_moment(self.alloc, self.zone, mark.at);
-        let more = count.saturating_sub(1);
-        if more > 0 {
-            self.ink
-                .put_all(&[Text(", and "), Number(more), Text(" more beside it")]);
-        }
-        self.ink.put("</title></path>\n");
-    }
-
-    // What each colour and shape means.
-    fn add_legend(&mut self, bottom: u64) {
-        let mut x = LEFT;
-        for (end, name) in ENDS.iter() {
-            self.add_swatch(*end, *name, x, bottom);
-            x = x.saturating_add(150);
-        }
-        self.add_sign(MarkKind::Demand, 25, bottom);
-        self.add_sign(MarkKind::Throttle, 175, bottom);
-        self.add_sign(MarkKind::Refusal, 325, bottom);
-    }
-
-    // What a bar and its end mean.
-    fn add_swatch(&mut self, end: End, name: &str, x: u64, bottom: u64) {
-        let top = bottom.saturating_add(10);
-        self.ink.put_all(&[
-            Text("<rect class=\""),
-            Text(end_class(end)),
-            Text("\" x=\""),
-            Number(x),
-            Text("\" y=\""),
-            Number(top),
-            Text("\" width=\"22\" height=\"12\"/>"),
-        ]);
-        self.add_end(end, x.saturating_add(22), top);
-        self.add_faint(x.saturating_add(34), bottom.saturating_add(21), name);
-    }
-
-    // What a mark means.
-    fn add_sign(&mut self, kind: MarkKind, x: u64, bottom: u64) {
-        let (class, name, shape) = mark_words(kind);
-        self.ink.put_all(&[
-            Text("<path class=\""),
-            Text(class),
-            Text("\" d=\"M"),
-            Number(x),
-            Text(" "),
-            Number(bottom.saturating_add(32)),
-            Text(shape),
-            Text("\"/>"),
-        ]);
-        self.add_faint(x.saturating_add(19), bottom.saturating_add(41), name);
+        Err(_) => ink.refuse(),
     }
 }
 
-// On which side of a tick its text stands: near the edges within the chart.
-fn anchor_of(place: u64) -> &'static str {
-    if place < 50 {
+// A tick, with its texts above the rows. Near the edges they stand within the chart.
+fn put_tick(ink: &mut Ink, pen: &Pen<'_>, axis: &Axis, tick: &Tick, bottom: u64) {
+    let place = u64::from(axis.place(tick.at));
+    let anchor = if place < 50 {
         "start"
     } else if place > 930 {
         "end"
     } else {
         "middle"
+    };
+    let x = LEFT + place;
+    let (text, below) = tick.parts();
+    let holes = [
+        Number(x),
+        Number(bottom),
+        Number(x),
+        Text(anchor),
+        Text(text),
+        Number(x),
+        Text(anchor),
+        Text(below),
+    ];
+    put_form(ink, pen, TICK, &holes);
+}
+
+fn put_row(ink: &mut Ink, pen: &Pen<'_>, axis: &Axis, row: &Row, top: u64) {
+    let label = row.label.as_str();
+    let (front, rest) = cut(label, LABEL);
+    let holes = [
+        Number(top.saturating_add(14)),
+        Escaped(front),
+        Text(rest),
+        Escaped(label),
+        Number(top.saturating_add(47)),
+    ];
+    put_form(ink, pen, TOP, &holes);
+    put_bars(ink, pen, axis, row.bars.as_slice(), top.saturating_add(31));
+    let lane = top.saturating_add(18);
+    put_marks(ink, pen, axis, &SIGNS[0], row.demands.as_slice(), lane);
+    put_marks(ink, pen, axis, &SIGNS[1], row.throttles.as_slice(), lane);
+    put_marks(ink, pen, axis, &SIGNS[2], row.refusals.as_slice(), lane);
+    ink.put("</g>\n");
+}
+
+// The bars whose upper edge is there, and over them their ends, so that a bar which follows at once does not hide an end.
+fn put_bars(ink: &mut Ink, pen: &Pen<'_>, axis: &Axis, bars: &[Bar], top: u64) {
+    for bar in bars {
+        put_bar(ink, pen, axis, bar, top);
+    }
+    for bar in bars {
+        let (_, end) = axis.edges(bar.from, bar.until);
+        put_end(ink, pen, bar.end, LEFT + u64::from(end), top);
     }
 }
 
-// The class of a mark, its name, and its shape from the middle of its upper edge.
-fn mark_words(kind: MarkKind) -> (&'static str, &'static str, &'static str) {
-    match kind {
-        MarkKind::Demand => ("demand", "a demand", "m-5 0h10l-5 9z"),
-        MarkKind::Throttle => ("throttle", "a throttle", "m0 0l4.5 4.5l-4.5 4.5l-4.5 -4.5z"),
-        MarkKind::Refusal => ("refusal", "a refusal", "m-4 0.5l8 8m0 -8l-8 8"),
+// A bar. Its title says how its runs ended: of one its end, of several their number and the gravest end.
+fn put_bar(ink: &mut Ink, pen: &Pen<'_>, axis: &Axis, bar: &Bar, top: u64) {
+    let (grave, number) = grade(bar.end);
+    let (class, _, _, words) = LOOKS[grave];
+    let (begin, end) = axis.edges(bar.from, bar.until);
+    let runs = Number(u64::from(bar.runs));
+    let run = Number(bar.run);
+    let form = if bar.runs == 1 {
+        "<g class=\"$\" data-runs=\"$\"><title>run $ "
+    } else {
+        "<g class=\"$\" data-runs=\"$\"><title>$ runs from run $ on; the gravest "
+    };
+    let third = if bar.runs == 1 { run } else { runs };
+    put_form(ink, pen, form, &[Text(class), runs, third, run]);
+    put_form(ink, pen, words, &[Number(number)]);
+    let holes = [
+        Moment(bar.from),
+        Moment(bar.until),
+        Number(LEFT + u64::from(begin)),
+        Number(top),
+        Number(u64::from(end - begin).max(1)),
+    ];
+    put_form(ink, pen, BAR, &holes);
+}
+
+// The shape of an end, if it has one.
+fn put_end(ink: &mut Ink, pen: &Pen<'_>, end: End, x: u64, top: u64) {
+    let (grave, _) = grade(end);
+    let (class, form, shape, _) = LOOKS[grave];
+    if !shape.is_empty() {
+        let holes = [Text(class), Text(form), Number(x), Number(top), Text(shape)];
+        put_form(ink, pen, "<path class=\"$ $\" d=\"M$ $$\"/>\n", &holes);
+    }
+}
+
+fn put_marks(ink: &mut Ink, pen: &Pen<'_>, axis: &Axis, sign: &Sign, marks: &[Mark], top: u64) {
+    for mark in marks {
+        let count = u64::from(mark.count);
+        let form = if count > 1 { MARKS } else { MARK };
+        let holes = [
+            Text(sign.class),
+            Number(count),
+            Number(LEFT + u64::from(axis.place(mark.at))),
+            Number(top),
+            Text(sign.shape),
+            Text(sign.name),
+            Moment(mark.at),
+            Number(count.saturating_sub(1)),
+        ];
+        put_form(ink, pen, form, &holes);
+    }
+}
+
+// What each colour and shape means, and what is not in the chart.
+fn put_foot(ink: &mut Ink, pen: &Pen<'_>, chart: &Chart, bottom: u64) {
+    let mut x = LEFT;
+    for (end, name) in ENDS.iter() {
+        put_swatch(ink, pen, *end, *name, x, bottom);
+        x = x.saturating_add(150);
+    }
+    put_signs(ink, pen, bottom);
+    let mut line = bottom.saturating_add(64);
+    for (sentence, one, other) in missing(chart).iter() {
+        if *one > 0 || *other > 0 {
+            let start = "<text class=\"faint\" x=\"10\" y=\"$\">";
+            put_form(ink, pen, start, &[Number(line)]);
+            put_form(ink, pen, *sentence, &[Number(*one), Number(*other)]);
+            ink.put("</text>\n");
+            line = line.saturating_add(LINE);
+        }
+    }
+    ink.put("</svg>\n");
+}
+
+// What a bar and its end mean.
+fn put_swatch(ink: &mut Ink, pen: &Pen<'_>, end: End, name: &str, x: u64, bottom: u64) {
+    let (grave, _) = grade(end);
+    let (class, _, _, _) = LOOKS[grave];
+    let top = bottom.saturating_add(10);
+    let bar = "<rect class=\"$\" x=\"$\" y=\"$\" width=\"22\" height=\"12\"/>";
+    put_form(ink, pen, bar, &[Text(class), Number(x), Number(top)]);
+    put_end(ink, pen, end, x.saturating_add(22), top);
+    let holes = [
+        Number(x.saturating_add(34)),
+        Number(bottom.saturating_add(21)),
+        Text(name),
+    ];
+    put_form(
+        ink,
+        pen,
+        "<text class=\"faint\" x=\"$\" y=\"$\">$</text>\n",
+        &holes,
+    );
+}
+
+// What the marks mean.
+fn put_signs(ink: &mut Ink, pen: &Pen<'_>, bottom: u64) {
+    let form = "<path class=\"$\" d=\"M$ $$\"/><text class=\"faint\" x=\"$\" y=\"$\">$</text>\n";
+    let mut x: u64 = 25;
+    for sign in SIGNS.iter() {
+        let holes = [
+            Text(sign.class),
+            Number(x),
+            Number(bottom.saturating_add(32)),
+            Text(sign.shape),
+            Number(x.saturating_add(19)),
+            Number(bottom.saturating_add(41)),
+            Text(sign.name),
+        ];
+        put_form(ink, pen, form, &holes);
+        x = x.saturating_add(150);
     }
 }

@@ -2,7 +2,7 @@
 
 use crate::axis::Axis;
 use calendar_due::Zone;
-use history_model::{CivilMinute, MAX_WALL};
+use history_model::CivilMinute;
 use run_times::time_text;
 use std::alloc::{AllocError, Global};
 
@@ -16,12 +16,15 @@ const QUARTER: u64 = 900;
 /// After so many looks at the clock no further tick is looked for.
 const MOST_LOOKS: u32 = 100_000;
 
-/// A round moment, and what is written at it: a text, and one below, which is empty if it is that of the tick before.
+/// A round moment.
 #[derive(Drop)]
 pub(crate) struct Tick {
     pub(crate) at: u64,
-    pub(crate) text: String,
-    pub(crate) below: String,
+    /// The moment whole, and the step of the ticks.
+    moment: String,
+    step: Step,
+    /// Whether what stands below it is another than below the tick before.
+    has_below: bool,
 }
 
 /// What lies between two ticks.
@@ -120,7 +123,6 @@ pub(crate) fn ticks(
 ) -> Result<Vec<Tick>, AllocError> {
     let step = step_for(axis.until - axis.from, most);
     let mut ticks = Vec::new(alloc);
-    let mut before = String::new(alloc);
     let mut at = axis.from;
     for _ in 0..MOST_LOOKS {
         if at > axis.until {
@@ -128,52 +130,50 @@ pub(crate) fn ticks(
         }
         let shown = zone.civil_minute(at);
         if is_round(step, &shown, at) {
-            add_tick(alloc, zone, step, at, &mut before, &mut ticks)?;
+            add_tick(&mut ticks, step, at, time_text(alloc, zone, at))?;
         }
         at = at.saturating_add(ahead(step, &shown, at));
     }
     Ok(ticks)
 }
 
+fn add_tick(
+    ticks: &mut Vec<Tick>,
+    step: Step,
+    at: u64,
+    moment: Result<String, AllocError>,
+) -> Result<(), AllocError> {
+    let moment = moment?;
+    let before = match ticks.last() {
+        Some(last) => parts_of(step, last.moment.as_str()).1,
+        None => "",
+    };
+    let has_below = before != parts_of(step, moment.as_str()).1;
+    Ok(ticks.push(Tick {
+        at,
+        moment,
+        step,
+        has_below,
+    })?)
+}
+
 // The parts of a moment's text that are written at a tick, and below.
 fn parts_of(step: Step, moment: &str) -> (&str, &str) {
-    let (text, below) = match step {
-        Step::Seconds(length) if length < 60 => (moment.get(15..23), moment.get(..10)),
-        Step::Seconds(_) => (moment.get(15..20), moment.get(..10)),
-        Step::Day | Step::Week => (moment.get(5..14), moment.get(..4)),
-        Step::Months(count) if count < 12 => (moment.get(..7), None),
-        Step::Months(_) => (moment.get(..4), None),
+    let (from, until, below) = match step {
+        Step::Seconds(length) if length < 60 => (15, 23, 10),
+        Step::Seconds(_) => (15, 20, 10),
+        Step::Day | Step::Week => (5, 14, 4),
+        Step::Months(count) if count < 12 => (0, 7, 0),
+        Step::Months(_) => (0, 4, 0),
     };
-    (text.unwrap_or(moment), below.unwrap_or(""))
+    let text = moment.get(from..until).unwrap_or(moment);
+    (text, moment.get(..below).unwrap_or(""))
 }
 
-fn add_tick(
-    alloc: Global,
-    zone: &Zone,
-    step: Step,
-    at: u64,
-    before: &mut String,
-    ticks: &mut Vec<Tick>,
-) -> Result<(), AllocError> {
-    let moment = time_text(alloc, zone, at.min(MAX_WALL))?;
-    let tick = tick_of(alloc, step, at, moment.as_str(), before)?;
-    Ok(ticks.push(tick)?)
-}
-
-fn tick_of(
-    alloc: Global,
-    step: Step,
-    at: u64,
-    moment: &str,
-    before: &mut String,
-) -> Result<Tick, AllocError> {
-    let (text, below) = parts_of(step, moment);
-    let is_same = before.as_str() == below;
-    let below = if is_same { "" } else { below };
-    if !is_same {
-        *before = String::from_str(alloc, below)?;
+impl Tick {
+    /// What is written at the tick, and what below: nothing, if the same stands below the tick before.
+    pub(crate) fn parts(&self) -> (&str, &str) {
+        let (text, below) = parts_of(self.step, self.moment.as_str());
+        (text, if self.has_below { below } else { "" })
     }
-    let text = String::from_str(alloc, text)?;
-    let below = String::from_str(alloc, below)?;
-    Ok(Tick { at, text, below })
 }

@@ -1,9 +1,6 @@
-//! What is told of bars and of what is left out, in words, and how wide a text is.
+//! How wide a text is, and what is told of what is left out.
 
-use crate::chart::{Bar, Chart, End};
-use run_times::Ink;
-use run_times::Piece::{Number, Text};
-use std::alloc::{AllocError, Global};
+use crate::chart::Chart;
 use unicode_width::UnicodeWidthChar;
 
 /// How many columns the character takes; one that can't be shown takes one.
@@ -21,79 +18,34 @@ pub(crate) fn columns_of(text: &str) -> usize {
 }
 
 /// The text in at most so many columns: if it is wider, as much of its beginning as has room, and `…`.
-pub(crate) fn cut_text(alloc: Global, text: &str, columns: usize) -> Result<String, AllocError> {
+pub(crate) fn cut(text: &str, columns: usize) -> (&str, &'static str) {
     if columns_of(text) <= columns {
-        return String::from_str(alloc, text);
+        return (text, "");
     }
-    let mut cut = String::new(alloc);
     let mut used: usize = 1;
+    let mut end: usize = 0;
     for c in text.chars() {
         used = used.saturating_add(columns_of_char(c));
         if used > columns {
             break;
         }
-        cut.push(c)?;
+        end = end.saturating_add(c.len_utf8());
     }
-    cut.push('…')?;
-    Ok(cut)
+    (text.get(..end).unwrap_or(""), "…")
 }
 
-/// The name of an end's kind, for a picture's style.
-pub(crate) fn end_class(end: End) -> &'static str {
-    match end {
-        End::Lives => "lives",
-        End::Code(0) => "well",
-        End::Code(_) => "code",
-        End::Stopped => "stopped",
-        End::Signal(_) => "signal",
-        End::Crash(_) => "crash",
-    }
-}
-
-/// Adds how a bar's runs ended: of one its end, of several their number and the gravest end.
-pub(crate) fn add_bar_words(ink: &mut Ink, bar: &Bar) {
-    let (words, number) = end_words(bar.end);
-    let runs = u64::from(bar.runs);
-    if runs != 1 {
-        ink.put_all(&[Number(runs), Text(" runs from ")]);
-    }
-    let behind = if runs == 1 { " " } else { " on; the gravest " };
-    ink.put_all(&[Text("run "), Number(bar.run), Text(behind), Text(words)]);
-    if let Some(number) = number {
-        ink.put_all(&[Text(" "), Number(number)]);
-    }
-}
-
-// An end in words, and the number behind them, if it has one.
-fn end_words(end: End) -> (&'static str, Option<u64>) {
-    match end {
-        End::Lives => ("lives", None),
-        End::Code(code) => ("ended with code", Some(u64::from(code))),
-        End::Stopped => ("was stopped", None),
-        End::Signal(signal) => ("ended by signal", Some(u64::from(signal))),
-        End::Crash(signal) => ("crashed by signal", Some(u64::from(signal))),
-    }
-}
-
-/// How many sentences say what is not in the chart.
-pub(crate) fn missing_count(chart: &Chart) -> u64 {
-    let is_older = chart.missing_runs > 0 || chart.missing_marks > 0;
-    u64::from(is_older) + u64::from(chart.rowless_refusals > 0)
-}
-
-/// What is not in the chart, a sentence for each kind of it, each in a line.
-pub(crate) fn missing_text(alloc: Global, chart: &Chart) -> Result<String, AllocError> {
-    let runs = chart.missing_runs;
-    let marks = chart.missing_marks;
-    let refusals = chart.rowless_refusals;
-    let mut ink = Ink::new(alloc);
-    if runs > 0 || marks > 0 {
-        ink.put("Not drawn, being older than what is kept: runs ");
-        ink.put_all(&[Number(runs), Text(", marks "), Number(marks), Text(".\n")]);
-    }
-    if refusals > 0 {
-        ink.put("Not drawn, being of jobs that were not loaded before: refusals ");
-        ink.put_all(&[Number(refusals), Text(".\n")]);
-    }
-    ink.into_text()
+/// What may be missing in the chart: a sentence for each kind of it, with holes for the numbers behind it. It is told if one is not 0.
+pub(crate) fn missing(chart: &Chart) -> [(&'static str, u64, u64); 2] {
+    [
+        (
+            "Not drawn, being older than what is kept: runs $, marks $.",
+            chart.missing_runs,
+            chart.missing_marks,
+        ),
+        (
+            "Not drawn, being of jobs that were not loaded before: refusals $.",
+            chart.rowless_refusals,
+            0,
+        ),
+    ]
 }

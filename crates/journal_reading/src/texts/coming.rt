@@ -2,12 +2,12 @@
 
 use crate::job::Job;
 use crate::run::RunEnd;
+use crate::texts::page::Hole::{Coming, Minute, Number};
 use crate::texts::page::Page;
 use crate::texts::told::Told;
 use calendar_due::{Calendar, Zone};
 use history_model::{MAX_WALL, Reasons};
 use job_defs::Def;
-use run_times::Piece::{Number, Text};
 
 /// How far is looked ahead, in seconds: 400 days.
 pub(crate) const FARTHEST: u64 = 34_560_000;
@@ -30,19 +30,26 @@ pub(crate) fn add_not_wanted(page: &mut Page<'_>, told: &Told<'_>) {
 }
 
 fn add_events(page: &mut Page<'_>, def: &Def) {
-    if !def.watch_paths().is_empty() {
-        page.ink.put(" once a path of WatchPaths changes,");
-    }
-    if !def.queue_directories().is_empty() {
-        page.ink
-            .put(" once a folder of QueueDirectories has an entry,");
-    }
-    if !def.path_state().is_empty() {
-        page.ink
-            .put(" once a path of KeepAlive PathState is as it says,");
-    }
-    if def.has_sockets() {
-        page.ink.put(" once a connection comes to its sockets,");
+    let ways = [
+        (
+            !def.watch_paths().is_empty(),
+            " once a path of WatchPaths changes,",
+        ),
+        (
+            !def.queue_directories().is_empty(),
+            " once a folder of QueueDirectories has an entry,",
+        ),
+        (
+            !def.path_state().is_empty(),
+            " once a path of KeepAlive PathState is as it says,",
+        ),
+        (
+            def.has_sockets(),
+            " once a connection comes to its sockets,",
+        ),
+    ];
+    for (is_there, words) in ways.iter() {
+        page.ink.put(if *is_there { *words } else { "" });
     }
 }
 
@@ -60,7 +67,7 @@ fn add_conditions(page: &mut Page<'_>, job: &Job, def: &Def) {
     let Some(last) = job.last else {
         return;
     };
-    page.ink.put(match (def.successful_exit(), last.end) {
+    let by_exit = match (def.successful_exit(), last.end) {
         (Some(true), _) => {
             " KeepAlive SuccessfulExit is true, and its last run did not end with code 0."
         }
@@ -68,12 +75,14 @@ fn add_conditions(page: &mut Page<'_>, job: &Job, def: &Def) {
             " KeepAlive SuccessfulExit is false, and its last run ended with code 0."
         }
         _ => "",
-    });
-    page.ink.put(match (def.crashed(), last.is_crash) {
+    };
+    let by_crash = match (def.crashed(), last.is_crash) {
         (Some(true), false) => " KeepAlive Crashed is true, and its last run did not crash.",
         (Some(false), true) => " KeepAlive Crashed is false, and its last run crashed.",
         _ => "",
-    });
+    };
+    page.ink.put(by_exit);
+    page.ink.put(by_crash);
 }
 
 fn add_calendar(page: &mut Page<'_>, zone: &Zone, def: &Def) {
@@ -82,14 +91,14 @@ fn add_calendar(page: &mut Page<'_>, zone: &Zone, def: &Def) {
     }
     let after = page.now.wall;
     let until = after.saturating_add(FARTHEST).min(MAX_WALL);
-    match Calendar::next(def.calendar(), zone, after, until) {
-        Some(wall) => {
-            page.ink.put(" at ");
-            page.add_minute(wall);
-        }
-        None => page.ink.put(" in no minute of the next 400 days"),
-    }
-    page.ink.put(" (StartCalendarInterval),");
+    let (form, wall) = match Calendar::next(def.calendar(), zone, after, until) {
+        Some(wall) => (" at $ (StartCalendarInterval),", wall),
+        None => (
+            " in no minute of the next 400 days (StartCalendarInterval),",
+            0,
+        ),
+    };
+    page.add(form, &[Minute(wall)]);
 }
 
 // An interval is counted from the load.
@@ -101,7 +110,6 @@ fn add_interval(page: &mut Page<'_>, job: &Job, def: &Def) {
     let length = seconds.saturating_mul(1000).max(1);
     let gone = page.now.up.saturating_sub(job.loaded.up) / length;
     let next = gone.saturating_add(1).saturating_mul(length);
-    page.ink.put(" at ");
-    page.add_coming(job.loaded.up.saturating_add(next));
-    page.ink.put_all(&[Text(" (StartInterval is "), Number(seconds), Text("),")]);
+    let moment = Coming(job.loaded.up.saturating_add(next));
+    page.add(" at $ (StartInterval is $),", &[moment, Number(seconds)]);
 }

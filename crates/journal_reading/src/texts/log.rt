@@ -3,11 +3,11 @@
 use crate::hearing::{News, Wait, What};
 use crate::reader::Journal;
 use crate::run::Run;
-use crate::texts::page::Page;
+use crate::texts::page::Hole::{Coming, Now, Number, Span, Text};
+use crate::texts::page::{Hole, Page};
 use crate::texts::words::{asked_name, demand_words, end_words, refusal_name};
 use calendar_due::Zone;
-use history_model::{DemandKind, Text, Wants};
-use run_times::Piece;
+use history_model::{DemandKind, Wants};
 use std::alloc::{AllocError, Global};
 
 /// What the last line of the journal gave, a line each, of the labels that are named, or of all if none is. Moments are shown in
@@ -16,47 +16,48 @@ pub fn log_lines(
     alloc: Global,
     journal: &Journal,
     zone: &Zone,
-    labels: &[Text],
+    labels: &[history_model::Text],
 ) -> Result<String, AllocError> {
     if journal.news.is_empty() {
         return Ok(String::new(alloc));
     }
-    let mut page = Page::new(alloc, zone, journal.reading())?;
-    for news in &journal.news {
-        if is_asked_for(labels, news.label.as_str()) {
-            page.add_now();
-            add_news(&mut page, journal, news);
+    match Page::new(alloc, zone, journal.reading()) {
+        Ok(mut page) => {
+            for news in &journal.news {
+                if is_asked_for(labels, news.label.as_str()) {
+                    add_news(&mut page, journal, news);
+                }
+            }
+            page.into_text()
         }
+        Err(error) => Err(error),
     }
-    page.into_text()
 }
 
 /// That a launcher began, behind the journal's header. The moment is shown in the zone.
 pub fn begin_line(alloc: Global, journal: &Journal, zone: &Zone) -> Result<String, AllocError> {
-    let mut page = Page::new(alloc, zone, journal.reading())?;
-    page.add_now();
-    page.ink.put("  the launcher began\n");
-    page.into_text()
+    match Page::new(alloc, zone, journal.reading()) {
+        Ok(mut page) => {
+            page.add("$  the launcher began\n", &[Now]);
+            page.into_text()
+        }
+        Err(error) => Err(error),
+    }
 }
 
-fn is_asked_for(labels: &[Text], label: &str) -> bool {
-    if labels.is_empty() || label.is_empty() {
-        return true;
-    }
+fn is_asked_for(labels: &[history_model::Text], label: &str) -> bool {
     for named in labels {
         if named.as_str() == label {
             return true;
         }
     }
-    false
+    labels.is_empty() || label.is_empty()
 }
 
 fn add_news(page: &mut Page<'_>, journal: &Journal, news: &News) {
     let label = news.label.as_str();
-    page.ink.put("  ");
-    if !label.is_empty() {
-        page.ink.put_all(&[Piece::Text(label), Piece::Text(": ")]);
-    }
+    let front = if label.is_empty() { "$  " } else { "$  $: " };
+    page.add(front, &[Now, Text(label)]);
     match &news.what {
         What::Ordered {
             run,
@@ -64,143 +65,117 @@ fn add_news(page: &mut Page<'_>, journal: &Journal, news: &News) {
             demand,
             wants,
         } => {
-            let order = Order {
-                run: *run,
-                connection: *connection,
-                demand: *demand,
-                path: journal.table.path_that_holds(label),
-            };
-            add_order(page, &order, wants);
+            let path = journal.table.path_that_holds(label);
+            let (form, cause) = order_words(*demand, path, wants);
+            match connection {
+                Some(number) => {
+                    let form = "run $ was ordered: connection $ waits";
+                    page.add(form, &[Number(*run), Number(*number)]);
+                }
+                None => page.add(form, &[Number(*run), Text(cause)]),
+            }
         }
-        What::Ended { run, wait } => add_ended(page, run, wait),
+        What::NotBegun { run, wait } => {
+            page.add("run $ was refused", &[Number(*run)]);
+            add_wait(page, wait);
+        }
+        What::Ended { run, wait } => {
+            add_ended(page, run);
+            add_wait(page, wait);
+        }
         what => add_what(page, what),
     }
     page.ink.put("\n");
 }
 
+// What is told by one form with two holes.
 fn add_what(page: &mut Page<'_>, what: &What) {
-    let Some((before, number, behind)) = numbered(what) else {
-        return add_words(page, what);
-    };
-    page.ink.put_all(&[
-        Piece::Text(before),
-        Piece::Number(number),
-        Piece::Text(behind),
-    ]);
-    match what {
-        What::Began { pid, .. } => page.ink.put_number(u64::from(*pid)),
-        What::NotBegun { wait, .. } => add_wait(page, wait),
-        _ => {}
-    }
-}
-
-// The number of a connection or a run, and the words around it, where it has one.
-fn numbered(what: &What) -> Option<(&'static str, u64, &'static str)> {
-    match what {
-        What::Came(number) => Some(("connection ", *number, " came")),
-        What::Left(number) => Some(("connection ", *number, " was given up by its client")),
-        What::Lost { run } => {
-            Some((
-                "run ",
-                *run,
-                ": the system refused to wait for it, its end is not seen",
-            ))
-        }
-        What::Began { run, .. } => Some(("run ", *run, " began, process ")),
-        What::NotBegun { run, .. } => Some(("run ", *run, " was refused")),
-        What::Told { run, kills: true } => Some(("KILL was ordered for run ", *run, "")),
-        What::Told { run, .. } => Some(("TERM was ordered for run ", *run, "")),
-        What::Untold { run, kills: true } => Some(("KILL could not be sent to run ", *run, "")),
-        What::Untold { run, .. } => Some(("TERM could not be sent to run ", *run, "")),
-        _ => None,
-    }
-}
-
-// What has no number: three pieces that follow one another.
-fn add_words(page: &mut Page<'_>, what: &What) {
-    let (first, second, third) = match what {
-        What::Loaded => ("loaded", "", ""),
-        What::LoadRefused(refusal) => ("load refused: ", refusal_name(*refusal), ""),
-        What::Asked(asked) => (asked_name(*asked), " was asked", ""),
+    let none = Text("");
+    let (form, first, second) = match *what {
+        What::Loaded => ("loaded", none, none),
+        What::LoadRefused(refusal) => ("load refused: $", Text(refusal_name(refusal)), none),
+        What::Asked(asked) => ("$ was asked", Text(asked_name(asked)), none),
         What::Declined(asked, refusal) => (
-            asked_name(*asked),
-            " was asked and refused: ",
-            refusal_name(*refusal),
+            "$ was asked and refused: $",
+            Text(asked_name(asked)),
+            Text(refusal_name(refusal)),
         ),
-        _ => ("removed", "", ""),
+        What::Came(number) => ("connection $ came", Number(number), none),
+        What::Left(number) => (
+            "connection $ was given up by its client",
+            Number(number),
+            none,
+        ),
+        What::Lost { run } => (
+            "run $: the system refused to wait for it, its end is not seen",
+            Number(run),
+            none,
+        ),
+        What::Began { run, pid } => {
+            (
+                "run $ began, process $",
+                Number(run),
+                Number(u64::from(pid)),
+            )
+        }
+        What::Told { run, kills } => ("$ was ordered for run $", signal(kills), Number(run)),
+        What::Untold { run, kills } => {
+            ("$ could not be sent to run $", signal(kills), Number(run))
+        }
+        _ => ("removed", none, none),
     };
-    page.ink.put(first);
-    page.ink.put(second);
-    page.ink.put(third);
+    page.add(form, &[first, second]);
 }
 
-fn add_ended(page: &mut Page<'_>, run: &Run, wait: &Wait) {
+fn signal(kills: bool) -> Hole<'static> {
+    Text(if kills { "KILL" } else { "TERM" })
+}
+
+fn add_ended(page: &mut Page<'_>, run: &Run) {
     let (words, end) = end_words(run.end);
-    page.ink.put_all(&[
-        Piece::Text("run "),
-        Piece::Number(run.run),
-        Piece::Text(" ended "),
-        Piece::Text(words),
-        Piece::Number(u64::from(end)),
-    ]);
-    page.ink.put(if run.is_crash {
-        " (a crash) after "
-    } else {
-        " after "
-    });
-    page.add_span(run.lived(page.now));
-    add_wait(page, wait);
+    let crash = if run.is_crash { " (a crash)" } else { "" };
+    let holes = [
+        Number(run.run),
+        Text(words),
+        Number(u64::from(end)),
+        Text(crash),
+        Span(run.lived(page.now)),
+    ];
+    page.add("run $ ended $$$ after $", &holes);
 }
 
 // The wait that follows.
 fn add_wait(page: &mut Page<'_>, wait: &Wait) {
-    if !wait.is_wanted {
-        page.ink.put("; nothing wants it");
-    } else if let Some(up) = wait.throttled_until {
-        page.ink.put("; it waits until ");
-        page.add_coming(up);
-        page.ink.put(" (throttled)");
-    }
+    let (form, until) = match (wait.is_wanted, wait.throttled_until) {
+        (false, _) => ("; nothing wants it", 0),
+        (true, Some(up)) => ("; it waits until $ (throttled)", up),
+        (true, None) => ("", 0),
+    };
+    page.add(form, &[Coming(until)]);
 }
 
-// An order of a start.
-#[derive(Clone, Copy)]
-struct Order<'a> {
-    run: u64,
-    connection: Option<u64>,
+// An order of a start, with holes for its run and its cause, and the cause.
+fn order_words<'a>(
     demand: Option<DemandKind>,
     path: Option<&'a str>,
-}
-
-fn add_order(page: &mut Page<'_>, order: &Order<'_>, wants: &Wants) {
-    page.ink.put_all(&[
-        Piece::Text("run "),
-        Piece::Number(order.run),
-        Piece::Text(" was ordered: "),
-    ]);
-    if let Some(number) = order.connection {
-        page.ink.put_all(&[
-            Piece::Text("connection "),
-            Piece::Number(number),
-            Piece::Text(" waits"),
-        ]);
-    } else if wants.demand {
-        page.ink.put(demand_words(order.demand));
+    wants: &Wants,
+) -> (&'static str, &'a str) {
+    let words = if wants.demand {
+        demand_words(demand)
     } else {
-        add_level(page, order.path, wants);
-    }
-}
-
-fn add_level(page: &mut Page<'_>, path: Option<&str>, wants: &Wants) {
-    let Some(path) = path else {
-        return page.ink.put(level_words(wants));
+        level_words(wants)
     };
-    page.ink.put(path);
-    page.ink.put(if wants.path_state {
-        " is as KeepAlive PathState says"
-    } else {
-        " has an entry (QueueDirectories)"
-    });
+    match path {
+        Some(path) if !wants.demand => {
+            let form = if wants.path_state {
+                "run $ was ordered: $ is as KeepAlive PathState says"
+            } else {
+                "run $ was ordered: $ has an entry (QueueDirectories)"
+            };
+            (form, path)
+        }
+        _ => ("run $ was ordered: $", words),
+    }
 }
 
 fn level_words(wants: &Wants) -> &'static str {

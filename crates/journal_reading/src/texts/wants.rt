@@ -1,81 +1,80 @@
-//! What wants a job, in words.
+//! What keeps a job from a start for good or wants it, in words.
 
 use crate::telling::Cause;
+use crate::texts::page::Hole::{Number, Text};
 use crate::texts::page::Page;
 use crate::texts::told::Told;
 use crate::texts::words::demand_words;
-use history_model::{DemandKind, Wants};
-use job_defs::Def;
-use run_times::Piece::{Number, Text};
+use history_model::DemandKind;
 
-/// One way by which it is wanted, as a sentence.
+/// A cause that is told by one sentence.
 pub(crate) fn add_want(page: &mut Page<'_>, told: &Told<'_>, cause: Cause) {
-    page.ink.put("It is wanted: ");
-    let def = told.def;
-    match cause {
-        Cause::Demand => add_demand(page, def, told.demand),
-        Cause::Connections(1) => page.ink.put("a connection waits"),
-        Cause::Connections(count) => {
-            page.ink
-                .put_all(&[Number(count as u64), Text(" connections wait")]);
-        }
-        Cause::KeepAlive => page.ink.put("KeepAlive is true"),
-        Cause::SuccessfulExit => page.ink.put(exit_words(def)),
-        Cause::Crashed => page.ink.put(crash_words(def)),
-        Cause::PathState => add_path_state(page, def, told.path),
-        _ => add_queue(page, &told.reasons.wants, told.path),
-    }
-    page.ink.put(".");
-}
-
-fn add_demand(page: &mut Page<'_>, def: &Def, demand: Option<DemandKind>) {
-    page.ink.put(demand_words(demand));
-    page.ink.put(match demand {
-        Some(DemandKind::Load) if def.run_at_load() => " (RunAtLoad is true)",
-        Some(DemandKind::Load) => " (by KeepAlive SuccessfulExit)",
-        _ => "",
-    });
-}
-
-fn exit_words(def: &Def) -> &'static str {
-    match def.successful_exit() {
-        Some(true) => "KeepAlive SuccessfulExit is true, and its last run ended with code 0",
-        _ => "KeepAlive SuccessfulExit is false, and its last run did not end with code 0",
-    }
-}
-
-fn crash_words(def: &Def) -> &'static str {
-    match def.crashed() {
-        Some(true) => "KeepAlive Crashed is true, and its last run crashed",
-        _ => "KeepAlive Crashed is false, and its last run did not crash",
-    }
-}
-
-fn add_path_state(page: &mut Page<'_>, def: &Def, path: Option<&str>) {
-    let path = path.unwrap_or("a path");
-    let mut state = "as it says";
-    for condition in def.path_state() {
-        if condition.path.as_str() == path {
-            state = if condition.present {
-                "there"
-            } else {
-                "not there"
-            };
-            break;
-        }
-    }
-    page.ink.put("KeepAlive PathState, and ");
-    page.ink
-        .put_all(&[Text(path), Text(" was last seen "), Text(state)]);
-}
-
-// A path of `PathState` is named in place of a folder.
-fn add_queue(page: &mut Page<'_>, wants: &Wants, path: Option<&str>) {
-    let folder = match path {
-        Some(path) if !wants.path_state => path,
+    let path = told.path.unwrap_or("a path");
+    // A path of `PathState` is named in place of a folder.
+    let folder = match told.path {
+        Some(path) if !told.reasons.wants.path_state => path,
         _ => "a folder",
     };
-    page.ink.put("QueueDirectories, and ");
-    page.ink
-        .put_all(&[Text(folder), Text(" was last seen with an entry")]);
+    let (form, hole) = match cause {
+        Cause::LaunchSpent => (
+            "It does not start again: LaunchOnlyOnce is true, and a start went well. Unload it and load it.",
+            Text(""),
+        ),
+        Cause::RunsSpent => (
+            "It does not start again: 2^63 starts were ordered since its load. Unload it and load it.",
+            Text(""),
+        ),
+        Cause::Demand => (demand_form(told), Text(demand_words(told.demand))),
+        Cause::Connections(1) => ("It is wanted: a connection waits.", Text("")),
+        Cause::Connections(count) => { ("It is wanted: $ connections wait.", Number(count as u64)) }
+        Cause::PathState => (path_form(told, path), Text(path)),
+        Cause::QueueDirectories => (
+            "It is wanted: QueueDirectories, and $ was last seen with an entry.",
+            Text(folder),
+        ),
+        cause => (level_form(told, cause), Text("")),
+    };
+    page.add(form, &[hole]);
+}
+
+fn demand_form(told: &Told<'_>) -> &'static str {
+    match told.demand {
+        Some(DemandKind::Load) if told.def.run_at_load() => {
+            "It is wanted: $ (RunAtLoad is true)."
+        }
+        Some(DemandKind::Load) => "It is wanted: $ (by KeepAlive SuccessfulExit).",
+        _ => "It is wanted: $.",
+    }
+}
+
+// By its last end, or by KeepAlive alone.
+fn level_form(told: &Told<'_>, cause: Cause) -> &'static str {
+    match (cause, told.def.successful_exit(), told.def.crashed()) {
+        (Cause::SuccessfulExit, Some(true), _) => {
+            "It is wanted: KeepAlive SuccessfulExit is true, and its last run ended with code 0."
+        }
+        (Cause::SuccessfulExit, _, _) => {
+            "It is wanted: KeepAlive SuccessfulExit is false, and its last run did not end with code 0."
+        }
+        (Cause::Crashed, _, Some(true)) => {
+            "It is wanted: KeepAlive Crashed is true, and its last run crashed."
+        }
+        (Cause::Crashed, _, _) => {
+            "It is wanted: KeepAlive Crashed is false, and its last run did not crash."
+        }
+        _ => "It is wanted: KeepAlive is true.",
+    }
+}
+
+fn path_form(told: &Told<'_>, path: &str) -> &'static str {
+    for condition in told.def.path_state() {
+        if condition.path.as_str() == path {
+            return if condition.present {
+                "It is wanted: KeepAlive PathState, and $ was last seen there."
+            } else {
+                "It is wanted: KeepAlive PathState, and $ was last seen not there."
+            };
+        }
+    }
+    "It is wanted: KeepAlive PathState, and $ was last seen as it says."
 }

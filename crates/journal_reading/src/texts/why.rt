@@ -5,14 +5,15 @@ use crate::reader::Journal;
 use crate::run::Run;
 use crate::telling::{Cause, causes};
 use crate::texts::coming::{FARTHEST, add_not_wanted};
+use crate::texts::page::Hole::{Coming, Now, Number, Span, Text, Time};
 use crate::texts::page::Page;
 use crate::texts::told::Told;
 use crate::texts::wants::add_want;
 use crate::texts::words::{asked_name, end_words};
 use calendar_due::Zone;
-use history_model::{Act, MAX_UP, MAX_WALL, Reading, Reasons, StandingChild, Text};
+use history_model::{Act, MAX_UP, MAX_WALL, Reading, Reasons, StandingChild};
 use job_defs::Def;
-use run_times::{Piece, next_run};
+use run_times::next_run;
 use std::alloc::{AllocError, Global};
 
 /// For each loaded job, or for those named: its state, a line for each thing that keeps it from a start or wants it, how it ended
@@ -21,19 +22,21 @@ pub fn why_text(
     alloc: Global,
     journal: &Journal,
     zone: &Zone,
-    labels: &[Text],
+    labels: &[history_model::Text],
 ) -> Result<String, AllocError> {
-    let mut page = Page::new(alloc, zone, journal.reading())?;
-    page.ink.put("As of ");
-    page.add_now();
-    page.ink.put(":\n");
-    if labels.is_empty() {
-        add_all(&mut page, journal);
+    match Page::new(alloc, zone, journal.reading()) {
+        Ok(mut page) => {
+            page.add("As of $:\n", &[Now]);
+            if labels.is_empty() {
+                add_all(&mut page, journal);
+            }
+            for label in labels {
+                add_named(&mut page, journal, label.as_str());
+            }
+            page.into_text()
+        }
+        Err(error) => Err(error),
     }
-    for label in labels {
-        add_named(&mut page, journal, label.as_str());
-    }
-    page.into_text()
 }
 
 fn add_all(page: &mut Page<'_>, journal: &Journal) {
@@ -50,40 +53,26 @@ fn add_all(page: &mut Page<'_>, journal: &Journal) {
 }
 
 fn add_named(page: &mut Page<'_>, journal: &Journal, label: &str) {
-    match journal.past.job(label) {
+    let (form, gone) = match journal.past.job(label) {
         Some(job) => match &job.def {
-            Some(def) => add_job(page, journal, label, job, def),
-            None => {
-                add_head(page, label, "is not loaded: it was removed at ");
-                page.add_timed("", job.gone.wall, ".\n");
-            }
+            Some(def) => return add_job(page, journal, label, job, def),
+            None => ("\n$ is not loaded: it was removed at $.\n", job.gone.wall),
         },
-        None => add_head(
-            page,
-            label,
-            "is not loaded: the journal has no load of it.\n",
-        ),
-    }
-}
-
-// What is told of a job begins with its label and its state.
-fn add_head(page: &mut Page<'_>, label: &str, state: &str) {
-    page.ink.put("\n");
-    page.ink.put(label);
-    page.ink.put(" ");
-    page.ink.put(state);
+        None => ("\n$ is not loaded: the journal has no load of it.\n", 0),
+    };
+    page.add(form, &[Text(label), Time(gone)]);
 }
 
 fn add_job(page: &mut Page<'_>, journal: &Journal, label: &str, job: &Job, def: &Def) {
     let Some(reasons) = journal.table.reasons(label) else {
         return;
     };
-    add_head(page, label, state_words(&reasons));
-    page.ink.put(".\n");
+    page.add("\n$ $.\n", &[Text(label), Text(state_words(&reasons))]);
     let told = Told {
         reasons,
         demand: journal.table.latest_demand(label),
         path: journal.table.path_that_holds(label),
+        asked: journal.past.asked_of(job),
         zone: &journal.zone,
         job,
         def,
@@ -120,15 +109,9 @@ fn add_cause(page: &mut Page<'_>, told: &Told<'_>, cause: Cause) {
     page.ink.put("  ");
     match cause {
         Cause::NotWanted => add_not_wanted(page, told),
-        Cause::Removing => add_removing(page, told.job),
+        Cause::Removing => add_removing(page, told),
         Cause::Child(child) => add_child(page, told, child),
         Cause::Awaited(act) => add_awaited(page, act),
-        Cause::LaunchSpent => page.ink.put(
-            "It does not start again: LaunchOnlyOnce is true, and a start went well. Unload it and load it.",
-        ),
-        Cause::RunsSpent => page.ink.put(
-            "It does not start again: 2^63 starts were ordered since its load. Unload it and load it.",
-        ),
         Cause::Throttled(up) => add_throttle(page, told, up),
         cause => add_want(page, told, cause),
     }
@@ -145,30 +128,39 @@ fn state_words(reasons: &Reasons) -> &'static str {
     }
 }
 
-fn add_removing(page: &mut Page<'_>, job: &Job) {
-    page.ink.put("It is being removed");
-    if let Some((asked, at)) = job.asked {
-        page.ink.put(" (");
-        page.ink.put(asked_name(asked));
-        page.add_timed(" at ", at.wall, ")");
-    }
-    page.ink.put(": it is gone once its run has ended.");
+fn add_removing(page: &mut Page<'_>, told: &Told<'_>) {
+    let (form, name, wall) = match told.asked {
+        Some((asked, at)) => (
+            "It is being removed ($ at $): it is gone once its run has ended.",
+            asked_name(asked),
+            at.wall,
+        ),
+        None => (
+            "It is being removed: it is gone once its run has ended.",
+            "",
+            0,
+        ),
+    };
+    page.add(form, &[Text(name), Time(wall)]);
 }
 
 fn add_child(page: &mut Page<'_>, told: &Told<'_>, child: StandingChild) {
     let job = told.job;
-    page.ink.put_all(&[
-        Piece::Text("Run "),
-        Piece::Number(child.run),
-        Piece::Text(" lives, process "),
-        Piece::Number(u64::from(child.pid)),
-    ]);
-    if let Some(present) = job.current {
-        page.add_timed(", since ", present.begun.wall, " (for ");
-        page.add_span(present.lived(page.now));
-        page.ink.put(")");
-    }
-    page.ink.put(".");
+    let (form, since, lived) = match job.current {
+        Some(present) => (
+            "Run $ lives, process $, since $ (for $).",
+            present.begun.wall,
+            present.lived(page.now),
+        ),
+        None => ("Run $ lives, process $.", 0, 0),
+    };
+    let holes = [
+        Number(child.run),
+        Number(u64::from(child.pid)),
+        Time(since),
+        Span(lived),
+    ];
+    page.add(form, &holes);
     page.ink.put(words_if(job.is_lost, " The system refused to wait for it."));
     page.ink.put(words_if(child.is_struck, " `jobctl kickstart -k` asked for its end."));
     page.ink
@@ -182,77 +174,64 @@ fn words_if(holds: bool, words: &'static str) -> &'static str {
 }
 
 fn add_signals(page: &mut Page<'_>, job: &Job, def: &Def) {
-    match (job.kill, job.term) {
-        (Some(at), _) => page.add_timed(" KILL was ordered at ", at.wall, "."),
-        (None, Some(at)) => {
-            page.add_timed(" TERM was ordered at ", at.wall, "");
-            add_kill_time(page, def, at.up);
-        }
-        (None, None) => {}
-    }
-}
-
-fn add_kill_time(page: &mut Page<'_>, def: &Def, term: u64) {
     let seconds = u64::from(def.exit_time_out());
-    if seconds == 0 {
-        return page.ink.put("; no KILL follows, since ExitTimeOut is 0.");
-    }
-    page.ink.put("; KILL follows at ");
-    page.add_coming(term.saturating_add(seconds.saturating_mul(1000)));
-    page.ink.put_all(&[
-        Piece::Text(" if it lives then (ExitTimeOut is "),
-        Piece::Number(seconds),
-        Piece::Text(")."),
-    ]);
+    let (form, at) = match (job.kill, job.term) {
+        (Some(at), _) => (" KILL was ordered at $.", at),
+        (None, Some(at)) if seconds == 0 => (
+            " TERM was ordered at $; no KILL follows, since ExitTimeOut is 0.",
+            at,
+        ),
+        (None, Some(at)) => (
+            " TERM was ordered at $; KILL follows at $ if it lives then (ExitTimeOut is $).",
+            at,
+        ),
+        (None, None) => ("", page.now),
+    };
+    let kill = at.up.saturating_add(seconds.saturating_mul(1000));
+    page.add(form, &[Time(at.wall), Coming(kill), Number(seconds)]);
 }
 
 fn add_awaited(page: &mut Page<'_>, act: Act) {
     let (what, run) = match act {
-        Act::Spawn { run, .. } => ("The start of run ", run),
-        Act::Term { run } => ("TERM for run ", run),
-        Act::Kill { run } => ("KILL for run ", run),
+        Act::Spawn { run, .. } => ("The start of", run),
+        Act::Term { run } => ("TERM for", run),
+        Act::Kill { run } => ("KILL for", run),
         Act::Close { .. } | Act::Gone => return page.ink.put("An answer is awaited."),
     };
-    page.ink.put_all(&[
-        Piece::Text(what),
-        Piece::Number(run),
-        Piece::Text(" was ordered, and the answer is awaited."),
-    ]);
+    let form = "$ run $ was ordered, and the answer is awaited.";
+    page.add(form, &[Text(what), Number(run)]);
 }
 
+// How long it is throttled, and the start from which the throttle goes, if it is known.
 fn add_throttle(page: &mut Page<'_>, told: &Told<'_>, up: u64) {
-    page.ink.put("It is throttled until ");
-    page.add_coming(up);
-    page.ink.put(" (in ");
-    page.add_span(up.saturating_sub(page.now.up));
-    page.ink.put(")");
-    add_throttle_start(page, told, up);
+    let throttle = u64::from(told.def.throttle_interval());
+    let (form, wall) = throttle_form(told.job, throttle.saturating_mul(1000), up);
+    let holes = [
+        Coming(up),
+        Span(up.saturating_sub(page.now.up)),
+        Time(wall),
+        Number(throttle),
+    ];
+    page.add(form, &holes);
 }
 
-// The start from which the throttle goes, if it is known.
-fn add_throttle_start(page: &mut Page<'_>, told: &Told<'_>, up: u64) {
-    let throttle = u64::from(told.def.throttle_interval());
-    let length = throttle.saturating_mul(1000);
-    if let Some(at) = told.job.ordered {
+// What is told of a throttle up to `up`, and the moment of the start: of the last one that was ordered, or of one that was refused.
+fn throttle_form(job: &Job, length: u64, up: u64) -> (&'static str, u64) {
+    if let Some(at) = job.ordered {
         if at.up.saturating_add(length) == up {
-            page.add_timed(": its last start was ordered at ", at.wall, "");
-            return page.ink.put_all(&[
-                Piece::Text(", ThrottleInterval is "),
-                Piece::Number(throttle),
-                Piece::Text("."),
-            ]);
+            let form =
+                "It is throttled until $ (in $): its last start was ordered at $, ThrottleInterval is $.";
+            return (form, at.wall);
         }
     }
-    if let Some(run) = told.job.refused {
+    if let Some(run) = job.refused {
         if run.ended.up.saturating_add(1000) == up {
-            return page.add_timed(
-                ": its last start was refused at ",
-                run.ended.wall,
-                ", and the next comes a second later at the earliest.",
-            );
+            let form =
+                "It is throttled until $ (in $): its last start was refused at $, and the next comes a second later at the earliest.";
+            return (form, run.ended.wall);
         }
     }
-    page.ink.put(".");
+    ("It is throttled until $ (in $).", 0)
 }
 
 // How the last run ended, how many there were, and that the last start was refused.
@@ -261,33 +240,26 @@ fn add_past(page: &mut Page<'_>, job: &Job) {
         add_last(page, job, &last);
     }
     if let Some(run) = job.refused {
-        page.ink.put_all(&[
-            Piece::Text("  Its last start (run "),
-            Piece::Number(run.run),
-            Piece::Text(") was refused"),
-        ]);
-        page.add_timed(", at ", run.ended.wall, ".\n");
+        let form = "  Its last start (run $) was refused, at $.\n";
+        page.add(form, &[Number(run.run), Time(run.ended.wall)]);
     }
 }
 
 fn add_last(page: &mut Page<'_>, job: &Job, last: &Run) {
     let (words, number) = end_words(last.end);
-    page.ink.put_all(&[
-        Piece::Text("  It ended last "),
-        Piece::Text(words),
-        Piece::Number(u64::from(number)),
-        Piece::Text(words_if(last.is_crash, " (a crash)")),
-    ]);
-    page.add_timed(", at ", last.ended.wall, ", after ");
-    page.add_span(last.lived(page.now));
-    page.ink.put_all(&[
-        Piece::Text("; "),
-        Piece::Number(job.starts),
-        Piece::Text(if job.starts == 1 { " start" } else { " starts" }),
-        Piece::Text(" since its load, "),
-        Piece::Number(job.ends),
-        Piece::Text(" ended.\n"),
-    ]);
+    let starts = if job.starts == 1 { "start" } else { "starts" };
+    let holes = [
+        Text(words),
+        Number(u64::from(number)),
+        Text(words_if(last.is_crash, " (a crash)")),
+        Time(last.ended.wall),
+        Span(last.lived(page.now)),
+        Number(job.starts),
+        Text(starts),
+        Number(job.ends),
+    ];
+    let form = "  It ended last $$$, at $, after $; $ $ since its load, $ ended.\n";
+    page.add(form, &holes);
 }
 
 // When it starts by the clocks alone, if it does.
@@ -306,6 +278,9 @@ fn add_start(page: &mut Page<'_>, told: &Told<'_>, spawns_from: Option<u64>) {
         FARTHEST,
     ) {
         let wall = now.wall.saturating_add(seconds);
-        page.add_timed("  It starts at ", wall, ", if nothing else happens.\n");
+        page.add(
+            "  It starts at $, if nothing else happens.\n",
+            &[Time(wall)],
+        );
     }
 }
