@@ -16,10 +16,12 @@ const LONGEST_NAME: usize = 64;
 pub fn definition_of(
     alloc: Global,
     number: usize,
-    when: &When,
+    when: When,
     command: &str,
 ) -> Result<String, LineFault> {
-    let start = start_of(alloc, when)?;
+    let start = start_of(alloc, &when);
+    drop(when);
+    let start = start?;
     let mut ink = Ink::new(alloc);
     ink.put("{\"Label\": \"cron.");
     ink.put_number(number as u64);
