@@ -96,7 +96,9 @@ fn take_lines(
         if !feed.reader.next(alloc)? {
             break;
         }
-        listener.hear(alloc, &feed.reader)?;
+        if let Some(journal) = feed.reader.journal() {
+            listener.hear(alloc, journal, feed.reader.lines == 1)?;
+        }
     }
     Ok(is_there)
 }

@@ -4,7 +4,7 @@ use crate::charted::Heard;
 use crate::telling::put;
 use calendar_due::Zone;
 use history_model::Text;
-use journal_reading::{Journal, JournalReader, begin_line, log_lines};
+use journal_reading::{Journal, begin_line, log_lines};
 use std::alloc::{AllocError, Global};
 use std::io;
 
@@ -31,15 +31,17 @@ pub(crate) struct Shown<'a> {
 }
 
 impl Listener<'_> {
-    /// Hears what the line gave that was read last.
-    pub(crate) fn hear(&mut self, alloc: Global, reader: &JournalReader) -> Result<(), AllocError> {
-        let Some(journal) = reader.journal() else {
-            return Ok(());
-        };
+    /// Hears what the journal's last line gave.
+    pub(crate) fn hear(
+        &mut self,
+        alloc: Global,
+        journal: &Journal,
+        is_header: bool,
+    ) -> Result<(), AllocError> {
         match self {
             Listener::Nobody => Ok(()),
             Listener::Chart(heard) => heard.hear(journal),
-            Listener::Log(shown) => shown.add_line(alloc, journal, reader.lines == 1),
+            Listener::Log(shown) => shown.add_line(alloc, journal, is_header),
         }
     }
 

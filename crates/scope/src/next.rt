@@ -182,7 +182,9 @@ fn second_of(job: &Job) -> u64 {
 fn add_start(alloc: Global, from: u64, zone: &Zone, job: &mut Job, ink: &mut Ink) {
     let second = second_of(job);
     ink.put_moment(alloc, zone, second);
-    ink.put_all(&[Text("  "), Text(job.def.label()), Text("  in ")]);
+    ink.put("  ");
+    ink.put(job.def.label());
+    ink.put("  in ");
     ink.put_made(span_text(alloc, second.saturating_sub(from)));
     if job.by_interval == Some(second) {
         let every = job.def.start_interval().unwrap_or(0);

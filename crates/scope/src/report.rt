@@ -122,7 +122,7 @@ fn paint(
         _ if host.stdout().is_terminal() => {
             put_made(host, blocks_text(alloc, zone, &chart, columns(host)))
         }
-        _ => put_pieces(host, alloc, zone, &chart, None),
+        _ => put_pieces(host, alloc, zone, &chart, &None),
     };
     drop(chart);
     painted
@@ -146,12 +146,12 @@ fn paint_page(
     let table = runs_table(alloc, journal, labels)?;
     let why = why_text(alloc, journal, zone, labels)?;
     let coming = coming_of(alloc, journal, chart)?;
-    let beside = Page {
+    let beside = Some(Page {
         table: table.as_str(),
         why: why.as_str(),
         coming: coming.as_slice(),
-    };
-    put_pieces(host, alloc, zone, chart, Some(&beside))
+    });
+    put_pieces(host, alloc, zone, chart, &beside)
 }
 
 // Writes the page with what stands beside the picture, or the picture alone: piece by piece, so that its whole text is never held.
@@ -160,7 +160,7 @@ fn put_pieces(
     alloc: Global,
     zone: &Zone,
     chart: &Chart,
-    beside: Option<&Page<'_>>,
+    beside: &Option<Page<'_>>,
 ) -> io::Result<()> {
     for index in 0..usize::MAX {
         let piece = match beside {

@@ -9,7 +9,7 @@ use json_kinds::key_name;
 use run_times::Ink;
 use std::alloc::{AllocError, Global};
 
-const MONTHS: [&str; 12] = [
+const MONTHS: &[&str] = &[
     "January",
     "February",
     "March",

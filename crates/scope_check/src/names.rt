@@ -12,7 +12,7 @@ use run_times::Ink;
 use std::alloc::{AllocError, Global};
 use strsim::levenshtein;
 
-const INNER: [&str; 16] = [
+const INNER: &[&str] = &[
     CRASHED,
     PATH_STATE,
     SUCCESSFUL_EXIT,

@@ -114,7 +114,7 @@ fn texts_of(text: &str) -> (Texts<'_>, &str) {
 }
 
 /// The fields that a name stands for.
-const NAMED: [(&str, &str); 7] = [
+const NAMED: &[(&str, &str)] = &[
     ("@yearly", "0 0 1 1 *"),
     ("@annually", "0 0 1 1 *"),
     ("@monthly", "0 0 1 * *"),
@@ -126,7 +126,7 @@ const NAMED: [(&str, &str); 7] = [
 
 // The fields of a name; none if it is no name of minutes.
 fn fields_named(name: &str) -> &'static str {
-    for (known, fields) in NAMED.iter() {
+    for (known, fields) in NAMED {
         if *known == name {
             return *fields;
         }

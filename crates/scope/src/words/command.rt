@@ -22,6 +22,17 @@ pub(crate) enum Task {
     Cron,
 }
 
+/// The names of the subcommands, in the order of the help.
+pub(crate) const TASKS: &[(&str, Task)] = &[
+    ("check", Task::Check),
+    ("next", Task::Next),
+    ("why", Task::Why),
+    ("log", Task::Log),
+    ("runs", Task::Runs),
+    ("picture", Task::Picture),
+    ("cron", Task::Cron),
+];
+
 /// A subcommand's words. What the subcommand does not take is absent.
 #[derive(Drop)]
 pub(crate) struct ScopeCommand {

@@ -2,7 +2,7 @@
 
 ghost use Rattle.std.specs.Prelude.{◌≡◌, false};
 
-use crate::words::command::Task;
+use crate::words::command::{TASKS, Task};
 use clap::{Arg, ArgAction};
 use launchctl_words::arguments::{add_arg, add_subcommand, bare, flag, option, words};
 use std::alloc::{AllocError, Global};
@@ -32,14 +32,14 @@ struct Argument {
     help: &'static str,
 }
 
-/// A subcommand: its name, what it does, what its help begins with and ends with, and its arguments.
-pub(crate) struct Subcommand {
-    pub(crate) name: &'static str,
-    pub(crate) task: Task,
-    about: &'static str,
-    exit: &'static str,
-    arguments: &'static [Argument],
-}
+const CHECK_EXIT: &str =
+    "Exit status: 0 each would be read by a load; 1 one would not, or has a warning with --strict, or no memory; 64 these words are no command; 65 a file can't be read.";
+
+const NEXT_EXIT: &str =
+    "Exit status: 0 done; 1 no memory; 64 these words are no command; 65 a file can't be read, or is no definition, or the zone is none.";
+
+const CRON_EXIT: &str =
+    "Exit status: 0 each line has its definition; 1 one is refused, or no memory; 64 these words are no command; 65 standard input can't be read.";
 
 const JOURNAL_EXIT: &str =
     "Exit status: 0 done; 1 no memory; 64 these words are no command; 65 the journal can't be read, or is none.";
@@ -116,6 +116,10 @@ const NEXT: &[Argument] = &[
     PATHS,
 ];
 
+const WHY: &[Argument] = &[JOURNAL, LABELS, UTC];
+
+const RUNS: &[Argument] = &[JOURNAL, LABELS];
+
 const LOG: &[Argument] = &[
     JOURNAL,
     LABELS,
@@ -153,60 +157,7 @@ const CRON: &[Argument] = &[Argument {
     help: "A line as in crontab(5), as one word, with no field for a user; - for the lines of standard input",
 }];
 
-/// The subcommands, in the order of the help.
-pub(crate) const SUBCOMMANDS: &[Subcommand] = &[
-    Subcommand {
-        name: "check",
-        task: Task::Check,
-        about: "Say whether definitions would load, and what may be wrong with them",
-        exit: "Exit status: 0 each would be read by a load; 1 one would not, or has a warning with --strict, or no memory; 64 these words are no command; 65 a file can't be read.",
-        arguments: CHECK,
-    },
-    Subcommand {
-        name: "next",
-        task: Task::Next,
-        about: "Show the coming starts of calendars and intervals, in the order of time",
-        exit: "Exit status: 0 done; 1 no memory; 64 these words are no command; 65 a file can't be read, or is no definition, or the zone is none.",
-        arguments: NEXT,
-    },
-    Subcommand {
-        name: "why",
-        task: Task::Why,
-        about: "Say why each job runs or not, and what will make it run",
-        exit: JOURNAL_EXIT,
-        arguments: &[JOURNAL, LABELS, UTC],
-    },
-    Subcommand {
-        name: "log",
-        task: Task::Log,
-        about: "Tell a journal's events to people",
-        exit: JOURNAL_EXIT,
-        arguments: LOG,
-    },
-    Subcommand {
-        name: "runs",
-        task: Task::Runs,
-        about: "Count each job's runs",
-        exit: JOURNAL_EXIT,
-        arguments: &[JOURNAL, LABELS],
-    },
-    Subcommand {
-        name: "picture",
-        task: Task::Picture,
-        about: "Draw each job's runs over time",
-        exit: JOURNAL_EXIT,
-        arguments: PICTURE,
-    },
-    Subcommand {
-        name: "cron",
-        task: Task::Cron,
-        about: "Write a definition for each line of a crontab",
-        exit: "Exit status: 0 each line has its definition; 1 one is refused, or no memory; 64 these words are no command; 65 standard input can't be read.",
-        arguments: CRON,
-    },
-];
-
-fn argument_of(alloc: Global, of: &Argument) -> Arg<'static>
+fn argument_of<'a>(alloc: Global, of: &Argument) -> Arg<'a>
     ensures { result.global ≡ false }
 {
     match of.form {
@@ -228,23 +179,57 @@ fn argument_of(alloc: Global, of: &Argument) -> Arg<'static>
     }
 }
 
-fn subcommand_of(alloc: Global, of: &Subcommand) -> Result<clap::Command<'static>, AllocError> {
-    let mut command = Ok(bare(alloc, of.name, of.about, of.exit));
-    for argument in of.arguments {
+// What a subcommand does, what its help ends with, and its arguments.
+fn form_of(task: Task) -> (&'static str, &'static str, &'static [Argument]) {
+    match task {
+        Task::Check => (
+            "Say whether definitions would load, and what may be wrong with them",
+            CHECK_EXIT,
+            CHECK,
+        ),
+        Task::Next => (
+            "Show the coming starts of calendars and intervals, in the order of time",
+            NEXT_EXIT,
+            NEXT,
+        ),
+        Task::Why => (
+            "Say why each job runs or not, and what will make it run",
+            JOURNAL_EXIT,
+            WHY,
+        ),
+        Task::Log => ("Tell a journal's events to people", JOURNAL_EXIT, LOG),
+        Task::Runs => ("Count each job's runs", JOURNAL_EXIT, RUNS),
+        Task::Picture => ("Draw each job's runs over time", JOURNAL_EXIT, PICTURE),
+        Task::Cron => (
+            "Write a definition for each line of a crontab",
+            CRON_EXIT,
+            CRON,
+        ),
+    }
+}
+
+fn subcommand_of<'a>(
+    alloc: Global,
+    name: &'a str,
+    task: Task,
+) -> Result<clap::Command<'a>, AllocError> {
+    let (about, exit, arguments) = form_of(task);
+    let mut command = Ok(bare(alloc, name, about, exit));
+    for argument in arguments {
         command = add_arg(command, argument_of(alloc, argument));
     }
     command
 }
 
 /// The whole command, with a help text for every word.
-pub(crate) fn jobscope_words(alloc: Global) -> Result<clap::Command<'static>, AllocError> {
+pub(crate) fn jobscope_words<'a>(alloc: Global) -> Result<clap::Command<'a>, AllocError> {
     let mut command = Ok(
         clap::Command::new(alloc, "jobscope")
             .about("Reads definitions before a load, and journals after")
             .subcommand_required(true),
     );
-    for subcommand in SUBCOMMANDS {
-        command = add_subcommand(command, subcommand_of(alloc, subcommand));
+    for (name, task) in TASKS {
+        command = add_subcommand(command, subcommand_of(alloc, *name, *task));
     }
     command
 }

@@ -9,7 +9,7 @@ use std::alloc::{AllocError, Global};
 const SECOND: &str = "a second of Unix time up to 250000000000";
 
 /// The options that take a number: their names, how they are written, the greatest number, and what is wanted.
-const NUMBERS: [(&str, &str, u64, &str); 3] = [
+const NUMBERS: &[(&str, &str, u64, &str)] = &[
     ("count", "-n", 10_000, "a number up to 10000"),
     ("from", "--from", MAX_WALL, SECOND),
     ("since", "--since", MAX_WALL, SECOND),
@@ -20,7 +20,7 @@ pub(crate) fn wrong_number(
     alloc: Global,
     found: &ArgMatches<'_>,
 ) -> Result<Option<String>, AllocError> {
-    for (id, option, most, wanted) in NUMBERS.iter() {
+    for (id, option, most, wanted) in NUMBERS {
         if let Some(value) = found.get_str(*id) {
             if number_in(value, *most).is_none() {
                 let mut ink = Ink::new(alloc);

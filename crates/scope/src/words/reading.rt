@@ -1,7 +1,7 @@
 //! What the words of `jobscope` mean.
 
-use crate::words::command::{Meaning, ScopeCommand, Task};
-use crate::words::forms::{SUBCOMMANDS, jobscope_words};
+use crate::words::command::{Meaning, ScopeCommand, TASKS, Task};
+use crate::words::forms::jobscope_words;
 use crate::words::numbers::{number_of, wrong_number};
 use clap::ArgMatches;
 use history_model::Text;
@@ -11,25 +11,25 @@ use launchctl_words::{Paths, WordFault, ZoneWords};
 use std::alloc::{AllocError, Global};
 
 fn task_named(name: &str) -> Option<Task> {
-    for subcommand in SUBCOMMANDS {
-        if subcommand.name == name {
-            return Some(subcommand.task);
+    for (known, task) in TASKS {
+        if *known == name {
+            return Some(*task);
         }
     }
     None
 }
 
-// The words of the subcommand, whose numbers are right.
+// The words of the subcommand: its numbers are right, and it names one zone at most.
 fn command_in(
     alloc: Global,
     task: Task,
     found: &ArgMatches<'_>,
-    zone: ZoneWords,
 ) -> Result<ScopeCommand, AllocError> {
-    let words = words_in(alloc, task, found);
+    let words = words_in(alloc, task, found)?;
     let journal = value_of(alloc, found, "journal");
-    match (words, journal) {
-        (Ok(words), Ok(journal)) => Ok(ScopeCommand {
+    let zone = zone_in(alloc, found);
+    match (journal, zone) {
+        (Ok(journal), Ok(zone)) => Ok(ScopeCommand {
             task,
             is_strict: is_set(found, "strict"),
             follows: is_set(found, "follow"),
@@ -42,8 +42,21 @@ fn command_in(
             journal,
             words,
         }),
-        _ => Err(AllocError),
+        (journal, zone) => {
+            drop(journal);
+            drop(zone);
+            drop(words);
+            Err(AllocError)
+        }
     }
+}
+
+fn zone_in(alloc: Global, found: &ArgMatches<'_>) -> Result<ZoneWords, AllocError> {
+    Ok(match (found.get_str("zone"), found.get_str("zone-file")) {
+        (Some(rule), _) => ZoneWords::Rule(Text::copy_of(alloc, rule)?),
+        (None, Some(path)) => ZoneWords::File(Text::copy_of(alloc, path)?),
+        (None, None) => ZoneWords::Default,
+    })
 }
 
 fn words_in(alloc: Global, task: Task, found: &ArgMatches<'_>) -> Result<Paths, AllocError> {
@@ -76,18 +89,11 @@ fn meaning_in(alloc: Global, found: &ArgMatches<'_>, task: Task) -> Result<Meani
     if let Some(text) = wrong_number(alloc, found)? {
         return Ok(Meaning::Wrong(text));
     }
-    let rule = value_of(alloc, found, "zone")?;
-    let file = value_of(alloc, found, "zone-file")?;
-    let zone = match (rule, file) {
-        (None, None) => ZoneWords::Default,
-        (Some(rule), None) => ZoneWords::Rule(rule),
-        (None, Some(file)) => ZoneWords::File(file),
-        (Some(_), Some(_)) => {
-            let text = "jobscope: --zone and --zone-file can't stand together\n";
-            return Ok(Meaning::Wrong(String::from_str(alloc, text)?));
-        }
-    };
-    Ok(Meaning::Command(command_in(alloc, task, found, zone)?))
+    if found.get_str("zone").is_some() && found.get_str("zone-file").is_some() {
+        let text = "jobscope: --zone and --zone-file can't stand together\n";
+        return Ok(Meaning::Wrong(String::from_str(alloc, text)?));
+    }
+    Ok(Meaning::Command(command_in(alloc, task, found)?))
 }
 
 fn read_meaning(alloc: Global, words: &[String]) -> Result<Meaning, WordFault> {
