@@ -69,24 +69,16 @@ impl<'a> Heard<'a> {
         let Some(kind) = mark_of(&news.what) else {
             return Ok(());
         };
-        match journal.past.job(news.label.as_str()) {
-            Some(job) => {
-                let job = job.serial;
-                self.keep(Kept { job, kind, at })
-            }
-            None => {
-                self.rowless = self.rowless.saturating_add(1);
-                Ok(())
-            }
-        }
-    }
-
-    fn keep(&mut self, mark: Kept) -> Result<(), AllocError> {
+        let Some(job) = journal.past.job(news.label.as_str()) else {
+            self.rowless = self.rowless.saturating_add(1);
+            return Ok(());
+        };
         if self.marks.len() >= MOST_MARKS {
             let _oldest = self.marks.pop_front();
             self.dropped = self.dropped.saturating_add(1);
         }
-        Ok(self.marks.push_back(mark)?)
+        let job = job.serial;
+        Ok(self.marks.push_back(Kept { job, kind, at })?)
     }
 }
 
@@ -214,7 +206,7 @@ impl Rows {
 
     // Where the row of the job stands.
     fn place_of(&self, serial: u64) -> Option<usize> {
-        let at = self.places.partition_point(|of| of.0 < serial);
+        let (Ok(at) | Err(at)) = self.places.binary_search(&(serial, 0));
         match self.places.get(at) {
             Some((job, place)) if *job == serial => Some(*place),
             _ => None,

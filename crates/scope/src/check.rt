@@ -3,12 +3,13 @@
 use crate::files::{bytes_of, is_empty_folder, now};
 use crate::telling::Outcome;
 use crate::there::add_missing;
+use crate::words::command::ScopeCommand;
 use crate::zone::zone_of;
 use calendar_due::Zone;
 use exit_status::{BAD_CLOCK, BAD_FILE, REFUSED};
 use history_model::KeyName;
 use job_defs::Def;
-use launchctl_words::{Paths, ZoneWords};
+use launchctl_words::Paths;
 use path_files::{Found, files_at};
 use run_times::Ink;
 use scope_check::{
@@ -16,49 +17,43 @@ use scope_check::{
 };
 use std::alloc::{AllocError, Global};
 
-/// A label, and the file that has it.
-#[derive(Drop)]
-struct Labelled {
-    label: String,
-    path: String,
-}
-
 /// What was found so far.
 #[derive(Drop)]
 struct Findings {
     ink: Ink,
-    labels: Vec<Labelled>,
+    /// The labels so far, each with the file that has it.
+    labels: Vec<(String, String)>,
     has_errors: bool,
     has_warnings: bool,
     is_unread: bool,
 }
 
 /// For each file of the paths a line if all is well with its definition, else a line for each finding. The status is 0 if all would be
-/// read by a load; 1 if one would not, or if one has a warning and `is_strict`; 65 if a file can't be read, or the zone is none. In the
-/// zone the entries of calendars are looked at.
+/// read by a load; 1 if one would not, or if one has a warning and the command is strict; 65 if a file can't be read, or the zone is
+/// none. In the zone the entries of calendars are looked at.
 pub(crate) fn check(
     host: &HostRuntime,
     alloc: Global,
-    is_strict: bool,
-    zone: &ZoneWords,
-    paths: &Paths,
+    of: &ScopeCommand,
 ) -> Result<Outcome, AllocError> {
-    match zone_of(host, alloc, zone)? {
-        Some(zone) => check_in(host, alloc, is_strict, &zone, paths),
-        None => Ok(Outcome::failed(alloc, BAD_FILE)),
-    }
+    let Some(zone) = zone_of(host, alloc, &of.zone)? else {
+        return Ok(Outcome::failed(alloc, BAD_FILE));
+    };
+    let checked = match now(host) {
+        Some(second) => check_in(host, alloc, of, &zone, second),
+        None => Ok(Outcome::failed(alloc, BAD_CLOCK)),
+    };
+    drop(zone);
+    checked
 }
 
 fn check_in(
     host: &HostRuntime,
     alloc: Global,
-    is_strict: bool,
+    of: &ScopeCommand,
     zone: &Zone,
-    paths: &Paths,
+    second: u64,
 ) -> Result<Outcome, AllocError> {
-    let Some(second) = now(host) else {
-        return Ok(Outcome::failed(alloc, BAD_CLOCK));
-    };
     let changes = changes_in_year(alloc, zone, second)?;
     let mut findings = Findings {
         ink: Ink::new(alloc),
@@ -67,16 +62,18 @@ fn check_in(
         has_warnings: false,
         is_unread: false,
     };
-    let checked = check_files(host, alloc, paths, changes.as_slice(), &mut findings);
+    let checked = check_files(host, alloc, &of.words, changes.as_slice(), &mut findings);
     drop(changes);
-    let status = status_of(&findings, is_strict);
+    let status = status_of(&findings, of.is_strict);
     let Findings { ink, labels, .. } = findings;
     drop(labels);
     let text = ink.into_text();
-    checked?;
-    match text {
-        Ok(text) => Ok(Outcome { text, status }),
-        Err(error) => Err(error),
+    match (checked, text) {
+        (Ok(()), Ok(text)) => Ok(Outcome { text, status }),
+        (_, text) => {
+            drop(text);
+            Err(AllocError)
+        }
     }
 }
 
@@ -169,7 +166,7 @@ fn add_double(
     other: &str,
     remarks: &mut Vec<Remark>,
 ) -> Result<(), AllocError> {
-    let place = place_of(alloc, bytes, KeyName::Label, None)?;
+    let place = place_of(alloc, bytes, KeyName::Label)?;
     let text = format!(in alloc;
         "Label: {other} has this label too; only one of them can be loaded"
     )?;
@@ -185,7 +182,7 @@ fn keep_label(
 ) -> Result<(), AllocError> {
     let path = String::from_str(alloc, path)?;
     match String::from_str(alloc, label) {
-        Ok(label) => Ok(findings.labels.push(Labelled { label, path })?),
+        Ok(label) => Ok(findings.labels.push((label, path))?),
         Err(error) => {
             drop(path);
             Err(error)
@@ -193,10 +190,10 @@ fn keep_label(
     }
 }
 
-fn path_with<'a>(labels: &'a [Labelled], label: &str) -> Option<&'a str> {
-    for known in labels {
-        if known.label.as_str() == label {
-            return Some(known.path.as_str());
+fn path_with<'a>(labels: &'a [(String, String)], label: &str) -> Option<&'a str> {
+    for (known, path) in labels {
+        if known.as_str() == label {
+            return Some(path.as_str());
         }
     }
     None

@@ -81,7 +81,16 @@ fn add_line(
     line: &str,
     made: &mut Outcome,
 ) -> Result<(), AllocError> {
-    match definition_in(host, alloc, number, line) {
+    let read = match read_line(alloc, line) {
+        Ok(Line::Nothing) => return Ok(()),
+        Ok(Line::Variable(name)) => {
+            tell_variable(host, number, name);
+            return Ok(());
+        }
+        Ok(Line::Command { when, command }) => definition_of(alloc, number, when, command),
+        Err(fault) => Err(fault),
+    };
+    match read {
         Ok(text) => made.text.push_str(text.as_str()),
         Err(LineFault::NoMemory) => Err(AllocError),
         Err(LineFault::Refused(text)) => {
@@ -90,23 +99,6 @@ fn add_line(
             let _written = eprintln!(host; "cron:{number}: error: {text}");
             Ok(())
         }
-    }
-}
-
-// The definition of the line; an empty text if the line runs no command.
-fn definition_in(
-    host: &HostRuntime,
-    alloc: Global,
-    number: usize,
-    line: &str,
-) -> Result<String, LineFault> {
-    match read_line(alloc, line)? {
-        Line::Nothing => Ok(String::new(alloc)),
-        Line::Variable(name) => {
-            tell_variable(host, number, name);
-            Ok(String::new(alloc))
-        }
-        Line::Command { when, command } => definition_of(alloc, number, &when, command),
     }
 }
 

@@ -2,7 +2,7 @@
 
 use crate::listener::Listener;
 use crate::telling::tell_of;
-use crate::words::command::JournalWords;
+use crate::words::command::ScopeCommand;
 use exit_status::BAD_FILE;
 use journal_reading::{JournalFault, JournalReader};
 use std::alloc::{AllocError, Global};
@@ -83,8 +83,8 @@ fn take_piece(
     }
 }
 
-/// Takes the next piece of the source, and the listener hears each line that is whole now. It says whether there was a piece.
-pub(crate) fn take_lines(
+// Takes the next piece of the source, and the listener hears each line that is whole now. It says whether there was a piece.
+fn take_lines(
     host: &HostRuntime,
     alloc: Global,
     source: &mut Source,
@@ -96,7 +96,9 @@ pub(crate) fn take_lines(
         if !feed.reader.next(alloc)? {
             break;
         }
-        listener.hear(alloc, &feed.reader)?;
+        if let Some(journal) = feed.reader.journal() {
+            listener.hear(alloc, journal, feed.reader.lines == 1)?;
+        }
     }
     Ok(is_there)
 }
@@ -104,7 +106,7 @@ pub(crate) fn take_lines(
 /// The journal's path: that of the words, else that of `JOBD_JOURNAL`. None: it comes on standard input.
 pub(crate) fn journal_path(
     host: &HostRuntime,
-    of: &JournalWords,
+    of: &ScopeCommand,
 ) -> Result<Option<String>, AllocError> {
     if let Some(path) = &of.journal {
         return Ok(Some(String::from_str(host.alloc(), path.as_str())?));
@@ -153,19 +155,24 @@ pub(crate) fn tell_bad(host: &HostRuntime, name: &str, reader: &JournalReader) -
     BAD_FILE
 }
 
-// Reads the source to its end. On a terminal a line of progress stands on standard error meanwhile.
-fn read_source(
+/// Reads the source to its end; what the listener has to show is written. Else a line of progress stands on standard error meanwhile, if
+/// that is a terminal. `Some`: what kept the source from being read.
+pub(crate) fn read_source(
     host: &HostRuntime,
     alloc: Global,
     source: &mut Source,
     feed: &mut Feed,
     listener: &mut Listener<'_>,
-) -> Result<(), JournalFault> {
-    let is_seen = host.stderr().is_terminal();
+) -> io::Result<Option<JournalFault>> {
+    let is_seen = listener.is_quiet() && host.stderr().is_terminal();
     let mut is_told = false;
     for count in 1..u64::MAX {
-        if !take_lines(host, alloc, source, feed, listener)? {
-            break;
+        let taken = take_lines(host, alloc, source, feed, listener);
+        listener.write(host)?;
+        match taken {
+            Ok(true) => {}
+            Ok(false) => break,
+            Err(fault) => return Ok(Some(fault)),
         }
         if is_seen && count % STRIDE == 0 {
             let lines = feed.reader.lines;
@@ -176,29 +183,26 @@ fn read_source(
     if is_told {
         let _written = eprint!(host; "\r\x1b[K");
     }
-    match feed.reader.journal() {
-        Some(_) => Ok(()),
-        None => Err(JournalFault::NoHeader),
-    }
+    Ok(None)
 }
 
-/// Reads the journal that the words name up to its last whole line. `Some`: the exit status, which is 65 if a line is no event; such a
-/// line is told and left out. None: the journal can't be read, and this was told.
+/// Reads the journal of the path up to its last whole line. `Some`: the exit status, which is 65 if a line is no event; such a line is
+/// told and left out. None: the journal can't be read, and this was told.
 pub(crate) fn read_journal(
     host: &HostRuntime,
     alloc: Global,
-    of: &JournalWords,
+    path: &Option<String>,
     feed: &mut Feed,
     listener: &mut Listener<'_>,
 ) -> io::Result<Option<u8>> {
-    let path = journal_path(host, of)?;
-    let name = name_of(&path);
-    match read_path(host, alloc, &path, feed, listener) {
-        Ok(()) => Ok(Some(tell_bad(host, name, &feed.reader))),
-        Err(fault) => match tell_fault(host, name, fault) {
+    let name = name_of(path);
+    match read_path(host, alloc, path, feed, listener) {
+        Ok(None) => Ok(Some(tell_bad(host, name, &feed.reader))),
+        Ok(Some(fault)) => match tell_fault(host, name, fault) {
             Ok(_) => Ok(None),
             Err(error) => Err(error),
         },
+        Err(error) => Err(error),
     }
 }
 
@@ -208,25 +212,26 @@ fn read_path(
     path: &Option<String>,
     feed: &mut Feed,
     listener: &mut Listener<'_>,
-) -> Result<(), JournalFault> {
-    match source_of(host, path) {
-        Ok(mut source) => read_source(host, alloc, &mut source, feed, listener),
-        Err(error) => Err(JournalFault::Read(error)),
+) -> io::Result<Option<JournalFault>> {
+    let mut source = match path {
+        Some(path) => match open_journal(host, path.as_str()) {
+            Ok(file) => Source::File(file),
+            Err(error) => return Ok(Some(JournalFault::Read(error))),
+        },
+        None => Source::Input,
+    };
+    let read = read_source(host, alloc, &mut source, feed, listener);
+    drop(source);
+    match read {
+        Ok(None) if feed.reader.journal().is_none() => Ok(Some(JournalFault::NoHeader)),
+        read => read,
     }
 }
 
-/// How faults name the journal of the path.
-pub(crate) fn name_of(path: &Option<String>) -> &str {
+// How faults name the journal of the path.
+fn name_of(path: &Option<String>) -> &str {
     match path {
         Some(path) => path.as_str(),
         None => INPUT,
-    }
-}
-
-/// What is read: the file of the path, or standard input.
-pub(crate) fn source_of(host: &HostRuntime, path: &Option<String>) -> io::Result<Source> {
-    match path {
-        Some(path) => Ok(Source::File(open_journal(host, path.as_str())?)),
-        None => Ok(Source::Input),
     }
 }

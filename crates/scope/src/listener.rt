@@ -1,10 +1,12 @@
 //! What is made of a journal's lines as they are read.
 
 use crate::charted::Heard;
+use crate::telling::put;
 use calendar_due::Zone;
 use history_model::Text;
-use journal_reading::{Journal, JournalReader, begin_line, log_lines};
+use journal_reading::{Journal, begin_line, log_lines};
 use std::alloc::{AllocError, Global};
+use std::io;
 
 /// Who hears what each line of a journal gave.
 #[derive(Drop)]
@@ -29,16 +31,35 @@ pub(crate) struct Shown<'a> {
 }
 
 impl Listener<'_> {
-    /// Hears what the line gave that was read last.
-    pub(crate) fn hear(&mut self, alloc: Global, reader: &JournalReader) -> Result<(), AllocError> {
-        let Some(journal) = reader.journal() else {
-            return Ok(());
-        };
+    /// Hears what the journal's last line gave.
+    pub(crate) fn hear(
+        &mut self,
+        alloc: Global,
+        journal: &Journal,
+        is_header: bool,
+    ) -> Result<(), AllocError> {
         match self {
             Listener::Nobody => Ok(()),
             Listener::Chart(heard) => heard.hear(journal),
-            Listener::Log(shown) => shown.add_line(alloc, journal, reader.lines == 1),
+            Listener::Log(shown) => shown.add_line(alloc, journal, is_header),
         }
+    }
+
+    /// Whether there is nothing to show as the journal is read.
+    pub(crate) fn is_quiet(&self) -> bool {
+        match self {
+            Listener::Log(_) => false,
+            Listener::Nobody | Listener::Chart(_) => true,
+        }
+    }
+
+    /// Writes the text that is not written yet.
+    pub(crate) fn write(&mut self, host: &HostRuntime) -> io::Result<()> {
+        if let Listener::Log(shown) = self {
+            put(host, shown.text.as_str())?;
+            shown.text.clear();
+        }
+        Ok(())
     }
 }
 

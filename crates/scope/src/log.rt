@@ -1,11 +1,11 @@
 //! A journal's events for people, as they are read or as they come.
 
 use crate::journal::{
-    Feed, Source, journal_path, name_of, open_journal, source_of, take_lines, tell_bad, tell_fault,
+    Feed, Source, journal_path, open_journal, read_journal, read_source, tell_bad, tell_fault,
 };
 use crate::listener::{Listener, Shown};
-use crate::telling::put;
-use crate::words::command::JournalWords;
+use crate::words::command::ScopeCommand;
+use exit_status::BAD_FILE;
 use journal_reading::JournalFault;
 use run_times::utc;
 use std::alloc::Global;
@@ -18,100 +18,37 @@ use std::{io, mem, thread};
 /// So many milliseconds lie between two looks at a file that may grow.
 const PAUSE: u64 = 250;
 
-/// Writes the journal's events, or those from the second `since` on, each in a line. With `follows` it goes on as the journal's file
+/// Writes the journal's events, or those from the command's second on, each in a line. If the command follows, it goes on as the journal's file
 /// grows, and from the beginning if a new launcher has emptied it; only this may wait. 65 if the journal can't be read, or if a line is
 /// no event.
 pub(crate) fn log<W: Wait>(
     host: &HostRuntime,
     waits: &W,
     alloc: Global,
-    follows: bool,
-    since: Option<u64>,
-    of: &JournalWords,
+    of: &ScopeCommand,
 ) -> io::Result<u8> {
     let path = journal_path(host, of)?;
     let mut listener = Listener::Log(Shown {
         is_utc: of.is_utc,
         utc: utc(),
-        since: since.unwrap_or(0),
-        labels: of.labels.as_slice(),
+        since: of.since.unwrap_or(0),
+        labels: of.words.as_slice(),
         text: String::new(alloc),
     });
     let mut feed = Feed::new(alloc);
     let status = match &path {
-        Some(path) if follows => {
+        Some(path) if of.follows => {
             follow(host, waits, alloc, path.as_str(), &mut feed, &mut listener)
         }
-        _ => log_once(host, alloc, &path, &mut feed, &mut listener),
+        _ => match read_journal(host, alloc, &path, &mut feed, &mut listener) {
+            Ok(status) => Ok(status.unwrap_or(BAD_FILE)),
+            Err(error) => Err(error),
+        },
     };
     drop(feed);
     drop(listener);
     drop(path);
     status
-}
-
-fn log_once(
-    host: &HostRuntime,
-    alloc: Global,
-    path: &Option<String>,
-    feed: &mut Feed,
-    listener: &mut Listener<'_>,
-) -> io::Result<u8> {
-    let name = name_of(path);
-    match show_path(host, alloc, path, feed, listener) {
-        Ok(Some(fault)) => tell_fault(host, name, fault),
-        Ok(None) => match feed.reader.journal() {
-            Some(_) => Ok(tell_bad(host, name, &feed.reader)),
-            None => tell_fault(host, name, JournalFault::NoHeader),
-        },
-        Err(error) => Err(error),
-    }
-}
-
-fn show_path(
-    host: &HostRuntime,
-    alloc: Global,
-    path: &Option<String>,
-    feed: &mut Feed,
-    listener: &mut Listener<'_>,
-) -> io::Result<Option<JournalFault>> {
-    match source_of(host, path) {
-        Ok(mut source) => {
-            let shown = show_source(host, alloc, &mut source, feed, listener);
-            drop(source);
-            shown
-        }
-        Err(error) => Ok(Some(JournalFault::Read(error))),
-    }
-}
-
-// Shows what is there of the source, to its end. `Some`: what kept it from being read.
-fn show_source(
-    host: &HostRuntime,
-    alloc: Global,
-    source: &mut Source,
-    feed: &mut Feed,
-    listener: &mut Listener<'_>,
-) -> io::Result<Option<JournalFault>> {
-    for _ in 0..u64::MAX {
-        let taken = take_lines(host, alloc, source, feed, listener);
-        write_text(host, listener)?;
-        match taken {
-            Ok(true) => {}
-            Ok(false) => break,
-            Err(fault) => return Ok(Some(fault)),
-        }
-    }
-    Ok(None)
-}
-
-// Writes the text that is not written yet.
-fn write_text(host: &HostRuntime, listener: &mut Listener<'_>) -> io::Result<()> {
-    if let Listener::Log(shown) = listener {
-        put(host, shown.text.as_str())?;
-        shown.text.clear();
-    }
-    Ok(())
 }
 
 // Shows the journal as it grows. A file that is away for a while, as when a new launcher puts it aside, is waited for.
@@ -148,7 +85,7 @@ fn look(
     match reopened(host, alloc, path, feed) {
         Ok(file) => {
             let mut source = Source::File(file);
-            let shown = show_source(host, alloc, &mut source, feed, listener);
+            let shown = read_source(host, alloc, &mut source, feed, listener);
             drop(source);
             shown
         }

@@ -3,12 +3,13 @@
 use crate::coming::{calendar_after, interval_after};
 use crate::files::{bytes_of, is_empty_folder, now};
 use crate::telling::{Outcome, tell_of};
+use crate::words::command::ScopeCommand;
 use crate::zone::zone_of;
 use calendar_due::Zone;
 use exit_status::{BAD_CLOCK, BAD_FILE};
 use history_model::MAX_WALL;
 use job_defs::{Def, DefFault, read_def};
-use launchctl_words::{Paths, ZoneWords};
+use launchctl_words::Paths;
 use path_files::{Found, files_at};
 use run_times::Piece::{Number, Text};
 use run_times::{Ink, span_text};
@@ -22,48 +23,48 @@ struct Job {
     by_interval: Option<u64>,
 }
 
-/// So many coming starts of the definitions, in the order of time, each after the second `from` of Unix time, or after now. An interval
-/// is counted from there, as if the job were loaded then. 65 if a file can't be read or is no definition, or the zone is none: the
-/// others' starts are written all the same. A job that the clock never starts is told.
+/// How many starts are shown where the words do not say it.
+const COUNT: u64 = 10;
+
+/// As many coming starts of the definitions as the command wants, in the order of time, each after its second, or after now. An
+/// interval is counted from there, as if the job were loaded then. 65 if a file can't be read or is no definition, or the zone is none:
+/// the others' starts are written all the same. A job that the clock never starts is told.
 pub(crate) fn next(
     host: &HostRuntime,
     alloc: Global,
-    count: u64,
-    from: Option<u64>,
-    zone: &ZoneWords,
-    paths: &Paths,
+    of: &ScopeCommand,
 ) -> Result<Outcome, AllocError> {
-    match zone_of(host, alloc, zone)? {
-        Some(zone) => next_in(host, alloc, count, from, &zone, paths),
-        None => Ok(Outcome::failed(alloc, BAD_FILE)),
-    }
+    let Some(zone) = zone_of(host, alloc, &of.zone)? else {
+        return Ok(Outcome::failed(alloc, BAD_FILE));
+    };
+    let from = match of.from {
+        Some(second) => Some(second),
+        None => now(host),
+    };
+    let made = match from {
+        Some(from) => next_in(host, alloc, of, &zone, from.min(MAX_WALL)),
+        None => Ok(Outcome::failed(alloc, BAD_CLOCK)),
+    };
+    drop(zone);
+    made
 }
 
 fn next_in(
     host: &HostRuntime,
     alloc: Global,
-    count: u64,
-    from: Option<u64>,
+    of: &ScopeCommand,
     zone: &Zone,
-    paths: &Paths,
+    from: u64,
 ) -> Result<Outcome, AllocError> {
-    let from = match from {
-        Some(second) => Some(second.min(MAX_WALL)),
-        None => now(host),
-    };
-    let Some(from) = from else {
-        return Ok(Outcome::failed(alloc, BAD_CLOCK));
-    };
     let mut jobs = Vec::new(alloc);
-    let is_well = add_jobs(host, alloc, paths, zone, from, &mut jobs);
-    let text = starts_text(alloc, count, from, zone, &mut jobs);
+    let is_well = add_jobs(host, alloc, &of.words, zone, from, &mut jobs);
+    let text = starts_text(alloc, of.count.unwrap_or(COUNT), from, zone, &mut jobs);
     drop(jobs);
     match (is_well, text) {
-        (Ok(true), Ok(text)) => Ok(Outcome { text, status: 0 }),
-        (Ok(false), Ok(text)) => Ok(Outcome {
-            text,
-            status: BAD_FILE,
-        }),
+        (Ok(is_well), Ok(text)) => {
+            let status = if is_well { 0 } else { BAD_FILE };
+            Ok(Outcome { text, status })
+        }
         (_, text) => {
             drop(text);
             Err(AllocError)
@@ -105,7 +106,10 @@ fn add_job(
     match read_def(alloc, bytes.as_slice()) {
         Ok(def) => {
             let by_calendar = calendar_after(def.calendar(), zone, from);
-            let by_interval = interval_of(&def, from);
+            let by_interval = match def.start_interval() {
+                Some(every) => interval_after(every, from),
+                None => None,
+            };
             if by_calendar.is_none() && by_interval.is_none() {
                 tell_of(host, path, &never_words(&def));
             }
@@ -122,11 +126,6 @@ fn add_job(
             Ok(false)
         }
     }
-}
-
-// The second at which the interval is over that began then.
-fn interval_of(def: &Def, after: u64) -> Option<u64> {
-    interval_after(def.start_interval()?, after)
 }
 
 // Why the clock never starts the job.
@@ -182,29 +181,24 @@ fn second_of(job: &Job) -> u64 {
 // Adds the job's next start, and goes on to the one after.
 fn add_start(alloc: Global, from: u64, zone: &Zone, job: &mut Job, ink: &mut Ink) {
     let second = second_of(job);
-    add_line(alloc, from, zone, job, second, ink);
+    ink.put_moment(alloc, zone, second);
+    ink.put("  ");
+    ink.put(job.def.label());
+    ink.put("  in ");
+    ink.put_made(span_text(alloc, second.saturating_sub(from)));
+    if job.by_interval == Some(second) {
+        let every = job.def.start_interval().unwrap_or(0);
+        ink.put_all(&[
+            Text(" (each "),
+            Number(u64::from(every)),
+            Text(" s from a load at "),
+        ]);
+        ink.put_moment(alloc, zone, from);
+        ink.put(")");
+        job.by_interval = interval_after(every, second);
+    }
+    ink.put("\n");
     if job.by_calendar == Some(second) {
         job.by_calendar = calendar_after(job.def.calendar(), zone, second);
-    }
-    if job.by_interval == Some(second) {
-        job.by_interval = interval_of(&job.def, second);
-    }
-}
-
-fn add_line(alloc: Global, from: u64, zone: &Zone, job: &Job, second: u64, ink: &mut Ink) {
-    ink.put_moment(alloc, zone, second);
-    ink.put_all(&[Text("  "), Text(job.def.label()), Text("  in ")]);
-    ink.put_made(span_text(alloc, second.saturating_sub(from)));
-    match job.def.start_interval() {
-        Some(every) if job.by_interval == Some(second) => {
-            ink.put_all(&[
-                Text(" (each "),
-                Number(u64::from(every)),
-                Text(" s from a load at "),
-            ]);
-            ink.put_moment(alloc, zone, from);
-            ink.put(")\n");
-        }
-        _ => ink.put("\n"),
     }
 }

@@ -6,7 +6,7 @@ use crate::log::log;
 use crate::next::next;
 use crate::report::{Subject, report};
 use crate::telling::{put, put_outcome, tell_end, want_memory};
-use crate::words::command::ScopeCommand;
+use crate::words::command::{ScopeCommand, Task};
 use crate::words::reading::{explain_scope, read_scope_words};
 use exit_status::USAGE;
 use launchctl_words::WordFault;
@@ -20,7 +20,11 @@ use std::sync::Wait;
 /// is told and the status is 141. Both `host` and `waits` are the runtime of `main`: only what takes it as `waits` may wait.
 pub fn jobscope<W: Wait>(host: &HostRuntime, waits: &W, alloc: Global, words: &[String]) -> u8 {
     let ended = match read_scope_words(alloc, words) {
-        Ok(command) => run(host, waits, alloc, command),
+        Ok(command) => {
+            let ended = run(host, waits, alloc, &command);
+            drop(command);
+            ended
+        }
         Err(WordFault::Usage) => explain(host, alloc, words),
         Err(WordFault::NoMemory) => return want_memory(host),
     };
@@ -34,32 +38,17 @@ fn run<W: Wait>(
     host: &HostRuntime,
     waits: &W,
     alloc: Global,
-    command: ScopeCommand,
+    command: &ScopeCommand,
 ) -> io::Result<u8> {
-    match command {
-        ScopeCommand::Check {
-            is_strict,
-            zone,
-            paths,
-        } => put_outcome(host, check(host, alloc, is_strict, &zone, &paths)),
-        ScopeCommand::Next {
-            count,
-            from,
-            zone,
-            paths,
-        } => put_outcome(host, next(host, alloc, count, from, &zone, &paths)),
-        ScopeCommand::Why { of } => report(host, alloc, Subject::Why, &of),
-        ScopeCommand::Log { follows, since, of } => log(host, waits, alloc, follows, since, &of),
-        ScopeCommand::Runs { of } => report(host, alloc, Subject::Runs, &of),
-        ScopeCommand::Picture { is_page, of } => {
-            let wanted = if is_page {
-                Subject::Page
-            } else {
-                Subject::Picture
-            };
-            report(host, alloc, wanted, &of)
-        }
-        ScopeCommand::Cron { lines } => put_outcome(host, cron(host, alloc, &lines)),
+    match command.task {
+        Task::Check => put_outcome(host, check(host, alloc, command)),
+        Task::Next => put_outcome(host, next(host, alloc, command)),
+        Task::Why => report(host, alloc, Subject::Why, command),
+        Task::Log => log(host, waits, alloc, command),
+        Task::Runs => report(host, alloc, Subject::Runs, command),
+        Task::Picture if command.is_page => report(host, alloc, Subject::Page, command),
+        Task::Picture => report(host, alloc, Subject::Picture, command),
+        Task::Cron => put_outcome(host, cron(host, alloc, &command.words)),
     }
 }
 

@@ -1,11 +1,11 @@
 //! What is told of a journal once it was read to its end: why each job stands as it does, what its runs came to, and their picture.
 
 use crate::charted::{Heard, chart_of};
-use crate::journal::{Feed, read_journal};
+use crate::journal::{Feed, journal_path, read_journal};
 use crate::listener::Listener;
 use crate::page::coming_of;
 use crate::telling::{put, put_made, tell_of};
-use crate::words::command::JournalWords;
+use crate::words::command::ScopeCommand;
 use calendar_due::Zone;
 use exit_status::BAD_FILE;
 use history_model::Text;
@@ -37,10 +37,10 @@ pub(crate) fn report(
     host: &HostRuntime,
     alloc: Global,
     wanted: Subject,
-    of: &JournalWords,
+    of: &ScopeCommand,
 ) -> io::Result<u8> {
     let mut feed = Feed::new(alloc);
-    let mut listener = listener_of(alloc, wanted, of.labels.as_slice());
+    let mut listener = listener_of(alloc, wanted, of.words.as_slice());
     let status = report_by(host, alloc, wanted, of, &mut feed, &mut listener);
     drop(listener);
     drop(feed);
@@ -51,11 +51,14 @@ fn report_by(
     host: &HostRuntime,
     alloc: Global,
     wanted: Subject,
-    of: &JournalWords,
+    of: &ScopeCommand,
     feed: &mut Feed,
     listener: &mut Listener<'_>,
 ) -> io::Result<u8> {
-    let Some(status) = read_journal(host, alloc, of, feed, listener)? else {
+    let path = journal_path(host, of)?;
+    let read = read_journal(host, alloc, &path, feed, listener);
+    drop(path);
+    let Some(status) = read? else {
         return Ok(BAD_FILE);
     };
     if let Some(journal) = feed.reader.journal() {
@@ -77,11 +80,11 @@ fn write_report(
     wanted: Subject,
     journal: &Journal,
     listener: &Listener<'_>,
-    of: &JournalWords,
+    of: &ScopeCommand,
 ) -> io::Result<()> {
     let utc = utc();
     let zone = if of.is_utc { &utc } else { &journal.zone };
-    let labels = of.labels.as_slice();
+    let labels = of.words.as_slice();
     let written = match (listener, wanted) {
         (Listener::Chart(heard), _) => {
             tell_absent(host, journal, labels);
@@ -119,7 +122,7 @@ fn paint(
         _ if host.stdout().is_terminal() => {
             put_made(host, blocks_text(alloc, zone, &chart, columns(host)))
         }
-        _ => paint_svg(host, alloc, zone, &chart),
+        _ => put_pieces(host, alloc, zone, &chart, &None),
     };
     drop(chart);
     painted
@@ -130,17 +133,6 @@ fn columns(host: &HostRuntime) -> u16 {
         Ok(text) => text.as_str().parse::<u16>().unwrap_or(COLUMNS),
         Err(_) => COLUMNS,
     }
-}
-
-// A picture is written piece by piece, so that its whole text is never held.
-fn paint_svg(host: &HostRuntime, alloc: Global, zone: &Zone, chart: &Chart) -> io::Result<()> {
-    for index in 0..usize::MAX {
-        match svg_piece(alloc, zone, chart, index)? {
-            Some(piece) => put(host, piece.as_str())?,
-            None => break,
-        }
-    }
-    Ok(())
 }
 
 fn paint_page(
@@ -154,23 +146,28 @@ fn paint_page(
     let table = runs_table(alloc, journal, labels)?;
     let why = why_text(alloc, journal, zone, labels)?;
     let coming = coming_of(alloc, journal, chart)?;
-    let beside = Page {
+    let beside = Some(Page {
         table: table.as_str(),
         why: why.as_str(),
         coming: coming.as_slice(),
-    };
-    put_page(host, alloc, zone, chart, &beside)
+    });
+    put_pieces(host, alloc, zone, chart, &beside)
 }
 
-fn put_page(
+// Writes the page with what stands beside the picture, or the picture alone: piece by piece, so that its whole text is never held.
+fn put_pieces(
     host: &HostRuntime,
     alloc: Global,
     zone: &Zone,
     chart: &Chart,
-    beside: &Page<'_>,
+    beside: &Option<Page<'_>>,
 ) -> io::Result<()> {
     for index in 0..usize::MAX {
-        match page_piece(alloc, zone, chart, beside, index)? {
+        let piece = match beside {
+            Some(page) => page_piece(alloc, zone, chart, page, index),
+            None => svg_piece(alloc, zone, chart, index),
+        };
+        match piece? {
             Some(piece) => put(host, piece.as_str())?,
             None => break,
         }

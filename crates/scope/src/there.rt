@@ -90,7 +90,7 @@ fn add(
         key => (key_name(key), ":"),
     };
     let text = format!(in alloc; "{name}{behind} {told}")?;
-    let place = place_of(alloc, bytes, key, None)?;
+    let place = place_of(alloc, bytes, key)?;
     let grade = Grade::Warning;
     Ok(remarks.push(Remark { place, grade, text })?)
 }

@@ -2,6 +2,5 @@
 
 pub(crate) mod command;
 mod forms;
-mod journal;
 mod numbers;
 pub(crate) mod reading;

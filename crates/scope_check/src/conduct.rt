@@ -4,12 +4,14 @@ use crate::changes::Change;
 use crate::entries::add_entries;
 use crate::finding::Remark;
 use crate::names::add_ignored;
-use crate::place::has_key;
+use crate::place::{Step, place_by};
 use crate::remarks::Remarks;
 use crate::variables::add_variables;
 use history_model::KeyName;
 use job_defs::Def;
 use json_kinds::key_name;
+use run_times::Ink;
+use run_times::Piece::{Number, Text};
 use std::alloc::{AllocError, Global};
 
 /// The remarks on a definition that was read from these bytes: first the keys that nothing acts on, then what it starts, then how.
@@ -74,8 +76,9 @@ fn add_starts(def: &Def, remarks: &mut Remarks<'_>) {
 fn add_slow(remarks: &mut Remarks<'_>) {
     let told =
         "Sockets: the default ThrottleInterval of 10 lets a client wait up to 10 s for the next start; give a smaller one, as 0 or 1";
-    match has_key(remarks.alloc, remarks.text, KeyName::ThrottleInterval) {
-        Ok(has_throttle) => remarks.add_if(!has_throttle, KeyName::Sockets, told),
+    let throttle = [Step::Key(key_name(KeyName::ThrottleInterval))];
+    match place_by(remarks.alloc, remarks.text, &throttle, false) {
+        Ok(place) => remarks.add_if(place.is_none(), KeyName::Sockets, told),
         Err(_) => remarks.refuse(),
     }
 }
@@ -84,10 +87,15 @@ fn add_interval(def: &Def, remarks: &mut Remarks<'_>) {
     let throttle = u64::from(def.throttle_interval());
     let interval = u64::from(def.start_interval().unwrap_or(u32::MAX));
     if interval < throttle {
-        let told = format!(in remarks.alloc;
-            "StartInterval is {interval}, less than ThrottleInterval: starts are {throttle} s apart at least"
-        );
-        remarks.add_made(KeyName::StartInterval, told);
+        let mut ink = Ink::new(remarks.alloc);
+        ink.put_all(&[
+            Text("StartInterval is "),
+            Number(interval),
+            Text(", less than ThrottleInterval: starts are "),
+            Number(throttle),
+            Text(" s apart at least"),
+        ]);
+        remarks.add_made(KeyName::StartInterval, ink.into_text());
     }
 }
 
@@ -135,10 +143,11 @@ fn add_paths(def: &Def, remarks: &mut Remarks<'_>) {
 
 fn add_tilde(key: KeyName, path: &str, remarks: &mut Remarks<'_>) {
     if path.starts_with('~') {
-        let name = key_name(key);
-        let told = format!(in remarks.alloc;
-            "{name}: {path:?} begins with ~, which nothing expands here; write the whole path"
-        );
-        remarks.add_made(key, told);
+        let mut ink = Ink::new(remarks.alloc);
+        ink.put(key_name(key));
+        ink.put(": ");
+        ink.put_made(format!(in remarks.alloc; "{path:?}"));
+        ink.put(" begins with ~, which nothing expands here; write the whole path");
+        remarks.add_made(key, ink.into_text());
     }
 }

@@ -19,15 +19,29 @@ pub(crate) struct Culprit<'a> {
     pub(crate) wanted: Wanted,
 }
 
-const PARTS: [(&str, u64, u64); 5] = [
-    (DAY, 1, 31),
-    (HOUR, 0, 23),
-    (MINUTE, 0, 59),
-    (MONTH, 1, 12),
-    (WEEKDAY, 0, 7),
+/// The keys of an entry of a calendar, and what each is to be.
+const PARTS: &[(&str, Wanted)] = &[
+    (DAY, Wanted::Number { low: 1, high: 31 }),
+    (HOUR, Wanted::Number { low: 0, high: 23 }),
+    (MINUTE, Wanted::Number { low: 0, high: 59 }),
+    (MONTH, Wanted::Number { low: 1, high: 12 }),
+    (WEEKDAY, Wanted::Number { low: 0, high: 7 }),
 ];
 
-const CONDITIONS: [&str; 2] = [CRASHED, SUCCESSFUL_EXIT];
+/// The keys of `KeepAlive`; the first two are right if they fit, so that the fault is in the third.
+const CONDITIONS: &[(&str, Wanted)] = &[
+    (CRASHED, Wanted::Flag),
+    (SUCCESSFUL_EXIT, Wanted::Flag),
+    (
+        PATH_STATE,
+        Wanted::Said("a dictionary of at most 64 paths of 1 to 1024 bytes, each true or false"),
+    ),
+];
+
+const INETD: &[(&str, Wanted)] = &[(
+    WAIT,
+    Wanted::Said("false: each connection has a run of its own"),
+)];
 
 /// The first value at or below the key's value that does not fit, or the key's value itself.
 pub(crate) fn culprit_in(value: &Value, key: KeyName) -> Culprit<'_> {
@@ -44,24 +58,35 @@ pub(crate) fn culprit_in(value: &Value, key: KeyName) -> Culprit<'_> {
     }
     let part = match key {
         KeyName::StartCalendarInterval => in_entries(value),
-        KeyName::KeepAlive => in_conditions(value),
+        KeyName::KeepAlive => in_keys(value, None, CONDITIONS),
         KeyName::EnvironmentVariables => in_variables(value),
         KeyName::Sockets => in_sockets(value),
-        KeyName::InetdCompatibility => in_inetd(value),
+        KeyName::InetdCompatibility => in_keys(value, None, INETD),
         _ => in_members(value, key),
     };
     part.unwrap_or(whole)
 }
 
-// The value of the key inside, which is to be otherwise.
-fn inner<'a>(key: &'a str, value: &'a Value, wanted: Wanted) -> Culprit<'a> {
-    Culprit {
-        index: None,
-        inside: Some(key),
-        below: None,
-        value,
-        wanted,
+// The value of the first of these keys that does not fit, or of which words say what it is to be.
+fn in_keys<'a>(
+    value: &'a Value,
+    index: Option<usize>,
+    keys: &[(&'static str, Wanted)],
+) -> Option<Culprit<'a>> {
+    for (name, wanted) in keys {
+        if let Some(found) = value.get(*name) {
+            if wanted.is_said() || !wanted.fits(found) {
+                return Some(Culprit {
+                    index,
+                    inside: Some(*name),
+                    below: None,
+                    value: found,
+                    wanted: *wanted,
+                });
+            }
+        }
     }
+    None
 }
 
 fn in_members(value: &Value, key: KeyName) -> Option<Culprit<'_>> {
@@ -96,45 +121,16 @@ fn in_entries(value: &Value) -> Option<Culprit<'_>> {
 
 fn in_entry(index: usize, entry: &Value) -> Option<Culprit<'_>> {
     let index = Some(index);
-    if !entry.is_object() {
-        return Some(Culprit {
-            index,
-            inside: None,
-            below: None,
-            value: entry,
-            wanted: Wanted::Said("a dictionary of Minute, Hour, Day, Weekday and Month"),
-        });
+    if entry.is_object() {
+        return in_keys(entry, index, PARTS);
     }
-    for part in PARTS.iter() {
-        let (name, low, high) = *part;
-        if let Some(found) = entry.get(name) {
-            let wanted = Wanted::Number { low, high };
-            if !wanted.fits(found) {
-                return Some(Culprit {
-                    index,
-                    inside: Some(name),
-                    below: None,
-                    value: found,
-                    wanted,
-                });
-            }
-        }
-    }
-    None
-}
-
-fn in_conditions(value: &Value) -> Option<Culprit<'_>> {
-    for name in CONDITIONS.iter() {
-        if let Some(found) = value.get(*name) {
-            if !found.is_boolean() {
-                return Some(inner(*name, found, Wanted::Flag));
-            }
-        }
-    }
-    let wanted = Wanted::Said(
-        "a dictionary of at most 64 paths of 1 to 1024 bytes, each true or false",
-    );
-    Some(inner(PATH_STATE, value.get(PATH_STATE)?, wanted))
+    Some(Culprit {
+        index,
+        inside: None,
+        below: None,
+        value: entry,
+        wanted: Wanted::Said("a dictionary of Minute, Hour, Day, Weekday and Month"),
+    })
 }
 
 fn in_variables(value: &Value) -> Option<Culprit<'_>> {
@@ -146,13 +142,14 @@ fn in_variables(value: &Value) -> Option<Culprit<'_>> {
             let wanted = Wanted::Said(
                 "a name of 1 to 255 bytes without = and a text of at most 4096 bytes, no byte of them 0",
             );
-            return Some(inner(name.as_str(), found, wanted));
+            return Some(Culprit {
+                index: None,
+                inside: Some(name.as_str()),
+                below: None,
+                value: found,
+                wanted,
+            });
         }
     }
     None
-}
-
-fn in_inetd(value: &Value) -> Option<Culprit<'_>> {
-    let wanted = Wanted::Said("false: each connection has a run of its own");
-    Some(inner(WAIT, value.get(WAIT)?, wanted))
 }

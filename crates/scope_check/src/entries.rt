@@ -1,14 +1,15 @@
 //! What may be wrong with the entries of a calendar.
 
 use crate::changes::Change;
-use crate::place::Way;
+use crate::place::Step;
 use crate::remarks::Remarks;
 use calendar_due::Calendar;
 use history_model::{CivilMinute, Entry, KeyName};
+use json_kinds::key_name;
 use run_times::Ink;
 use std::alloc::{AllocError, Global};
 
-const MONTHS: [&str; 12] = [
+const MONTHS: &[&str] = &[
     "January",
     "February",
     "March",
@@ -33,10 +34,11 @@ fn month_name(month: u8) -> &'static str {
 /// Adds the remarks on entries that never match, and on those of an hour that the clock skips at a change, or shows twice.
 pub(crate) fn add_entries(entries: &[Entry], changes: &[Change], remarks: &mut Remarks<'_>) {
     for (index, entry) in entries.iter().enumerate() {
-        let way = Way::to_member(KeyName::StartCalendarInterval, Some(index));
+        let key = key_name(KeyName::StartCalendarInterval);
+        let way = [Step::Key(key), Step::Member(index)];
         match day_that_never_comes(entry) {
-            Some((month, day)) => remarks.add_at(way, told_never(remarks.alloc, month, day)),
-            None if entry.hour.is_some() => add_changed(way, entry, changes, remarks),
+            Some((month, day)) => remarks.add_at(&way, told_never(remarks.alloc, month, day)),
+            None if entry.hour.is_some() => add_changed(&way, entry, changes, remarks),
             None => {}
         }
     }
@@ -60,12 +62,16 @@ fn day_that_never_comes(entry: &Entry) -> Option<(u8, u8)> {
 }
 
 fn told_never(alloc: Global, month: u8, day: u8) -> Result<String, AllocError> {
-    let name = month_name(month);
-    let day = usize::from(day);
-    format!(in alloc; "StartCalendarInterval: {name} has no day {day}, so this entry never matches")
+    let mut ink = Ink::new(alloc);
+    ink.put("StartCalendarInterval: ");
+    ink.put(month_name(month));
+    ink.put(" has no day ");
+    ink.put_number(u64::from(day));
+    ink.put(", so this entry never matches");
+    ink.into_text()
 }
 
-fn add_changed(way: Way<'_>, entry: &Entry, changes: &[Change], remarks: &mut Remarks<'_>) {
+fn add_changed(way: &[Step<'_>], entry: &Entry, changes: &[Change], remarks: &mut Remarks<'_>) {
     for change in changes {
         if let Some(minute) = first_matched(entry, change.minutes.as_slice()) {
             remarks.add_at(way, told_change(remarks.alloc, change.is_skipped, &minute));

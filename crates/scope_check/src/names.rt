@@ -1,17 +1,18 @@
 //! Keys that nothing acts on, and the key that is meant.
 
 use crate::finding::{Grade, Place};
-use crate::place::{Way, place_at, spot_of};
+use crate::place::{Step, place_by};
 use crate::remarks::Remarks;
 use json_kinds::key_name;
 use json_kinds::names::{
     ALL, CRASHED, DAY, FAMILY, HOUR, MINUTE, MONTH, NODE_NAME, PASSIVE, PATH_NAME, PATH_STATE,
     PROTOCOL, SERVICE_NAME, SOCKET_TYPE, SUCCESSFUL_EXIT, WAIT, WEEKDAY,
 };
+use run_times::Ink;
 use std::alloc::{AllocError, Global};
 use strsim::levenshtein;
 
-const INNER: [&str; 16] = [
+const INNER: &[&str] = &[
     CRASHED,
     PATH_STATE,
     SUCCESSFUL_EXIT,
@@ -38,89 +39,79 @@ pub(crate) fn add_ignored(remarks: &mut Remarks<'_>, name: &str) {
 }
 
 fn key_place(alloc: Global, text: &str, name: &str) -> Result<Option<Place>, AllocError> {
-    let whole = Way {
-        key: name,
-        index: None,
-        inside: None,
-        below: None,
-    };
-    let spot = match spot_of(alloc, text, whole)? {
-        Some(spot) => Some(spot),
-        None => spot_of(alloc, text, inner_way(name))?,
-    };
-    match spot {
-        Some(spot) => Ok(Some(place_at(text, spot.key))),
-        None => Ok(None),
+    let place = place_by(alloc, text, &[Step::Key(name)], true)?;
+    if place.is_some() {
+        return Ok(place);
     }
-}
-
-// The way to the key of a dictionary: of a socket's the socket's name stands between.
-fn inner_way(name: &str) -> Way<'_> {
     let (key, rest) = match name.split_once('.') {
         Some((key, rest)) => (key, rest),
         None => (name, ""),
     };
+    let (key, inner, member) = (Step::Key(key), Step::Key(rest), Step::Member(0));
     match rest.rsplit_once('.') {
-        Some((inside, last)) => Way {
-            key,
-            index: Some(0),
-            inside: Some(inside),
-            below: Some((0, last)),
-        },
-        None => Way {
-            key,
-            index: Some(0),
-            inside: Some(rest),
-            below: None,
-        },
+        // Of a socket's key the socket's name stands between.
+        Some((socket, last)) => {
+            let way = [key, member, Step::Key(socket), member, Step::Key(last)];
+            place_by(alloc, text, &way, true)
+        }
+        None => place_by(alloc, text, &[key, member, inner], true),
     }
 }
 
 fn ignored_text(alloc: Global, name: &str) -> Result<String, AllocError> {
-    match nearest_to(alloc, name)? {
-        Some(nearest) if !name.ends_with(nearest) => {
-            format!(in alloc; "{name}: nothing acts on this key; is {nearest} meant?")
-        }
-        _ => format!(in alloc; "{name}: nothing acts on this key"),
+    let nearest = nearest_to(alloc, name)?;
+    let mut ink = Ink::new(alloc);
+    ink.put(name);
+    ink.put(": nothing acts on this key");
+    if !name.ends_with(nearest) {
+        ink.put("; is ");
+        ink.put(nearest);
+        ink.put(" meant?");
     }
+    ink.into_text()
 }
 
-// The key that is nearest to the last part of the name: at most two characters apart, or the same in another case.
-fn nearest_to(alloc: Global, name: &str) -> Result<Option<&'static str>, AllocError> {
+// The key that is nearest to the last part of the name: at most two characters apart, or the same in another case. Empty, if none is.
+fn nearest_to(alloc: Global, name: &str) -> Result<&'static str, AllocError> {
     let last = match name.rsplit_once('.') {
         Some((_, last)) => last,
         None => name,
     };
-    let mut nearest = (3, None);
-    if last.len() > 64 {
-        return Ok(None);
-    }
-    if name.len() == last.len() {
-        for key in ALL.iter() {
-            nearest = nearer(alloc, nearest, last, key_name(*key))?;
-        }
+    let is_inner = last.len() < name.len();
+    let mut nearest = usize::MAX;
+    let mut least = 3;
+    let count = if last.len() > 64 {
+        0
+    } else if is_inner {
+        INNER.len()
     } else {
-        for key in INNER.iter() {
-            nearest = nearer(alloc, nearest, last, *key)?;
+        ALL.len()
+    };
+    for index in 0..count {
+        let key = key_at(is_inner, index);
+        let distance = if last.eq_ignore_ascii_case(key) {
+            0
+        } else {
+            levenshtein(alloc, last, key)?
+        };
+        if distance < least {
+            least = distance;
+            nearest = index;
         }
     }
-    Ok(nearest.1)
+    Ok(key_at(is_inner, nearest))
 }
 
-fn nearer(
-    alloc: Global,
-    so_far: (usize, Option<&'static str>),
-    name: &str,
-    key: &'static str,
-) -> Result<(usize, Option<&'static str>), AllocError> {
-    let distance = if name.eq_ignore_ascii_case(key) {
-        0
-    } else {
-        levenshtein(alloc, name, key)?
-    };
-    Ok(if distance < so_far.0 {
-        (distance, Some(key))
-    } else {
-        so_far
-    })
+// The key with the index, of a dictionary within a definition or of the definition itself; empty if there is none.
+fn key_at(is_inner: bool, index: usize) -> &'static str {
+    if is_inner {
+        return match INNER.get(index) {
+            Some(key) => *key,
+            None => "",
+        };
+    }
+    match ALL.get(index) {
+        Some(key) => key_name(*key),
+        None => "",
+    }
 }

@@ -6,37 +6,38 @@ use json::{Reader, Scratch, Token};
 use json_kinds::key_name;
 use std::alloc::{AllocError, Global};
 
-/// The way to a value: a key of the definition, a member of the array under it, a key inside, and below that a member of an array
-/// and its key.
-#[derive(Clone, Copy, Drop)]
-pub(crate) struct Way<'a> {
-    pub(crate) key: &'a str,
-    pub(crate) index: Option<usize>,
-    pub(crate) inside: Option<&'a str>,
-    pub(crate) below: Option<(usize, &'a str)>,
-}
-
-impl Way<'_> {
-    /// The way to the key's value, or to its member with the index.
-    pub(crate) fn to_member(key: KeyName, index: Option<usize>) -> Way<'static> {
-        Way {
-            key: key_name(key),
-            index,
-            inside: None,
-            below: None,
-        }
-    }
+/// A step of the way to a value, which begins at the whole definition.
+#[derive(Clone, Copy)]
+pub(crate) enum Step<'a> {
+    /// To the value of this key.
+    Key(&'a str),
+    /// To the member with this index; no step, if the value is no array.
+    Member(usize),
 }
 
 /// Where a key begins, and where its value does, in bytes.
-#[derive(Clone, Copy, Drop)]
-pub(crate) struct Spot {
-    pub(crate) key: usize,
-    pub(crate) value: usize,
+#[derive(Clone, Copy)]
+struct Spot {
+    key: usize,
+    value: usize,
 }
 
-// Deeper values are not looked into.
-const DEPTH: usize = 128;
+/// How far a way is gone, token by token.
+#[derive(Drop)]
+struct Walk<'a> {
+    /// The steps that are left.
+    way: &'a [Step<'a>],
+    /// Where the steps led that were gone.
+    found: Option<Spot>,
+    /// How many arrays and objects are open, and how many of them were when the last step was gone.
+    depth: usize,
+    level: usize,
+    /// Where the last key of the level begins, and whether the next step is to its value.
+    key: usize,
+    is_next: bool,
+    /// How many values of the level are passed.
+    passed: usize,
+}
 
 /// The line and the character in it of a byte.
 pub(crate) fn place_at(text: &str, offset: usize) -> Place {
@@ -54,106 +55,116 @@ pub(crate) fn place_at(text: &str, offset: usize) -> Place {
     Place { line, column }
 }
 
-/// Where the value of a key of the definition stands, or its member with the index; for `Program`, if it is absent, that of
-/// `ProgramArguments`. None if the bytes are no object with this key.
-pub fn place_of(
-    alloc: Global,
-    bytes: &[u8],
-    key: KeyName,
-    index: Option<usize>,
-) -> Result<Option<Place>, AllocError> {
+/// Where the value of a key of the definition stands; for `Program`, if it is absent, that of `ProgramArguments`. None if the bytes are
+/// no object with this key.
+pub fn place_of(alloc: Global, bytes: &[u8], key: KeyName) -> Result<Option<Place>, AllocError> {
     let Ok(text) = std::str::from_utf8(bytes) else {
         return Ok(None);
     };
-    let key = match key {
-        KeyName::Program if !has_key(alloc, text, key)? => KeyName::ProgramArguments,
-        key => key,
-    };
-    place_by(alloc, text, Way::to_member(key, index))
+    let place = place_by(alloc, text, &[Step::Key(key_name(key))], false)?;
+    match key {
+        KeyName::Program if place.is_none() => {
+            let instead = key_name(KeyName::ProgramArguments);
+            place_by(alloc, text, &[Step::Key(instead)], false)
+        }
+        _ => Ok(place),
+    }
 }
 
-/// Where the value begins to which the way leads, as far as it can be gone.
+/// Where the value begins to which the way leads, as far as it can be gone; or the value's key, with `is_of_key`. None if the text is
+/// no object or has no such key.
 pub(crate) fn place_by(
     alloc: Global,
     text: &str,
-    way: Way<'_>,
+    way: &[Step<'_>],
+    is_of_key: bool,
 ) -> Result<Option<Place>, AllocError> {
-    match spot_of(alloc, text, way)? {
-        Some(spot) => Ok(Some(place_at(text, spot.value))),
-        None => Ok(None),
-    }
-}
-
-/// Whether the definition has the key.
-pub(crate) fn has_key(alloc: Global, text: &str, key: KeyName) -> Result<bool, AllocError> {
-    Ok(spot_of(alloc, text, Way::to_member(key, None))?.is_some())
-}
-
-/// Where the way leads, as far as it can be gone. None if the text is no object or has no such key.
-pub(crate) fn spot_of(alloc: Global, text: &str, way: Way<'_>) -> Result<Option<Spot>, AllocError> {
+    let mut walk = Walk {
+        way,
+        found: None,
+        depth: 0,
+        level: 1,
+        key: 0,
+        is_next: false,
+        passed: 0,
+    };
     let mut scratch = Scratch::new(alloc);
     let mut reader = Reader::new(text, &mut scratch)?;
-    match reader.next() {
-        Some(Token::BeginObject) => Ok(go(&mut reader, text, way)),
-        _ => Ok(None),
+    for _ in 0..text.len() {
+        let at = begin_at(text, reader.offset());
+        let goes_on = match reader.next() {
+            Some(token) => walk.take(at, token),
+            None => false,
+        };
+        if !goes_on {
+            break;
+        }
     }
-}
-
-fn go(reader: &mut Reader<'_>, text: &str, way: Way<'_>) -> Option<Spot> {
-    let top = find_key(reader, text, way.key)?;
-    let Some(member) = in_array(reader, text, top, way.index) else {
-        return Some(top);
-    };
-    let Some(key) = way.inside else {
-        return Some(member);
-    };
-    let Some(inner) = find_key(reader, text, key) else {
-        return Some(member);
-    };
-    let Some((index, key)) = way.below else {
-        return Some(inner);
-    };
-    let Some(member) = in_array(reader, text, inner, Some(index)) else {
-        return Some(inner);
-    };
-    Some(find_key(reader, text, key).unwrap_or(member))
-}
-
-// The spot of the member with this index, the reader having passed its first token if that opens an object; the value itself if
-// it is no array.
-fn in_array(reader: &mut Reader<'_>, text: &str, top: Spot, index: Option<usize>) -> Option<Spot> {
-    match reader.next()? {
-        Token::BeginArray => {}
-        _ => return Some(top),
-    }
-    for _k in 0..index? {
-        reader.skip_value(DEPTH).ok()?;
-    }
-    let value = begin_at(text, reader.offset());
-    let _first = reader.next()?;
-    Some(Spot {
-        key: top.key,
-        value,
+    Ok(match walk.found {
+        Some(spot) => Some(place_at(text, if is_of_key { spot.key } else { spot.value })),
+        None => None,
     })
 }
 
-// The key of the object that the reader has entered. The reader then stands before its value.
-fn find_key(reader: &mut Reader<'_>, text: &str, wanted: &str) -> Option<Spot> {
-    for _k in 0..text.len() {
-        let key = begin_at(text, reader.offset());
-        let is_found = match reader.next_key() {
-            Ok(Some(found)) => found == wanted,
-            _ => return None,
-        };
-        if is_found {
-            let value = begin_at(text, reader.offset());
-            return Some(Spot { key, value });
+impl Walk<'_> {
+    // Takes the token that begins there, and says whether the way goes on.
+    fn take(&mut self, at: usize, token: Token<'_>) -> bool {
+        let is_here = self.depth == self.level;
+        let mut is_array = false;
+        match token {
+            Token::Bad => return false,
+            Token::EndObject | Token::EndArray => {
+                self.depth = self.depth.saturating_sub(1);
+                return self.level <= self.depth;
+            }
+            Token::Key(name) => {
+                if is_here {
+                    self.key = at;
+                    self.is_next = match self.way.first() {
+                        Some(Step::Key(wanted)) => *wanted == name,
+                        _ => false,
+                    };
+                }
+                return true;
+            }
+            Token::BeginArray => {
+                is_array = true;
+                self.depth = self.depth.saturating_add(1);
+            }
+            Token::BeginObject => self.depth = self.depth.saturating_add(1),
+            Token::String(_) | Token::Number(_) | Token::Bool(_) | Token::Null => {}
         }
-        if reader.skip_value(DEPTH).is_err() {
-            return None;
+        if is_here {
+            self.pass(at, is_array)
+        } else {
+            true
         }
     }
-    None
+
+    // Passes the value of the level that begins there, to which the next step may be, and says whether the way goes on.
+    fn pass(&mut self, at: usize, is_array: bool) -> bool {
+        let is_found = match self.way.first() {
+            Some(Step::Member(index)) => self.passed == *index,
+            _ => self.is_next,
+        };
+        self.passed = self.passed.saturating_add(1);
+        if !is_found {
+            return true;
+        }
+        self.found = Some(Spot {
+            key: self.key,
+            value: at,
+        });
+        self.level = self.depth;
+        self.is_next = false;
+        self.passed = 0;
+        let gone = match self.way.get(1) {
+            Some(Step::Member(_)) if !is_array => 2,
+            _ => 1,
+        };
+        self.way = self.way.get(gone..).unwrap_or(&[]);
+        !self.way.is_empty()
+    }
 }
 
 /// The first byte from there on that is no blank and stands between no values.

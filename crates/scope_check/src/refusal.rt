@@ -3,7 +3,7 @@
 use crate::broken::broken_in;
 use crate::culprit::{Culprit, culprit_in};
 use crate::finding::Place;
-use crate::place::{Way, begin_at, place_at, place_by, place_of};
+use crate::place::{Step, begin_at, place_at, place_by};
 use crate::wanted::Wanted;
 use history_model::{KeyName, Reason};
 use json_kinds::{json_value, key_name};
@@ -38,100 +38,87 @@ fn refusal_of(
     let Ok(text) = std::str::from_utf8(bytes) else {
         return Ok((None, String::new(alloc)));
     };
-    match value.get(key_name(key)) {
-        Some(found) => refusal_at(alloc, text, found, reason, key),
-        None => {
-            let told = without_value(alloc, reason, key)?;
-            Ok((Some(place_at(text, begin_at(text, 0))), told))
-        }
-    }
-}
-
-// The refusal of a key that does not stand.
-fn without_value(alloc: Global, reason: Reason, key: KeyName) -> Result<String, AllocError> {
     let name = key_name(key);
-    match (reason, key) {
-        (Reason::NotObject, _) => String::from_str(
-            alloc,
-            "the text is no object: a definition stands between { and }",
-        ),
-        (_, KeyName::ProgramArguments) => String::from_str(
-            alloc,
-            "ProgramArguments is missing: a definition has Program or ProgramArguments",
-        ),
-        (_, KeyName::InetdCompatibility) => format!(in alloc;
-            "{name} is missing: beside Sockets it has to be {{\"Wait\": false}}"
-        ),
-        _ => format!(in alloc; "{name} is missing: each definition has one"),
+    let mut ink = Ink::new(alloc);
+    let place = match value.get(name) {
+        Some(found) => {
+            let culprit = culprit_in(found, key);
+            let words = words_of(reason, key);
+            ink.put(name);
+            if words.is_empty() {
+                add_culprit(alloc, &mut ink, &culprit);
+            } else {
+                ink.put(words);
+            }
+            place_in(alloc, text, name, &culprit)?
+        }
+        None => {
+            match reason {
+                Reason::NotObject => {
+                    ink.put("the text is no object: a definition stands between { and }");
+                }
+                _ => ink.put_all(&[Text(name), Text(" is missing: "), Text(missing_words(key))]),
+            }
+            Some(place_at(text, begin_at(text, 0)))
+        }
+    };
+    Ok((place, ink.into_text()?))
+}
+
+// What is said of a key that is missing.
+fn missing_words(key: KeyName) -> &'static str {
+    match key {
+        KeyName::ProgramArguments => "a definition has Program or ProgramArguments",
+        KeyName::InetdCompatibility => "beside Sockets it has to be {\"Wait\": false}",
+        _ => "each definition has one",
     }
 }
 
-fn refusal_at(
+// What is said of the key whatever its value is; nothing, if the value decides.
+fn words_of(reason: Reason, key: KeyName) -> &'static str {
+    match (reason, key) {
+        (Reason::Unsupported, KeyName::UserName) =>
+            ": each job runs as the launcher's own user; leave the key out, and load the job into a jobd that this user runs",
+        (Reason::Unsupported, KeyName::GroupName) =>
+            ": each job runs in the launcher's own group; leave the key out, and load the job into a jobd that runs in this group",
+        (Reason::Unsupported, KeyName::RootDirectory) =>
+            ": no job is put into another root; leave the key out, and run chroot as the program",
+        (Reason::Missing, KeyName::ProgramArguments) =>
+            " is empty: its first member is the program",
+        _ => "",
+    }
+}
+
+// The place of the value that has the fault: the key's, a member of the array, or what stands in that or in the value itself.
+fn place_in<'a>(
     alloc: Global,
     text: &str,
-    found: &Value,
-    reason: Reason,
-    key: KeyName,
-) -> Result<(Option<Place>, String), AllocError> {
-    let culprit = culprit_in(found, key);
-    let place = if culprit.inside.is_none() {
-        place_of(alloc, text.as_bytes(), key, culprit.index)?
-    } else {
-        // In the member of the array, or in the value itself.
-        let way = Way {
-            key: key_name(key),
-            index: Some(culprit.index.unwrap_or(0)),
-            inside: culprit.inside,
-            below: culprit.below,
-        };
-        place_by(alloc, text, way)?
+    name: &'a str,
+    culprit: &Culprit<'a>,
+) -> Result<Option<Place>, AllocError> {
+    let (below, last) = culprit.below.unwrap_or((0, ""));
+    let way = [
+        Step::Key(name),
+        Step::Member(culprit.index.unwrap_or(0)),
+        Step::Key(culprit.inside.unwrap_or("")),
+        Step::Member(below),
+        Step::Key(last),
+    ];
+    let count = match (culprit.index, culprit.inside, culprit.below) {
+        (None, None, _) => 1,
+        (_, None, _) => 2,
+        (_, _, None) => 3,
+        _ => 5,
     };
-    let told = told_of(alloc, &culprit, reason, key)?;
-    Ok((place, told))
+    place_by(alloc, text, way.get(..count).unwrap_or(&way), false)
 }
 
-fn told_of(
-    alloc: Global,
-    culprit: &Culprit<'_>,
-    reason: Reason,
-    key: KeyName,
-) -> Result<String, AllocError> {
-    let name = key_name(key);
-    match (reason, key) {
-        (Reason::Unsupported, KeyName::UserName) => format!(in alloc;
-            "{name}: each job runs as the launcher's own user; leave the key out, and load the job into a jobd that this user runs"
-        ),
-        (Reason::Unsupported, KeyName::GroupName) => format!(in alloc;
-            "{name}: each job runs in the launcher's own group; leave the key out, and load the job into a jobd that runs in this group"
-        ),
-        (Reason::Unsupported, KeyName::RootDirectory) => format!(in alloc;
-            "{name}: no job is put into another root; leave the key out, and run chroot as the program"
-        ),
-        (Reason::Missing, KeyName::ProgramArguments) => format!(in alloc;
-            "{name} is empty: its first member is the program"
-        ),
-        _ => told_wanted(alloc, culprit, name),
-    }
-}
-
-// Where the value stands, what it is, and what is wanted.
-fn told_wanted(alloc: Global, culprit: &Culprit<'_>, name: &str) -> Result<String, AllocError> {
-    let mut ink = Ink::new(alloc);
-    ink.put(name);
-    add_way(&mut ink, culprit);
-    ink.put(" is ");
-    add_shown(alloc, &mut ink, culprit.value);
-    ink.put(", wanted ");
-    add_wanted(&mut ink, culprit.wanted, culprit.value);
-    ink.into_text()
-}
-
-fn add_way(ink: &mut Ink, culprit: &Culprit<'_>) {
+// Adds where the value stands, what it is, and what is wanted.
+fn add_culprit(alloc: Global, ink: &mut Ink, culprit: &Culprit<'_>) {
     match (culprit.inside, culprit.index) {
         (Some(inside), _) => {
             ink.put(": ");
             ink.put(inside);
-            add_below(ink, culprit);
         }
         (None, Some(index)) => {
             ink.put(": member ");
@@ -139,9 +126,6 @@ fn add_way(ink: &mut Ink, culprit: &Culprit<'_>) {
         }
         (None, None) => {}
     }
-}
-
-fn add_below(ink: &mut Ink, culprit: &Culprit<'_>) {
     match culprit.below {
         Some((_, below)) if !below.is_empty() => {
             ink.put(": ");
@@ -149,6 +133,10 @@ fn add_below(ink: &mut Ink, culprit: &Culprit<'_>) {
         }
         _ => {}
     }
+    ink.put(" is ");
+    add_shown(alloc, ink, culprit.value);
+    ink.put(", wanted ");
+    add_wanted(ink, culprit.wanted, culprit.value);
 }
 
 // The longest text that is shown itself, in bytes.
@@ -156,29 +144,16 @@ const SHOWN: usize = 40;
 
 // Adds what a value is: a number, a word or a short text itself, of others the kind and the size.
 fn add_shown(alloc: Global, ink: &mut Ink, value: &Value) {
-    match (value.as_str(), value.as_array(), value.as_object()) {
-        (Some(text), _, _) => add_shown_text(alloc, ink, text),
-        (_, Some(items), _) => {
-            ink.put("an array of ");
-            ink.put_number(items.len() as u64);
-        }
-        (_, _, Some(members)) => {
-            ink.put("a dictionary of ");
-            ink.put_number(members.len() as u64);
-        }
-        _ => ink.put_made(value.to_string(alloc)),
-    }
-}
-
-fn add_shown_text(alloc: Global, ink: &mut Ink, text: &str) {
-    let count = text.len();
-    if count == 0 {
-        ink.put("an empty text");
-    } else if count <= SHOWN {
-        ink.put_made(format!(in alloc; "{text:?}"));
-    } else {
-        ink.put_all(&[Text("a text of "), Number(count as u64), Text(" bytes")]);
-    }
+    let (front, count, behind) = match (value.as_str(), value.as_array(), value.as_object()) {
+        (Some(text), _, _) if text.len() > SHOWN => ("a text of ", text.len(), " bytes"),
+        (Some(text), _, _) if text.is_empty() => return ink.put("an empty text"),
+        (_, Some(items), _) => ("an array of ", items.len(), ""),
+        (_, _, Some(members)) => ("a dictionary of ", members.len(), ""),
+        // A short text is written so as Rust writes it.
+        (Some(text), _, _) => return ink.put_made(format!(in alloc; "{text:?}")),
+        _ => return ink.put_made(value.to_string(alloc)),
+    };
+    ink.put_all(&[Text(front), Number(count as u64), Text(behind)]);
 }
 
 fn add_wanted(ink: &mut Ink, wanted: Wanted, value: &Value) {

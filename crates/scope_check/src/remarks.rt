@@ -1,7 +1,7 @@
 //! The remarks on a text, gathered.
 
 use crate::finding::{Grade, Place, Remark};
-use crate::place::{Way, place_by, place_of};
+use crate::place::{Step, place_by, place_of};
 use history_model::KeyName;
 use std::alloc::{AllocError, Global};
 
@@ -25,21 +25,16 @@ impl<'a> Remarks<'a> {
         }
     }
 
-    /// Adds a remark on the key.
-    pub(crate) fn add(&mut self, key: KeyName, told: &str) {
-        self.add_made(key, String::from_str(self.alloc, told));
-    }
-
     /// Adds a remark on the key, if it holds.
     pub(crate) fn add_if(&mut self, holds: bool, key: KeyName, told: &str) {
         if holds {
-            self.add(key, told);
+            self.add_made(key, String::from_str(self.alloc, told));
         }
     }
 
     /// Adds a remark on the key, for whose text memory may have been refused.
     pub(crate) fn add_made(&mut self, key: KeyName, told: Result<String, AllocError>) {
-        let place = place_of(self.alloc, self.text.as_bytes(), key, None);
+        let place = place_of(self.alloc, self.text.as_bytes(), key);
         let grade = match key {
             KeyName::DisabledKey => Grade::Note,
             _ => Grade::Warning,
@@ -48,8 +43,8 @@ impl<'a> Remarks<'a> {
     }
 
     /// Adds a warning at the value to which the way leads, for whose text memory may have been refused.
-    pub(crate) fn add_at(&mut self, way: Way<'_>, told: Result<String, AllocError>) {
-        let place = place_by(self.alloc, self.text, way);
+    pub(crate) fn add_at(&mut self, way: &[Step<'_>], told: Result<String, AllocError>) {
+        let place = place_by(self.alloc, self.text, way, false);
         self.push(place, Grade::Warning, told);
     }
 

@@ -21,7 +21,7 @@ enum Fit {
 }
 
 /// The keys of a socket in the order in which they are checked, what fits there, and that in words.
-const KEYS: [(&str, Fit, &str); 8] = [
+const KEYS: &[(&str, Fit, &str)] = &[
     (
         SECURE_KEY,
         Fit::Nothing,
@@ -82,21 +82,16 @@ fn in_socket(socket: &Value) -> Option<(&'static str, &Value, &'static str)> {
     if !socket.is_object() {
         return Some(("", socket, "a dictionary"));
     }
-    for (key, fit, wanted) in KEYS.iter() {
+    for (key, fit, wanted) in KEYS {
         match socket.get(*key) {
             Some(found) if !is_well(*fit, found) => return Some((*key, found, *wanted)),
             _ => {}
         }
     }
-    if has_place(socket) {
-        return None;
+    match (socket.get(PATH_NAME), socket.get(SERVICE_NAME)) {
+        (None, None) => Some(("", socket, "one with SockPathName or SockServiceName")),
+        _ => None,
     }
-    Some(("", socket, "one with SockPathName or SockServiceName"))
-}
-
-fn has_place(socket: &Value) -> bool {
-    let has_path = socket.get(PATH_NAME).is_some();
-    has_path || socket.get(SERVICE_NAME).is_some()
 }
 
 fn is_well(fit: Fit, found: &Value) -> bool {

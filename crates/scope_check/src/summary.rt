@@ -11,7 +11,9 @@ pub fn summary_of(alloc: Global, def: &Def) -> Result<String, AllocError> {
     let mut ink = Ink::new(alloc);
     ink.put(def.label());
     ink.put(": ok");
-    ink.put(load_text(def));
+    if def.run_at_load() || def.keep_alive() || def.successful_exit().is_some() {
+        ink.put(", starts at load");
+    }
     ink.put(keep_text(def));
     add_clocks(def, &mut ink);
     add_count(", watches ", def.watch_paths().len(), " path", &mut ink);
@@ -22,16 +24,10 @@ pub fn summary_of(alloc: Global, def: &Def) -> Result<String, AllocError> {
         &mut ink,
     );
     add_count(", listens at ", def.sockets().len(), " socket", &mut ink);
-    ink.put(limit_text(def));
-    ink.into_text()
-}
-
-fn load_text(def: &Def) -> &'static str {
-    if def.run_at_load() || def.keep_alive() || def.successful_exit().is_some() {
-        ", starts at load"
-    } else {
-        ""
+    if def.launch_only_once() {
+        ink.put(", once in each load");
     }
+    ink.into_text()
 }
 
 fn keep_text(def: &Def) -> &'static str {
@@ -43,14 +39,6 @@ fn keep_text(def: &Def) -> &'static str {
         ", kept alive on a condition"
     } else {
         ", kept alive on any of its conditions"
-    }
-}
-
-fn limit_text(def: &Def) -> &'static str {
-    if def.launch_only_once() {
-        ", once in each load"
-    } else {
-        ""
     }
 }
 

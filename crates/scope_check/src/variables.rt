@@ -1,9 +1,10 @@
 //! Variables that are not set.
 
-use crate::place::Way;
+use crate::place::Step;
 use crate::remarks::Remarks;
 use history_model::KeyName;
 use json_kinds::{json_value, key_name};
+use run_times::Ink;
 use serde_json::Value;
 
 /// Adds the remarks on variables of the environment whose values are no texts: they are left out.
@@ -33,14 +34,11 @@ fn add_from(value: &Value, remarks: &mut Remarks<'_>) {
 }
 
 fn add_unset(name: &str, remarks: &mut Remarks<'_>) {
-    let way = Way {
-        key: key_name(KeyName::EnvironmentVariables),
-        index: Some(0),
-        inside: Some(name),
-        below: None,
-    };
-    let told = format!(in remarks.alloc;
-        "EnvironmentVariables: the value of {name} is no text, so it is not set"
-    );
-    remarks.add_at(way, told);
+    let key = key_name(KeyName::EnvironmentVariables);
+    let mut ink = Ink::new(remarks.alloc);
+    ink.put(key);
+    ink.put(": the value of ");
+    ink.put(name);
+    ink.put(" is no text, so it is not set");
+    remarks.add_at(&[Step::Key(key), Step::Key(name)], ink.into_text());
 }

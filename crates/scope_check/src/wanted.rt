@@ -17,6 +17,14 @@ pub(crate) enum Wanted {
 }
 
 impl Wanted {
+    /// Whether words say what the value is to be.
+    pub(crate) fn is_said(&self) -> bool {
+        match self {
+            Wanted::Said(_) => true,
+            _ => false,
+        }
+    }
+
     /// Whether the value is so, as far as this can tell.
     pub(crate) fn fits(&self, value: &Value) -> bool {
         match self {

@@ -1,15 +1,16 @@
 -- The entries of a line match what the line matches.
-use Rattle.std.proofs.Common.{◌≡◌, ℕ, Bool, true, false, not, ◌||◌, ◌&&◌, ◌==◌, List, [], ◌∷◌, map, Option, Some, None, refl, sym, ap, ◌∙◌, if◌then◌else◌}
+use Rattle.std.proofs.Common.{◌≡◌, ℕ, Bool, true, false, not, ◌||◌, ◌&&◌, ◌==◌, List, [], ◌∷◌, ◌++◌, map, Option, Some, None, refl, sym, ap, ◌∙◌, if◌then◌else◌}
 use Rattle.std.specs.List.{list_any, flat_map}
 use Rattle.std.proofs.lemmas.List.Folds.{list_any-append}
 use Rattle.history_model.specs.declared.Entry.{Entry}
 use Rattle.history_model.specs.declared.CivilMinute.{CivilMinute}
 use Rattle.history_model.specs.Calendar.{matches, allows, is_weekday, allows_day}
 use Rattle.scope_cron.specs.Fields.{has, has_weekday, suits_day}
-use Rattle.scope_cron.specs.Entries.{choices, by_day, by_weekday, by_days, by_weekdays, days_of, entry_at, of_days, of_months, of_hours, entries_of, is_both, AreOf}
+use Rattle.scope_cron.specs.Entries.{choices, by_day, by_weekday, by_days, by_weekdays, days_of, entry_at, of_days, of_months, of_hours, entries_of, is_both, with, times, AreOf}
 use Rattle.scope_cron.specs.declared.fields.Field.{Field}
 use Rattle.scope_cron.specs.declared.fields.Fields.{Fields}
-use Rattle.scope_cron.specs.declared.entries.Days.{Days}
+use Rattle.scope_cron.specs.declared.entries.Part.{Part}
+use Rattle.scope_cron.specs.declared.entries.Part.TheVariants.{Minute, Hour, Day, Month, Weekday}
 
 -- ---- searches
 
@@ -71,7 +72,7 @@ chosen-weekday field n = go field.is_every refl where
   go true e = rw e refl
   go false e = rw e (any-of-map (λ choice. is_weekday choice n) (λ value. Some value) field.values.items)
 
-abbrev suits : CivilMinute → Days → Bool
+abbrev suits : CivilMinute → Entry → Bool
 suits at days = allows_day days.day days.weekday at
 
 and-true : (a : Bool) → (a && true) ≡ a
@@ -127,13 +128,13 @@ module _ (fields : Fields) (at : CivilMinute) where
   abbrev any : List Entry → Bool
   any entries = list_any (λ entry. matches entry at) entries
 
-  in-days : (minute hour month : Option ℕ) (days : List Days)
+  in-days : (minute hour month : Option ℕ) (days : List Entry)
       → any (of_days minute hour month days) ≡ (allows minute at.minute && allows hour at.hour && allows month at.month && list_any (suits at) days)
   in-days minute hour month days =
       any-of-map (λ entry. matches entry at) (entry_at minute hour month) days
       ∙ any-left (allows minute at.minute && allows hour at.hour && allows month at.month) (suits at) days
 
-  in-months : (minute hour : Option ℕ) (months : List (Option ℕ)) (days : List Days)
+  in-months : (minute hour : Option ℕ) (months : List (Option ℕ)) (days : List Entry)
       → any (of_months minute hour months days)
       ≡ (allows minute at.minute && allows hour at.hour && list_any (λ month. allows month at.month) months && list_any (suits at) days)
   in-months minute hour months days =
@@ -144,7 +145,7 @@ module _ (fields : Fields) (at : CivilMinute) where
       ∙ any-right last (λ month. both && allows month at.month) months
       ∙ ap (λ b. b && last) (any-left both (λ month. allows month at.month) months)
 
-  in-hours : (minute : Option ℕ) (hours months : List (Option ℕ)) (days : List Days)
+  in-hours : (minute : Option ℕ) (hours months : List (Option ℕ)) (days : List Entry)
       → any (of_hours minute hours months days)
       ≡ (allows minute at.minute && list_any (λ hour. allows hour at.hour) hours && list_any (λ month. allows month at.month) months && list_any (suits at) days)
   in-hours minute hours months days =
@@ -157,7 +158,7 @@ module _ (fields : Fields) (at : CivilMinute) where
       ∙ ap (λ b. b && last) (any-right month (λ hour. first && allows hour at.hour) hours)
       ∙ ap (λ b. b && month && last) (any-left first (λ hour. allows hour at.hour) hours)
 
-  in-minutes : (minutes hours months : List (Option ℕ)) (days : List Days)
+  in-minutes : (minutes hours months : List (Option ℕ)) (days : List Entry)
       → any (flat_map (λ minute. of_hours minute hours months days) minutes)
       ≡ (list_any (λ minute. allows minute at.minute) minutes && list_any (λ hour. allows hour at.hour) hours
       && list_any (λ month. allows month at.month) months && list_any (suits at) days)
@@ -183,3 +184,54 @@ exact fields entries single are at =
     (chosen fields.hours at.hour)
     ∙ ap (λ b. has fields.minutes at.minute && has fields.hours at.hour && b && list_any (suits at) (days_of fields)) (chosen fields.months at.month)
     ∙ ap (λ b. has fields.minutes at.minute && has fields.hours at.hour && has fields.months at.month && b) (any-by-days at fields single)
+
+-- ---- the entries, part by part
+
+map-append : {A B : Type 0} (f : A → B) (xs ys : List A) → map f (xs ++ ys) ≡ map f xs ++ map f ys
+map-append f [] ys = refl
+map-append f (x ∷ xs) ys = ap (λ zs. f x ∷ zs) (map-append f xs ys)
+
+map-map : {A B C : Type 0} (f : B → C) (g : A → B) (xs : List A) → map f (map g xs) ≡ map (λ x. f (g x)) xs
+map-map f g [] = refl
+map-map f g (x ∷ xs) = ap (λ zs. f (g x) ∷ zs) (map-map f g xs)
+
+flat-same : {A B : Type 0} (f g : A → List B) (xs : List A) → ((x : A) → f x ≡ g x) → flat_map f xs ≡ flat_map g xs
+flat-same f g [] same = refl
+flat-same f g (x ∷ xs) same = ap (λ ys. ys ++ flat_map f xs) (same x) ∙ ap (λ ys. g x ++ ys) (flat-same f g xs same)
+
+map-flat : {A B C : Type 0} (f : B → C) (g : A → List B) (xs : List A) → map f (flat_map g xs) ≡ flat_map (λ x. map f (g x)) xs
+map-flat f g [] = refl
+map-flat f g (x ∷ xs) = map-append f (g x) (flat_map g xs) ∙ ap (λ ys. map f (g x) ++ ys) (map-flat f g xs)
+
+map-times : (f : Entry → Entry) (part : Part) (choices : List (Option ℕ)) (entries : List Entry)
+    → map f (times part choices entries) ≡ flat_map (λ choice. map (λ entry. f (with part choice entry)) entries) choices
+map-times f part choices entries =
+    map-flat f (λ choice. map (with part choice) entries) choices
+    ∙ flat-same (λ choice. map f (map (with part choice) entries)) (λ choice. map (λ entry. f (with part choice entry)) entries) choices
+    (λ choice. map-map f (with part choice) entries)
+
+of-times : (minute : Option ℕ) (hours months : List (Option ℕ)) (days : List Entry)
+    → map (with Minute minute) (times Hour hours (times Month months days)) ≡ of_hours minute hours months days
+of-times minute hours months days =
+    map-times (with Minute minute) Hour hours (times Month months days)
+    ∙ flat-same (λ hour. map (λ entry. with Minute minute (with Hour hour entry)) (times Month months days)) (λ hour. of_months minute hour months days) hours
+    (λ hour. map-times (λ entry. with Minute minute (with Hour hour entry)) Month months days)
+
+-- each choice of the minutes, the hours, the months and the days makes the line's entries
+pub all-times : (fields : Fields)
+    → times Minute (choices fields.minutes) (times Hour (choices fields.hours) (times Month (choices fields.months) (days_of fields))) ≡ entries_of fields
+all-times fields =
+    flat-same (λ minute. map (with Minute minute) (times Hour (choices fields.hours) (times Month (choices fields.months) (days_of fields))))
+    (λ minute. of_hours minute (choices fields.hours) (choices fields.months) (days_of fields)) (choices fields.minutes)
+    (λ minute. of-times minute (choices fields.hours) (choices fields.months) (days_of fields))
+
+single : {A B : Type 0} (f : A → B) (xs : List A) → flat_map (λ x. f x ∷ []) xs ≡ map f xs
+single f [] = refl
+single f (x ∷ xs) = ap (λ ys. f x ∷ ys) (single f xs)
+
+-- a blank entry with each choice of a day, or of a weekday
+pub days-alone : (choices : List (Option ℕ)) → times Day choices (by_day None ∷ []) ≡ map by_day choices
+days-alone choices = single by_day choices
+
+pub weekdays-alone : (choices : List (Option ℕ)) → times Weekday choices (by_day None ∷ []) ≡ map by_weekday choices
+weekdays-alone choices = single by_weekday choices

@@ -16,33 +16,23 @@ const LONGEST_NAME: usize = 64;
 pub fn definition_of(
     alloc: Global,
     number: usize,
-    when: &When,
+    when: When,
     command: &str,
 ) -> Result<String, LineFault> {
-    let start = start_of(alloc, when)?;
-    let made = definition_text(alloc, number, command, start.as_str());
-    drop(start);
-    match made {
-        Ok(text) => Ok(text),
-        Err(_) => Err(LineFault::NoMemory),
-    }
-}
-
-fn definition_text(
-    alloc: Global,
-    number: usize,
-    command: &str,
-    start: &str,
-) -> Result<String, AllocError> {
+    let start = start_of(alloc, &when);
+    drop(when);
+    let start = start?;
     let mut ink = Ink::new(alloc);
-    ink.put("{\"Label\": ");
-    put_quoted(alloc, &mut ink, label_of(alloc, number, command));
-    ink.put(", \"ProgramArguments\": [\"/bin/sh\", \"-c\", ");
-    put_quoted(alloc, &mut ink, without_escapes(alloc, command));
+    ink.put("{\"Label\": \"cron.");
+    ink.put_number(number as u64);
+    ink.put_made(name_in(alloc, command));
+    ink.put("\", \"ProgramArguments\": [\"/bin/sh\", \"-c\", ");
+    // A `%` stands for each `\%`.
+    put_quoted(alloc, &mut ink, command.replace(alloc, "\\%", "%"));
     ink.put("], ");
-    ink.put(start);
+    ink.put_made(Ok(start));
     ink.put("}\n");
-    ink.into_text()
+    Ok(ink.into_text()?)
 }
 
 fn put_quoted(alloc: Global, ink: &mut Ink, text: Result<String, AllocError>) {
@@ -56,47 +46,27 @@ fn put_quoted(alloc: Global, ink: &mut Ink, text: Result<String, AllocError>) {
     }
 }
 
-fn label_of(alloc: Global, number: usize, command: &str) -> Result<String, AllocError> {
-    let name = name_in(alloc, command)?;
-    let between = if name.is_empty() { "" } else { "." };
-    let mut ink = Ink::new(alloc);
-    ink.put("cron.");
-    ink.put_number(number as u64);
-    ink.put(between);
-    ink.put_made(Ok(name));
-    ink.into_text()
-}
-
-// The name of the program that the command begins with: what stands behind the last `/` of its first word, without letters that are no
-// part of a plain name.
+// A dot and the name of the program that the command begins with: what stands behind the last `/` of its first word, without letters
+// that are no part of a plain name. Nothing, if no letter is left.
 fn name_in(alloc: Global, command: &str) -> Result<String, AllocError> {
     let mut name = String::new(alloc);
     for letter in command.chars() {
-        if name.len() >= LONGEST_NAME {
-            return Ok(name);
-        }
         match letter {
-            ' ' | '\t' => return Ok(name),
             '/' => name.clear(),
-            '0'..='9' | 'A'..='Z' | 'a'..='z' | '.' | '_' | '-' => name.push(letter)?,
+            '0'..='9' | 'A'..='Z' | 'a'..='z' | '.' | '_' | '-' => {
+                if name.is_empty() {
+                    name.push('.')?;
+                }
+                name.push(letter)?;
+            }
+            ' ' | '\t' => break,
             _ => {}
+        }
+        if name.len() > LONGEST_NAME {
+            break;
         }
     }
     Ok(name)
-}
-
-// The command with `%` for each `\%`.
-fn without_escapes(alloc: Global, command: &str) -> Result<String, AllocError> {
-    let mut ink = Ink::new(alloc);
-    let mut is_first = true;
-    for part in command.split("\\%") {
-        if !is_first {
-            ink.put("%");
-        }
-        ink.put(part);
-        is_first = false;
-    }
-    ink.into_text()
 }
 
 fn start_of(alloc: Global, when: &When) -> Result<String, LineFault> {
@@ -124,33 +94,30 @@ fn start_of(alloc: Global, when: &When) -> Result<String, LineFault> {
 fn calendar_text(alloc: Global, entries: &[Entry]) -> Result<String, AllocError> {
     let mut ink = Ink::new(alloc);
     ink.put("\"StartCalendarInterval\": [");
-    let mut between = "";
+    let mut before = "{";
     for entry in entries {
-        ink.put(between);
-        add_entry(&mut ink, entry);
-        between = ", ";
+        ink.put(before);
+        let is_first = add_key(&mut ink, true, "\"Minute\": ", entry.minute);
+        let is_first = add_key(&mut ink, is_first, "\"Hour\": ", entry.hour);
+        let is_first = add_key(&mut ink, is_first, "\"Day\": ", entry.day);
+        let is_first = add_key(&mut ink, is_first, "\"Month\": ", entry.month);
+        let _is_first = add_key(&mut ink, is_first, "\"Weekday\": ", entry.weekday);
+        ink.put("}");
+        before = ", {";
     }
     ink.put("]");
     ink.into_text()
 }
 
-fn add_entry(ink: &mut Ink, entry: &Entry) {
-    let keys = [
-        ("\"Minute\": ", entry.minute),
-        ("\"Hour\": ", entry.hour),
-        ("\"Day\": ", entry.day),
-        ("\"Month\": ", entry.month),
-        ("\"Weekday\": ", entry.weekday),
-    ];
-    let mut between = "";
-    ink.put("{");
-    for (key, value) in keys.iter() {
-        if let Some(value) = value {
-            ink.put(between);
-            ink.put(*key);
-            ink.put_number(u64::from(*value));
-            between = ", ";
+// Adds a key that stands, and says whether the next one that stands is the first.
+fn add_key(ink: &mut Ink, is_first: bool, key: &str, value: Option<u8>) -> bool {
+    match value {
+        Some(value) => {
+            ink.put(if is_first { "" } else { ", " });
+            ink.put(key);
+            ink.put_number(u64::from(value));
+            false
         }
+        None => is_first,
     }
-    ink.put("}");
 }

@@ -1,6 +1,5 @@
 //! The entries of a calendar that match what the fields of a line match.
 ghost use Rattle.std.specs.Prelude.{◌≡◌, ◌++◌, ◌<◌, ◌≤◌, ℕ, length, map, true, Err, IfOk, OnOk};
-ghost use Rattle.std.specs.List.{flat_map};
 ghost use Rattle.scope_cron.specs.Entries as spec;
 ghost use Rattle.scope_cron.specs.Entries.{AreOf};
 ghost use Rattle.scope_cron.specs.declared.entries.EntriesFault.TheVariants as faults;
@@ -22,11 +21,14 @@ pub enum EntriesFault {
     BothDays,
 }
 
-/// The days of an entry.
+/// A part of an entry.
 #[derive(Clone, Copy)]
-pub struct Days {
-    day: Option<u8>,
-    weekday: Option<u8>,
+pub enum Part {
+    Minute,
+    Hour,
+    Day,
+    Month,
+    Weekday,
 }
 
 /// The entries that match exactly the minutes which the fields match, at most 64. Each fault leaves nothing.
@@ -61,142 +63,91 @@ fn is_both(fields: &Fields) -> bool
 fn all_entries(alloc: Global, fields: &Fields) -> Result<Vec<Entry>, AllocError>
     ensures { IfOk result (λ entries. entries.items ≡ spec.entries_of fields.now) }
 {
-    let mut made = Vec::new(alloc);
-    let minutes = choices_of(alloc, &fields.minutes)?;
-    let hours = choices_of(alloc, &fields.hours)?;
-    let months = choices_of(alloc, &fields.months)?;
     let days = days_of(alloc, fields)?;
-    add_minutes(
-        &mut made,
-        minutes.as_slice(),
-        hours.as_slice(),
-        months.as_slice(),
-        days.as_slice(),
-    )?;
+    let months = times(alloc, Part::Month, &fields.months, days)?;
+    let hours = times(alloc, Part::Hour, &fields.hours, months)?;
+    times(alloc, Part::Minute, &fields.minutes, hours)
+}
+
+fn days_of(alloc: Global, fields: &Fields) -> Result<Vec<Entry>, AllocError>
+    ensures { IfOk result (λ found. found.items ≡ spec.days_of fields.now) }
+{
+    let blank = [Entry {
+        minute: None,
+        hour: None,
+        day: None,
+        weekday: None,
+        month: None,
+    }];
+    let mut found = Vec::new(alloc);
+    if !fields.days.is_every {
+        add_times(&mut found, Part::Day, &fields.days, &blank)?;
+    }
+    if fields.days.is_every || !fields.weekdays.is_every {
+        add_times(&mut found, Part::Weekday, &fields.weekdays, &blank)?;
+    }
+    Ok(found)
+}
+
+// The entries, once for each choice of the field, which is this part of them.
+fn times(
+    alloc: Global,
+    part: Part,
+    field: &Field,
+    entries: Vec<Entry>,
+) -> Result<Vec<Entry>, AllocError>
+    ensures { IfOk result (λ made. made.items ≡ spec.times part (spec.choices field.now) entries.items) }
+{
+    let mut made = Vec::new(alloc);
+    let added = add_times(&mut made, part, field, entries.as_slice());
+    drop(entries);
+    added?;
     Ok(made)
 }
 
-fn choices_of(alloc: Global, field: &Field) -> Result<Vec<Option<u8>>, AllocError>
-    ensures { IfOk result (λ found. found.items ≡ spec.choices field.now) }
+fn add_times(
+    made: &mut Vec<Entry>,
+    part: Part,
+    field: &Field,
+    entries: &[Entry],
+) -> Result<(), AllocError>
+    ensures { OnOk result (made.new.items
+        ≡ made.old.items ++ spec.times part (spec.choices field.now) entries.now) }
 {
-    let mut found = Vec::new(alloc);
     if field.is_every {
-        found.push(None)?;
-        return Ok(found);
+        return add_with(made, part, None, entries);
     }
     for value in field.values.as_slice() {
-        found.push(Some(*value))?;
-    }
-    Ok(found)
-}
-
-fn days_of(alloc: Global, fields: &Fields) -> Result<Vec<Days>, AllocError>
-    ensures { IfOk result (λ found. found.items ≡ spec.days_of fields.now) }
-{
-    let mut found = Vec::new(alloc);
-    if !fields.days.is_every {
-        add_days(alloc, &mut found, &fields.days)?;
-    }
-    if fields.days.is_every || !fields.weekdays.is_every {
-        add_weekdays(alloc, &mut found, &fields.weekdays)?;
-    }
-    Ok(found)
-}
-
-fn add_days(alloc: Global, found: &mut Vec<Days>, field: &Field) -> Result<(), AllocError>
-    ensures { OnOk result (found.new.items
-        ≡ found.old.items ++ map spec.by_day (spec.choices field.now)) }
-{
-    let days = choices_of(alloc, field)?;
-    for day in days.as_slice() {
-        found.push(Days {
-            day: *day,
-            weekday: None,
-        })?;
+        add_with(made, part, Some(*value), entries)?;
     }
     Ok(())
 }
 
-fn add_weekdays(alloc: Global, found: &mut Vec<Days>, field: &Field) -> Result<(), AllocError>
-    ensures { OnOk result (found.new.items
-        ≡ found.old.items ++ map spec.by_weekday (spec.choices field.now)) }
-{
-    let weekdays = choices_of(alloc, field)?;
-    for weekday in weekdays.as_slice() {
-        found.push(Days {
-            day: None,
-            weekday: *weekday,
-        })?;
-    }
-    Ok(())
-}
-
-fn add_minutes(
+fn add_with(
     made: &mut Vec<Entry>,
-    minutes: &[Option<u8>],
-    hours: &[Option<u8>],
-    months: &[Option<u8>],
-    days: &[Days],
-) -> Result<(), AllocError>
-    ensures { OnOk result (made.new.items ≡ made.old.items ++ flat_map
-        (λ minute. spec.of_hours minute hours.now months.now days.now) minutes.now) }
-{
-    for minute in minutes {
-        add_hours(made, *minute, hours, months, days)?;
-    }
-    Ok(())
-}
-
-fn add_hours(
-    made: &mut Vec<Entry>,
-    minute: Option<u8>,
-    hours: &[Option<u8>],
-    months: &[Option<u8>],
-    days: &[Days],
+    part: Part,
+    choice: Option<u8>,
+    entries: &[Entry],
 ) -> Result<(), AllocError>
     ensures { OnOk result (made.new.items
-        ≡ made.old.items ++ spec.of_hours minute hours.now months.now days.now) }
+        ≡ made.old.items ++ map (spec.with part choice) entries.now) }
 {
-    for hour in hours {
-        add_months(made, minute, *hour, months, days)?;
+    for entry in entries {
+        made.push(with(*entry, part, choice))?;
     }
     Ok(())
 }
 
-fn add_months(
-    made: &mut Vec<Entry>,
-    minute: Option<u8>,
-    hour: Option<u8>,
-    months: &[Option<u8>],
-    days: &[Days],
-) -> Result<(), AllocError>
-    ensures { OnOk result (made.new.items
-        ≡ made.old.items ++ spec.of_months minute hour months.now days.now) }
+fn with(entry: Entry, part: Part, choice: Option<u8>) -> Entry
+    ensures { result ≡ spec.with part choice entry }
 {
-    for month in months {
-        add_entries(made, minute, hour, *month, days)?;
+    let mut made = entry;
+    match part {
+        Part::Minute => made.minute = choice,
+        Part::Hour => made.hour = choice,
+        Part::Day => made.day = choice,
+        Part::Month => made.month = choice,
+        Part::Weekday => made.weekday = choice,
     }
-    Ok(())
-}
-
-fn add_entries(
-    made: &mut Vec<Entry>,
-    minute: Option<u8>,
-    hour: Option<u8>,
-    month: Option<u8>,
-    days: &[Days],
-) -> Result<(), AllocError>
-    ensures { OnOk result (made.new.items
-        ≡ made.old.items ++ spec.of_days minute hour month days.now) }
-{
-    for of in days {
-        made.push(Entry {
-            minute,
-            hour,
-            day: of.day,
-            weekday: of.weekday,
-            month,
-        })?;
-    }
-    Ok(())
+    made
 }

@@ -1,7 +1,6 @@
 //! What is wrong with a line.
 
-use run_times::{Ink, Piece};
-use std::alloc::{AllocError, Global};
+use std::alloc::AllocError;
 
 /// Why a line has no definition.
 #[derive(Drop)]
@@ -23,11 +22,4 @@ pub(crate) fn refused(text: Result<String, AllocError>) -> LineFault {
         Ok(text) => LineFault::Refused(text),
         Err(_) => LineFault::NoMemory,
     }
-}
-
-/// The fault that these pieces tell.
-pub(crate) fn refused_by(alloc: Global, pieces: &[Piece<'_>]) -> LineFault {
-    let mut ink = Ink::new(alloc);
-    ink.put_all(pieces);
-    refused(ink.into_text())
 }

@@ -2,7 +2,6 @@
 
 /// What a field may hold: numbers from `low` to `high`, of which `count` differ in what they mean, the names of its first values, and how a
 /// fault tells them.
-#[derive(Clone, Copy)]
 pub(crate) struct Kind {
     pub(crate) name: &'static str,
     pub(crate) low: u8,

@@ -3,6 +3,7 @@
 use crate::fault::{LineFault, refused};
 use crate::fields::Fields;
 use crate::reading::{Texts, fields_of};
+use run_times::Ink;
 use std::alloc::Global;
 
 /// When a line's command is run.
@@ -28,18 +29,14 @@ pub enum Line<'a> {
 /// What the line says, which has no newline. Refused: a field is none, one or the command is absent, the name behind `@` is none, or the
 /// command has a `%`.
 pub fn read_line<'a>(alloc: Global, text: &'a str) -> Result<Line<'a>, LineFault> {
-    let text = without_blanks(text);
+    let text = text.trim_start_matches(is_blank);
     if text.is_empty() || text.starts_with('#') {
         return Ok(Line::Nothing);
     }
     if let Some(name) = variable_in(text) {
         return Ok(Line::Variable(name));
     }
-    let (when, command) = if text.starts_with('@') {
-        named(alloc, text)?
-    } else {
-        timed(alloc, text)?
-    };
+    let (when, command) = timed(alloc, text)?;
     if has_percent(command) {
         drop(when);
         return Err(refused(String::from_str(
@@ -54,14 +51,10 @@ fn is_blank(letter: char) -> bool {
     letter == ' ' || letter == '\t'
 }
 
-fn without_blanks(text: &str) -> &str {
-    text.trim_start_matches(is_blank)
-}
-
 // The next word of a text, and what stands behind its blanks.
 fn word_of(text: &str) -> (&str, &str) {
     match text.split_once(is_blank) {
-        Some((word, rest)) => (word, without_blanks(rest)),
+        Some((word, rest)) => (word, rest.trim_start_matches(is_blank)),
         None => (text, ""),
     }
 }
@@ -77,10 +70,28 @@ fn variable_in(text: &str) -> Option<&str> {
     }
 }
 
+// When the command runs, by five fields or by a name that stands for them, and the command.
 fn timed<'a>(alloc: Global, text: &'a str) -> Result<(When, &'a str), LineFault> {
-    let (texts, command) = texts_of(text);
+    let (name, behind) = word_of(text);
+    let is_named = name.starts_with('@');
+    let (texts, rest) = texts_of(if is_named { fields_named(name) } else { text });
+    let command = if is_named { behind } else { rest };
     if command.is_empty() {
-        return Err(too_short(alloc));
+        return Err(refused(String::from_str(
+            alloc,
+            "wanted five fields and a command, or a name as @daily and a command",
+        )));
+    }
+    if name == "@reboot" {
+        return Ok((When::Boot, command));
+    }
+    if is_named && texts.minute.is_empty() {
+        let mut ink = Ink::new(alloc);
+        ink.put(name);
+        ink.put(
+            " is no name of a time, wanted @reboot, @yearly, @annually, @monthly, @weekly, @daily, @midnight or @hourly",
+        );
+        return Err(refused(ink.into_text()));
     }
     let fields = fields_of(alloc, texts)?;
     Ok((When::Minutes(fields), command))
@@ -91,7 +102,7 @@ fn texts_of(text: &str) -> (Texts<'_>, &str) {
     let (hour, rest) = word_of(rest);
     let (day, rest) = word_of(rest);
     let (month, rest) = word_of(rest);
-    let (weekday, command) = word_of(rest);
+    let (weekday, rest) = word_of(rest);
     let texts = Texts {
         minute,
         hour,
@@ -99,39 +110,11 @@ fn texts_of(text: &str) -> (Texts<'_>, &str) {
         month,
         weekday,
     };
-    (texts, command)
-}
-
-fn too_short(alloc: Global) -> LineFault {
-    refused(String::from_str(
-        alloc,
-        "wanted five fields and a command, or a name as @daily and a command",
-    ))
-}
-
-fn named<'a>(alloc: Global, text: &'a str) -> Result<(When, &'a str), LineFault> {
-    let (name, command) = word_of(text);
-    if command.is_empty() {
-        return Err(too_short(alloc));
-    }
-    if name == "@reboot" {
-        return Ok((When::Boot, command));
-    }
-    let Some(fields) = fields_named(name) else {
-        return Err(no_name(alloc, name));
-    };
-    let (texts, _) = texts_of(fields);
-    Ok((When::Minutes(fields_of(alloc, texts)?), command))
-}
-
-fn no_name(alloc: Global, name: &str) -> LineFault {
-    refused(format!(in alloc;
-        "{name} is no name of a time, wanted @reboot, @yearly, @annually, @monthly, @weekly, @daily, @midnight or @hourly"
-    ))
+    (texts, rest)
 }
 
 /// The fields that a name stands for.
-const NAMED: [(&str, &str); 7] = [
+const NAMED: &[(&str, &str)] = &[
     ("@yearly", "0 0 1 1 *"),
     ("@annually", "0 0 1 1 *"),
     ("@monthly", "0 0 1 * *"),
@@ -141,13 +124,14 @@ const NAMED: [(&str, &str); 7] = [
     ("@hourly", "0 * * * *"),
 ];
 
-fn fields_named(name: &str) -> Option<&'static str> {
-    for (known, fields) in NAMED.iter() {
+// The fields of a name; none if it is no name of minutes.
+fn fields_named(name: &str) -> &'static str {
+    for (known, fields) in NAMED {
         if *known == name {
-            return Some(*fields);
+            return *fields;
         }
     }
-    None
+    ""
 }
 
 // Whether a `%` stands there with no `\` before it.

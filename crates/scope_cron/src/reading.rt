@@ -2,7 +2,7 @@
 
 use crate::fault::LineFault;
 use crate::fields::{Field, Fields};
-use crate::items::{Item, items_of};
+use crate::items::{Item, is_in, items_of};
 use crate::kinds::{DAY, HOUR, Kind, MINUTE, MONTH, WEEKDAY};
 use std::alloc::{AllocError, Global};
 
@@ -78,14 +78,4 @@ fn add_those_in(kind: &Kind, items: &[Item], values: &mut Vec<u8>) -> Result<(),
         }
     }
     Ok(())
-}
-
-// Whether an item has the value.
-fn is_in(items: &[Item], value: u8) -> bool {
-    for item in items {
-        if item.has(value) {
-            return true;
-        }
-    }
-    false
 }

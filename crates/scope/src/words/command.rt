@@ -4,70 +4,65 @@ use history_model::Text;
 use launchctl_words::{Paths, ZoneWords};
 
 /// What `jobscope` is asked to do.
-#[derive(Drop)]
-pub(crate) enum ScopeCommand {
-    /// Read the definitions as a load would, and say what is wrong with each, and what may be; with `is_strict` a warning
-    /// fails too. The zone is that in which calendar entries are looked at.
-    Check {
-        is_strict: bool,
-        zone: ZoneWords,
-        paths: Paths,
-    },
-    /// Show so many coming starts of the definitions, after the second `from` of Unix time, or after now.
-    Next {
-        count: u64,
-        from: Option<u64>,
-        zone: ZoneWords,
-        paths: Paths,
-    },
+#[derive(Clone, Copy)]
+pub(crate) enum Task {
+    /// Read the definitions as a load would, and say what is wrong with each, and what may be.
+    Check,
+    /// Show the coming starts of the definitions.
+    Next,
     /// Say of each job why it runs or not at the journal's end, and what will make it run.
-    Why {
-        of: JournalWords,
-    },
-    /// Tell the journal's events, from the second `since` of Unix time on; with `follows` as they come.
-    Log {
-        follows: bool,
-        since: Option<u64>,
-        of: JournalWords,
-    },
+    Why,
+    /// Tell the journal's events.
+    Log,
     /// Count each job's runs.
-    Runs {
-        of: JournalWords,
-    },
-    /// Draw each job's runs over time; with `is_page` as a page that stands alone.
-    Picture {
-        is_page: bool,
-        of: JournalWords,
-    },
+    Runs,
+    /// Draw each job's runs over time.
+    Picture,
     /// Write a definition for each line of a crontab. The one line `-` stands for those of standard input.
-    Cron {
-        lines: Paths,
-    },
+    Cron,
 }
 
-/// Which journal is read, and of which jobs.
+/// The names of the subcommands, in the order of the help.
+pub(crate) const TASKS: &[(&str, Task)] = &[
+    ("check", Task::Check),
+    ("next", Task::Next),
+    ("why", Task::Why),
+    ("log", Task::Log),
+    ("runs", Task::Runs),
+    ("picture", Task::Picture),
+    ("cron", Task::Cron),
+];
+
+/// A subcommand's words. What the subcommand does not take is absent.
 #[derive(Drop)]
-pub(crate) struct JournalWords {
-    /// The journal's path, if the words name one.
-    pub(crate) journal: Option<Text>,
+pub(crate) struct ScopeCommand {
+    pub(crate) task: Task,
+    /// A warning fails too.
+    pub(crate) is_strict: bool,
+    /// Events are told as they come.
+    pub(crate) follows: bool,
+    /// The picture is a page that stands alone.
+    pub(crate) is_page: bool,
     /// Times are shown in UTC, and not in the journal's zone.
     pub(crate) is_utc: bool,
-    /// The labels of the jobs that are shown; of none, all are.
-    pub(crate) labels: Paths,
+    /// How many starts are shown.
+    pub(crate) count: Option<u64>,
+    /// The second of Unix time after which starts are shown.
+    pub(crate) from: Option<u64>,
+    /// The second of Unix time from which on events are told.
+    pub(crate) since: Option<u64>,
+    /// The zone in which calendar entries are looked at.
+    pub(crate) zone: ZoneWords,
+    /// The journal's path.
+    pub(crate) journal: Option<Text>,
+    /// The paths of definitions, the labels of the jobs that are shown (of none, all are), or the lines of a crontab.
+    pub(crate) words: Paths,
 }
 
-/// What stands for a command whose words clap takes: the command, or what is wrong with its words.
+/// What stands for words that clap takes.
 #[derive(Drop)]
 pub(crate) enum Meaning {
     Command(ScopeCommand),
-    /// The option's value is no number that it takes.
-    BadNumber {
-        option: &'static str,
-        value: Text,
-        wanted: &'static str,
-    },
-    /// `--zone` and `--zone-file` both stand.
-    BothZones,
-    /// No command of this name.
-    None,
+    /// They are no command, as this text says.
+    Wrong(String),
 }

@@ -2,17 +2,35 @@
 
 ghost use Rattle.std.specs.Prelude.{◌≡◌, false};
 
+use crate::words::command::{TASKS, Task};
 use clap::{Arg, ArgAction};
-use history_model::MAX_WALL;
-use launchctl_words::arguments::{add_arg, add_subcommand, bare, option, words};
+use launchctl_words::arguments::{add_arg, add_subcommand, bare, flag, option, words};
 use std::alloc::{AllocError, Global};
 
-/// The last second of Unix time that an option may name.
-pub(crate) const MOST_SECOND: u64 = MAX_WALL;
+/// What an argument is.
+#[derive(Clone, Copy)]
+enum Form {
+    /// A flag of one letter.
+    Letter(char),
+    /// A flag with a long name.
+    Switch,
+    /// A number behind `-n`.
+    Count,
+    /// An option with a value.
+    Value,
+    /// One word or more.
+    Words,
+    /// As many words as may be.
+    Labels,
+}
 
-pub(crate) const FROM_WANTED: &str = "a second of Unix time up to 250000000000";
-
-const PATHS_HELP: &str = "A definition, or a folder of definitions (*.plist, *.json)";
+/// An argument: its name, what it is, how its value is called, and its help.
+struct Argument {
+    id: &'static str,
+    form: Form,
+    value: &'static str,
+    help: &'static str,
+}
 
 const CHECK_EXIT: &str =
     "Exit status: 0 each would be read by a load; 1 one would not, or has a warning with --strict, or no memory; 64 these words are no command; 65 a file can't be read.";
@@ -20,152 +38,198 @@ const CHECK_EXIT: &str =
 const NEXT_EXIT: &str =
     "Exit status: 0 done; 1 no memory; 64 these words are no command; 65 a file can't be read, or is no definition, or the zone is none.";
 
-const JOURNAL_EXIT: &str =
-    "Exit status: 0 done; 1 no memory; 64 these words are no command; 65 the journal can't be read, or is none.";
-
 const CRON_EXIT: &str =
     "Exit status: 0 each line has its definition; 1 one is refused, or no memory; 64 these words are no command; 65 standard input can't be read.";
 
-// A flag with a long name.
-fn switch<'a>(alloc: Global, id: &'a str, help: &'a str) -> Arg<'a>
+const JOURNAL_EXIT: &str =
+    "Exit status: 0 done; 1 no memory; 64 these words are no command; 65 the journal can't be read, or is none.";
+
+const ZONE: Argument = Argument {
+    id: "zone",
+    form: Form::Value,
+    value: "TEXT",
+    help: "The zone of calendar entries as a POSIX rule; UTC0 where absent",
+};
+
+const ZONE_FILE: Argument = Argument {
+    id: "zone-file",
+    form: Form::Value,
+    value: "PATH",
+    help: "The zone as a zone file, in place of --zone",
+};
+
+const PATHS: Argument = Argument {
+    id: "paths",
+    form: Form::Words,
+    value: "PATH",
+    help: "A definition, or a folder of definitions (*.plist, *.json)",
+};
+
+const JOURNAL: Argument = Argument {
+    id: "journal",
+    form: Form::Value,
+    value: "PATH",
+    help: "The journal; where absent, that of JOBD_JOURNAL, else standard input",
+};
+
+const LABELS: Argument = Argument {
+    id: "labels",
+    form: Form::Labels,
+    value: "LABEL",
+    help: "Of these jobs alone; of all where absent",
+};
+
+const UTC: Argument = Argument {
+    id: "utc",
+    form: Form::Switch,
+    value: "",
+    help: "Show times in UTC, and not in the journal's zone",
+};
+
+const CHECK: &[Argument] = &[
+    Argument {
+        id: "strict",
+        form: Form::Switch,
+        value: "",
+        help: "Fail at a warning too",
+    },
+    ZONE,
+    ZONE_FILE,
+    PATHS,
+];
+
+const NEXT: &[Argument] = &[
+    Argument {
+        id: "count",
+        form: Form::Count,
+        value: "COUNT",
+        help: "How many starts; 10 where absent, at most 10000",
+    },
+    Argument {
+        id: "from",
+        form: Form::Value,
+        value: "SECOND",
+        help: "Show those after this second of Unix time; now where absent",
+    },
+    ZONE,
+    ZONE_FILE,
+    PATHS,
+];
+
+const WHY: &[Argument] = &[JOURNAL, LABELS, UTC];
+
+const RUNS: &[Argument] = &[JOURNAL, LABELS];
+
+const LOG: &[Argument] = &[
+    JOURNAL,
+    LABELS,
+    UTC,
+    Argument {
+        id: "follow",
+        form: Form::Letter('f'),
+        value: "",
+        help: "Go on as the journal grows",
+    },
+    Argument {
+        id: "since",
+        form: Form::Value,
+        value: "SECOND",
+        help: "Leave out what was before this second of Unix time",
+    },
+];
+
+const PICTURE: &[Argument] = &[
+    JOURNAL,
+    LABELS,
+    UTC,
+    Argument {
+        id: "html",
+        form: Form::Switch,
+        value: "",
+        help: "Write a page that stands alone: the chart, the counts, the reasons and the coming starts",
+    },
+];
+
+const CRON: &[Argument] = &[Argument {
+    id: "lines",
+    form: Form::Words,
+    value: "LINE",
+    help: "A line as in crontab(5), as one word, with no field for a user; - for the lines of standard input",
+}];
+
+fn argument_of<'a>(alloc: Global, of: &Argument) -> Arg<'a>
     ensures { result.global ≡ false }
 {
-    Arg::new(alloc, id)
-        .long(id)
-        .action(ArgAction::SetTrue)
-        .help(help)
+    match of.form {
+        Form::Letter(letter) => flag(alloc, of.id, letter, of.help),
+        Form::Switch => Arg::new(alloc, of.id)
+            .long(of.id)
+            .action(ArgAction::SetTrue)
+            .help(of.help),
+        Form::Count => Arg::new(alloc, of.id)
+            .short('n')
+            .value_name(of.value)
+            .help(of.help),
+        Form::Value => option(alloc, of.id, false, of.value, of.help),
+        Form::Words => words(alloc, of.id, of.value, of.help),
+        Form::Labels => Arg::new(alloc, of.id)
+            .action(ArgAction::Append)
+            .value_name(of.value)
+            .help(of.help),
+    }
 }
 
-fn add_zone<'a>(
-    alloc: Global,
-    command: Result<clap::Command<'a>, AllocError>,
-) -> Result<clap::Command<'a>, AllocError> {
-    let zone = option(
-        alloc,
-        "zone",
-        false,
-        "TEXT",
-        "The zone of calendar entries as a POSIX rule; UTC0 where absent",
-    );
-    let file = option(
-        alloc,
-        "zone-file",
-        false,
-        "PATH",
-        "The zone as a zone file, in place of --zone",
-    );
-    let command = add_arg(add_arg(command, zone), file);
-    add_arg(command, words(alloc, "paths", "PATH", PATHS_HELP))
+// What a subcommand does, what its help ends with, and its arguments.
+fn form_of(task: Task) -> (&'static str, &'static str, &'static [Argument]) {
+    match task {
+        Task::Check => (
+            "Say whether definitions would load, and what may be wrong with them",
+            CHECK_EXIT,
+            CHECK,
+        ),
+        Task::Next => (
+            "Show the coming starts of calendars and intervals, in the order of time",
+            NEXT_EXIT,
+            NEXT,
+        ),
+        Task::Why => (
+            "Say why each job runs or not, and what will make it run",
+            JOURNAL_EXIT,
+            WHY,
+        ),
+        Task::Log => ("Tell a journal's events to people", JOURNAL_EXIT, LOG),
+        Task::Runs => ("Count each job's runs", JOURNAL_EXIT, RUNS),
+        Task::Picture => ("Draw each job's runs over time", JOURNAL_EXIT, PICTURE),
+        Task::Cron => (
+            "Write a definition for each line of a crontab",
+            CRON_EXIT,
+            CRON,
+        ),
+    }
 }
 
-fn check_words<'a>(alloc: Global) -> Result<clap::Command<'a>, AllocError> {
-    let about = "Say whether definitions would load, and what may be wrong with them";
-    let strict = switch(alloc, "strict", "Fail at a warning too");
-    let command = add_arg(Ok(bare(alloc, "check", about, CHECK_EXIT)), strict);
-    add_zone(alloc, command)
-}
-
-fn next_words<'a>(alloc: Global) -> Result<clap::Command<'a>, AllocError> {
-    let about = "Show the coming starts of calendars and intervals, in the order of time";
-    let count = Arg::new(alloc, "count")
-        .short('n')
-        .value_name("COUNT")
-        .help("How many starts; 10 where absent, at most 10000");
-    let from = option(
-        alloc,
-        "from",
-        false,
-        "SECOND",
-        "Show those after this second of Unix time; now where absent",
-    );
-    let command = add_arg(Ok(bare(alloc, "next", about, NEXT_EXIT)), count);
-    add_zone(alloc, add_arg(command, from))
-}
-
-// What each subcommand has that reads a journal: its journal, and labels.
-fn journal_words<'a>(
+fn subcommand_of<'a>(
     alloc: Global,
     name: &'a str,
-    about: &'a str,
+    task: Task,
 ) -> Result<clap::Command<'a>, AllocError> {
-    let journal = option(
-        alloc,
-        "journal",
-        false,
-        "PATH",
-        "The journal; where absent, that of JOBD_JOURNAL, else standard input",
-    );
-    let labels = Arg::new(alloc, "labels")
-        .action(ArgAction::Append)
-        .value_name("LABEL")
-        .help("Of these jobs alone; of all where absent");
-    let command = add_arg(Ok(bare(alloc, name, about, JOURNAL_EXIT)), journal);
-    add_arg(command, labels)
-}
-
-fn timed_words<'a>(
-    alloc: Global,
-    name: &'a str,
-    about: &'a str,
-) -> Result<clap::Command<'a>, AllocError> {
-    let utc = switch(
-        alloc,
-        "utc",
-        "Show times in UTC, and not in the journal's zone",
-    );
-    add_arg(journal_words(alloc, name, about), utc)
-}
-
-fn log_words<'a>(alloc: Global) -> Result<clap::Command<'a>, AllocError> {
-    let follow = Arg::new(alloc, "follow")
-        .short('f')
-        .action(ArgAction::SetTrue)
-        .help("Go on as the journal grows");
-    let since = option(
-        alloc,
-        "since",
-        false,
-        "SECOND",
-        "Leave out what was before this second of Unix time",
-    );
-    let command = timed_words(alloc, "log", "Tell a journal's events to people");
-    add_arg(add_arg(command, follow), since)
-}
-
-fn picture_words<'a>(alloc: Global) -> Result<clap::Command<'a>, AllocError> {
-    let html = switch(
-        alloc,
-        "html",
-        "Write a page that stands alone: the chart, the counts, the reasons and the coming starts",
-    );
-    let about = "Draw each job's runs over time";
-    add_arg(timed_words(alloc, "picture", about), html)
-}
-
-fn cron_words<'a>(alloc: Global) -> Result<clap::Command<'a>, AllocError> {
-    let about = "Write a definition for each line of a crontab";
-    let help =
-        "A line as in crontab(5), as one word, with no field for a user; - for the lines of standard input";
-    add_arg(
-        Ok(bare(alloc, "cron", about, CRON_EXIT)),
-        words(alloc, "lines", "LINE", help),
-    )
+    let (about, exit, arguments) = form_of(task);
+    let mut command = Ok(bare(alloc, name, about, exit));
+    for argument in arguments {
+        command = add_arg(command, argument_of(alloc, argument));
+    }
+    command
 }
 
 /// The whole command, with a help text for every word.
 pub(crate) fn jobscope_words<'a>(alloc: Global) -> Result<clap::Command<'a>, AllocError> {
-    let command = clap::Command::new(alloc, "jobscope")
-        .about("Reads definitions before a load, and journals after")
-        .subcommand_required(true);
-    let why = "Say why each job runs or not, and what will make it run";
-    let command = add_subcommand(Ok(command), check_words(alloc));
-    let command = add_subcommand(command, next_words(alloc));
-    let command = add_subcommand(command, timed_words(alloc, "why", why));
-    let command = add_subcommand(command, log_words(alloc));
-    let command = add_subcommand(
-        command,
-        journal_words(alloc, "runs", "Count each job's runs"),
+    let mut command = Ok(
+        clap::Command::new(alloc, "jobscope")
+            .about("Reads definitions before a load, and journals after")
+            .subcommand_required(true),
     );
-    let command = add_subcommand(command, picture_words(alloc));
-    add_subcommand(command, cron_words(alloc))
+    for (name, task) in TASKS {
+        command = add_subcommand(command, subcommand_of(alloc, *name, *task));
+    }
+    command
 }

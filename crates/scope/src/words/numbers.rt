@@ -1,11 +1,46 @@
 //! Numbers among the words.
 
-use crate::words::command::Meaning;
-use history_model::Text;
+use clap::ArgMatches;
+use history_model::MAX_WALL;
+use run_times::Ink;
+use run_times::Piece::Text;
 use std::alloc::{AllocError, Global};
 
-/// The decimal number that the text is, without a sign, and at most `most`.
-pub(crate) fn number_in(text: &str, most: u64) -> Option<u64> {
+const SECOND: &str = "a second of Unix time up to 250000000000";
+
+/// The options that take a number: their names, how they are written, the greatest number, and what is wanted.
+const NUMBERS: &[(&str, &str, u64, &str)] = &[
+    ("count", "-n", 10_000, "a number up to 10000"),
+    ("from", "--from", MAX_WALL, SECOND),
+    ("since", "--since", MAX_WALL, SECOND),
+];
+
+/// What is wrong with the first option whose value is no number that it takes, if there is one.
+pub(crate) fn wrong_number(
+    alloc: Global,
+    found: &ArgMatches<'_>,
+) -> Result<Option<String>, AllocError> {
+    for (id, option, most, wanted) in NUMBERS {
+        if let Some(value) = found.get_str(*id) {
+            if number_in(value, *most).is_none() {
+                let mut ink = Ink::new(alloc);
+                ink.put_all(&[Text("jobscope: "), Text(*option), Text(" ")]);
+                ink.put_made(format!(in alloc; "{value:?}"));
+                ink.put_all(&[Text(": wanted "), Text(*wanted), Text("\n")]);
+                return Ok(Some(ink.into_text()?));
+            }
+        }
+    }
+    Ok(None)
+}
+
+/// The number that is the option's value.
+pub(crate) fn number_of(found: &ArgMatches<'_>, id: &str) -> Option<u64> {
+    number_in(found.get_str(id)?, u64::MAX)
+}
+
+// The decimal number that the text is, without a sign, and at most `most`.
+fn number_in(text: &str, most: u64) -> Option<u64> {
     if text.is_empty() {
         return None;
     }
@@ -18,19 +53,4 @@ pub(crate) fn number_in(text: &str, most: u64) -> Option<u64> {
         value = value.checked_mul(10)?.checked_add(digit)?;
     }
     if value <= most { Some(value) } else { None }
-}
-
-/// What stands for a value that is no number.
-pub(crate) fn bad_number(
-    alloc: Global,
-    option: &'static str,
-    value: &str,
-    wanted: &'static str,
-) -> Result<Meaning, AllocError> {
-    let value = Text::copy_of(alloc, value)?;
-    Ok(Meaning::BadNumber {
-        option,
-        value,
-        wanted,
-    })
 }

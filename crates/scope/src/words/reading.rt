@@ -1,104 +1,99 @@
 //! What the words of `jobscope` mean.
 
-use crate::words::command::{Meaning, ScopeCommand};
-use crate::words::forms::{FROM_WANTED, MOST_SECOND, jobscope_words};
-use crate::words::journal::read_journal_words;
-use crate::words::numbers::{bad_number, number_in};
+use crate::words::command::{Meaning, ScopeCommand, TASKS, Task};
+use crate::words::forms::jobscope_words;
+use crate::words::numbers::{number_of, wrong_number};
 use clap::ArgMatches;
+use history_model::Text;
 use launchctl_words::arguments::{is_set, value_of, values_of};
 use launchctl_words::parse::{Explanation, explain_by, parse};
-use launchctl_words::{WordFault, ZoneWords};
+use launchctl_words::{Paths, WordFault, ZoneWords};
 use std::alloc::{AllocError, Global};
 
-/// How many starts are shown where the words do not say it, and at most.
-const COUNT: u64 = 10;
+fn task_named(name: &str) -> Option<Task> {
+    for (known, task) in TASKS {
+        if *known == name {
+            return Some(*task);
+        }
+    }
+    None
+}
 
-const MOST_COUNT: u64 = 10_000;
+// The words of the subcommand: its numbers are right, and it names one zone at most.
+fn command_in(
+    alloc: Global,
+    task: Task,
+    found: &ArgMatches<'_>,
+) -> Result<ScopeCommand, AllocError> {
+    let words = words_in(alloc, task, found)?;
+    let journal = value_of(alloc, found, "journal");
+    let zone = zone_in(alloc, found);
+    match (journal, zone) {
+        (Ok(journal), Ok(zone)) => Ok(ScopeCommand {
+            task,
+            is_strict: is_set(found, "strict"),
+            follows: is_set(found, "follow"),
+            is_page: is_set(found, "html"),
+            is_utc: is_set(found, "utc"),
+            count: number_of(found, "count"),
+            from: number_of(found, "from"),
+            since: number_of(found, "since"),
+            zone,
+            journal,
+            words,
+        }),
+        (journal, zone) => {
+            drop(journal);
+            drop(zone);
+            drop(words);
+            Err(AllocError)
+        }
+    }
+}
 
-// The zone that is named; none if both options stand.
-fn zone_in(alloc: Global, found: &ArgMatches<'_>) -> Result<Option<ZoneWords>, AllocError> {
-    let rule = value_of(alloc, found, "zone")?;
-    let file = value_of(alloc, found, "zone-file")?;
-    Ok(match (rule, file) {
-        (None, None) => Some(ZoneWords::Default),
-        (Some(rule), None) => Some(ZoneWords::Rule(rule)),
-        (None, Some(file)) => Some(ZoneWords::File(file)),
-        (Some(_), Some(_)) => None,
+fn zone_in(alloc: Global, found: &ArgMatches<'_>) -> Result<ZoneWords, AllocError> {
+    Ok(match (found.get_str("zone"), found.get_str("zone-file")) {
+        (Some(rule), _) => ZoneWords::Rule(Text::copy_of(alloc, rule)?),
+        (None, Some(path)) => ZoneWords::File(Text::copy_of(alloc, path)?),
+        (None, None) => ZoneWords::Default,
     })
 }
 
-fn check_in(alloc: Global, found: &ArgMatches<'_>) -> Result<Meaning, AllocError> {
-    let Some(zone) = zone_in(alloc, found)? else {
-        return Ok(Meaning::BothZones);
+fn words_in(alloc: Global, task: Task, found: &ArgMatches<'_>) -> Result<Paths, AllocError> {
+    let id = match task {
+        Task::Check | Task::Next => "paths",
+        Task::Cron => "lines",
+        Task::Why | Task::Log | Task::Runs | Task::Picture => "labels",
     };
-    match values_of(alloc, found, "paths")? {
-        Some(paths) => Ok(Meaning::Command(ScopeCommand::Check {
-            is_strict: is_set(found, "strict"),
-            zone,
-            paths,
-        })),
-        None => Ok(Meaning::None),
+    match values_of(alloc, found, id)? {
+        Some(words) => Ok(words),
+        None => Ok(Paths::new(Vec::new(alloc))),
     }
 }
 
-fn next_in(alloc: Global, found: &ArgMatches<'_>) -> Result<Meaning, AllocError> {
-    let count = match found.get_str("count") {
-        None => COUNT,
-        Some(text) => match number_in(text, MOST_COUNT) {
-            Some(count) => count,
-            None => return bad_number(alloc, "-n", text, "a number up to 10000"),
-        },
-    };
-    let from = match found.get_str("from") {
-        None => None,
-        Some(text) => match number_in(text, MOST_SECOND) {
-            Some(second) => Some(second),
-            None => return bad_number(alloc, "--from", text, FROM_WANTED),
-        },
-    };
-    next_by(alloc, count, from, found)
-}
-
-fn next_by(
-    alloc: Global,
-    count: u64,
-    from: Option<u64>,
-    found: &ArgMatches<'_>,
-) -> Result<Meaning, AllocError> {
-    let Some(zone) = zone_in(alloc, found)? else {
-        return Ok(Meaning::BothZones);
-    };
-    match values_of(alloc, found, "paths")? {
-        Some(paths) => Ok(Meaning::Command(ScopeCommand::Next {
-            count,
-            from,
-            zone,
-            paths,
-        })),
-        None => Ok(Meaning::None),
-    }
-}
-
-fn cron_in(alloc: Global, found: &ArgMatches<'_>) -> Result<Meaning, AllocError> {
-    match values_of(alloc, found, "lines")? {
-        Some(lines) => Ok(Meaning::Command(ScopeCommand::Cron { lines })),
-        None => Ok(Meaning::None),
-    }
-}
-
-fn meaning_of(alloc: Global, matches: &ArgMatches<'_>) -> Result<Meaning, AllocError> {
+// Usage: no command of this name.
+fn meaning_of(alloc: Global, matches: &ArgMatches<'_>) -> Result<Meaning, WordFault> {
     let Some((name, found)) = matches.subcommand() else {
-        return Ok(Meaning::None);
+        return Err(WordFault::Usage);
     };
-    if name == "check" {
-        check_in(alloc, found)
-    } else if name == "next" {
-        next_in(alloc, found)
-    } else if name == "cron" {
-        cron_in(alloc, found)
-    } else {
-        read_journal_words(alloc, name, found)
+    let Some(task) = task_named(name) else {
+        return Err(WordFault::Usage);
+    };
+    match meaning_in(alloc, found, task) {
+        Ok(meaning) => Ok(meaning),
+        Err(_) => Err(WordFault::NoMemory),
     }
+}
+
+fn meaning_in(alloc: Global, found: &ArgMatches<'_>, task: Task) -> Result<Meaning, AllocError> {
+    if let Some(text) = wrong_number(alloc, found)? {
+        return Ok(Meaning::Wrong(text));
+    }
+    if found.get_str("zone").is_some() && found.get_str("zone-file").is_some() {
+        let text = "jobscope: --zone and --zone-file can't stand together\n";
+        return Ok(Meaning::Wrong(String::from_str(alloc, text)?));
+    }
+    Ok(Meaning::Command(command_in(alloc, task, found)?))
 }
 
 fn read_meaning(alloc: Global, words: &[String]) -> Result<Meaning, WordFault> {
@@ -106,10 +101,7 @@ fn read_meaning(alloc: Global, words: &[String]) -> Result<Meaning, WordFault> {
         return Err(WordFault::NoMemory);
     };
     match parse(command, words) {
-        Ok(matches) => match meaning_of(alloc, &matches) {
-            Ok(meaning) => Ok(meaning),
-            Err(_) => Err(WordFault::NoMemory),
-        },
+        Ok(matches) => meaning_of(alloc, &matches),
         Err(fault) => Err(fault),
     }
 }
@@ -119,7 +111,10 @@ fn read_meaning(alloc: Global, words: &[String]) -> Result<Meaning, WordFault> {
 pub(crate) fn read_scope_words(alloc: Global, words: &[String]) -> Result<ScopeCommand, WordFault> {
     match read_meaning(alloc, words) {
         Ok(Meaning::Command(command)) => Ok(command),
-        Ok(_) => Err(WordFault::Usage),
+        Ok(meaning) => {
+            drop(meaning);
+            Err(WordFault::Usage)
+        }
         Err(fault) => Err(fault),
     }
 }
@@ -127,33 +122,14 @@ pub(crate) fn read_scope_words(alloc: Global, words: &[String]) -> Result<ScopeC
 /// The text to print if the words are no command of jobscope, or ask for help. If clap takes them, it is one line that says which
 /// value is no number, or that both zone options stand.
 pub(crate) fn explain_scope(alloc: Global, words: &[String]) -> Result<Explanation, AllocError> {
-    if let Ok(meaning) = read_meaning(alloc, words) {
-        if let Some(text) = own_fault(alloc, &meaning)? {
-            return Ok(Explanation {
-                text,
-                is_help: false,
-            });
+    match read_meaning(alloc, words) {
+        Ok(Meaning::Wrong(text)) => Ok(Explanation {
+            text,
+            is_help: false,
+        }),
+        other => {
+            drop(other);
+            explain_by(alloc, jobscope_words(alloc), words)
         }
     }
-    explain_by(alloc, jobscope_words(alloc), words)
-}
-
-// What is wrong with words that clap takes.
-fn own_fault(alloc: Global, meaning: &Meaning) -> Result<Option<String>, AllocError> {
-    let text = match meaning {
-        Meaning::BadNumber {
-            option,
-            value,
-            wanted,
-        } => {
-            let value = value.as_str();
-            format!(in alloc; "jobscope: {option} {value:?}: wanted {wanted}\n")?
-        }
-        Meaning::BothZones => String::from_str(
-            alloc,
-            "jobscope: --zone and --zone-file can't stand together\n",
-        )?,
-        _ => return Ok(None),
-    };
-    Ok(Some(text))
 }
