@@ -2,14 +2,13 @@
 //! from 0.
 
 use crate::echo::{Budget, Echo};
-use crate::system::folder_name;
+use crate::places::{Watch, folder_name, is_woken, new_watch};
 use control_socket::ControlSocket;
-use mio::{Events, Poll, Token};
+use mio::Token;
 use std::alloc::Global;
 use std::io::{ErrorKind, Read, Write};
 use std::net::Shutdown;
 use std::os::unix::net::UnixStream;
-use std::time::Duration;
 
 /// What is done, and what is expected of it.
 #[derive(Clone, Copy)]
@@ -54,18 +53,20 @@ pub enum Step {
 #[derive(Drop)]
 struct Stage {
     path: String,
-    poll: Poll,
-    events: Events,
+    watch: Watch,
     socket: ControlSocket,
     echo: Echo,
     budget: Budget,
     clients: Vec<Option<UnixStream>>,
 }
 
+/// Under this token the socket wakes the poll.
+const ASKED: Token = Token(3);
+
 /// The socket at the path, registered with the poll.
-fn socket_at(rt: &HostRuntime, path: &str, poll: &Poll) -> Option<ControlSocket> {
+fn socket_at(rt: &HostRuntime, path: &str, watch: &Watch) -> Option<ControlSocket> {
     let mut socket = ControlSocket::open(rt, rt.alloc(), path).ok()?;
-    if socket.register(poll.registry(), Token(3)).is_ok() {
+    if socket.register(watch.poll.registry(), ASKED).is_ok() {
         Some(socket)
     } else {
         drop(socket);
@@ -74,45 +75,27 @@ fn socket_at(rt: &HostRuntime, path: &str, poll: &Poll) -> Option<ControlSocket>
 }
 
 /// A stage with no client.
-fn stage_of(
-    alloc: Global,
-    path: String,
-    poll: Poll,
-    events: Events,
-    socket: ControlSocket,
-) -> Stage {
-    Stage {
+fn new_stage(rt: &HostRuntime, name: &str) -> Option<Stage> {
+    let path = folder_name(rt, name)?;
+    let watch = new_watch(rt)?;
+    let Some(socket) = socket_at(rt, path.as_str(), &watch) else {
+        drop(watch);
+        return None;
+    };
+    Some(Stage {
         path,
-        poll,
-        events,
+        watch,
         socket,
         echo: Echo {
-            asked: Vec::new(alloc),
+            asked: Vec::new(rt.alloc()),
         },
         budget: Budget {
             lines: u32::MAX,
             up: 0,
             left: 0,
         },
-        clients: Vec::new(alloc),
-    }
-}
-
-fn new_stage(rt: &HostRuntime, name: &str) -> Option<Stage> {
-    let path = folder_name(rt, name)?;
-    let poll = Poll::new(rt).ok()?;
-    let events = Events::with_capacity(rt.alloc(), 8);
-    let socket = socket_at(rt, path.as_str(), &poll);
-    match (events, socket) {
-        (Ok(events), Some(socket)) => Some(stage_of(rt.alloc(), path, poll, events, socket)),
-        (events, socket) => {
-            drop(path);
-            drop(poll);
-            drop(events);
-            drop(socket);
-            None
-        }
-    }
+        clients: Vec::new(rt.alloc()),
+    })
 }
 
 /// Plays the steps. The number of the first that goes wrong, or of none; or None if the socket can't be opened.
@@ -176,15 +159,7 @@ impl Stage {
                 is_same
             }
             Step::Quiet(is_quiet) => self.socket.is_quiet() == is_quiet,
-            Step::Woken(is_woken) => {
-                let wait = Duration::from_millis(if is_woken { 5_000 } else { 20 });
-                let is_polled = self.poll.poll(&mut self.events, Some(wait)).is_ok();
-                let mut is_token = false;
-                for event in self.events.iter() {
-                    is_token = is_token || event.token() == Token(3);
-                }
-                is_polled && is_token == is_woken
-            }
+            Step::Woken(wanted) => is_woken(&mut self.watch, ASKED, wanted),
             _ => false,
         }
     }
@@ -196,7 +171,7 @@ impl Stage {
             is_busy = self
                 .socket
                 .serve(rt.alloc(), &mut self.echo, &mut self.budget);
-            self.socket.accept(rt, self.poll.registry());
+            self.socket.accept(rt, self.watch.poll.registry());
         }
         is_busy
     }
