@@ -117,15 +117,39 @@ impl Stage {
     fn play(&mut self, rt: &HostRuntime, step: Step) -> bool {
         match step {
             Step::Connect(count) => self.connect(rt, count).is_some(),
-            Step::Sends(number, text) => self.send(number, true, text.as_bytes(), 1),
+            Step::Sends(number, text) => send(&mut self.clients, number, true, text.as_bytes(), 1),
             Step::SendsTimes(number, text, count) => {
-                self.send(number, true, text.as_bytes(), count)
+                send(&mut self.clients, number, true, text.as_bytes(), count)
             }
-            Step::OthersSend(number, text) => self.send(number, false, text.as_bytes(), 1),
-            Step::SendsBlocks(number, count) => self.send(number, true, &[b'n'; 4096], count),
-            Step::Hears(number, text) => self.hears(rt.alloc(), number, Some(text), false),
-            Step::HearsLast(number, text) => self.hears(rt.alloc(), number, Some(text), true),
-            Step::IsLetGo(number) => self.hears(rt.alloc(), number, None, true),
+            Step::OthersSend(number, text) => send(
+                &mut self.clients,
+                number,
+                false,
+                text.as_bytes(),
+                1,
+            ),
+            Step::SendsBlocks(number, count) => send(
+                &mut self.clients,
+                number,
+                true,
+                &[b'n'; 4096],
+                count,
+            ),
+            Step::Hears(number, text) => hears(
+                rt.alloc(),
+                &mut self.clients,
+                number,
+                Some(text),
+                false,
+            ),
+            Step::HearsLast(number, text) => hears(
+                rt.alloc(),
+                &mut self.clients,
+                number,
+                Some(text),
+                true,
+            ),
+            Step::IsLetGo(number) => hears(rt.alloc(), &mut self.clients, number, None, true),
             Step::Rounds(count) => {
                 let _is_busy = self.rounds(rt, count);
                 true
@@ -184,53 +208,68 @@ impl Stage {
         }
         Some(())
     }
+}
 
-    // The client of the number, or each of the others, sends the piece so many times. Whether all is taken whole.
-    fn send(&mut self, number: usize, is_itself: bool, piece: &[u8], count: usize) -> bool {
-        let mut is_sent = false;
-        for (other, client) in self.clients.iter_mut().enumerate() {
-            if (other == number) != is_itself {
-                continue;
-            }
+/// Sends the piece so many times, and says whether all is taken whole.
+fn sends(client: &mut UnixStream, piece: &[u8], count: usize) -> bool {
+    let mut is_whole = true;
+    for _ in 0..count {
+        is_whole &= matches!(client.write(piece), Ok(taken) if taken == piece.len());
+    }
+    is_whole
+}
+
+/// The client of the number, or each of the others, sends the piece so many times. Whether there is one, and all is taken whole.
+fn send(
+    clients: &mut [Option<UnixStream>],
+    number: usize,
+    is_itself: bool,
+    piece: &[u8],
+    count: usize,
+) -> bool {
+    let mut is_sent = false;
+    let mut is_whole = true;
+    for (other, client) in clients.iter_mut().enumerate() {
+        if (other == number) == is_itself {
             if let Some(client) = client {
-                for _ in 0..count {
-                    match client.write(piece) {
-                        Ok(taken) if taken == piece.len() => is_sent = true,
-                        _ => return false,
-                    }
-                }
+                is_sent = true;
+                is_whole &= sends(client, piece, count);
             }
         }
-        is_sent
     }
+    is_sent && is_whole
+}
 
-    // Whether what is there for the client to be read is this text, and the end came behind it or did not.
-    fn hears(&mut self, alloc: Global, number: usize, text: Option<&str>, is_last: bool) -> bool {
-        let Some(Some(client)) = self.clients.get_mut(number) else {
-            return false;
-        };
-        let mut heard = Vec::new(alloc);
-        let mut piece = [0u8; 4096];
-        let mut is_end = false;
-        for _ in 0..1_000u32 {
-            match client.read(&mut piece) {
-                Ok(0) => {
-                    is_end = true;
-                    break;
-                }
-                Ok(count) => {
-                    if heard.extend_from_slice(&piece[..count]).is_err() {
-                        return false;
-                    }
-                }
-                Err(error) if error.kind() == ErrorKind::WouldBlock => break,
-                Err(_) => return false,
-            }
+/// Takes what is there for the client to be read, and says whether the end came behind it. None if that can't be told.
+fn heard(client: &mut UnixStream, heard: &mut Vec<u8>) -> Option<bool> {
+    let mut piece = [0u8; 4096];
+    for _ in 0..1_000u32 {
+        match client.read(&mut piece) {
+            Ok(0) => return Some(true),
+            Ok(count) => heard.extend_from_slice(&piece[..count.min(4096)]).ok()?,
+            Err(error) if error.kind() == ErrorKind::WouldBlock => return Some(false),
+            Err(_) => return None,
         }
-        let is_text = match text {
-            Some(text) => heard.as_slice() == text.as_bytes(),
-            None => true,
-        };
-        is_text && is_end == is_last
     }
+    Some(false)
+}
+
+/// Whether what is there for the client to be read is this text, and the end came behind it or did not.
+fn hears(
+    alloc: Global,
+    clients: &mut [Option<UnixStream>],
+    number: usize,
+    text: Option<&str>,
+    is_last: bool,
+) -> bool {
+    let Some(Some(client)) = clients.get_mut(number) else {
+        return false;
+    };
+    let mut bytes = Vec::new(alloc);
+    let is_end = heard(client, &mut bytes);
+    let is_text = match text {
+        Some(text) => bytes.as_slice() == text.as_bytes(),
+        None => true,
+    };
+    is_text && is_end == Some(is_last)
 }
