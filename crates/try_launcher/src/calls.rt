@@ -61,22 +61,24 @@ pub fn changes_of<S: Alter>(
     store.changes(alloc)
 }
 
-fn shows(setting: &Setting, want: &Row<'_>) -> bool {
-    setting.label.as_str() == want.0 && setting.disabled == want.1
-}
-
 /// Whether the settings are these, in this order.
 pub fn show_all(all: &[Setting], want: &[Row<'_>]) -> bool {
-    all.len() == want.len() && all.iter().zip(want).all(|(one, row)| shows(one, row))
-}
-
-fn tells(change: &(String, u64), want: &Row<'_>) -> bool {
-    change.0.as_str() == want.0 && change.1 == want.2
+    let mut are_so = all.len() == want.len();
+    for (setting, row) in all.iter().zip(want) {
+        are_so &= setting.label.as_str() == row.0;
+        are_so &= setting.disabled == row.1;
+    }
+    are_so
 }
 
 /// Whether the seconds are these, in this order.
-pub fn tell_all(changes: &[(String, u64)], want: &[Row<'_>]) -> bool {
-    changes.len() == want.len() && changes.iter().zip(want).all(|(one, row)| tells(one, row))
+fn tell_all(changes: &[(String, u64)], want: &[Row<'_>]) -> bool {
+    let mut are_so = changes.len() == want.len();
+    for (change, row) in changes.iter().zip(want) {
+        are_so &= change.0.as_str() == row.0;
+        are_so &= change.1 == row.2;
+    }
+    are_so
 }
 
 /// Whether the store has these settings, each with its second.

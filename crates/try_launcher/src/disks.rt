@@ -1,4 +1,4 @@
-//! Copies of disks in memory, with and without fuses.
+//! Disks in memory that stop after so many calls.
 
 use sqlite::Files;
 use sqlite_disk::{Disk, Fuse, Memory};
@@ -7,20 +7,32 @@ use std::alloc::Global;
 /// More calls than any run makes.
 pub const MANY: u64 = 1_000_000;
 
-fn copy(alloc: Global, disk: &Memory) -> Option<Memory> {
+/// The disks of a store's log and of its database.
+pub type Disks = Files<Fuse<Memory>>;
+
+/// Disks that hold nothing yet, and do not stop.
+pub fn new_disks(alloc: Global) -> Disks {
+    Files {
+        log: Fuse::new(Memory::new(alloc), MANY),
+        db: Fuse::new(Memory::new(alloc), MANY),
+    }
+}
+
+/// A disk that holds the same, and stops after so many calls.
+fn copy(alloc: Global, disk: &Fuse<Memory>, calls: u64) -> Option<Fuse<Memory>> {
     let mut out = Memory::new(alloc);
-    let is_written = out.write_at(0, disk.bytes()).is_ok();
+    let is_written = out.write_at(0, disk.inner().bytes()).is_ok();
     if is_written {
-        Some(out)
+        Some(Fuse::new(out, calls))
     } else {
         drop(out);
         None
     }
 }
 
-/// The files of both disks, if both are there.
-fn both(log: Option<Memory>, db: Option<Memory>) -> Option<Files<Memory>> {
-    match (log, db) {
+/// Disks that hold the same; that of the log stops after so many calls, and that of the database after so many.
+pub fn copies(alloc: Global, from: &Disks, log: u64, db: u64) -> Option<Disks> {
+    match (copy(alloc, &from.log, log), copy(alloc, &from.db, db)) {
         (Some(log), Some(db)) => Some(Files { log, db }),
         (log, db) => {
             drop(log);
@@ -30,24 +42,9 @@ fn both(log: Option<Memory>, db: Option<Memory>) -> Option<Files<Memory>> {
     }
 }
 
-/// Copies of the files; that of the log stops after so many calls, and that of the database after so many.
-pub fn fused(
-    alloc: Global,
-    from: &Files<Memory>,
-    log: u64,
-    db: u64,
-) -> Option<Files<Fuse<Memory>>> {
-    let files = both(copy(alloc, &from.log), copy(alloc, &from.db))?;
-    Some(Files {
-        log: Fuse::new(files.log, log),
-        db: Fuse::new(files.db, db),
-    })
-}
-
-/// What the disks hold, without their fuses.
-pub fn left(alloc: Global, files: Files<Fuse<Memory>>) -> Option<Files<Memory>> {
-    let log = copy(alloc, files.log.inner());
-    let db = copy(alloc, files.db.inner());
-    drop(files);
-    both(log, db)
+/// What the disks hold, on disks that do not stop.
+pub fn left(alloc: Global, disks: Disks) -> Option<Disks> {
+    let left = copies(alloc, &disks, MANY, MANY);
+    drop(disks);
+    left
 }

@@ -1,7 +1,7 @@
 //! The calls of a feed of lines that take memory.
 
 use ctl_protocol::{LINE_LIMIT, LineFault, LineFeed};
-use scarce_memory::{Answer, Trial};
+use scarce_memory::{Answer, Hoard, Trial};
 use std::alloc::Global;
 use std::mem;
 
@@ -20,19 +20,10 @@ const SECOND: &[u8] =
 /// A feed whose next piece is fed, or whose next line is taken. If that is refused, the feed has what it had, and the same call
 /// with memory is not.
 #[derive(Drop)]
-pub struct Feeding {
+struct Feeding {
     /// Whether a line is taken; otherwise the piece is fed.
     is_taking: bool,
     feed: Option<LineFeed>,
-}
-
-impl Feeding {
-    pub fn new(is_taking: bool) -> Feeding {
-        Feeding {
-            is_taking,
-            feed: None,
-        }
-    }
 }
 
 /// A feed that was given the first piece, and also the second if a line is to be taken.
@@ -98,4 +89,18 @@ impl Trial for Feeding {
         let is_out = matches!(feed.next_line(), Ok(None));
         is_kept && is_fed && has_first && has_second && is_out && feed.rest() == b"third".as_slice()
     }
+}
+
+/// Each call by its name, and whether a line is taken by it.
+static CALLS: &[(&str, bool)] = &[("LineFeed::feed", false), ("LineFeed::next_line", true)];
+
+pub fn try_all(rt: &impl Print, alloc: Global, hoard: &mut Hoard) -> anyhow::Result<()> {
+    for (name, is_taking) in CALLS {
+        let trial = Feeding {
+            is_taking: *is_taking,
+            feed: None,
+        };
+        crate::tried(rt, alloc, hoard, name, trial)?;
+    }
+    Ok(())
 }

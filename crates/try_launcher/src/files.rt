@@ -2,10 +2,11 @@
 
 use crate::calls::{FIRST_VERSION, Row, SECOND, connected, files_of, has, opened, runs};
 use crate::cases::set_all;
+use crate::disks::{Disks, new_disks};
 use override_store::OverrideStore;
 use override_store::again::on_files;
 use sqlite::{Alter, Connection, FileStore, Files, Options};
-use sqlite_disk::{Disk, Memory};
+use sqlite_disk::Disk;
 use std::alloc::Global;
 
 /// What is set between an opening of the files and their closing, and what a store over the files lists after that.
@@ -112,15 +113,9 @@ fn passes<D: Disk + Drop>(alloc: Global, files: Files<D>, rounds: &[Round]) -> b
     true
 }
 
-fn new_files(alloc: Global) -> Files<Memory> {
-    let log = Memory::new(alloc);
-    let db = Memory::new(alloc);
-    Files { log, db }
-}
-
 /// The files of a store with no setting.
-pub fn empty_files(alloc: Global) -> Option<Files<Memory>> {
-    played(alloc, new_files(alloc), &NOTHING)
+pub fn empty_files(alloc: Global) -> Option<Disks> {
+    played(alloc, new_disks(alloc), &NOTHING)
 }
 
 /// The connection's files once the text was run.
@@ -137,8 +132,8 @@ fn ran<D: Disk + Drop>(conn: Connection<FileStore<D>>, sql: &str) -> Option<File
 }
 
 /// Files of the first version, with two settings.
-pub fn old_files(alloc: Global) -> Option<Files<Memory>> {
-    ran(connected(alloc, new_files(alloc), 3)?, FIRST_VERSION)
+pub fn old_files(alloc: Global) -> Option<Disks> {
+    ran(connected(alloc, new_disks(alloc), 3)?, FIRST_VERSION)
 }
 
 /// Whether the rounds pass over files of the first version.
@@ -151,7 +146,7 @@ fn old_pass(alloc: Global) -> bool {
 
 /// Shows whether settings last over closed files.
 pub fn try_all(rt: &impl Print, alloc: Global) -> anyhow::Result<()> {
-    let do_last = passes(alloc, new_files(alloc), NEW);
+    let do_last = passes(alloc, new_disks(alloc), NEW);
     crate::show(rt, "settings_last_over_closed_files", do_last)?;
     crate::show(
         rt,

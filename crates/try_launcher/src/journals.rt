@@ -2,9 +2,10 @@
 //! lines are those of the line protocol, and off no run of this code.
 
 use crate::failing_writer::FailingWriter;
-use ctl_protocol::{Header, Settings, ZoneText};
-use history_model::{Answer, Event, JobItem, Reading, Text};
+use ctl_protocol::Header;
+use history_model::{Answer, Event, JobItem, Text};
 use launcher::Journal;
+use memory_stage::header;
 use std::alloc::{AllocError, Global};
 
 /// The header's line, and those of two events.
@@ -17,22 +18,22 @@ const LINES: &[u8] = b"{\"overrides\":{},\"up\":0,\"wall\":1700000000,\"zone\":\
 struct Row {
     /// The most bytes that one write takes.
     piece: usize,
-    /// How many writes go well.
-    writes: usize,
+    /// How many writes go well: each number from the first to the second.
+    writes: (usize, usize),
     /// Whether the write after them takes no byte; if not, it is an error.
     is_full: bool,
     /// Whether a flush is refused.
     refuses_flush: bool,
     /// Whether the journal stays open.
     is_open: bool,
-    /// Whether it holds all lines.
+    /// Whether it holds all lines; otherwise a front of them.
     is_whole: bool,
 }
 
 /// Whatever the pieces, all is written; the journal stays open, and nothing is told.
 const OPEN: Row = Row {
     piece: 7,
-    writes: 1000,
+    writes: (1000, 1000),
     is_full: false,
     refuses_flush: false,
     is_open: true,
@@ -40,7 +41,7 @@ const OPEN: Row = Row {
 };
 
 /// A writer that keeps its bytes back and refuses to give them on closes the journal, which holds them all the same.
-static ROWS: [Row; 4] = [
+const LINES_ARE_HELD: &[Row] = &[
     Row { piece: 1, ..OPEN },
     OPEN,
     Row {
@@ -54,12 +55,26 @@ static ROWS: [Row; 4] = [
     },
 ];
 
-/// A writer that fails closes the journal, which holds a front of the lines.
+/// Whichever write fails, or takes no byte, the journal is closed. In pieces of seven bytes the header needs 8 of them, the events 2
+/// and 7.
 const FRONT: Row = Row {
+    writes: (0, 16),
     is_open: false,
     is_whole: false,
     ..OPEN
 };
+
+const FULL: Row = Row {
+    is_full: true,
+    ..FRONT
+};
+
+/// The rows by what they show.
+static ROWS: &[(&str, &[Row])] = &[
+    ("a_journal_holds_its_lines", LINES_ARE_HELD),
+    ("a_journal_holds_a_front", &[FRONT]),
+    ("a_journal_over_a_full_writer_holds_a_front", &[FULL]),
+];
 
 /// What is told of a journal: twice whether it was closed, and whether its writer is given back.
 #[derive(Clone, Copy)]
@@ -67,18 +82,6 @@ struct Told {
     first: bool,
     second: bool,
     given: bool,
-}
-
-fn header(alloc: Global) -> Result<Header, AllocError> {
-    let rule = Text::copy_of(alloc, "UTC0")?;
-    Ok(Header {
-        reading: Reading {
-            up: 0,
-            wall: 1_700_000_000,
-        },
-        zone: ZoneText::Posix(rule),
-        overrides: Settings::new(Vec::new(alloc)),
-    })
 }
 
 /// The second of the two events.
@@ -106,21 +109,17 @@ fn turned(alloc: Global, journal: Journal<&mut FailingWriter>, event: &Event) ->
     }
 }
 
-fn writer(alloc: Global, row: Row) -> FailingWriter {
-    FailingWriter {
+/// Says whether the journal over a writer for which so many writes go well becomes what the row says. Its closing is told once, and a
+/// writer that fails at no write is flushed once.
+fn becomes(alloc: Global, row: Row, writes: usize, header: &Header, event: &Event) -> bool {
+    let mut writer = FailingWriter {
         taken: Vec::new(alloc),
         piece: row.piece,
-        writes: row.writes,
+        writes,
         is_full: row.is_full,
         flushes: 0,
         refuses_flush: row.refuses_flush,
-    }
-}
-
-/// Says whether the journal over the writer becomes what the row says. Its closing is told once, and a writer that fails at no write
-/// is flushed once.
-fn becomes(alloc: Global, row: Row, header: &Header, event: &Event) -> bool {
-    let mut writer = writer(alloc, row);
+    };
     let told = turned(alloc, Journal::begin(alloc, &mut writer, header), event);
     let is_told = told.first != row.is_open && !told.second && told.given == row.is_open;
     let written = writer.taken.as_slice();
@@ -132,56 +131,43 @@ fn becomes(alloc: Global, row: Row, header: &Header, event: &Event) -> bool {
     is_told && holds
 }
 
-fn is_so(alloc: Global, row: Row) -> bool {
-    let header = header(alloc);
-    let event = event(alloc);
-    let is_so = match (&header, &event) {
-        (Ok(header), Ok(event)) => becomes(alloc, row, header, event),
-        _ => false,
-    };
-    drop(header);
-    drop(event);
-    is_so
+fn all_become(alloc: Global, rows: &[Row], header: &Header, event: &Event) -> bool {
+    let mut are_so = true;
+    for row in rows {
+        let (first, last) = row.writes;
+        for writes in first..=last {
+            are_so &= becomes(alloc, *row, writes, header, event);
+        }
+    }
+    are_so
 }
 
 /// Says whether no journal stays silent: nothing is told and nothing is given back.
-fn is_silent(alloc: Global) -> Result<bool, AllocError> {
-    let event = event(alloc)?;
-    let told = turned(alloc, Journal::none(), &event);
-    drop(event);
-    Ok(!told.first && !told.second && !told.given)
+fn is_silent(alloc: Global, event: &Event) -> bool {
+    let told = turned(alloc, Journal::none(), event);
+    !told.first && !told.second && !told.given
 }
 
-fn rows_are_so(alloc: Global) -> bool {
-    let mut are_so = true;
-    for row in ROWS {
-        let is_so = is_so(alloc, row);
-        are_so = are_so && is_so;
+fn try_each(rt: &impl Print, alloc: Global, header: &Header, event: &Event) -> anyhow::Result<()> {
+    for (name, rows) in ROWS {
+        crate::show(rt, name, all_become(alloc, rows, header, event))?;
     }
-    are_so
-}
-
-/// Whichever write fails, or takes no byte. In pieces of seven bytes the header needs 8 of them, the events 2 and 7.
-fn fronts_are_so(alloc: Global, is_full: bool) -> bool {
-    let mut are_so = true;
-    for writes in 0..17usize {
-        let row = Row {
-            writes,
-            is_full,
-            ..FRONT
-        };
-        let is_so = is_so(alloc, row);
-        are_so = are_so && is_so;
-    }
-    are_so
+    crate::show(rt, "no_journal_stays_silent", is_silent(alloc, event))
 }
 
 /// Shows whether the journals hold their lines, or a front of them.
 pub fn try_all(rt: &impl Print, alloc: Global) -> anyhow::Result<()> {
-    crate::show(rt, "a_journal_holds_its_lines", rows_are_so(alloc))?;
-    crate::show(rt, "a_journal_holds_a_front", fronts_are_so(alloc, false))?;
-    let is_front = fronts_are_so(alloc, true);
-    crate::show(rt, "a_journal_over_a_full_writer_holds_a_front", is_front)?;
-    let is_silent = is_silent(alloc) == Ok(true);
-    crate::show(rt, "no_journal_stays_silent", is_silent)
+    match (header(alloc, "UTC0", 0), event(alloc)) {
+        (Ok(header), Ok(event)) => {
+            let done = try_each(rt, alloc, &header, &event);
+            drop(header);
+            drop(event);
+            done
+        }
+        (header, event) => {
+            drop(header);
+            drop(event);
+            anyhow::bail!("no memory")
+        }
+    }
 }

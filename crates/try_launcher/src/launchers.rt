@@ -2,11 +2,10 @@
 //! replies, calls and lines are read off the rules of launchctl(1) and launchd.plist(5) and the line protocol, and off no run
 //! of this code.
 
-use crate::staged::parts_of;
+use crate::staged::{asked, parts_of};
 use crate::turning::{LIST, LOAD, LOAD_LISTENING};
-use child_edge::{EdgeCall, MemoryEdge, Scripted};
+use child_edge::{EdgeCall, Scripted};
 use history_model::{Ended, JobNo, Reading, Refusal};
-use job_table::JobTable;
 use launcher::Input;
 use memory_stage::{MemoryStore, Sink, Stage, opened};
 use std::alloc::Global;
@@ -46,6 +45,9 @@ const LOAD_AT_ONCE: Input<'static> = Input::Line(
 const STOP: Input<'static> = Input::Line(b"{\"req\":\"stop\",\"job\":\"a\"}");
 
 const DISABLE_A: Input<'static> = Input::Line(b"{\"req\":\"disable\",\"job\":\"a\"}");
+
+/// A reading is no request.
+const CLOCK_LINE: Input<'static> = Input::Line(b"{\"req\":\"clock\",\"up\":1,\"wall\":1}");
 
 const KILLED: Input<'static> = Input::Ended("a", 1, Ended::Signal(9));
 
@@ -153,20 +155,6 @@ const WITH_A_JOB: Case = Case {
 const WITHOUT: Case = Case {
     has_job: false,
     ..WITH_A_JOB
-};
-
-/// What is told is no event: the journal holds its header alone.
-const NO_EVENT: Case = Case {
-    name: "a_line_that_is_no_request_is_no_event",
-    writes: 10,
-    journal: Some(HEADER),
-    ..WITHOUT
-};
-
-/// The same of what happens under a name that is no label.
-const NO_LABEL: Case = Case {
-    name: "a_name_that_is_no_label_is_no_event",
-    ..NO_EVENT
 };
 
 static CASES: &[Case] = &[
@@ -337,42 +325,29 @@ static CASES: &[Case] = &[
         is_closed: true,
         ..WITH_A_JOB
     },
+    // What is told is no event: the journal holds its header alone.
     Case {
-        told: &[(Input::Line(b"{\"req\":\"lists\"}"), 2, "", 0)],
-        ..NO_EVENT
+        name: "a_line_that_is_no_request_is_no_event",
+        told: &[
+            (Input::Line(b"{\"req\":\"lists\"}"), 2, "", 0),
+            (CLOCK_LINE, 2, "", 0),
+            (Input::Line(b"{\"ev\":\"list\"}"), 2, "", 0),
+            (Input::Line(b""), 2, "", 0),
+        ],
+        journal: Some(HEADER),
+        ..WITHOUT
     },
+    // The same of what happens under a name that is no label.
     Case {
-        told: &[(
-            Input::Line(b"{\"req\":\"clock\",\"up\":1,\"wall\":1}"),
-            2,
-            "",
-            0,
-        )],
-        ..NO_EVENT
-    },
-    Case {
-        told: &[(Input::Line(b"{\"ev\":\"list\"}"), 2, "", 0)],
-        ..NO_EVENT
-    },
-    Case {
-        told: &[(Input::Line(b""), 2, "", 0)],
-        ..NO_EVENT
-    },
-    Case {
-        told: &[(Input::Came("", 1), 2, "", 0)],
-        ..NO_LABEL
-    },
-    Case {
-        told: &[(Input::Left("a/b", 1), 2, "", 0)],
-        ..NO_LABEL
-    },
-    Case {
-        told: &[(Input::Ended("a\n", 1, Ended::Code(0)), 2, "", 0)],
-        ..NO_LABEL
-    },
-    Case {
-        told: &[(Input::WaitRefused("", 1), 2, "", 0)],
-        ..NO_LABEL
+        name: "a_name_that_is_no_label_is_no_event",
+        told: &[
+            (Input::Came("", 1), 2, "", 0),
+            (Input::Left("a/b", 1), 2, "", 0),
+            (Input::Ended("a\n", 1, Ended::Code(0)), 2, "", 0),
+            (Input::WaitRefused("", 1), 2, "", 0),
+        ],
+        journal: Some(HEADER),
+        ..WITHOUT
     },
 ];
 
@@ -386,23 +361,12 @@ fn launched(alloc: Global, case: &Case) -> Result<Stage, Refusal> {
     }
 }
 
-/// Whether the input is answered as it says, and so many calls were then made.
-fn is_answered(alloc: Global, stage: &mut Stage, told: Told) -> bool {
-    let (input, code, text, made) = told;
-    let reply = stage.turn(alloc, input);
-    let given = match reply.refusal {
-        Some(refusal) => refusal.code(),
-        None => 0,
-    };
-    let is_text = reply.text.as_str() == text;
-    given == code && is_text && stage.edge().calls().len() == made
-}
-
+/// Whether each input is answered as it says, and so many calls were then made.
 fn are_answered(alloc: Global, stage: &mut Stage, told: &[Told]) -> bool {
     let mut are_so = true;
-    for one in told {
-        let is_so = is_answered(alloc, stage, *one);
-        are_so = are_so && is_so;
+    for (input, code, text, made) in told {
+        are_so &= asked(alloc, stage, *input, text) == (*code, true);
+        are_so &= stage.edge().calls().len() == *made;
     }
     are_so
 }
@@ -432,14 +396,10 @@ fn has_noted(journal: Option<&Sink>, case: &Case) -> bool {
     }
 }
 
-fn is_left(table: &JobTable, edge: &MemoryEdge, case: &Case) -> bool {
-    edge.calls() == case.calls && table.is_empty() != case.has_job
-}
-
 /// Whether the launcher leaves what the case says. It is let go here alone, since each place that lets it go is proved for its whole type.
 fn leaves(stage: Stage, case: &Case) -> bool {
     let (table, store, edge, journal) = stage.into_parts();
-    let is_left = is_left(&table, &edge, case);
+    let is_left = edge.calls() == case.calls && table.is_empty() != case.has_job;
     let has_stored = has_stored(&store, case);
     let has_noted = has_noted(journal.as_ref(), case);
     drop(table);

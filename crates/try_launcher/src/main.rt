@@ -10,13 +10,11 @@ mod disks;
 mod failing_writer;
 mod feeding;
 mod files;
-mod job;
 mod journals;
 mod launchers;
-mod launching;
-mod lines;
 mod many;
 mod openings;
+mod plain_calls;
 mod replaying;
 mod staged;
 mod stopped_turns;
@@ -24,18 +22,10 @@ mod stops;
 mod storing;
 mod turning;
 
-use crate::feeding::Feeding;
-use crate::job::{DEFINITION, PARTS, Part};
-use crate::lines::{CALLS, Telling};
-use crate::replaying::Replaying;
-use crate::staged::Staging;
-use crate::storing::{Call, InMemory, OwnFile, STORE_CALLS, State, Storing};
-use crate::turning::{TURNS, Turning};
-use anyhow::{Result, bail};
-use job_defs::read_def;
+use crate::storing::{InMemory, OwnFile};
+use anyhow::Result;
 use memory_stage::Stage;
 use scarce_memory::{Hoard, Trial, run_with_little, show_run};
-use sqlite::{File, FileStore, MemStore};
 use std::alloc::Global;
 use std::env;
 
@@ -67,77 +57,20 @@ fn tried<T: Trial + Drop>(
     show_run(rt, alloc, hoard, name, &mut trial)
 }
 
-fn parts(rt: &impl Print, alloc: Global, hoard: &mut Hoard) -> Result<()> {
-    for (name, part) in PARTS {
-        let Ok(def) = read_def(alloc, DEFINITION.as_bytes()) else {
-            bail!("the definition was refused");
-        };
-        tried(rt, alloc, hoard, name, Part { call: *part, def })?;
-    }
-    Ok(())
-}
-
-fn texts(rt: &impl Print, alloc: Global, hoard: &mut Hoard) -> Result<()> {
-    for (name, call) in CALLS {
-        tried(rt, alloc, hoard, name, Telling::new(alloc, *call)?)?;
-    }
-    Ok(())
-}
-
-fn streams(rt: &impl Print, alloc: Global, hoard: &mut Hoard) -> Result<()> {
-    tried(rt, alloc, hoard, "LineFeed::feed", Feeding::new(false))?;
-    tried(rt, alloc, hoard, "LineFeed::next_line", Feeding::new(true))?;
-    let written = Vec::new(alloc);
-    tried(rt, alloc, hoard, "replay", Replaying { written })
-}
-
-fn openings_of_stores(rt: &HostRuntime, hoard: &mut Hoard) -> Result<()> {
-    let trial: Storing<FileStore<File>, OwnFile<'_>> = Storing {
-        place: OwnFile { rt },
-        call: Call::Open,
-        state: State::Nothing,
-    };
-    tried(rt, rt.alloc(), hoard, "OverrideStore::open_on", trial)
-}
-
-fn open_stores(rt: &impl Print, alloc: Global, hoard: &mut Hoard) -> Result<()> {
-    for (name, call) in STORE_CALLS {
-        let trial: Storing<MemStore, InMemory> = Storing {
-            place: InMemory {},
-            call: *call,
-            state: State::Nothing,
-        };
-        tried(rt, alloc, hoard, name, trial)?;
-    }
-    Ok(())
-}
-
-fn new_launchers(rt: &impl Print, alloc: Global, hoard: &mut Hoard) -> Result<()> {
-    let trial: launching::Making<Stage, Staging> = launching::Making::new(Staging {});
-    tried(rt, alloc, hoard, "Host::new", trial)
-}
-
-fn turns(rt: &impl Print, alloc: Global, hoard: &mut Hoard) -> Result<()> {
-    for turn in TURNS {
-        let trial: Turning<Stage, Staging> = Turning::new(Staging {}, turn);
-        tried(rt, alloc, hoard, turn.name, trial)?;
-    }
-    Ok(())
-}
-
-fn try_short(rt: &HostRuntime, hoard: &mut Hoard) -> Result<()> {
-    parts(rt, rt.alloc(), hoard)?;
-    texts(rt, rt.alloc(), hoard)?;
-    streams(rt, rt.alloc(), hoard)?;
-    openings_of_stores(rt, hoard)?;
-    open_stores(rt, rt.alloc(), hoard)?;
-    new_launchers(rt, rt.alloc(), hoard)?;
-    turns(rt, rt.alloc(), hoard)
+/// Tries each call. What is tried is made in functions that are generic over the store and the launcher, so that neither is named here.
+fn try_short(rt: &HostRuntime, alloc: Global, hoard: &mut Hoard) -> Result<()> {
+    plain_calls::try_all(rt, alloc, hoard)?;
+    feeding::try_all(rt, alloc, hoard)?;
+    replaying::try_it(rt, alloc, hoard)?;
+    storing::try_opening(rt, alloc, hoard, OwnFile { rt })?;
+    storing::try_calls(rt, alloc, hoard, InMemory {})?;
+    turning::try_making::<Stage>(rt, alloc, hoard)?;
+    turning::try_turns::<Stage>(rt, alloc, hoard)
 }
 
 fn short(rt: &HostRuntime) -> Result<()> {
     let mut hoard = Hoard::new(rt.alloc())?;
-    let done = try_short(rt, &mut hoard);
+    let done = try_short(rt, rt.alloc(), &mut hoard);
     drop(hoard);
     done
 }

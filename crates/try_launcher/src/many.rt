@@ -8,24 +8,22 @@ use std::alloc::{AllocError, Global};
 
 const LABELS: u64 = 1_000;
 
-const LONGEST: usize = 255;
+/// What follows the four digits of a label, which has 255 bytes then.
+const REST: &str =
+    "xxxxxxxxxxxxxxxxxxxxxxxxxxxxxxxxxxxxxxxxxxxxxxxxxxxxxxxxxxxxxxxxxxxxxxxxxxxxxxxxxxxxxxxxxxxxxxxxxxxxxxxxxxxxxxxxxxxxxxxxxxxxxxxxxxxxxxxxxxxxxxxxxxxxxxxxxxxxxxxxxxxxxxxxxxxxxxxxxxxxxxxxxxxxxxxxxxxxxxxxxxxxxxxxxxxxxxxxxxxxxxxxxxxxxxxxxxxxxxxxxxxxxxxxxxx";
 
 /// The label with this number: labels with greater numbers come later.
-fn label_of(alloc: Global, number: u64, bytes: usize) -> Result<String, AllocError> {
-    let mut label = format!(in alloc; "{number:04}")?;
-    for _ in label.len()..bytes {
-        label.push('x')?;
-    }
-    Ok(label)
+fn label_of(alloc: Global, number: u64) -> Result<String, AllocError> {
+    format!(in alloc; "{number:04}{REST}")
 }
 
 /// Every third label is disabled, and no two settings have the same second.
 fn sets_number<S: Alter>(alloc: Global, store: &mut OverrideStore<S>, number: u64) -> bool {
-    match label_of(alloc, number, LONGEST) {
-        Ok(label) => sets(
-            store,
-            (label.as_str(), number % 3 == 0, SECOND + number % LABELS),
-        ),
+    match label_of(alloc, number) {
+        Ok(label) => {
+            let second = SECOND.saturating_add(number);
+            sets(store, (label.as_str(), number % 3 == 0, second))
+        },
         Err(_) => false,
     }
 }
@@ -40,36 +38,27 @@ fn sets_all<S: Alter>(alloc: Global, store: &mut OverrideStore<S>) -> bool {
     true
 }
 
-fn is_setting(alloc: Global, setting: &Setting, number: u64) -> Result<bool, AllocError> {
-    let label = label_of(alloc, number, LONGEST)?;
-    Ok(setting.label.as_str() == label.as_str() && setting.disabled == (number % 3 == 0))
+fn is_row(alloc: Global, number: u64, setting: &Setting, change: &(String, u64)) -> bool {
+    match label_of(alloc, number) {
+        Ok(label) => {
+            let is_setting = setting.label.as_str() == label.as_str();
+            let is_change = change.0.as_str() == label.as_str();
+            let is_disabled = setting.disabled == (number % 3 == 0);
+            is_setting && is_change && is_disabled && change.1 == SECOND.saturating_add(number)
+        }
+        Err(_) => false,
+    }
 }
 
-fn are_settings(alloc: Global, all: &[Setting]) -> Result<bool, AllocError> {
+fn are_rows(alloc: Global, all: &[Setting], changes: &[(String, u64)]) -> bool {
     let mut number = 0u64;
-    for setting in all {
-        if !is_setting(alloc, setting, number)? {
-            return Ok(false);
+    for (setting, change) in all.iter().zip(changes) {
+        if !is_row(alloc, number, setting, change) {
+            return false;
         }
         number = number.saturating_add(1);
     }
-    Ok(number == LABELS)
-}
-
-fn is_change(alloc: Global, change: &(String, u64), number: u64) -> Result<bool, AllocError> {
-    let label = label_of(alloc, number, LONGEST)?;
-    Ok(change.0.as_str() == label.as_str() && change.1 == SECOND.saturating_add(number))
-}
-
-fn are_changes(alloc: Global, changes: &[(String, u64)]) -> Result<bool, AllocError> {
-    let mut number = 0u64;
-    for change in changes {
-        if !is_change(alloc, change, number)? {
-            return Ok(false);
-        }
-        number = number.saturating_add(1);
-    }
-    Ok(number == LABELS)
+    number == LABELS && all.len() == changes.len()
 }
 
 /// Whether the store lists all of them.
@@ -77,9 +66,7 @@ fn lists_all<S: Alter>(alloc: Global, store: &mut OverrideStore<S>) -> bool {
     let all = all_of(alloc, store);
     let changes = changes_of(alloc, store);
     let are_so = match (&all, &changes) {
-        (Ok(all), Ok(changes)) => {
-            are_settings(alloc, all) == Ok(true) && are_changes(alloc, changes) == Ok(true)
-        }
+        (Ok(all), Ok(changes)) => are_rows(alloc, all, changes),
         _ => false,
     };
     drop(all);

@@ -1,7 +1,7 @@
 //! The replay of a journal.
 
 use replay::{ReplayFault, replay};
-use scarce_memory::{Answer, Trial};
+use scarce_memory::{Answer, Hoard, Trial};
 use std::alloc::Global;
 
 /// A job that is started at once, and is asked for by each question.
@@ -29,8 +29,8 @@ const ROOM: usize = 4096;
 
 /// `replay`. If it is refused, what stands written is the outcome lines of the lines before, and with memory all are written.
 #[derive(Drop)]
-pub struct Replaying {
-    pub written: Vec<u8>,
+struct Replaying {
+    written: Vec<u8>,
 }
 
 /// Whether the bytes are a front of the outcome lines, each of them whole.
@@ -71,4 +71,9 @@ impl Trial for Replaying {
         let is_made = self.call(alloc) == Answer::Made;
         is_front && is_prepared && is_made && self.written.as_slice() == OUTCOMES
     }
+}
+
+pub fn try_it(rt: &impl Print, alloc: Global, hoard: &mut Hoard) -> anyhow::Result<()> {
+    let written = Vec::new(alloc);
+    crate::tried(rt, alloc, hoard, "replay", Replaying { written })
 }

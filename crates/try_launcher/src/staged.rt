@@ -4,8 +4,8 @@ use child_edge::{EdgeCall, MemoryEdge, Scripted};
 use ctl_protocol::Header;
 use history_model::{Refusal, Reply, Setting, Text};
 use launcher::{HostFault, Input};
-use memory_stage::{MemoryStore, Stage, edge, header, opened, set_stage, store};
-use std::alloc::Global;
+use memory_stage::{MemoryStore, Stage, edge, header, opened, store};
+use std::alloc::{AllocError, Global};
 
 /// What a launcher is made of.
 pub type Parts = (Header, MemoryStore, MemoryEdge);
@@ -15,6 +15,9 @@ const LINES: usize = 1_000;
 
 /// A launcher, whatever it is made of.
 pub trait Launched {
+    /// A launcher of the parts.
+    fn open(alloc: Global, parts: Parts) -> Result<Self, HostFault>;
+
     /// What it replies to the input.
     fn reply_to(&mut self, alloc: Global, input: Input<'_>) -> Reply;
 
@@ -25,16 +28,12 @@ pub trait Launched {
     fn has_closed(&mut self) -> bool;
 }
 
-/// Makes launchers.
-pub trait Launching<H> {
-    /// A launcher with no job and no setting, whose edge gives these answers.
-    fn set(&self, alloc: Global, answers: &[(EdgeCall, Scripted)]) -> Option<H>;
-
-    /// A launcher of the parts.
-    fn open(&self, alloc: Global, parts: Parts) -> Result<H, HostFault>;
-}
-
 impl Launched for Stage {
+    fn open(alloc: Global, parts: Parts) -> Result<Stage, HostFault> {
+        let (header, store, edge) = parts;
+        opened(alloc, header, store, edge, LINES)
+    }
+
     fn reply_to(&mut self, alloc: Global, input: Input<'_>) -> Reply {
         self.turn(alloc, input)
     }
@@ -48,21 +47,6 @@ impl Launched for Stage {
     }
 }
 
-/// Makes them in memory.
-#[derive(Clone, Copy)]
-pub struct Staging {}
-
-impl Launching<Stage> for Staging {
-    fn set(&self, alloc: Global, answers: &[(EdgeCall, Scripted)]) -> Option<Stage> {
-        set_stage(alloc, answers, true, LINES).ok()
-    }
-
-    fn open(&self, alloc: Global, parts: Parts) -> Result<Stage, HostFault> {
-        let (header, store, edge) = parts;
-        opened(alloc, header, store, edge, LINES)
-    }
-}
-
 /// The code and whether the text is this one.
 pub fn asked<H: Launched>(alloc: Global, host: &mut H, input: Input<'_>, text: &str) -> (u8, bool) {
     let reply = host.reply_to(alloc, input);
@@ -73,23 +57,15 @@ pub fn asked<H: Launched>(alloc: Global, host: &mut H, input: Input<'_>, text: &
     (code, reply.text.as_str() == text)
 }
 
-fn setting(alloc: Global, name: &str) -> Result<Setting, Refusal> {
-    match Text::copy_of(alloc, name) {
-        Ok(label) => Ok(Setting {
-            label,
-            disabled: true,
-        }),
-        Err(_) => Err(Refusal::NoMemory),
-    }
-}
-
 /// A setting for each of these names, in their order: it is disabled.
-fn disabled(alloc: Global, names: &[&str]) -> Result<Vec<Setting>, Refusal> {
+fn disabled(alloc: Global, names: &[&str]) -> Result<Vec<Setting>, AllocError> {
     let mut held = Vec::new(alloc);
     for name in names {
-        if held.push(setting(alloc, name)?).is_err() {
-            return Err(Refusal::NoMemory);
-        }
+        let label = Text::copy_of(alloc, name)?;
+        held.push(Setting {
+            label,
+            disabled: true,
+        })?;
     }
     Ok(held)
 }

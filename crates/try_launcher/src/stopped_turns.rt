@@ -2,7 +2,7 @@
 //! found by the store that is opened again, and one that was refused is not made.
 
 use crate::calls::connected;
-use crate::disks::{fused, left};
+use crate::disks::{Disks, copies, left};
 use crate::stops::found;
 use child_edge::{EdgeCall, MemoryEdge, Scripted};
 use history_model::Setting;
@@ -11,7 +11,7 @@ use memory_stage::{Sink, edge, header};
 use outside::SettingStore;
 use override_store::opened;
 use sqlite::{Alter, Connection, Files};
-use sqlite_disk::{Disk, Memory};
+use sqlite_disk::Disk;
 use std::alloc::Global;
 
 const DISABLE: &[u8] = b"{\"req\":\"disable\",\"job\":\"a\"}";
@@ -86,8 +86,8 @@ fn may_follow(codes: Codes, all: &[Setting]) -> bool {
 }
 
 /// Whether the setting was acknowledged; none if what is found does not follow.
-pub fn turns_stop(alloc: Global, from: &Files<Memory>, log: u64, db: u64) -> Option<bool> {
-    let Some((codes, files)) = run_from(alloc, fused(alloc, from, log, db)?) else {
+pub fn turns_stop(alloc: Global, from: &Disks, log: u64, db: u64) -> Option<bool> {
+    let Some((codes, files)) = run_from(alloc, copies(alloc, from, log, db)?) else {
         return Some(false);
     };
     let all = found(alloc, left(alloc, files)?)?;

@@ -2,13 +2,13 @@
 //! settings, or from the opening of a new one through a launcher's turns: what was acknowledged is found again.
 
 use crate::calls::{Row, SECOND, all_of, connected, opened, sets, show_all};
-use crate::disks::{MANY, fused, left};
+use crate::disks::{Disks, MANY, copies, left};
 use crate::files::{empty_files, old_files};
 use crate::stopped_turns::turns_stop;
 use history_model::Setting;
 use override_store::OverrideStore;
 use sqlite::{Alter, Connection, Files, Options};
-use sqlite_disk::{Disk, Memory};
+use sqlite_disk::Disk;
 use std::alloc::Global;
 
 const ON: Row<'static> = ("c", true, SECOND);
@@ -96,8 +96,8 @@ fn may_follow(said: Said, all: &[Setting]) -> bool {
 }
 
 /// Whether the second setting was acknowledged; none if what is found does not follow.
-fn settings_stop(alloc: Global, from: &Files<Memory>, log: u64, db: u64) -> Option<bool> {
-    let (said, files) = run_from(alloc, fused(alloc, from, log, db)?)?;
+fn settings_stop(alloc: Global, from: &Disks, log: u64, db: u64) -> Option<bool> {
+    let (said, files) = run_from(alloc, copies(alloc, from, log, db)?)?;
     let all = found(alloc, left(alloc, files)?)?;
     if may_follow(said, &all) {
         Some(said.second)
@@ -126,7 +126,7 @@ static STOPS: &[(&str, Run, bool)] = &[
 ];
 
 /// The files that the run begins with.
-fn first_files(alloc: Global, run: Run) -> Option<Files<Memory>> {
+fn first_files(alloc: Global, run: Run) -> Option<Disks> {
     match run {
         Run::Settings => old_files(alloc),
         Run::Turns => empty_files(alloc),
@@ -134,7 +134,7 @@ fn first_files(alloc: Global, run: Run) -> Option<Files<Memory>> {
 }
 
 /// Whether the run was acknowledged whole; none if what is found does not follow.
-fn stops(alloc: Global, run: Run, from: &Files<Memory>, log: u64, db: u64) -> Option<bool> {
+fn stops(alloc: Global, run: Run, from: &Disks, log: u64, db: u64) -> Option<bool> {
     match run {
         Run::Settings => settings_stop(alloc, from, log, db),
         Run::Turns => turns_stop(alloc, from, log, db),
@@ -142,7 +142,7 @@ fn stops(alloc: Global, run: Run, from: &Files<Memory>, log: u64, db: u64) -> Op
 }
 
 /// Whether each stop of the log, or of the database, is followed, up to a run that is acknowledged whole.
-fn each_stop_is_followed(alloc: Global, run: Run, from: &Files<Memory>, is_log: bool) -> bool {
+fn each_stop_is_followed(alloc: Global, run: Run, from: &Disks, is_log: bool) -> bool {
     for calls in 0..200u64 {
         let (log, db) = if is_log { (calls, MANY) } else { (MANY, calls) };
         match stops(alloc, run, from, log, db) {

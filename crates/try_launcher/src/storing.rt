@@ -3,7 +3,7 @@
 
 use crate::calls::{FIRST_VERSION, Row, SECOND, has, opened, runs};
 use override_store::{OverrideStore, StoreFault};
-use scarce_memory::{Answer, Trial};
+use scarce_memory::{Answer, Hoard, Trial};
 use sqlite::{Alter, Connection, File, FileStore, MemStore};
 use std::alloc::Global;
 use std::mem;
@@ -36,7 +36,7 @@ impl Place<FileStore<File>> for OwnFile<'_> {
 }
 
 /// A new database in memory each time.
-#[derive(Drop)]
+#[derive(Clone, Copy)]
 pub struct InMemory {}
 
 impl Place<MemStore> for InMemory {
@@ -47,7 +47,7 @@ impl Place<MemStore> for InMemory {
 
 /// Which call is made.
 #[derive(Clone, Copy)]
-pub enum Call {
+enum Call {
     Open,
     Set,
     All,
@@ -55,48 +55,36 @@ pub enum Call {
 }
 
 /// Each call on an open store by its name.
-pub static STORE_CALLS: &[(&str, Call)] = &[
+static STORE_CALLS: &[(&str, Call)] = &[
     ("OverrideStore::set", Call::Set),
     ("OverrideStore::all", Call::All),
     ("OverrideStore::changes", Call::Changes),
 ];
 
-/// How far it is.
-#[derive(Drop)]
-pub enum State<S: Alter> {
-    Nothing,
-    Ready(Connection<S>),
-    Opened(OverrideStore<S>),
-    Refused,
-}
-
 /// A call on a store that came from a database of the first version. If `OverrideStore::open_on` is refused, a new connection on
 /// the same file is opened, and the store on that has the settings of the first version. If another call is refused, the store has
 /// the settings that it had, and the same call with memory is not.
 #[derive(Drop)]
-pub struct Storing<S: Alter, P> {
-    pub place: P,
-    pub call: Call,
-    pub state: State<S>,
+struct Storing<S: Alter, P> {
+    place: P,
+    call: Call,
+    /// What `OverrideStore::open_on` is to be called on.
+    conn: Option<Connection<S>>,
+    /// The store that was opened.
+    store: Option<OverrideStore<S>>,
 }
 
-fn answer_of(fault: StoreFault) -> Answer {
-    match fault {
-        StoreFault::NoMemory => Answer::NoMemory,
-        StoreFault::Refused | StoreFault::Foreign => Answer::Other,
-    }
-}
-
-fn made_or(fault: Option<StoreFault>) -> Answer {
+fn answer_of(fault: Option<StoreFault>) -> Answer {
     match fault {
         None => Answer::Made,
-        Some(fault) => answer_of(fault),
+        Some(StoreFault::NoMemory) => Answer::NoMemory,
+        Some(_) => Answer::Other,
     }
 }
 
-/// The connection, whose database is made one of the first version.
-fn first_version<S: Alter + Drop>(conn: Connection<S>) -> Option<Connection<S>> {
-    let mut conn = conn;
+/// A connection to the place, whose database is made one of the first version.
+fn first_version<S: Alter + Drop, P: Place<S>>(alloc: Global, place: &P) -> Option<Connection<S>> {
+    let mut conn = place.connect(alloc)?;
     let is_emptied = runs(&mut conn, EMPTIED);
     let is_made = runs(&mut conn, FIRST_VERSION);
     if is_emptied && is_made {
@@ -107,34 +95,21 @@ fn first_version<S: Alter + Drop>(conn: Connection<S>) -> Option<Connection<S>> 
     }
 }
 
-/// The store on a connection, and what the opening answered.
-fn open_on<S: Alter + Drop>(alloc: Global, conn: Connection<S>) -> (State<S>, Answer) {
-    match OverrideStore::open_on(alloc, conn) {
-        Ok(store) => (State::Opened(store), Answer::Made),
-        Err(fault) => (State::Refused, answer_of(fault)),
-    }
+/// The store on a new connection to the place.
+fn opened_at<S: Alter + Drop, P: Place<S>>(alloc: Global, place: &P) -> Option<OverrideStore<S>> {
+    opened(alloc, place.connect(alloc)?)
 }
 
-fn open<S: Alter + Drop>(alloc: Global, state: State<S>) -> (State<S>, Answer) {
-    match state {
-        State::Ready(conn) => open_on(alloc, conn),
-        other => (other, Answer::Other),
-    }
-}
-
-/// What the call begins with, on a connection to a database of the first version.
-fn begun<S: Alter + Drop>(alloc: Global, conn: Connection<S>, call: Call) -> State<S> {
-    match call {
-        Call::Open => State::Ready(conn),
-        Call::Set | Call::All | Call::Changes => open_on(alloc, conn).0,
-    }
+/// The store on a connection to the place, whose database is first made one of the first version.
+fn moved_at<S: Alter + Drop, P: Place<S>>(alloc: Global, place: &P) -> Option<OverrideStore<S>> {
+    opened(alloc, first_version(alloc, place)?)
 }
 
 fn call_on<S: Alter>(alloc: Global, store: &mut OverrideStore<S>, call: Call) -> Answer {
     match call {
-        Call::Set => made_or(store.set("a", false, SECOND).err()),
-        Call::All => made_or(store.all(alloc).err()),
-        Call::Changes => made_or(store.changes(alloc).err()),
+        Call::Set => answer_of(store.set("a", false, SECOND).err()),
+        Call::All => answer_of(store.all(alloc).err()),
+        Call::Changes => answer_of(store.changes(alloc).err()),
         Call::Open => Answer::Other,
     }
 }
@@ -160,72 +135,100 @@ fn is_kept<S: Alter>(
     is_kept && is_made && is_stored
 }
 
-impl<S: Alter + Drop, P: Place<S>> Storing<S, P> {
-    fn take(&mut self) -> State<S> {
-        mem::replace(&mut self.state, State::Nothing)
-    }
-
-    /// The store that was opened, or that is opened now if the opening was refused.
-    fn store(&mut self, alloc: Global) -> Option<OverrideStore<S>> {
-        match self.take() {
-            State::Opened(store) => Some(store),
-            State::Refused => opened(alloc, self.place.connect(alloc)?),
-            State::Ready(conn) => {
-                drop(conn);
-                None
-            }
-            State::Nothing => None,
+/// Whether the store has the settings of the first version. It is let go.
+fn has_moved<S: Alter + Drop>(alloc: Global, store: Option<OverrideStore<S>>) -> bool {
+    match store {
+        Some(mut store) => {
+            let has_moved = has(alloc, &mut store, &MOVED);
+            drop(store);
+            has_moved
         }
+        None => false,
     }
+}
 
-    /// Whether the store that was opened, or is opened now, has the settings of the first version.
-    fn has_moved(&mut self, alloc: Global) -> bool {
-        match self.store(alloc) {
-            Some(mut store) => {
-                let has_moved = has(alloc, &mut store, &MOVED);
-                drop(store);
-                has_moved
-            }
-            None => false,
+impl<S: Alter + Drop, P: Place<S>> Storing<S, P> {
+    /// Opens the store on the connection that was prepared.
+    fn open(&mut self, alloc: Global) -> Answer {
+        match self.conn.take() {
+            Some(conn) => match OverrideStore::open_on(alloc, conn) {
+                Ok(store) => {
+                    drop(mem::replace(&mut self.store, Some(store)));
+                    Answer::Made
+                }
+                Err(fault) => answer_of(Some(fault)),
+            },
+            None => Answer::Other,
         }
     }
 }
 
 impl<S: Alter + Drop, P: Place<S>> Trial for Storing<S, P> {
     fn prepare(&mut self, alloc: Global) -> bool {
-        let conn = match self.place.connect(alloc) {
-            Some(conn) => first_version(conn),
-            None => None,
-        };
-        match conn {
-            Some(conn) => {
-                let begun = begun(alloc, conn, self.call);
-                drop(mem::replace(&mut self.state, begun));
-                !matches!(self.state, State::Refused)
-            }
-            None => false,
+        if matches!(self.call, Call::Open) {
+            drop(mem::replace(&mut self.conn, first_version(alloc, &self.place)));
+            return self.conn.is_some();
         }
+        drop(mem::replace(&mut self.store, moved_at(alloc, &self.place)));
+        self.store.is_some()
     }
 
     fn call(&mut self, alloc: Global) -> Answer {
         if matches!(self.call, Call::Open) {
-            let (state, answer) = open(alloc, self.take());
-            drop(mem::replace(&mut self.state, state));
-            return answer;
+            return self.open(alloc);
         }
-        match &mut self.state {
-            State::Opened(store) => call_on(alloc, store, self.call),
-            _ => Answer::Other,
+        match &mut self.store {
+            Some(store) => call_on(alloc, store, self.call),
+            None => Answer::Other,
         }
     }
 
     fn is_right(&mut self, alloc: Global, answer: Answer) -> bool {
         if matches!(self.call, Call::Open) {
-            return self.has_moved(alloc);
+            let store = match answer {
+                Answer::Made => self.store.take(),
+                _ => opened_at(alloc, &self.place),
+            };
+            return has_moved(alloc, store);
         }
-        match &mut self.state {
-            State::Opened(store) => is_kept(alloc, store, self.call, answer),
-            _ => false,
+        match &mut self.store {
+            Some(store) => is_kept(alloc, store, self.call, answer),
+            None => false,
         }
     }
+}
+
+/// Tries the opening of a store at the place.
+pub fn try_opening<S: Alter + Drop, P: Place<S> + Drop>(
+    rt: &impl Print,
+    alloc: Global,
+    hoard: &mut Hoard,
+    place: P,
+) -> anyhow::Result<()> {
+    let trial = Storing {
+        place,
+        call: Call::Open,
+        conn: None,
+        store: None,
+    };
+    crate::tried(rt, alloc, hoard, "OverrideStore::open_on", trial)
+}
+
+/// Tries each call on a store at the place.
+pub fn try_calls<S: Alter + Drop, P: Place<S> + Copy + Drop>(
+    rt: &impl Print,
+    alloc: Global,
+    hoard: &mut Hoard,
+    place: P,
+) -> anyhow::Result<()> {
+    for (name, call) in STORE_CALLS {
+        let trial = Storing {
+            place,
+            call: *call,
+            conn: None,
+            store: None,
+        };
+        crate::tried(rt, alloc, hoard, name, trial)?;
+    }
+    Ok(())
 }

@@ -1,15 +1,16 @@
-//! Turns of a launcher where memory is short.
+//! A launcher that is made where memory is short, and its turns.
 
-use crate::staged::{Launched, Launching, asked};
+use crate::staged::{Launched, Parts, asked, parts_of};
 use child_edge::{EdgeCall, Scripted};
 use history_model::{JobNo, Reading};
-use launcher::Input;
-use scarce_memory::{Answer, Trial};
+use launcher::{HostFault, Input};
+use scarce_memory::{Answer, Hoard, Trial};
 use std::alloc::Global;
+use std::mem;
 
 /// A turn that takes memory, and what a second request shows of it.
-pub struct Turn {
-    pub name: &'static str,
+struct Turn {
+    name: &'static str,
     /// The definition that is loaded first.
     before: &'static [u8],
     /// The answers of the outside, in order.
@@ -67,7 +68,7 @@ const LATER: Reading = Reading {
     wall: 1_700_000_101,
 };
 
-pub static TURNS: &[Turn] = &[
+static TURNS: &[Turn] = &[
     Turn {
         name: "turn: list",
         before: LOAD,
@@ -125,110 +126,162 @@ pub static TURNS: &[Turn] = &[
     },
 ];
 
-/// What became of a turn.
-#[derive(Clone, Copy, PartialEq, Eq)]
-enum Outcome {
-    Made,
-    /// It was made, and the journal was closed.
-    Closed,
-    NoMemory,
-    NotStored,
-    Other,
+/// `Host::new` over a store that has one setting. What it refuses is gone, so all is made anew for each call.
+#[derive(Drop)]
+struct Making<H> {
+    parts: Option<Parts>,
+    host: Option<H>,
+}
+
+impl<H: Launched + Drop> Trial for Making<H> {
+    fn prepare(&mut self, alloc: Global) -> bool {
+        drop(mem::replace(&mut self.host, None));
+        let parts = parts_of(alloc, "UTC0", 0, &["a"], &[]).ok();
+        drop(mem::replace(&mut self.parts, parts));
+        self.parts.is_some()
+    }
+
+    fn call(&mut self, alloc: Global) -> Answer {
+        let Some(parts) = self.parts.take() else {
+            return Answer::Other;
+        };
+        match H::open(alloc, parts) {
+            Ok(host) => {
+                drop(mem::replace(&mut self.host, Some(host)));
+                Answer::Made
+            }
+            Err(HostFault::NoMemory) => Answer::NoMemory,
+            Err(_) => Answer::Other,
+        }
+    }
+
+    /// A launcher that was made refuses the disabled label. One that was refused is made with memory.
+    fn is_right(&mut self, alloc: Global, answer: Answer) -> bool {
+        if answer == Answer::NoMemory {
+            let is_prepared = self.prepare(alloc);
+            let is_made = self.call(alloc) == Answer::Made;
+            return is_prepared && is_made;
+        }
+        match self.host.as_mut() {
+            Some(host) => asked(alloc, host, Input::Line(LOAD), "").0 == 5,
+            None => false,
+        }
+    }
 }
 
 /// A turn on a launcher whose job runs.
 #[derive(Drop)]
-pub struct Turning<H, M> {
-    maker: M,
+struct Turning<H> {
     turn: &'static Turn,
     host: Option<H>,
+    /// How many calls to the outside it made before the turn.
     calls: usize,
-    outcome: Outcome,
+    /// The code that the turn was answered.
+    code: u8,
 }
 
-fn taken<H: Launched>(alloc: Global, host: &mut H, turn: &Turn) -> Outcome {
+/// The turn's code, and what it answers: want of memory also if it was made and the journal was closed, or if the store refused.
+fn taken<H: Launched>(alloc: Global, host: &mut H, turn: &Turn) -> (u8, Answer) {
     let (code, is_text) = asked(alloc, host, turn.input, turn.text);
     let has_closed = host.has_closed();
-    match code {
-        0 if is_text && has_closed => Outcome::Closed,
-        0 if is_text => Outcome::Made,
-        1 => Outcome::NoMemory,
-        9 => Outcome::NotStored,
-        _ => Outcome::Other,
-    }
+    let answer = match code {
+        0 if !is_text => Answer::Other,
+        0 if !has_closed => Answer::Made,
+        0 | 1 | 9 => Answer::NoMemory,
+        _ => Answer::Other,
+    };
+    (code, answer)
 }
 
 /// Whether the request that shows what there is has this text.
 fn shows<H: Launched>(alloc: Global, host: &mut H, turn: &Turn, text: &str) -> bool {
-    let (code, is_text) = asked(alloc, host, Input::Line(turn.probe), text);
-    code == 0 && is_text
+    asked(alloc, host, Input::Line(turn.probe), text) == (0, true)
 }
 
 /// Whether a refused turn left all as it was, but for so many calls, and is made with memory.
 fn is_undone<H: Launched>(alloc: Global, host: &mut H, turn: &Turn, calls: usize) -> bool {
     let is_uncalled = host.calls() == calls;
     let was_so = shows(alloc, host, turn, turn.was);
-    let is_made = taken(alloc, host, turn) == Outcome::Made;
+    let is_made = taken(alloc, host, turn).1 == Answer::Made;
     let is_so = shows(alloc, host, turn, turn.is);
     is_uncalled && was_so && is_made && is_so
 }
 
-/// Whether the outcome left what it should, if so many calls had been made before.
-fn is_left<H: Launched>(
-    alloc: Global,
-    host: &mut H,
-    turn: &Turn,
-    outcome: Outcome,
-    calls: usize,
-) -> bool {
-    match outcome {
-        Outcome::NoMemory => is_undone(alloc, host, turn, calls),
-        Outcome::NotStored => is_undone(alloc, host, turn, calls.saturating_add(turn.undone)),
-        Outcome::Made | Outcome::Closed | Outcome::Other => shows(alloc, host, turn, turn.is),
+/// A launcher that has the turn's first job, if it took that.
+fn ready<H: Launched + Drop>(alloc: Global, turn: &Turn) -> Option<H> {
+    let parts = parts_of(alloc, "UTC0", 0, &[], turn.answers).ok()?;
+    let mut host = H::open(alloc, parts).ok()?;
+    if asked(alloc, &mut host, Input::Line(turn.before), "") == (0, true) {
+        Some(host)
+    } else {
+        drop(host);
+        None
     }
 }
 
-impl<H: Launched + Drop, M: Launching<H>> Turning<H, M> {
-    pub fn new(maker: M, turn: &'static Turn) -> Turning<H, M> {
-        Turning {
-            maker,
-            turn,
-            host: None,
-            calls: 0,
-            outcome: Outcome::Other,
-        }
-    }
-}
-
-impl<H: Launched + Drop, M: Launching<H>> Trial for Turning<H, M> {
+impl<H: Launched + Drop> Trial for Turning<H> {
     fn prepare(&mut self, alloc: Global) -> bool {
-        self.host = self.maker.set(alloc, self.turn.answers);
+        drop(mem::replace(&mut self.host, ready(alloc, self.turn)));
         match self.host.as_mut() {
             Some(host) => {
-                let (code, is_text) = asked(alloc, host, Input::Line(self.turn.before), "");
                 self.calls = host.calls();
-                code == 0 && is_text
+                true
             }
             None => false,
         }
     }
 
     fn call(&mut self, alloc: Global) -> Answer {
-        self.outcome = match self.host.as_mut() {
-            Some(host) => taken(alloc, host, self.turn),
-            None => Outcome::Other,
-        };
-        match self.outcome {
-            Outcome::Made => Answer::Made,
-            Outcome::Closed | Outcome::NoMemory | Outcome::NotStored => Answer::NoMemory,
-            Outcome::Other => Answer::Other,
+        match self.host.as_mut() {
+            Some(host) => {
+                let (code, answer) = taken(alloc, host, self.turn);
+                self.code = code;
+                answer
+            }
+            None => Answer::Other,
         }
     }
 
     fn is_right(&mut self, alloc: Global, _answer: Answer) -> bool {
-        match self.host.as_mut() {
-            Some(host) => is_left(alloc, host, self.turn, self.outcome, self.calls),
-            None => false,
+        match (self.host.as_mut(), self.code) {
+            (Some(host), 1) => is_undone(alloc, host, self.turn, self.calls),
+            (Some(host), 9) => {
+                let calls = self.calls.saturating_add(self.turn.undone);
+                is_undone(alloc, host, self.turn, calls)
+            }
+            (Some(host), _) => shows(alloc, host, self.turn, self.turn.is),
+            (None, _) => false,
         }
     }
+}
+
+/// Tries the making of a launcher.
+pub fn try_making<H: Launched + Drop>(
+    rt: &impl Print,
+    alloc: Global,
+    hoard: &mut Hoard,
+) -> anyhow::Result<()> {
+    let trial: Making<H> = Making {
+        parts: None,
+        host: None,
+    };
+    crate::tried(rt, alloc, hoard, "Host::new", trial)
+}
+
+/// Tries each turn.
+pub fn try_turns<H: Launched + Drop>(
+    rt: &impl Print,
+    alloc: Global,
+    hoard: &mut Hoard,
+) -> anyhow::Result<()> {
+    for turn in TURNS {
+        let trial: Turning<H> = Turning {
+            turn,
+            host: None,
+            calls: 0,
+            code: 0,
+        };
+        crate::tried(rt, alloc, hoard, turn.name, trial)?;
+    }
+    Ok(())
 }

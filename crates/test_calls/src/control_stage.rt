@@ -2,14 +2,13 @@
 //! from 0.
 
 use crate::echo::{Budget, Echo};
-use crate::system::folder_name;
+use crate::places::{Watch, folder_name, is_woken, new_watch};
 use control_socket::ControlSocket;
-use mio::{Events, Poll, Token};
+use mio::Token;
 use std::alloc::Global;
 use std::io::{ErrorKind, Read, Write};
 use std::net::Shutdown;
 use std::os::unix::net::UnixStream;
-use std::time::Duration;
 
 /// What is done, and what is expected of it.
 #[derive(Clone, Copy)]
@@ -54,18 +53,20 @@ pub enum Step {
 #[derive(Drop)]
 struct Stage {
     path: String,
-    poll: Poll,
-    events: Events,
+    watch: Watch,
     socket: ControlSocket,
     echo: Echo,
     budget: Budget,
     clients: Vec<Option<UnixStream>>,
 }
 
+/// Under this token the socket wakes the poll.
+const ASKED: Token = Token(3);
+
 /// The socket at the path, registered with the poll.
-fn socket_at(rt: &HostRuntime, path: &str, poll: &Poll) -> Option<ControlSocket> {
+fn socket_at(rt: &HostRuntime, path: &str, watch: &Watch) -> Option<ControlSocket> {
     let mut socket = ControlSocket::open(rt, rt.alloc(), path).ok()?;
-    if socket.register(poll.registry(), Token(3)).is_ok() {
+    if socket.register(watch.poll.registry(), ASKED).is_ok() {
         Some(socket)
     } else {
         drop(socket);
@@ -74,45 +75,27 @@ fn socket_at(rt: &HostRuntime, path: &str, poll: &Poll) -> Option<ControlSocket>
 }
 
 /// A stage with no client.
-fn stage_of(
-    alloc: Global,
-    path: String,
-    poll: Poll,
-    events: Events,
-    socket: ControlSocket,
-) -> Stage {
-    Stage {
+fn new_stage(rt: &HostRuntime, name: &str) -> Option<Stage> {
+    let path = folder_name(rt, name)?;
+    let watch = new_watch(rt)?;
+    let Some(socket) = socket_at(rt, path.as_str(), &watch) else {
+        drop(watch);
+        return None;
+    };
+    Some(Stage {
         path,
-        poll,
-        events,
+        watch,
         socket,
         echo: Echo {
-            asked: Vec::new(alloc),
+            asked: Vec::new(rt.alloc()),
         },
         budget: Budget {
             lines: u32::MAX,
             up: 0,
             left: 0,
         },
-        clients: Vec::new(alloc),
-    }
-}
-
-fn new_stage(rt: &HostRuntime, name: &str) -> Option<Stage> {
-    let path = folder_name(rt, name)?;
-    let poll = Poll::new(rt).ok()?;
-    let events = Events::with_capacity(rt.alloc(), 8);
-    let socket = socket_at(rt, path.as_str(), &poll);
-    match (events, socket) {
-        (Ok(events), Some(socket)) => Some(stage_of(rt.alloc(), path, poll, events, socket)),
-        (events, socket) => {
-            drop(path);
-            drop(poll);
-            drop(events);
-            drop(socket);
-            None
-        }
-    }
+        clients: Vec::new(rt.alloc()),
+    })
 }
 
 /// Plays the steps. The number of the first that goes wrong, or of none; or None if the socket can't be opened.
@@ -134,15 +117,39 @@ impl Stage {
     fn play(&mut self, rt: &HostRuntime, step: Step) -> bool {
         match step {
             Step::Connect(count) => self.connect(rt, count).is_some(),
-            Step::Sends(number, text) => self.send(number, true, text.as_bytes(), 1),
+            Step::Sends(number, text) => send(&mut self.clients, number, true, text.as_bytes(), 1),
             Step::SendsTimes(number, text, count) => {
-                self.send(number, true, text.as_bytes(), count)
+                send(&mut self.clients, number, true, text.as_bytes(), count)
             }
-            Step::OthersSend(number, text) => self.send(number, false, text.as_bytes(), 1),
-            Step::SendsBlocks(number, count) => self.send(number, true, &[b'n'; 4096], count),
-            Step::Hears(number, text) => self.hears(rt.alloc(), number, Some(text), false),
-            Step::HearsLast(number, text) => self.hears(rt.alloc(), number, Some(text), true),
-            Step::IsLetGo(number) => self.hears(rt.alloc(), number, None, true),
+            Step::OthersSend(number, text) => send(
+                &mut self.clients,
+                number,
+                false,
+                text.as_bytes(),
+                1,
+            ),
+            Step::SendsBlocks(number, count) => send(
+                &mut self.clients,
+                number,
+                true,
+                &[b'n'; 4096],
+                count,
+            ),
+            Step::Hears(number, text) => hears(
+                rt.alloc(),
+                &mut self.clients,
+                number,
+                Some(text),
+                false,
+            ),
+            Step::HearsLast(number, text) => hears(
+                rt.alloc(),
+                &mut self.clients,
+                number,
+                Some(text),
+                true,
+            ),
+            Step::IsLetGo(number) => hears(rt.alloc(), &mut self.clients, number, None, true),
             Step::Rounds(count) => {
                 let _is_busy = self.rounds(rt, count);
                 true
@@ -176,15 +183,7 @@ impl Stage {
                 is_same
             }
             Step::Quiet(is_quiet) => self.socket.is_quiet() == is_quiet,
-            Step::Woken(is_woken) => {
-                let wait = Duration::from_millis(if is_woken { 5_000 } else { 20 });
-                let is_polled = self.poll.poll(&mut self.events, Some(wait)).is_ok();
-                let mut is_token = false;
-                for event in self.events.iter() {
-                    is_token = is_token || event.token() == Token(3);
-                }
-                is_polled && is_token == is_woken
-            }
+            Step::Woken(wanted) => is_woken(&mut self.watch, ASKED, wanted),
             _ => false,
         }
     }
@@ -196,7 +195,7 @@ impl Stage {
             is_busy = self
                 .socket
                 .serve(rt.alloc(), &mut self.echo, &mut self.budget);
-            self.socket.accept(rt, self.poll.registry());
+            self.socket.accept(rt, self.watch.poll.registry());
         }
         is_busy
     }
@@ -209,53 +208,68 @@ impl Stage {
         }
         Some(())
     }
+}
 
-    // The client of the number, or each of the others, sends the piece so many times. Whether all is taken whole.
-    fn send(&mut self, number: usize, is_itself: bool, piece: &[u8], count: usize) -> bool {
-        let mut is_sent = false;
-        for (other, client) in self.clients.iter_mut().enumerate() {
-            if (other == number) != is_itself {
-                continue;
-            }
+/// Sends the piece so many times, and says whether all is taken whole.
+fn sends(client: &mut UnixStream, piece: &[u8], count: usize) -> bool {
+    let mut is_whole = true;
+    for _ in 0..count {
+        is_whole &= matches!(client.write(piece), Ok(taken) if taken == piece.len());
+    }
+    is_whole
+}
+
+/// The client of the number, or each of the others, sends the piece so many times. Whether there is one, and all is taken whole.
+fn send(
+    clients: &mut [Option<UnixStream>],
+    number: usize,
+    is_itself: bool,
+    piece: &[u8],
+    count: usize,
+) -> bool {
+    let mut is_sent = false;
+    let mut is_whole = true;
+    for (other, client) in clients.iter_mut().enumerate() {
+        if (other == number) == is_itself {
             if let Some(client) = client {
-                for _ in 0..count {
-                    match client.write(piece) {
-                        Ok(taken) if taken == piece.len() => is_sent = true,
-                        _ => return false,
-                    }
-                }
+                is_sent = true;
+                is_whole &= sends(client, piece, count);
             }
         }
-        is_sent
     }
+    is_sent && is_whole
+}
 
-    // Whether what is there for the client to be read is this text, and the end came behind it or did not.
-    fn hears(&mut self, alloc: Global, number: usize, text: Option<&str>, is_last: bool) -> bool {
-        let Some(Some(client)) = self.clients.get_mut(number) else {
-            return false;
-        };
-        let mut heard = Vec::new(alloc);
-        let mut piece = [0u8; 4096];
-        let mut is_end = false;
-        for _ in 0..1_000u32 {
-            match client.read(&mut piece) {
-                Ok(0) => {
-                    is_end = true;
-                    break;
-                }
-                Ok(count) => {
-                    if heard.extend_from_slice(&piece[..count]).is_err() {
-                        return false;
-                    }
-                }
-                Err(error) if error.kind() == ErrorKind::WouldBlock => break,
-                Err(_) => return false,
-            }
+/// Takes what is there for the client to be read, and says whether the end came behind it. None if that can't be told.
+fn heard(client: &mut UnixStream, heard: &mut Vec<u8>) -> Option<bool> {
+    let mut piece = [0u8; 4096];
+    for _ in 0..1_000u32 {
+        match client.read(&mut piece) {
+            Ok(0) => return Some(true),
+            Ok(count) => heard.extend_from_slice(&piece[..count.min(4096)]).ok()?,
+            Err(error) if error.kind() == ErrorKind::WouldBlock => return Some(false),
+            Err(_) => return None,
         }
-        let is_text = match text {
-            Some(text) => heard.as_slice() == text.as_bytes(),
-            None => true,
-        };
-        is_text && is_end == is_last
     }
+    Some(false)
+}
+
+/// Whether what is there for the client to be read is this text, and the end came behind it or did not.
+fn hears(
+    alloc: Global,
+    clients: &mut [Option<UnixStream>],
+    number: usize,
+    text: Option<&str>,
+    is_last: bool,
+) -> bool {
+    let Some(Some(client)) = clients.get_mut(number) else {
+        return false;
+    };
+    let mut bytes = Vec::new(alloc);
+    let is_end = heard(client, &mut bytes);
+    let is_text = match text {
+        Some(text) => bytes.as_slice() == text.as_bytes(),
+        None => true,
+    };
+    is_text && is_end == Some(is_last)
 }

@@ -1,10 +1,10 @@
 //! Scenes with children of `/bin/sh`.
 
-use crate::scene::Step;
 use crate::scene::Step::{Ask, Lies, Shows};
+use crate::scene::{Step, is_played};
 
 /// The one ends once a file is there that the other makes.
-pub static TWO_AT_ONCE: &[Step] = &[
+const TWO_AT_ONCE: &[Step] = &[
     Ask(
         r#"{"req":"load","def":"{\"Label\":\"a\",\"ProgramArguments\":[\"/bin/sh\",\"-c\",\"until [ -e @/made ]; do sleep 0.01; done\"],\"RunAtLoad\":true}"}"#,
     ),
@@ -16,7 +16,7 @@ pub static TWO_AT_ONCE: &[Step] = &[
     Ask(r#"{"req":"list"}"#),
 ];
 
-pub static CODE: &[Step] = &[
+const CODE: &[Step] = &[
     Ask(
         r#"{"req":"load","def":"{\"Label\":\"a\",\"ProgramArguments\":[\"/bin/sh\",\"-c\",\"exit 7\"],\"RunAtLoad\":true}"}"#,
     ),
@@ -25,7 +25,7 @@ pub static CODE: &[Step] = &[
 ];
 
 /// There is no KILL if ExitTimeOut is 0.
-pub static TERM: &[Step] = &[
+const TERM: &[Step] = &[
     Ask(
         r#"{"req":"load","def":"{\"Label\":\"a\",\"ProgramArguments\":[\"/bin/sh\",\"-c\",\"while :; do :; done\"],\"RunAtLoad\":true,\"ExitTimeOut\":0}"}"#,
     ),
@@ -36,7 +36,7 @@ pub static TERM: &[Step] = &[
 ];
 
 /// It ignores TERM once the file is there.
-pub static KILL: &[Step] = &[
+const KILL: &[Step] = &[
     Ask(
         r#"{"req":"load","def":"{\"Label\":\"a\",\"ProgramArguments\":[\"/bin/sh\",\"-c\",\"trap '' TERM; : > @/deaf; while :; do :; done\"],\"RunAtLoad\":true,\"ExitTimeOut\":1}"}"#,
     ),
@@ -46,3 +46,19 @@ pub static KILL: &[Step] = &[
     Ask(r#"{"req":"print","job":"a"}"#),
     Ask(r#"{"req":"stop","job":"a"}"#),
 ];
+
+/// Each scene by its name. In the first no child is waited for before the next event.
+static SCENES: &[(&str, &[Step])] = &[
+    ("two_jobs_at_once", TWO_AT_ONCE),
+    ("a_code_is_heard", CODE),
+    ("a_job_is_ended_by_term", TERM),
+    ("a_job_that_ignores_term_is_killed", KILL),
+];
+
+#[test]
+fn scenes_are_played_and_replayed(rt: HostRuntime) {
+    for (name, steps) in SCENES {
+        let is_played = is_played(&rt, name, steps);
+        assert!(rt; is_played, "{name}");
+    }
+}

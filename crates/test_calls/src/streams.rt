@@ -1,6 +1,7 @@
 //! The streams. Each ends with a list, whose text both launchers have to answer alike.
 
 use crate::edge::ABSENT;
+use crate::pair::is_spared;
 use crate::step::Step::{Ask, End, First, Round, Second};
 use crate::step::Stream;
 use child_edge::{EdgeCall, Scripted};
@@ -89,7 +90,7 @@ const OFTEN: &str =
     r#"{"req":"load","def":"{\"Label\":\"often\",\"Program\":\"/bin/x\",\"StartInterval\":5,\"ThrottleInterval\":0}"}"#;
 
 /// Every five seconds; the seconds between them are left out.
-pub static INTERVAL: Stream = Stream {
+const INTERVAL: Stream = Stream {
     steps: &[
         Ask(OFTEN),
         Round(1_000, 1),
@@ -111,7 +112,7 @@ const HOURLY: &str =
 
 /// A minute is crossed 40 seconds after the start, before a calendar is loaded; then 14 minutes past the hour comes, and comes
 /// again after the wall clock was set back.
-pub static CALENDAR: Stream = Stream {
+const CALENDAR: Stream = Stream {
     steps: &[
         Round(1_000, 1),
         Ask(HOURLY),
@@ -134,7 +135,7 @@ const KEPT: &str =
     r#"{"req":"load","def":"{\"Label\":\"kept\",\"Program\":\"/bin/x\",\"KeepAlive\":true}"}"#;
 
 /// A job that ends too soon waits for its throttle; so does one whose start was refused.
-pub static THROTTLE: Stream = Stream {
+const THROTTLE: Stream = Stream {
     steps: &[
         Ask(KEPT),
         Round(2_000, 2),
@@ -163,7 +164,7 @@ const WHILE_GONE: &str =
     r#"{"req":"load","def":"{\"Label\":\"gone\",\"Program\":\"/bin/x\",\"KeepAlive\":{\"PathState\":{\"/a\":false}},\"ThrottleInterval\":0}"}"#;
 
 /// A job is kept while a file is there, and ends once it is gone. Another one is loaded after that, and has to hear of it too.
-pub static PATH_STATE: Stream = Stream {
+const PATH_STATE: Stream = Stream {
     steps: &[
         Ask(WHILE_THERE),
         Round(1_000, 1),
@@ -191,7 +192,7 @@ const WATCH: &str =
     r#"{"req":"load","def":"{\"Label\":\"watch\",\"Program\":\"/bin/x\",\"WatchPaths\":[\"/a\",\"/b\"],\"ThrottleInterval\":0}"}"#;
 
 /// The first sight of a path starts nothing, nor does an equal one; a change does, and so does an end of the file.
-pub static WATCHED: Stream = Stream {
+const WATCHED: Stream = Stream {
     steps: &[
         First(FILE),
         Ask(WATCH),
@@ -218,7 +219,7 @@ const QUEUE: &str =
     r#"{"req":"load","def":"{\"Label\":\"queue\",\"Program\":\"/bin/x\",\"QueueDirectories\":[\"/b\"],\"ThrottleInterval\":0}"}"#;
 
 /// A job is kept while something is in its queue directory.
-pub static QUEUED: Stream = Stream {
+const QUEUED: Stream = Stream {
     steps: &[
         Second(FILE),
         Ask(QUEUE),
@@ -238,3 +239,21 @@ pub static QUEUED: Stream = Stream {
     orders: &[FIRST_RUN, SECOND_RUN],
     left_out: 10,
 };
+
+/// Each stream by what it shows.
+static STREAMS: &[(&str, Stream)] = &[
+    ("an_interval_needs_no_reading_before_its_moment", INTERVAL),
+    ("a_calendar_minute_comes_by_the_clock", CALENDAR),
+    ("a_throttle_and_a_timeout_come_by_the_clock", THROTTLE),
+    ("a_job_is_kept_while_a_file_is_there", PATH_STATE),
+    ("a_watched_path_needs_no_equal_sight", WATCHED),
+    ("a_queue_directory_needs_no_equal_sight", QUEUED),
+];
+
+#[test]
+fn what_is_left_out_changes_nothing(rt: HostRuntime) {
+    for (name, stream) in STREAMS {
+        let is_spared = is_spared(rt.alloc(), stream) == Ok(true);
+        assert!(rt; is_spared, "{name}");
+    }
+}

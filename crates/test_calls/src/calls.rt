@@ -20,28 +20,38 @@ macro_rules! told {
     };
 }
 
-/// The two definitions that calls are about. Each is made in a function of its own and lent from there on: a function that has one at an
-/// early return is dear to prove.
-#[derive(Clone, Copy)]
-pub struct Jobs<'a> {
-    pub first: &'a Def,
-    pub second: &'a Def,
+/// The two definitions that calls are about. They are made in one function, and lent from there on: a function that has one at an early
+/// return is dear to prove.
+#[derive(Drop)]
+pub struct Jobs {
+    first: Def,
+    second: Def,
 }
 
-/// The definition. None without memory.
-pub fn def_of(alloc: Global, text: &str) -> Option<Def> {
-    read_def(alloc, text.as_bytes()).ok()
+/// The definitions of these texts. None if one is no definition, or without memory.
+pub fn jobs_of(alloc: Global, first: &str, second: &str) -> Option<Jobs> {
+    match (
+        read_def(alloc, first.as_bytes()),
+        read_def(alloc, second.as_bytes()),
+    ) {
+        (Ok(first), Ok(second)) => Some(Jobs { first, second }),
+        (first, second) => {
+            drop(first);
+            drop(second);
+            None
+        }
+    }
 }
 
 /// What the edge answers to the call. Run 1 is of the first definition, every other one of the second; sockets are those of the first.
 fn answer_to<E: ChildEdge + ClockEdge + PathEdge + SocketEdge>(
     edge: &mut E,
-    jobs: Jobs<'_>,
+    jobs: &Jobs,
     call: EdgeCall,
 ) -> Scripted {
     match call {
         EdgeCall::Start { job, run, conn } => {
-            let def = if run == 1 { jobs.first } else { jobs.second };
+            let def = if run == 1 { &jobs.first } else { &jobs.second };
             told!(edge.start(job, run, def, conn), pid => Scripted::Started(pid))
         }
         EdgeCall::Term { job, run } => told!(edge.term(job, run), () => Scripted::Done),
@@ -49,7 +59,7 @@ fn answer_to<E: ChildEdge + ClockEdge + PathEdge + SocketEdge>(
         EdgeCall::Poll { job, run } => {
             told!(edge.poll(job, run), Some(ended) => Scripted::Over(ended), None => Scripted::Running)
         }
-        EdgeCall::Bind { job } => told!(edge.bind(job, jobs.first), () => Scripted::Done),
+        EdgeCall::Bind { job } => told!(edge.bind(job, &jobs.first), () => Scripted::Done),
         EdgeCall::Close { job, conn } => {
             edge.close(job, conn);
             Scripted::Done
@@ -66,7 +76,7 @@ fn answer_to<E: ChildEdge + ClockEdge + PathEdge + SocketEdge>(
 /// Whether each call is answered as it says.
 pub fn are_answered<E: ChildEdge + ClockEdge + PathEdge + SocketEdge>(
     edge: &mut E,
-    jobs: Jobs<'_>,
+    jobs: &Jobs,
     calls: &[Told],
 ) -> bool {
     let mut are_so = true;

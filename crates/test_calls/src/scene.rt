@@ -1,5 +1,6 @@
 //! A launcher over the system, a control socket and one client of it, moved on by rounds. Its store and its journal are in memory.
 
+use crate::places::{edge_over, new_folder};
 use crate::replayed::is_replayed;
 use child_edge::OsEdge;
 use control_socket::ControlSocket;
@@ -8,9 +9,9 @@ use live_loop::{System, round};
 use memory_stage::{MemoryStore, Sink, header, store};
 use round_launcher::{Live, RoundLauncher};
 use std::alloc::{AllocError, Global};
+use std::fs;
 use std::io::{Read, Write};
 use std::os::unix::net::UnixStream;
-use std::{fs, process};
 
 /// A step is done within as many rounds.
 const ROUNDS: u32 = 600;
@@ -38,14 +39,6 @@ struct Scene {
     replies: Vec<String>,
 }
 
-/// A new folder of this name.
-pub fn new_folder(rt: &HostRuntime, name: &str) -> Option<String> {
-    let id = process::id(rt.process());
-    let folder = format!(in rt.alloc(); "/tmp/test_rounds-{id}-{name}").ok()?;
-    fs::create_dir(rt, folder.as_str()).ok()?;
-    Some(folder)
-}
-
 /// The text with the folder for each `@`.
 fn placed(alloc: Global, text: &str, folder: &str) -> Result<String, AllocError> {
     let mut whole = String::new(alloc);
@@ -65,8 +58,7 @@ pub fn launcher_over<R: System>(
     folder: &str,
 ) -> Option<Host<MemoryStore, OsEdge<R>, Sink>> {
     let alloc = rt.alloc();
-    let spool = String::from_str(alloc, folder).ok()?;
-    let edge = OsEdge::new(own, alloc, spool).ok()?;
+    let edge = edge_over(own, folder)?;
     let Ok(header) = header(alloc, "UTC0", 0) else {
         drop(edge);
         return None;

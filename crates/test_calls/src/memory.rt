@@ -1,9 +1,8 @@
 //! The edge in memory: what it answers by a script, and what it then lists.
 
-use crate::calls::{Jobs, Told, are_answered, def_of};
+use crate::calls::{Jobs, Told, are_answered, jobs_of};
 use child_edge::{EdgeCall, MemoryEdge, Scripted};
 use history_model::{Ended, Obs, Reading};
-use job_defs::Def;
 use std::alloc::Global;
 
 /// A script, for how many calls there is room, and the calls with the answers that are expected. The first ones are
@@ -192,14 +191,14 @@ fn edge_with(alloc: Global, case: &Case) -> Option<MemoryEdge> {
 }
 
 /// Whether the calls are answered, listed and counted as the case says.
-fn is_so(edge: &mut MemoryEdge, jobs: Jobs<'_>, case: &Case) -> bool {
+fn is_so(edge: &mut MemoryEdge, jobs: &Jobs, case: &Case) -> bool {
     let are_answered = are_answered(edge, jobs, case.calls);
     let are_listed = edge.calls() == &case.calls[..case.listed.min(case.calls.len())];
     are_answered && are_listed && edge.failures() == case.failures
 }
 
 /// The same, over an edge of its own.
-fn passes_with(alloc: Global, jobs: Jobs<'_>, case: &Case) -> bool {
+fn passes(alloc: Global, jobs: &Jobs, case: &Case) -> bool {
     match edge_with(alloc, case) {
         Some(mut edge) => {
             let is_so = is_so(&mut edge, jobs, case);
@@ -210,43 +209,30 @@ fn passes_with(alloc: Global, jobs: Jobs<'_>, case: &Case) -> bool {
     }
 }
 
-/// The same, with a second definition.
-fn passes_after(alloc: Global, first: &Def, case: &Case) -> bool {
-    match def_of(alloc, "{\"Label\":\"b\",\"Program\":\"/bin/x\"}") {
-        Some(second) => {
-            let jobs = Jobs {
-                first,
-                second: &second,
-            };
-            let passes = passes_with(alloc, jobs, case);
-            drop(second);
-            passes
-        }
-        None => false,
-    }
-}
-
-/// The same, with two definitions.
-fn passes(alloc: Global, case: &Case) -> bool {
-    match def_of(alloc, "{\"Label\":\"a\",\"Program\":\"/bin/x\"}") {
-        Some(first) => {
-            let passes = passes_after(alloc, &first, case);
-            drop(first);
-            passes
-        }
-        None => false,
-    }
-}
-
 static CASES: &[Case] = &[EACH_KIND, EACH_FAULT, ANOTHER_KIND, ENDED, PAST_THE_ROOM];
+
+/// How many cases pass, before one that does not.
+fn passed(alloc: Global, jobs: &Jobs) -> usize {
+    let mut passed = 0usize;
+    for case in CASES {
+        if !passes(alloc, jobs, case) {
+            break;
+        }
+        passed = passed.saturating_add(1);
+    }
+    passed
+}
 
 #[test]
 fn the_edge_in_memory_answers_by_its_script(rt: HostRuntime) {
-    let mut passed = 0usize;
-    for case in CASES {
-        if passes(rt.alloc(), case) {
-            passed = passed.saturating_add(1);
-        }
+    let mut count = 0usize;
+    if let Some(jobs) = jobs_of(
+        rt.alloc(),
+        "{\"Label\":\"a\",\"Program\":\"/bin/x\"}",
+        "{\"Label\":\"b\",\"Program\":\"/bin/x\"}",
+    ) {
+        count = passed(rt.alloc(), &jobs);
+        drop(jobs);
     }
-    assert_eq!(rt; passed, CASES.len());
+    assert_eq!(rt; count, CASES.len());
 }

@@ -57,7 +57,7 @@ const THREE_JOBS: &[Heard] = &[
     },
 ];
 
-const CASES: [Further; 8] = [
+static CASES: &[Further] = &[
     // Nobody else is there.
     Further {
         bind: 1,
@@ -113,24 +113,29 @@ const CASES: [Further; 8] = [
     },
 ];
 
-fn place_of(further: &Further) -> Place {
-    place_for(further.others, further.bind, ROOM, further.up)
-}
-
-/// Whether each gets its place.
-pub fn all_have_their_place() -> bool {
-    for further in &CASES {
-        if !are_equal(place_of(further), further.place) {
-            return false;
-        }
-    }
-    true
-}
-
 fn are_equal(one: Place, other: Place) -> bool {
     match (one, other) {
         (Place::Free, Place::Free) | (Place::Nowhere, Place::Nowhere) => true,
         (Place::Of(one), Place::Of(other)) => one == other,
         _ => false,
     }
+}
+
+/// How many get their place, before one that does not.
+fn placed() -> usize {
+    let mut placed = 0usize;
+    for further in CASES {
+        let place = place_for(further.others, further.bind, ROOM, further.up);
+        if !are_equal(place, further.place) {
+            break;
+        }
+        placed = placed.saturating_add(1);
+    }
+    placed
+}
+
+#[test]
+fn the_longest_silent_goes_for_a_further_client(rt: HostRuntime) {
+    let placed = placed();
+    assert_eq!(rt; placed, CASES.len());
 }

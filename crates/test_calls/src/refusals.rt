@@ -1,13 +1,13 @@
 //! Rounds over a system that refuses, with one job.
 
-use crate::refusing::Refusing;
-use crate::scene::{control_in, goes_on, journal_of, launcher_over, new_folder};
+use crate::places::new_folder;
+use crate::refusing::{Found, Grants, Refusing, new_refusing};
+use crate::scene::{control_in, goes_on, journal_of, launcher_over};
 use launcher::Input;
 use memory_stage::{MemoryStore, Sink};
 use round_launcher::{Live, RoundLauncher};
-use std::cell::RefCell;
 use std::fs;
-use std::rc::Rc;
+use std::io::ErrorKind;
 
 const LOAD: &[u8] =
     b"{\"req\":\"load\",\"def\":\"{\\\"Label\\\":\\\"a\\\",\\\"Program\\\":\\\"/bin/x\\\",\\\"RunAtLoad\\\":true,\\\"WatchPaths\\\":[\\\"/w\\\"],\\\"Sockets\\\":{\\\"s\\\":{\\\"SockNodeName\\\":\\\"localhost\\\",\\\"SockServiceName\\\":7}},\\\"inetdCompatibility\\\":{\\\"Wait\\\":false}}\"}";
@@ -24,6 +24,12 @@ const TOLD: &str = "jobd: a: run 1: cannot wait for its end: permission denied
 jobd: cannot look at /w: permission denied
 jobd: a: cannot let a client in: Invalid argument (os error 22)
 ";
+
+/// A child for which the first two waits are refused.
+const FOUND: Option<Found> = Some(Found {
+    pid: 7,
+    refusals: 2,
+});
 
 /// Makes two rounds, and says whether both go on and the journal then is as wanted.
 fn is_journaled(rt: &Refusing, live: Live<Refusing, MemoryStore, Sink>) -> bool {
@@ -54,24 +60,28 @@ fn live_over(
 }
 
 /// Whether a round takes each refusal as it should, goes on, and tells it.
-pub fn are_taken(rt: &HostRuntime) -> Option<bool> {
-    let host = rt.clone().ok()?;
-    let told = Rc::new(rt.alloc(), RefCell::new(String::new(rt.alloc()))).ok()?;
-    let refusing = Refusing { host, told };
+fn are_taken(rt: &HostRuntime) -> Option<bool> {
+    let system = new_refusing(rt, ErrorKind::PermissionDenied, FOUND, Grants::Openings)?;
     let Some(folder) = new_folder(rt, "refusals") else {
-        drop(refusing);
+        drop(system);
         return None;
     };
-    let is_journaled = match live_over(rt, &refusing, folder.as_str()) {
-        Some(live) => is_journaled(&refusing, live),
+    let is_journaled = match live_over(rt, &system, folder.as_str()) {
+        Some(live) => is_journaled(&system, live),
         None => false,
     };
     let is_clear = fs::remove_dir_all(rt, folder.as_str()).is_ok();
-    let is_told = match refusing.told.try_borrow() {
+    let is_told = match system.told.try_borrow() {
         Ok(told) => told.as_str() == TOLD,
         Err(_) => false,
     };
-    drop(refusing);
-    drop(folder);
+    drop(system);
     Some(is_journaled && is_clear && is_told)
+}
+
+/// A refused wait is an event, and the next wait's end too; a refused look, reading or client is none.
+#[test]
+fn refusals_are_taken_as_they_are(rt: HostRuntime) {
+    let are_taken = are_taken(&rt) == Some(true);
+    assert!(rt; are_taken);
 }
