@@ -3,7 +3,7 @@
 use crate::job::Asked;
 use crate::run::Run;
 use history_model::{DemandKind, Event, Refusal, Wants};
-use job_table::{JobTable, Step};
+use job_table::{JobTable, Ready, Step};
 use std::alloc::Global;
 
 /// When a job that has no run starts again.
@@ -87,17 +87,21 @@ struct LoadWords {
     store: bool,
 }
 
+// Why a load that is ready is not made. It is let go here, where this is proved once.
+fn refused(_ready: Ready, lacks_socket: bool) -> Refusal {
+    if lacks_socket {
+        Refusal::SocketRefused
+    } else {
+        Refusal::StoreRefused
+    }
+}
+
 fn load(alloc: Global, table: &mut JobTable, def: &str, words: LoadWords) -> Result<bool, Refusal> {
     match table.prepare_load(alloc, def.as_bytes(), words.writes_setting, words.force) {
         Ok(ready) => {
             let lacks_socket = ready.def().has_sockets() && !words.bind;
             if lacks_socket || (words.writes_setting && !words.store) {
-                drop(ready);
-                return Err(if lacks_socket {
-                    Refusal::SocketRefused
-                } else {
-                    Refusal::StoreRefused
-                });
+                return Err(refused(ready, lacks_socket));
             }
             table.commit_load(ready);
             Ok(true)

@@ -64,7 +64,7 @@ fn asking_words(reasons: &Reasons) -> &'static str {
 
 // Why the conditions of its last end do not want it.
 fn add_conditions(page: &mut Page<'_>, job: &Job, def: &Def) {
-    let Some(last) = job.last else {
+    let Some(last) = &job.last else {
         return;
     };
     let by_exit = match (def.successful_exit(), last.end) {

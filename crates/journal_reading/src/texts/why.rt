@@ -146,7 +146,7 @@ fn add_removing(page: &mut Page<'_>, told: &Told<'_>) {
 
 fn add_child(page: &mut Page<'_>, told: &Told<'_>, child: StandingChild) {
     let job = told.job;
-    let (form, since, lived) = match job.current {
+    let (form, since, lived) = match &job.current {
         Some(present) => (
             "Run $ lives, process $, since $ (for $).",
             present.begun.wall,
@@ -224,7 +224,7 @@ fn throttle_form(job: &Job, length: u64, up: u64) -> (&'static str, u64) {
             return (form, at.wall);
         }
     }
-    if let Some(run) = job.refused {
+    if let Some(run) = &job.refused {
         if run.ended.up.saturating_add(1000) == up {
             let form =
                 "It is throttled until $ (in $): its last start was refused at $, and the next comes a second later at the earliest.";
@@ -236,10 +236,10 @@ fn throttle_form(job: &Job, length: u64, up: u64) -> (&'static str, u64) {
 
 // How the last run ended, how many there were, and that the last start was refused.
 fn add_past(page: &mut Page<'_>, job: &Job) {
-    if let Some(last) = job.last {
-        add_last(page, job, &last);
+    if let Some(last) = &job.last {
+        add_last(page, job, last);
     }
-    if let Some(run) = job.refused {
+    if let Some(run) = &job.refused {
         let form = "  Its last start (run $) was refused, at $.\n";
         page.add(form, &[Number(run.run), Time(run.ended.wall)]);
     }

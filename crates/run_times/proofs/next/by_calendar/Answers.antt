@@ -1,5 +1,5 @@
 -- What keeps the calendar from a start, and the moment from which it starts the job.
-use Rattle.std.proofs.Common.{◌+◌, ◌*◌, unwrap_or, nat_le, ap, sym, ◌∙◌, arith}
+use Rattle.std.proofs.Common.{◌+◌, ◌*◌, unwrap_or, nat_le, ap, sym, ◌∙◌, arith, rules}
 use Rattle.std.specs.Prelude.{max}
 use Rattle.history_model.specs.declared.TheConstants.{SECOND}
 use Rattle.history_model.specs.Calendar.{calendar_fires}
@@ -23,3 +23,12 @@ returns-in-None c = λ d near.
     not_fired (needs_event c.args.reasons.now) (calendar_fires (minute_at c.args.zone.now) c.args.entries.now c.args.now.wall (c.args.now.wall + d))
     (nat_le (unwrap_or c.args.reasons.now.throttled_until 0) (c.args.now.up + SECOND * d))
     (c.in-None.ensures.fires (c.args.now.wall + d) (omega (arith, near)) (omega (arith, near, c.requires.days)))
+
+pub returns-in-Some : goal.returns-in-Some
+returns-in-Some c = λ d near.
+    (λ i. nat_le ((c.max.ensures ∙ ap (λ n. max n c.seconds_until.result) c.saturating_sub-fires.ensures) i) d)
+    ∙ minute_starts (needs_event c.args.reasons.now) (calendar_fires (minute_at c.args.zone.now) c.args.entries.now c.args.now.wall (c.args.now.wall + d))
+    (nat_le (unwrap_or c.args.reasons.now.throttled_until 0) (c.args.now.up + SECOND * d)) c.in-Some.minute c.args.now.wall c.seconds_until.result d
+    (sym c.needs_event.ensures ∙ c.if-needs_event.false)
+    (c.in-Some.ensures.fires (c.args.now.wall + d) (omega (arith, near)) (omega (arith, near, c.requires.days)))
+    (search rules)
