@@ -210,7 +210,7 @@ fn form_of(task: Task) -> (&'static str, &'static str, &'static [Argument]) {
 
 fn subcommand_of<'a>(
     alloc: Global,
-    name: &'a str,
+    name: &'static str,
     task: Task,
 ) -> Result<clap::Command<'a>, AllocError> {
     let (about, exit, arguments) = form_of(task);
