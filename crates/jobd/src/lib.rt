@@ -26,12 +26,7 @@ use std::sync::Wait;
 /// 5 the store, 6 the control socket, 7 the zone, 8 the journal, 9 the clock or waiting. Any of them: 64 for words that are
 /// no command. Each fault but want of memory is told on standard error, those of `replay` by the status alone. A call for
 /// help prints it, with 0.
-pub fn jobd<L: Wait>(
-    host: &HostRuntime,
-    waits: &L,
-    alloc: Global,
-    words: &[String],
-) -> u8 {
+pub fn jobd<L: Wait>(host: &HostRuntime, waits: &L, alloc: Global, words: &[String]) -> u8 {
     match read_daemon_words(alloc, words) {
         Ok(DaemonCommand::Replay) => replay_input(host),
         Ok(DaemonCommand::Overrides { store }) => { list_store(host, alloc, store.as_str()) }
