@@ -3,14 +3,13 @@
 use crate::jobd;
 use control_client::jobctl;
 use exit_status::{NO_MEMORY, USAGE};
-use live_loop::System;
 use own_process::{Program, own_program, own_words, program_of};
 use std::io;
 use std::sync::Wait;
 
 /// Does as the program that the name of this process means, by the words that it was started with, and gives the exit status. Words
 /// that are not all UTF-8 are no command. Both `host` and `waits` are the runtime of `main`: only what takes it as `waits` may wait.
-pub fn run_by_name<L: System + Wait>(host: &HostRuntime, waits: &L) -> u8 {
+pub fn run_by_name<L: Wait>(host: &HostRuntime, waits: &L) -> u8 {
     match own_words(host) {
         Ok(words) => {
             let alloc = host.alloc();

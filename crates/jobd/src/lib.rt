@@ -10,7 +10,6 @@ pub use by_name::run_by_name;
 use exit_status::NO_MEMORY;
 use launchctl_words::{DaemonCommand, WordFault, read_daemon_words};
 pub use launcher::{Host, HostFault, Input};
-use live_loop::System;
 pub use live_loop::{ServeFault, round, serve};
 use replay::replay_input;
 pub use replay::{ReplayFault, replay};
@@ -27,12 +26,7 @@ use std::sync::Wait;
 /// 5 the store, 6 the control socket, 7 the zone, 8 the journal, 9 the clock or waiting. Any of them: 64 for words that are
 /// no command. Each fault but want of memory is told on standard error, those of `replay` by the status alone. A call for
 /// help prints it, with 0.
-pub fn jobd<L: System + Wait>(
-    host: &HostRuntime,
-    waits: &L,
-    alloc: Global,
-    words: &[String],
-) -> u8 {
+pub fn jobd<L: Wait>(host: &HostRuntime, waits: &L, alloc: Global, words: &[String]) -> u8 {
     match read_daemon_words(alloc, words) {
         Ok(DaemonCommand::Replay) => replay_input(host),
         Ok(DaemonCommand::Overrides { store }) => { list_store(host, alloc, store.as_str()) }

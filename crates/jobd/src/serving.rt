@@ -41,7 +41,7 @@ struct Prepared {
 /// 7, how the process was started and the clock 9, the control socket 6, the journal 8, the store 5, the spool 10, waiting 9; 1
 /// for want of memory. A journal is emptied only after the spool. The files of the control socket and of locks are removed in
 /// each case, and what else was made is left.
-pub(crate) fn serve_at<L: System + Wait>(
+pub(crate) fn serve_at<L: Wait>(
     host: &HostRuntime,
     waits: &L,
     alloc: Global,
@@ -91,7 +91,7 @@ fn prepare<R: System>(
 }
 
 // Here alone the runtime and the store are of real types: each place that lets a launcher go is proved for its whole type.
-fn serve_by<L: System + Wait>(
+fn serve_by<L: Wait>(
     host: &HostRuntime,
     waits: &L,
     alloc: Global,
@@ -171,7 +171,7 @@ fn parts_over<R: System>(
 }
 
 // Holds the spool, and serves. Err: nothing was served, and what was opened is let go.
-fn serve_on<L: System + Wait, R: System + Print, T: SettingStore + Drop>(
+fn serve_on<L: Wait, R: System + Print, T: SettingStore + Drop>(
     rt: &R,
     waits: &L,
     alloc: Global,
@@ -202,7 +202,7 @@ fn serve_on<L: System + Wait, R: System + Print, T: SettingStore + Drop>(
     served
 }
 
-fn serve_with<L: System + Wait, R: System + Print, T: SettingStore + Drop>(
+fn serve_with<L: Wait, R: System + Print, T: SettingStore + Drop>(
     rt: &R,
     waits: &L,
     alloc: Global,
@@ -222,7 +222,7 @@ fn serve_with<L: System + Wait, R: System + Print, T: SettingStore + Drop>(
     tell_standing(rt, plan);
     // Nobody has to hear it.
     let _written = println!(rt; "jobd: ready");
-    match serve(waits, alloc, live) {
+    match serve(waits, rt, alloc, live) {
         Ok(()) => Ok(0),
         Err(fault) => Ok(report_loop(rt, plan, fault)),
     }

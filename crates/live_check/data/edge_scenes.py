@@ -1125,7 +1125,8 @@ def name_thrice(given, folder):
     for name in ("jobd", "jobctl", "jobscope"):
         link = os.path.join(folder, name)
         os.symlink(given.by, link)
-        setattr(given, name, [given.by, "--argv0", name, *front] if front else [link])
+        started = [given.by, "--argv0", name, *front] if front else [link]
+        setattr(given, name, started)
 
 
 def read_words():
@@ -1133,8 +1134,7 @@ def read_words():
     words.add_argument("--by", metavar="PROGRAM")
     words.add_argument("--at-once", type=int, default=4)
     words.add_argument("--times", action="store_true")
-    given = words.parse_args()
-    return words, given
+    return words, words.parse_args()
 
 
 def main():

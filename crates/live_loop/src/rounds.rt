@@ -59,14 +59,16 @@ pub fn round<R: System, H: LoopHost>(
 }
 
 /// Rounds, until one says that it was the last, or the system refuses to wait. In each case the control socket's file is then
-/// removed, and the connections of jobs are let go with their files; the children live on.
-pub fn serve<R: System + Wait, H: LoopHost + Drop>(
+/// removed, and the connections of jobs are let go with their files; the children live on. Only `waits` may wait for ever: it is a
+/// parameter of its own, so that who puts the launcher together can name the runtime without the leave to wait.
+pub fn serve<L: Wait, R: System, H: LoopHost + Drop>(
+    waits: &L,
     rt: &R,
     alloc: Global,
     live: Live<H>,
 ) -> Result<(), ServeFault> {
     let mut live = live;
-    for _ in rt.forever() {
+    for _ in waits.forever() {
         let end = match round(rt, alloc, &mut live) {
             Ok(false) => None,
             Ok(true) => Some(Ok(())),
