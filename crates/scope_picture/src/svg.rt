@@ -42,22 +42,6 @@ const ENDS: [(End, &str); 6] = [
     (End::Lives, "lives"),
 ];
 
-/// How an end looks, by how grave it is: the class of its bar, that of its own shape, and the shape from the bar's upper corner; and the end
-/// in words, with a hole for its code or signal.
-const LOOKS: [(&str, &str, &str, &str); 6] = [
-    ("lives", "open", "m0 -1l7 7l-7 7", "lives"),
-    ("well", "", "", "ended with code $"),
-    ("stopped", "", "", "was stopped"),
-    ("code", "end", "m-2 -3h4v18h-4z", "ended with code $"),
-    ("signal", "end", "m-2 -3l8 9l-8 9z", "ended by signal $"),
-    (
-        "crash",
-        "open",
-        "m-4 1l9 10m0 -10l-9 10",
-        "crashed by signal $",
-    ),
-];
-
 /// The class of a mark, its name, and its shape from the middle of its upper edge.
 #[derive(Clone, Copy)]
 struct Sign {
@@ -261,8 +245,8 @@ fn put_bars(ink: &mut Ink, pen: &Pen<'_>, axis: &Axis, bars: &[Bar], top: u64) {
 
 // A bar. Its title says how its runs ended: of one its end, of several their number and the gravest end.
 fn put_bar(ink: &mut Ink, pen: &Pen<'_>, axis: &Axis, bar: &Bar, top: u64) {
-    let (grave, number) = grade(bar.end);
-    let (class, _, _, words) = LOOKS[grave];
+    let (_, number) = grade(bar.end);
+    let (class, _, _, words) = look(bar.end);
     let (begin, end) = axis.edges(bar.from, bar.until);
     let runs = Number(u64::from(bar.runs));
     let run = Number(bar.run);
@@ -272,7 +256,8 @@ fn put_bar(ink: &mut Ink, pen: &Pen<'_>, axis: &Axis, bar: &Bar, top: u64) {
         "<g class=\"$\" data-runs=\"$\"><title>$ runs from run $ on; the gravest "
     };
     let third = if bar.runs == 1 { run } else { runs };
-    put_form(ink, pen, form, &[Text(class), runs, third, run]);
+    let front = [Text(class), runs, third, run];
+    put_form(ink, pen, form, &front);
     put_form(ink, pen, words, &[Number(number)]);
     let holes = [
         Moment(bar.from),
@@ -284,10 +269,27 @@ fn put_bar(ink: &mut Ink, pen: &Pen<'_>, axis: &Axis, bar: &Bar, top: u64) {
     put_form(ink, pen, BAR, &holes);
 }
 
+// How an end looks: the class of its bar, that of its own shape, and the shape from the bar's upper corner; and the end in words, with a
+// hole for its code or signal.
+fn look<'a>(end: End) -> (&'a str, &'a str, &'a str, &'a str) {
+    match end {
+        End::Lives => ("lives", "open", "m0 -1l7 7l-7 7", "lives"),
+        End::Code(0) => ("well", "", "", "ended with code $"),
+        End::Stopped => ("stopped", "", "", "was stopped"),
+        End::Code(_) => ("code", "end", "m-2 -3h4v18h-4z", "ended with code $"),
+        End::Signal(_) => ("signal", "end", "m-2 -3l8 9l-8 9z", "ended by signal $"),
+        End::Crash(_) => (
+            "crash",
+            "open",
+            "m-4 1l9 10m0 -10l-9 10",
+            "crashed by signal $",
+        ),
+    }
+}
+
 // The shape of an end, if it has one.
 fn put_end(ink: &mut Ink, pen: &Pen<'_>, end: End, x: u64, top: u64) {
-    let (grave, _) = grade(end);
-    let (class, form, shape, _) = LOOKS[grave];
+    let (class, form, shape, _) = look(end);
     if !shape.is_empty() {
         let holes = [Text(class), Text(form), Number(x), Number(top), Text(shape)];
         put_form(ink, pen, "<path class=\"$ $\" d=\"M$ $$\"/>\n", &holes);
@@ -334,12 +336,13 @@ fn put_foot(ink: &mut Ink, pen: &Pen<'_>, chart: &Chart, bottom: u64) {
 }
 
 // What a bar and its end mean.
-fn put_swatch(ink: &mut Ink, pen: &Pen<'_>, end: End, name: &str, x: u64, bottom: u64) {
-    let (grave, _) = grade(end);
-    let (class, _, _, _) = LOOKS[grave];
+fn put_swatch(ink: &mut Ink, pen: &Pen<'_>, end: End, name: &'static str, x: u64, bottom: u64) {
+    let (class, _, _, _) = look(end);
     let top = bottom.saturating_add(10);
-    let bar = "<rect class=\"$\" x=\"$\" y=\"$\" width=\"22\" height=\"12\"/>";
-    put_form(ink, pen, bar, &[Text(class), Number(x), Number(top)]);
+    ink.put("<rect class=\"");
+    ink.put(class);
+    let bar = "\" x=\"$\" y=\"$\" width=\"22\" height=\"12\"/>";
+    put_form(ink, pen, bar, &[Number(x), Number(top)]);
     put_end(ink, pen, end, x.saturating_add(22), top);
     let holes = [
         Number(x.saturating_add(34)),
