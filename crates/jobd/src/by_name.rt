@@ -4,6 +4,7 @@ use crate::jobd;
 use control_client::jobctl;
 use exit_status::{NO_MEMORY, USAGE};
 use own_process::{Program, own_program, own_words, program_of};
+use scope::jobscope;
 use std::io;
 use std::sync::Wait;
 
@@ -16,7 +17,7 @@ pub fn run_by_name<L: Wait>(host: &HostRuntime, waits: &L) -> u8 {
             match program_of(words.as_slice()) {
                 Program::Jobd => jobd(host, waits, alloc, words.as_slice()),
                 Program::Jobctl => jobctl(host, alloc, words.as_slice()),
-                Program::Jobscope => 0,
+                Program::Jobscope => jobscope(host, waits, alloc, words.as_slice()),
             }
         }
         Err(fault) => refuse(host, &fault),

@@ -17,8 +17,9 @@ use startup::{
     report, room_of, settle, system_of, tell_long_header, tell_standing, zone_of,
 };
 use std::alloc::Global;
-use std::fs::File;
+use std::fs::{File, Files};
 use std::io::BufWriter;
+use std::rt::Env;
 use std::sync::Wait;
 
 /// What a launcher has before its store is opened.
@@ -48,7 +49,7 @@ pub(crate) fn serve_at<L: Wait>(
     places: Places,
     zone: ZoneWords,
 ) -> u8 {
-    match prepare(host, host, alloc, places) {
+    match prepare(host, alloc, places) {
         Ok(prepared) => {
             let status = serve_by(host, waits, alloc, &prepared.plan, zone);
             drop(prepared);
@@ -58,13 +59,12 @@ pub(crate) fn serve_at<L: Wait>(
     }
 }
 
-fn prepare<R: System>(
-    host: &HostRuntime,
+fn prepare<R: AllocGlobal + Env + Eprint + Files<File = File>>(
     rt: &R,
     alloc: Global,
     places: Places,
 ) -> Result<Prepared, u8> {
-    let Ok(wishes) = read_wishes(host) else {
+    let Ok(wishes) = read_wishes(rt) else {
         return Err(NO_MEMORY);
     };
     match open_null_streams(rt, alloc) {
