@@ -32,10 +32,12 @@ WORDS = "crates/launchctl_words/src/"
 
 def words_in(source, flags_of):
     """The subcommands and options that the source gives to the reader of words."""
-    names = set(re.findall(r'(?:bare|label_words|target_words|journal_words|timed_words)\(\s*alloc,\s*"([a-z]+)"', source))
-    options = {"--" + name for name in re.findall(r'(?:option|switch)\(\s*alloc,\s*"([a-z-]+)"', source)}
+    names = set(re.findall(r'(?:bare|label_words|target_words)\(\s*alloc,\s*"([a-z]+)"', source))
+    names |= set(re.findall(r'\("([a-z]+)", Task::', source))
+    options = {"--" + name for name in re.findall(r'option\(\s*alloc,\s*"([a-z-]+)"', source)}
+    options |= {"--" + name for name in re.findall(r'id: "([a-z-]+)",\s*form: Form::(?:Value|Switch)', source)}
     flags = {"-" + letter for letter in re.findall(r"""flag\(\s*alloc,\s*"[a-z]+",\s*'(\w)'""", flags_of)}
-    flags |= {"-" + letter for letter in re.findall(r"""\.short\('(\w)'\)""", source)}
+    flags |= {"-" + letter for letter in re.findall(r"""(?:\.short|Form::Letter)\('(\w)'\)""", source)}
     return names, options | flags
 
 
@@ -98,7 +100,8 @@ def check_program(program, page_path, source, flags_of, own_name):
 control = read(WORDS + "control_words.rt")
 check_program("build/jobctl", "man/jobctl.1", control, control, "jobctl")
 check_program("build/jobd", "man/jobd.8", read(WORDS + "jobd.rt"), "", "jobd")
-check_program("build/jobscope", "man/jobscope.1", read("crates/scope/src/words/forms.rt"), "", "jobscope")
+SCOPE = "crates/scope/src/words/"
+check_program("build/jobscope", "man/jobscope.1", read(SCOPE + "forms.rt", SCOPE + "command.rt"), "", "jobscope")
 
 # ---- the version
 
