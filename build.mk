@@ -1,5 +1,6 @@
 # make build: proves the program and all that it stands on (build_all.py: as many crates side by side as there are processors), and
-# leaves it as build/jobd, with build/jobctl and build/jobscope as links to it. What did not change since is taken as it stands.
+# leaves it as build/jobd, with build/jobctl and build/jobscope as links to it. What an earlier build or gate on this machine passed
+# over the same files is not proved again.
 PROGRAM := jobd_program
 # The program acts by the name that it is started under.
 put_program = install -m 755 crates/$(PROGRAM)/out/$(PROGRAM) build/jobd && ln -sf jobd build/jobctl && ln -sf jobd build/jobscope

@@ -1,117 +1,100 @@
 #!/usr/bin/env python3
-"""Proves programs of this tree and all that they stand on, as many crates side by side as there are processors.
+"""Proves a program of this tree and all that it stands on, as many crates side by side as there are processors, and keeps it.
 
-    build_all.py PROGRAM..
+    build_all.py PROGRAM
 
-A crate begins as soon as those that it stands on are proved, and of those that may begin first the one with the longest chain of others
-behind it. Each is proved by build_crate.py, in a room of its own. A check gets more than one job only if processors would be idle beside
-it: a second job costs more processor time than it saves by the clock. What did not change since an earlier build is taken as it stands.
+It is `rt ci PROGRAM` without the wrong bodies, which only the gate tries: rt's own function is called, which finds the order and the number of
+jobs of each check, and works on a copy. What the gate or an earlier build passed on this machine is not proved again, and what this
+passes the gate does not prove again. RT_JOBS bounds the checks that run side by side.
 
-A line is written as each crate is proved: how many of all are, and its name. If one is not proved no other begins, and what was said of it is
-written. That is kept in build/log/NAME.log. The last line has the processor time of all, and the time by the clock.
+A line is written as each crate is proved: how many of all are, and its name. What rt said stands in build/build.log; if something is not proved,
+the end of it is written. The program is left in crates/PROGRAM/out/. The last line has the processor time of all, and the time by the clock.
 """
-import concurrent.futures
+import contextlib
+import importlib.machinery
+import importlib.util
+import io
 import os
+import re
 import resource
-import subprocess
+import shutil
 import sys
 import time
 
 sys.dont_write_bytecode = True
-import build_crate
 
-TOP = build_crate.TOP
-
-# What a crate stands on is read before its first function is looked at. For each crate below that costs about as much as so many lines.
-LINES_FOR_A_CRATE_BELOW = 35
+TOP = os.path.dirname(os.path.abspath(__file__))
 
 
-class NotProved(Exception):
-    """The name of a crate that was not proved."""
+def load_rt():
+    path = shutil.which("rt") or sys.exit("rt is not on the PATH")
+    loader = importlib.machinery.SourceFileLoader("rt_main", os.path.realpath(path))
+    module = importlib.util.module_from_spec(importlib.util.spec_from_loader("rt_main", loader))
+    loader.exec_module(module)
+    return module
 
 
-def work_of(name, below):
-    """About how long the check of the crate takes that has so many below, in lines."""
-    found = LINES_FOR_A_CRATE_BELOW * below
-    for folder, _, files in os.walk(f"{TOP}/crates/{name}/src"):
-        for file in files:
-            with open(f"{folder}/{file}", "rb") as it:
-                found += it.read().count(b"\n")
+def with_those_below(name):
+    """The crate and all crates of this tree that it stands on."""
+    with open(f"{TOP}/crates.txt", encoding="utf-8") as it:
+        lines = {found[1]: found[2].split() for line in it if (found := re.match(r"([a-z0-9_]+)[^:#]*:(.*)", line))}
+    found, new = set(), {name}
+    while new:
+        found |= new
+        new = {it for one in new for it in lines[one] if it in lines} - found
     return found
 
 
-class Crates:
-    """The crates to be proved, and how much work stands behind each."""
+class Progress(io.StringIO):
+    """Takes what rt says into the log, and shows a line for each crate that stands."""
 
-    def __init__(self, programs):
-        lines = build_crate.lines_of()
-        self.below = {}
-        for program in programs:
-            for name in build_crate.with_those_below(program, lines):
-                self.below[name] = {it for it in build_crate.with_those_below(name, lines) if it != name}
-        self.work = {name: work_of(name, len(below)) for name, below in self.below.items()}
-        self.behind = {}
-        for name in sorted(self.below, key=lambda it: -len(self.below[it])):
-            above = [it for it in self.below if name in self.below[it]]
-            self.behind[name] = self.work[name] + max((self.behind[it] for it in above), default=0)
+    def __init__(self, log, shown, count):
+        super().__init__()
+        self.log, self.shown, self.count, self.done, self.line = log, shown, count, 0, ""
 
-    def ready(self, proved, begun):
-        """Those that may begin now, the longest chain first."""
-        found = [it for it in self.below if it not in begun and self.below[it] <= proved]
-        return sorted(found, key=lambda it: -self.behind[it])
+    def write(self, text):
+        self.log.write(text)
+        *lines, self.line = (self.line + text).split("\n")
+        for line in lines:
+            found = re.match(r"rt: ([a-z0-9_]+)( proved$| is kept: )", line)
+            if found:
+                self.done += 1
+                kept = "" if found[2].startswith(" proved") else " (kept)"
+                print(f"[{self.done}/{self.count}] {found[1]}{kept}", file=self.shown, flush=True)
+        return len(text)
 
-    def beside(self, name, proved):
-        """The work that is not proved yet and needs not wait for this crate, nor this crate for it."""
-        others = [it for it in self.below if it not in proved and it != name]
-        return sum(self.work[it] for it in others if name not in self.below[it] and it not in self.below[name])
-
-    def jobs(self, name, proved, processors):
-        """How many jobs the check gets: the processors that what goes on beside it leaves idle, at least one."""
-        busy = round(self.beside(name, proved) / self.work[name])
-        return max(1, min(processors - busy, int(build_crate.free_gigabytes() / 2.5), 4))
+    def flush(self):
+        self.log.flush()
 
 
-def prove(name, is_program, jobs):
-    """Proves the crate. A program is linked too, and asked for its help."""
-    given = ["run", "--help"] if is_program else ["lib"]
-    command = [sys.executable, f"{TOP}/build_crate.py", name, *given]
-    with open(f"{TOP}/build/log/{name}.log", "w", encoding="utf-8") as log:
-        how = {"stdin": subprocess.DEVNULL, "stdout": log, "stderr": subprocess.STDOUT, "env": {**os.environ, "JOBS": str(jobs)}}
-        if subprocess.run(command, **how).returncode:
-            raise NotProved(name)
-    return name
-
-
-def prove_all(crates, programs, processors):
-    proved, begun, running = set(), set(), set()
-    with concurrent.futures.ThreadPoolExecutor(processors) as pool:
-        try:
-            while len(proved) < len(crates.below):
-                for name in crates.ready(proved, begun)[: processors - len(running)]:
-                    begun.add(name)
-                    running.add(pool.submit(prove, name, name in programs, crates.jobs(name, proved, processors)))
-                done, running = concurrent.futures.wait(running, return_when=concurrent.futures.FIRST_COMPLETED)
-                for it in done:
-                    proved.add(it.result())
-                    print(f"[{len(proved)}/{len(crates.below)}] {it.result()}", flush=True)
-        finally:
-            if running:
-                print("waiting for the checks that still run", file=sys.stderr, flush=True)
-
-
-def main(*programs):
-    os.makedirs(f"{TOP}/build/log", exist_ok=True)
+def main(program):
+    rt = load_rt()
     start = time.monotonic()
-    processors = int(os.environ.get("BUILD_JOBS") or len(os.sched_getaffinity(0)))
-    try:
-        prove_all(Crates(programs), programs, processors)
-    except NotProved as fault:
-        with open(f"{TOP}/build/log/{fault}.log", encoding="utf-8", errors="replace") as log:
-            print(f"{log.read()}{fault} is not proved", file=sys.stderr)
-        return 1
-    used = resource.getrusage(resource.RUSAGE_CHILDREN)
-    print(f"{(used.ru_utime + used.ru_stime) / 60:.1f} processor minutes, {(time.monotonic() - start) / 60:.1f} by the clock")
-    return 0
+    os.chdir(TOP)
+    # rt proves no crates by name where this says that the gate runs
+    os.environ.pop("CI", None)
+    os.makedirs("build", exist_ok=True)
+    run = rt.run
+
+    def run_and_take(crate, tests, ending=""):
+        # the copy that rt works on is gone when it ends
+        if crate.name == program and not ending:
+            to = f"{TOP}/crates/{program}/out"
+            os.makedirs(to, exist_ok=True)
+            shutil.copyfile(f"{crate.folder}/out/{program}", f"{to}/{program}")
+        return run(crate, tests, ending)
+
+    rt.run, rt.edits_of = run_and_take, lambda crate: ([], [])
+    with open("build/build.log", "w+", encoding="utf-8", errors="replace") as log:
+        with contextlib.redirect_stdout(Progress(log, sys.stdout, len(with_those_below(program)))):
+            status = rt.ci(False, [program])
+        if status:
+            log.seek(0)
+            print("".join(log.readlines()[-60:]), end="", file=sys.stderr)
+    used = [resource.getrusage(it) for it in (resource.RUSAGE_SELF, resource.RUSAGE_CHILDREN)]
+    minutes = sum(it.ru_utime + it.ru_stime for it in used) / 60
+    print(f"{minutes:.1f} processor minutes, {(time.monotonic() - start) / 60:.1f} by the clock")
+    return status
 
 
 if __name__ == "__main__":

@@ -13,7 +13,7 @@ import time
 import traceback
 
 sys.dont_write_bytecode = True
-sys.path.insert(0, os.path.join(os.path.dirname(os.path.abspath(__file__)), "..", "crates", "live_check", "data"))
+sys.path.insert(0, os.path.join(os.path.dirname(os.path.abspath(__file__)), "..", "crates", "trials", "data"))
 from edge_scenes import comes, connect, descriptors, read_all, read_line, shell_job  # noqa: E402
 
 LIST = b'{"req":"list"}\n'

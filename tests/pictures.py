@@ -4,7 +4,7 @@
     tests/pictures.py [PROGRAM [JOURNAL..]]
     tests/pictures.py --look FOLDER [PROGRAM [JOURNAL..]]
 
-PROGRAM is build/jobscope if none is given, and the journals are those of crates/live_check/data/scope/journal. Of each journal the runs, their
+PROGRAM is build/jobscope if none is given, and the journals are those of crates/trials/data/scope/journal. Of each journal the runs, their
 times and their ends are reckoned here, line by line, and compared with the chart:
 
     SVG       it is XML; each run that began is in a bar of its job's row, which begins and ends at the places of its seconds
@@ -248,7 +248,7 @@ def main():
     folder = words[1] if words[:1] == ["--look"] else None
     words = words[2:] if folder else words
     program = words[0] if words else os.path.join(TOP, "build", "jobscope")
-    paths = words[1:] or sorted(glob.glob(os.path.join(TOP, "crates", "live_check", "data", "scope", "journal", "*.jsonl")))
+    paths = words[1:] or sorted(glob.glob(os.path.join(TOP, "crates", "trials", "data", "scope", "journal", "*.jsonl")))
     if folder:
         look(folder, program, paths)
     bad = 0

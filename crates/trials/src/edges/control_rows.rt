@@ -1,0 +1,238 @@
+//! What is expected of the control socket in each round, where its clients are many, greedy or still.
+
+use crate::edges::control_stage::Step::*;
+use crate::edges::control_stage::{Step, played};
+
+/// The first line of each client is answered before the second of any, and the 17th of a client in the next round.
+const A_CLIENT_HAS_16_LINES_A_ROUND: &[Step] = &[
+    Connect(2),
+    Rounds(1),
+    SendsTimes(0, "a\n", 17),
+    Sends(1, "b\n"),
+    Busy(true),
+    Asked("a\nb\na\na\na\na\na\na\na\na\na\na\na\na\na\na\na\n"),
+    Busy(false),
+    Asked("a\n"),
+    SendsTimes(0, "a\n", 16),
+    Rounds(1),
+    Asked("a\na\na\na\na\na\na\na\na\na\na\na\na\na\na\na\n"),
+    Busy(false),
+    Asked(""),
+];
+
+/// A round in which there is time for two lines ends with the second. The next one begins with the client behind, also where the
+/// time ended among further lines.
+const A_ROUND_ENDS_WITH_ITS_TIME: &[Step] = &[
+    Connect(3),
+    Rounds(1),
+    Time(2),
+    Sends(0, "a\na\na\n"),
+    Sends(1, "b\nb\n"),
+    Sends(2, "c\n"),
+    Busy(true),
+    Asked("a\nb\n"),
+    Hears(2, ""),
+    Busy(true),
+    Asked("c\na\n"),
+    Busy(true),
+    Asked("b\na\n"),
+    Busy(false),
+    Time(3),
+    Sends(0, "a\na\na\na\n"),
+    Sends(1, "b\nb\nb\n"),
+    Busy(true),
+    Asked("b\na\nb\n"),
+    Busy(true),
+    Asked("a\nb\na\n"),
+    Busy(false),
+    Asked("a\n"),
+];
+
+/// A round answers one line also where the limit never has time, and each client has its turn.
+const A_ROUND_WITHOUT_TIME_ANSWERS_A_LINE: &[Step] = &[
+    Connect(3),
+    Rounds(1),
+    Time(0),
+    OthersSend(9, "a\nb\n"),
+    Busy(true),
+    Asked("a\n"),
+    Busy(true),
+    Asked("a\n"),
+    Busy(true),
+    Asked("a\n"),
+    Rounds(3),
+    Asked("b\nb\nb\n"),
+    Busy(false),
+];
+
+/// At 64 clients the one that has been silent for longest gives way to a new one, also with half a line.
+const THE_LONGEST_SILENT_CLIENT_GIVES_WAY: &[Step] = &[
+    Connect(64),
+    Rounds(1),
+    Sends(7, "ha"),
+    Rounds(1),
+    Hears(7, ""),
+    OthersSend(7, "a\n"),
+    Rounds(1),
+    Connect(1),
+    Rounds(1),
+    IsLetGo(7),
+    Sends(64, "b\n"),
+    Rounds(1),
+    Hears(64, "{\"code\":0,\"text\":\"b\"}\n"),
+    Hears(6, "{\"code\":0,\"text\":\"a\"}\n"),
+    Sends(6, "c\n"),
+    Rounds(1),
+    Hears(6, "{\"code\":0,\"text\":\"c\"}\n"),
+];
+
+/// Of 65 that come at once the last waits until a round looked at the others. The first of them is then the longest silent.
+const CLIENTS_THAT_COME_AT_ONCE_GET_IN: &[Step] = &[
+    Connect(65),
+    Rounds(1),
+    Hears(0, ""),
+    Hears(64, ""),
+    Sends(64, "b\n"),
+    Rounds(1),
+    IsLetGo(0),
+    Rounds(1),
+    Hears(64, "{\"code\":0,\"text\":\"b\"}\n"),
+    Hears(1, ""),
+];
+
+/// In the round in which a client leaves, another takes its place. A further one is turned away if all 64 ask.
+const A_CLIENT_BEHIND_64_IS_TURNED_AWAY: &[Step] = &[
+    Connect(64),
+    Rounds(1),
+    OthersSend(5, "a\n"),
+    Leaves(5),
+    Connect(2),
+    Rounds(1),
+    Hears(64, ""),
+    Hears(65, ""),
+    OthersSend(65, "b\n"),
+    Rounds(1),
+    HearsLast(65, "{\"code\":2,\"text\":\"too many clients\\n\"}\n"),
+    Hears(64, "{\"code\":0,\"text\":\"b\"}\n"),
+    Hears(
+        63,
+        "{\"code\":0,\"text\":\"a\"}\n{\"code\":0,\"text\":\"b\"}\n",
+    ),
+];
+
+/// Where no client is silent, one that takes nothing of its replies gives way after a second, and not before.
+const A_CLIENT_THAT_TAKES_NOTHING_GIVES_WAY: &[Step] = &[
+    Connect(64),
+    Rounds(1),
+    SendsTimes(9, "long\n", 60),
+    Rounds(100),
+    Quiet(false),
+    Later(999),
+    OthersSend(9, "a\n"),
+    Connect(1),
+    Rounds(1),
+    HearsLast(64, "{\"code\":2,\"text\":\"too many clients\\n\"}\n"),
+    Leaves(64),
+    Later(1),
+    OthersSend(9, "a\n"),
+    Connect(1),
+    Rounds(1),
+    IsLetGo(9),
+    Quiet(true),
+    Sends(65, "b\n"),
+    Rounds(1),
+    Hears(65, "{\"code\":0,\"text\":\"b\"}\n"),
+];
+
+/// Who may give way is known only once a round looked at every client. Until then a new one waits.
+const A_NEW_CLIENT_WAITS_FOR_A_WHOLE_ROUND: &[Step] = &[
+    Connect(64),
+    Rounds(1),
+    OthersSend(64, "a\n"),
+    Connect(1),
+    Time(40),
+    Busy(true),
+    Hears(64, ""),
+    Sends(64, "b\n"),
+    OthersSend(64, "c\n"),
+    Time(1_000),
+    Rounds(1),
+    HearsLast(64, "{\"code\":2,\"text\":\"too many clients\\n\"}\n"),
+    Hears(
+        0,
+        "{\"code\":0,\"text\":\"a\"}\n{\"code\":0,\"text\":\"c\"}\n",
+    ),
+];
+
+/// What is not yet sent to a client that leaves goes with it, and who waits for its client has nothing to do.
+const A_CLIENT_THAT_NEVER_READ_MAY_LEAVE: &[Step] = &[
+    Connect(2),
+    Rounds(1),
+    SendsTimes(0, "long\n", 60),
+    SendsTimes(1, "some\n", 23),
+    HalfCloses(1),
+    Rounds(100),
+    Quiet(false),
+    Busy(false),
+    Leaves(0),
+    Leaves(1),
+    Rounds(1),
+    Quiet(true),
+];
+
+/// At most 65,536 bytes of a client are read in a round, so that the next one has its turn.
+const A_CLIENT_WITH_MUCH_TO_SAY_HOLDS_UP_NOBODY: &[Step] = &[
+    Connect(2),
+    Rounds(1),
+    SendsBlocks(0, 20),
+    Sends(1, "a\n"),
+    Busy(true),
+    Hears(1, "{\"code\":0,\"text\":\"a\"}\n"),
+    Busy(false),
+];
+
+/// Half a line asks nothing. Where a client left, its last request is asked all the same.
+const CLIENTS_WAKE_THE_POLL: &[Step] = &[
+    Woken(false),
+    Connect(1),
+    Woken(true),
+    Rounds(1),
+    Rounds(1),
+    Woken(true),
+    Woken(false),
+    Sends(0, "li"),
+    Woken(true),
+    Rounds(1),
+    Asked(""),
+    Sends(0, "st\n"),
+    Woken(true),
+    Leaves(0),
+    Rounds(1),
+    Asked("list\n"),
+    Quiet(true),
+];
+
+/// Their names are those of their sockets.
+static ROWS: &[(&str, &[Step])] = &[
+    ("lines", A_CLIENT_HAS_16_LINES_A_ROUND),
+    ("time", A_ROUND_ENDS_WITH_ITS_TIME),
+    ("least", A_ROUND_WITHOUT_TIME_ANSWERS_A_LINE),
+    ("silent", THE_LONGEST_SILENT_CLIENT_GIVES_WAY),
+    ("burst", CLIENTS_THAT_COME_AT_ONCE_GET_IN),
+    ("many", A_CLIENT_BEHIND_64_IS_TURNED_AWAY),
+    ("stuck", A_CLIENT_THAT_TAKES_NOTHING_GIVES_WAY),
+    ("waits", A_NEW_CLIENT_WAITS_FOR_A_WHOLE_ROUND),
+    ("unread", A_CLIENT_THAT_NEVER_READ_MAY_LEAVE),
+    ("turns", A_CLIENT_WITH_MUCH_TO_SAY_HOLDS_UP_NOBODY),
+    ("wakes", CLIENTS_WAKE_THE_POLL),
+];
+
+/// The first row whose clients are served otherwise.
+pub fn first_other(rt: &HostRuntime) -> Option<&'static str> {
+    for (name, steps) in ROWS {
+        if played(rt, name, steps) != Some(steps.len()) {
+            return Some(name);
+        }
+    }
+    None
+}

@@ -1,0 +1,147 @@
+//! The bytes of one exchange, from the client's request to what is left to send of the reply.
+
+use crate::parts::exchange::Step::*;
+use socket_demand::{Exchange, ExchangeFault};
+use std::alloc::Global;
+
+/// What is told of an exchange, and what is expected of it.
+#[derive(Clone, Copy)]
+enum Step {
+    /// A piece of the request, and how it is refused.
+    Piece(&'static str, Option<ExchangeFault>),
+    /// So many bytes more of the request, and how they are refused.
+    Bytes(usize, Option<ExchangeFault>),
+    RequestEnd,
+    /// The request is this, or so long.
+    Asked(&'static str),
+    AskedBytes(usize),
+    /// A piece of the reply, and how many bytes of it are taken.
+    Reply(&'static str, usize),
+    /// So many bytes of the reply, and how many of them are taken.
+    ReplyBytes(usize, usize),
+    /// So many bytes were sent.
+    Sent(usize),
+    ReplyEnd,
+    /// What is left to send is this, or so long.
+    Left(&'static str),
+    LeftBytes(usize),
+    Done(bool),
+}
+
+/// A request in two pieces, and a reply of which two bytes are sent.
+const SERVED: &[Step] = &[
+    Piece("ab", None),
+    Piece("c", None),
+    Asked("abc"),
+    RequestEnd,
+    Piece("d", Some(ExchangeFault::Closed)),
+    Asked("abc"),
+    Reply("xyz", 3),
+    Sent(2),
+    Left("z"),
+    ReplyEnd,
+    Reply("more", 0),
+    Left("z"),
+    Done(false),
+    Sent(1),
+    Done(true),
+];
+
+/// A request that would be too long leaves what was there, and a shorter piece is still taken.
+const TOO_LONG: &[Step] = &[
+    Piece("abc", None),
+    Bytes(65_534, Some(ExchangeFault::TooLong)),
+    Asked("abc"),
+    Bytes(65_533, None),
+    AskedBytes(65_536),
+    Piece("d", Some(ExchangeFault::TooLong)),
+    Piece("", None),
+    AskedBytes(65_536),
+    RequestEnd,
+    Piece("", Some(ExchangeFault::Closed)),
+    Bytes(65_536, Some(ExchangeFault::Closed)),
+];
+
+/// A reply waits up to its room, and goes on if some was sent.
+const REPLY_WAITS: &[Step] = &[
+    RequestEnd,
+    Asked(""),
+    Reply("ab", 2),
+    ReplyBytes(16_384, 16_382),
+    Reply("c", 0),
+    Sent(16_382),
+    Reply("cd", 2),
+    Left("xxcd"),
+    Done(false),
+];
+
+/// An exchange is done once both ends were told and nothing is left.
+const ENDS: &[Step] = &[Done(false), ReplyEnd, Done(false), RequestEnd, Done(true)];
+
+/// With the room of its beginning: the longest request at once, and as much of a reply as may wait.
+const ROOM: &[Step] = &[
+    Bytes(65_536, None),
+    Bytes(1, Some(ExchangeFault::TooLong)),
+    ReplyBytes(65_536, 16_384),
+    LeftBytes(16_384),
+];
+
+/// Each list is of an exchange of its own.
+static LISTS: &[&[Step]] = &[ROOM, SERVED, TOO_LONG, REPLY_WAITS, ENDS];
+
+/// Whether the step goes as it says. The bytes of long pieces are those of the filler.
+fn goes(exchange: &mut Exchange, step: Step, filler: &[u8]) -> bool {
+    match step {
+        Piece(piece, fault) => exchange.request(piece.as_bytes()).err() == fault,
+        Bytes(count, fault) => {
+            let piece = &filler[..count.min(filler.len())];
+            exchange.request(piece).err() == fault
+        }
+        RequestEnd => {
+            exchange.request_end();
+            true
+        }
+        Asked(text) => exchange.request_bytes() == text.as_bytes(),
+        AskedBytes(count) => exchange.request_bytes().len() == count,
+        Reply(piece, count) => exchange.reply(piece.as_bytes()) == count,
+        ReplyBytes(piece, count) => { exchange.reply(&filler[..piece.min(filler.len())]) == count }
+        Sent(count) => {
+            let is_there = count <= exchange.to_send().len();
+            if is_there {
+                exchange.sent(count);
+            }
+            is_there
+        }
+        ReplyEnd => {
+            exchange.reply_end();
+            true
+        }
+        Left(text) => exchange.to_send() == text.as_bytes(),
+        LeftBytes(count) => exchange.to_send().len() == count,
+        Done(is_done) => exchange.done() == is_done,
+    }
+}
+
+/// How many steps go as they say, before one that does not. None without memory.
+fn gone(alloc: Global, steps: &[Step]) -> Option<usize> {
+    let filler = vec![in alloc; b'x'; 65_536].ok()?;
+    let mut exchange = Exchange::new(alloc).ok()?;
+    let mut passed = 0usize;
+    for step in steps {
+        if !goes(&mut exchange, *step, filler.as_slice()) {
+            break;
+        }
+        passed = passed.saturating_add(1);
+    }
+    drop(exchange);
+    Some(passed)
+}
+
+/// Whether each exchange goes as it says.
+pub fn all_go(alloc: Global) -> bool {
+    let mut all_go = true;
+    for steps in LISTS {
+        all_go &= gone(alloc, steps) == Some(steps.len());
+    }
+    all_go
+}

@@ -1,0 +1,262 @@
+//! The streams. Each ends with a list, whose text both launchers have to answer alike.
+
+use crate::rounds::edge::ABSENT;
+use crate::rounds::pair::is_spared;
+use crate::rounds::step::Step::{Ask, End, First, Round, Second};
+use crate::rounds::step::Stream;
+use child_edge::{EdgeCall, Scripted};
+use history_model::{Ended, Obs};
+use std::alloc::Global;
+
+const LIST: &str = r#"{"req":"list"}"#;
+
+const DONE: Ended = Ended::Code(0);
+
+/// An order with its answer.
+type Order = (EdgeCall, Scripted);
+
+const STARTED: Scripted = Scripted::Started(812);
+
+const FIRST_RUN: Order = (
+    EdgeCall::Start {
+        job: 0,
+        run: 1,
+        conn: None,
+    },
+    STARTED,
+);
+
+const SECOND_RUN: Order = (
+    EdgeCall::Start {
+        job: 0,
+        run: 2,
+        conn: None,
+    },
+    STARTED,
+);
+
+const THIRD_RUN: Order = (
+    EdgeCall::Start {
+        job: 0,
+        run: 3,
+        conn: None,
+    },
+    STARTED,
+);
+
+const REFUSED_RUN: Order = (
+    EdgeCall::Start {
+        job: 0,
+        run: 2,
+        conn: None,
+    },
+    Scripted::Refused,
+);
+
+/// Of the job that is loaded as the second one.
+const OTHER_RUN: Order = (
+    EdgeCall::Start {
+        job: 1,
+        run: 1,
+        conn: None,
+    },
+    STARTED,
+);
+
+const TERM: Order = (EdgeCall::Term { job: 0, run: 3 }, Scripted::Done);
+
+const KILL: Order = (EdgeCall::Kill { job: 0, run: 3 }, Scripted::Done);
+
+/// A file, and the same once it was changed.
+const FILE: Obs = Obs {
+    present: true,
+    nonempty_dir: false,
+    stamp: 1,
+};
+
+const CHANGED: Obs = Obs {
+    present: true,
+    nonempty_dir: false,
+    stamp: 2,
+};
+
+/// A directory with something in it.
+const FULL: Obs = Obs {
+    present: true,
+    nonempty_dir: true,
+    stamp: 1,
+};
+
+const OFTEN: &str =
+    r#"{"req":"load","def":"{\"Label\":\"often\",\"Program\":\"/bin/x\",\"StartInterval\":5,\"ThrottleInterval\":0}"}"#;
+
+/// Every five seconds; the seconds between them are left out.
+const INTERVAL: Stream = Stream {
+    steps: &[
+        Ask(OFTEN),
+        Round(1_000, 1),
+        Round(4_999, 4),
+        Round(5_000, 5),
+        Round(5_100, 5),
+        End("often", 1, DONE),
+        Round(9_999, 9),
+        Round(10_001, 10),
+        Ask(r#"{"req":"print","job":"often"}"#),
+        Ask(LIST),
+    ],
+    orders: &[FIRST_RUN, SECOND_RUN],
+    left_out: 9,
+};
+
+const HOURLY: &str =
+    r#"{"req":"load","def":"{\"Label\":\"hourly\",\"Program\":\"/bin/x\",\"StartCalendarInterval\":{\"Minute\":14},\"ThrottleInterval\":0}"}"#;
+
+/// A minute is crossed 40 seconds after the start, before a calendar is loaded; then 14 minutes past the hour comes, and comes
+/// again after the wall clock was set back.
+const CALENDAR: Stream = Stream {
+    steps: &[
+        Round(1_000, 1),
+        Ask(HOURLY),
+        Round(10_000, 10),
+        Round(39_999, 39),
+        Round(40_000, 40),
+        End("hourly", 1, DONE),
+        Round(41_000, 41),
+        Round(42_000, 38),
+        Round(43_000, 39),
+        Round(44_000, 40),
+        Ask(r#"{"req":"print","job":"hourly"}"#),
+        Ask(LIST),
+    ],
+    orders: &[FIRST_RUN, SECOND_RUN],
+    left_out: 18,
+};
+
+const KEPT: &str =
+    r#"{"req":"load","def":"{\"Label\":\"kept\",\"Program\":\"/bin/x\",\"KeepAlive\":true}"}"#;
+
+/// A job that ends too soon waits for its throttle; so does one whose start was refused.
+const THROTTLE: Stream = Stream {
+    steps: &[
+        Ask(KEPT),
+        Round(2_000, 2),
+        End("kept", 1, DONE),
+        Round(3_000, 3),
+        Round(9_999, 9),
+        Round(10_000, 10),
+        Round(11_000, 11),
+        Round(19_999, 19),
+        Round(20_000, 20),
+        Ask(r#"{"req":"stop","job":"kept"}"#),
+        Round(20_001, 20),
+        Round(39_999, 39),
+        Round(40_000, 40),
+        Ask(r#"{"req":"print","job":"kept"}"#),
+        Ask(LIST),
+    ],
+    orders: &[FIRST_RUN, REFUSED_RUN, THIRD_RUN, TERM, KILL],
+    left_out: 16,
+};
+
+const WHILE_THERE: &str =
+    r#"{"req":"load","def":"{\"Label\":\"there\",\"Program\":\"/bin/x\",\"KeepAlive\":{\"PathState\":{\"/a\":true}},\"ThrottleInterval\":0}"}"#;
+
+const WHILE_GONE: &str =
+    r#"{"req":"load","def":"{\"Label\":\"gone\",\"Program\":\"/bin/x\",\"KeepAlive\":{\"PathState\":{\"/a\":false}},\"ThrottleInterval\":0}"}"#;
+
+/// A job is kept while a file is there, and ends once it is gone. Another one is loaded after that, and has to hear of it too.
+const PATH_STATE: Stream = Stream {
+    steps: &[
+        Ask(WHILE_THERE),
+        Round(1_000, 1),
+        Round(2_000, 2),
+        First(FILE),
+        Round(2_500, 2),
+        Round(3_000, 3),
+        End("there", 1, DONE),
+        Round(4_000, 4),
+        First(ABSENT),
+        Round(5_000, 5),
+        End("there", 2, DONE),
+        Round(6_000, 6),
+        Ask(WHILE_GONE),
+        Round(7_000, 7),
+        Round(8_000, 8),
+        Ask(r#"{"req":"print","job":"there"}"#),
+        Ask(LIST),
+    ],
+    orders: &[FIRST_RUN, SECOND_RUN, OTHER_RUN],
+    left_out: 15,
+};
+
+const WATCH: &str =
+    r#"{"req":"load","def":"{\"Label\":\"watch\",\"Program\":\"/bin/x\",\"WatchPaths\":[\"/a\",\"/b\"],\"ThrottleInterval\":0}"}"#;
+
+/// The first sight of a path starts nothing, nor does an equal one; a change does, and so does an end of the file.
+const WATCHED: Stream = Stream {
+    steps: &[
+        First(FILE),
+        Ask(WATCH),
+        Round(1_000, 1),
+        Round(2_000, 2),
+        First(CHANGED),
+        Round(3_000, 3),
+        End("watch", 1, DONE),
+        Round(4_000, 4),
+        Second(FILE),
+        Round(5_000, 5),
+        First(ABSENT),
+        Round(6_000, 6),
+        End("watch", 2, DONE),
+        Round(7_000, 7),
+        Ask(r#"{"req":"print","job":"watch"}"#),
+        Ask(LIST),
+    ],
+    orders: &[FIRST_RUN, SECOND_RUN, THIRD_RUN],
+    left_out: 11,
+};
+
+const QUEUE: &str =
+    r#"{"req":"load","def":"{\"Label\":\"queue\",\"Program\":\"/bin/x\",\"QueueDirectories\":[\"/b\"],\"ThrottleInterval\":0}"}"#;
+
+/// A job is kept while something is in its queue directory.
+const QUEUED: Stream = Stream {
+    steps: &[
+        Second(FILE),
+        Ask(QUEUE),
+        Round(1_000, 1),
+        Round(2_000, 2),
+        Second(FULL),
+        Round(3_000, 3),
+        Round(4_000, 4),
+        End("queue", 1, DONE),
+        Second(FILE),
+        Round(5_000, 5),
+        End("queue", 2, DONE),
+        Round(6_000, 6),
+        Ask(r#"{"req":"print","job":"queue"}"#),
+        Ask(LIST),
+    ],
+    orders: &[FIRST_RUN, SECOND_RUN],
+    left_out: 10,
+};
+
+/// Each stream by what it shows.
+static STREAMS: &[(&str, Stream)] = &[
+    ("an_interval_needs_no_reading_before_its_moment", INTERVAL),
+    ("a_calendar_minute_comes_by_the_clock", CALENDAR),
+    ("a_throttle_and_a_timeout_come_by_the_clock", THROTTLE),
+    ("a_job_is_kept_while_a_file_is_there", PATH_STATE),
+    ("a_watched_path_needs_no_equal_sight", WATCHED),
+    ("a_queue_directory_needs_no_equal_sight", QUEUED),
+];
+
+/// The first stream in which something changes if what may be left out is left out.
+pub fn first_other(alloc: Global) -> Option<&'static str> {
+    for (name, stream) in STREAMS {
+        if is_spared(alloc, stream) != Ok(true) {
+            return Some(name);
+        }
+    }
+    None
+}
