@@ -2,15 +2,20 @@
 //! are generic over the store and the launcher, so that neither is named here.
 
 mod feeding;
+pub mod hoard;
 mod plain_calls;
 mod replaying;
+pub mod report;
 mod storing;
+pub mod trial;
 pub mod turning;
 
+use crate::little_memory::hoard::Hoard;
+use crate::little_memory::report::show_run;
 use crate::little_memory::storing::{InMemory, OwnFile};
+use crate::little_memory::trial::Trial;
+use crate::memory_stage::Stage;
 use anyhow::Result;
-use memory_stage::Stage;
-use scarce_memory::{Hoard, Trial, show_run};
 use std::alloc::Global;
 
 /// Tries a call, and lets the trial go in one place, since each is proved for its whole type.

@@ -12,6 +12,7 @@
 
 mod edges;
 mod little_memory;
+mod memory_stage;
 mod parts;
 mod rounds;
 mod scenes;
@@ -19,9 +20,9 @@ mod stores;
 mod tables;
 mod turns;
 
+use crate::little_memory::report::run_with_little;
 use anyhow::Result;
 use jobd::run_by_name;
-use scarce_memory::run_with_little;
 use std::env;
 use std::process::ExitCode;
 

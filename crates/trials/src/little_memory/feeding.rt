@@ -1,7 +1,8 @@
 //! The calls of a feed of lines that take memory.
 
+use crate::little_memory::hoard::Hoard;
+use crate::little_memory::trial::{Answer, Trial};
 use ctl_protocol::{LINE_LIMIT, LineFault, LineFeed};
-use scarce_memory::{Answer, Hoard, Trial};
 use std::alloc::Global;
 use std::mem;
 

@@ -3,6 +3,8 @@
 
 ghost use Rattle.std.specs.Prelude.{◌≤◌};
 
+use crate::little_memory::hoard::Hoard;
+use crate::little_memory::trial::{Answer, Trial};
 use calendar_due::{Zone, ZoneFault};
 use child_edge::MemoryEdge;
 use conditions::Conditions;
@@ -14,7 +16,6 @@ use history_model::{Act, MAX_UP, Reading, Reply, Text};
 use job_core::JobCore;
 use job_defs::{Def, DefFault, read_def};
 use launchctl_words::{Command, DaemonCommand, WordFault, read_daemon_words, read_words};
-use scarce_memory::{Answer, Hoard, Trial};
 use socket_demand::{Exchange, Waiting};
 use std::alloc::{AllocError, Global};
 

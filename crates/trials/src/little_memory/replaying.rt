@@ -1,7 +1,8 @@
 //! The replay of a journal.
 
+use crate::little_memory::hoard::Hoard;
+use crate::little_memory::trial::{Answer, Trial};
 use replay::{ReplayFault, replay};
-use scarce_memory::{Answer, Hoard, Trial};
 use std::alloc::Global;
 
 /// A job that is started at once, and is asked for by each question.

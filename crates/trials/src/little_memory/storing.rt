@@ -1,9 +1,10 @@
 //! The calls on a store that take memory: its opening, over a file of the first version, and those on an open one, over a database
 //! in memory. What lets a store go is proved for its whole type, so all but the connections is generic over what the store stands on.
 
+use crate::little_memory::hoard::Hoard;
+use crate::little_memory::trial::{Answer, Trial};
 use crate::stores::calls::{FIRST_VERSION, Row, SECOND, has, opened, runs};
 use override_store::{OverrideStore, StoreFault};
-use scarce_memory::{Answer, Hoard, Trial};
 use sqlite::{Alter, Connection, File, FileStore, MemStore};
 use std::alloc::Global;
 use std::mem;

@@ -1,10 +1,11 @@
 //! A launcher that is made where memory is short, and its turns.
 
+use crate::little_memory::hoard::Hoard;
+use crate::little_memory::trial::{Answer, Trial};
 use crate::turns::staged::{Launched, Parts, asked, parts_of};
 use child_edge::{EdgeCall, Scripted};
 use history_model::{JobNo, Reading};
 use launcher::{HostFault, Input};
-use scarce_memory::{Answer, Hoard, Trial};
 use std::alloc::Global;
 use std::mem;
 

@@ -1,6 +1,7 @@
 //! Two launchers to which the same is told: one as the loop tells it, which leaves out what may change nothing, and one that is
 //! told everything.
 
+use crate::memory_stage::{MemoryStore, Sink, edge, header, reading, store};
 use crate::rounds::edge::{ABSENT, Handed, HandedEdge, PATHS, Sights as Seen};
 use crate::rounds::step::{Step, Stream};
 use child_edge::{EdgeCall, Scripted};
@@ -8,7 +9,6 @@ use control_socket::Answers;
 use history_model::{Reading, Refusal, Reply};
 use launcher::{Host, Input};
 use live_loop::Sights;
-use memory_stage::{MemoryStore, Sink, edge, header, reading, store};
 use outside::SettingStore;
 use round_launcher::RoundLauncher;
 use std::alloc::Global;

@@ -2,9 +2,9 @@
 
 use crate::edges::places::new_folder;
 use crate::edges::refusing::{Found, Grants, Refusing, new_refusing};
+use crate::memory_stage::{MemoryStore, Sink};
 use crate::rounds::scene::{control_in, goes_on, journal_of, launcher_over};
 use launcher::Input;
-use memory_stage::{MemoryStore, Sink};
 use round_launcher::{Live, RoundLauncher};
 use std::fs;
 use std::io::ErrorKind;

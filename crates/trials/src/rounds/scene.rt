@@ -1,12 +1,12 @@
 //! A launcher over the system, a control socket and one client of it, moved on by rounds. Its store and its journal are in memory.
 
 use crate::edges::places::{edge_over, new_folder};
+use crate::memory_stage::{MemoryStore, Sink, header, store};
 use crate::rounds::replayed::is_replayed;
 use child_edge::OsEdge;
 use control_socket::ControlSocket;
 use launcher::Host;
 use live_loop::{System, round};
-use memory_stage::{MemoryStore, Sink, header, store};
 use round_launcher::{Live, RoundLauncher};
 use std::alloc::{AllocError, Global};
 use std::fs;

@@ -1,13 +1,13 @@
 //! A launcher over a store whose disks stop after so many calls, for each number of calls: a setting that was acknowledged is
 //! found by the store that is opened again, and one that was refused is not made.
 
+use crate::memory_stage::{Sink, edge, header};
 use crate::stores::calls::connected;
 use crate::stores::disks::{Disks, copies, left};
 use crate::stores::stops::found;
 use child_edge::{EdgeCall, MemoryEdge, Scripted};
 use history_model::Setting;
 use launcher::{Host, Input};
-use memory_stage::{Sink, edge, header};
 use outside::SettingStore;
 use override_store::opened;
 use sqlite::{Alter, Connection, Files};

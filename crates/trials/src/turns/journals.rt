@@ -1,11 +1,11 @@
 //! A journal over writers that take few bytes or refuse: what it then holds, and how often its closing is told. The expected
 //! lines are those of the line protocol, and off no run of this code.
 
+use crate::memory_stage::header;
 use crate::turns::failing_writer::FailingWriter;
 use ctl_protocol::Header;
 use history_model::{Answer, Event, JobItem, Text};
 use launcher::Journal;
-use memory_stage::header;
 use std::alloc::{AllocError, Global};
 
 /// The header's line, and those of two events.

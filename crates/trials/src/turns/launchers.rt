@@ -3,11 +3,11 @@
 //! of this code.
 
 use crate::little_memory::turning::{LIST, LOAD, LOAD_LISTENING};
+use crate::memory_stage::{MemoryStore, Sink, Stage, opened};
 use crate::turns::staged::{asked, parts_of};
 use child_edge::{EdgeCall, Scripted};
 use history_model::{Ended, JobNo, Reading, Refusal};
 use launcher::Input;
-use memory_stage::{MemoryStore, Sink, Stage, opened};
 use std::alloc::Global;
 
 /// What the launcher is told, the code and the text of its reply, and how many calls were then made in all.

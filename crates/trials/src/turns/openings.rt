@@ -1,9 +1,9 @@
 //! Launchers over a store that gives its settings or does not, with a header that is right or not: which are made, and why others are not.
 
+use crate::memory_stage::opened;
 use crate::turns::staged::parts_of;
 use history_model::Refusal;
 use launcher::HostFault;
-use memory_stage::opened;
 use outside::StoreFault;
 use std::alloc::Global;
 

@@ -1,10 +1,10 @@
 //! A launcher over a stage in memory. What lets a launcher go is proved for its whole type, so the trials are generic over it.
 
+use crate::memory_stage::{MemoryStore, Stage, edge, header, opened, store};
 use child_edge::{EdgeCall, MemoryEdge, Scripted};
 use ctl_protocol::Header;
 use history_model::{Refusal, Reply, Setting, Text};
 use launcher::{HostFault, Input};
-use memory_stage::{MemoryStore, Stage, edge, header, opened, store};
 use std::alloc::{AllocError, Global};
 
 /// What a launcher is made of.

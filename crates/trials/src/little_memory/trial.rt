@@ -1,7 +1,7 @@
 //! A call under trial: made again and again with too little memory, and each time with a little more, until it has
 //! enough.
 
-use crate::hoard::Hoard;
+use crate::little_memory::hoard::Hoard;
 use std::alloc::{AllocError, Global};
 
 /// What a call answered.

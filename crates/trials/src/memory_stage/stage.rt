@@ -1,7 +1,7 @@
 //! A launcher over an edge, a store and a journal in memory.
 
-use crate::memory_store::MemoryStore;
-use crate::sink::Sink;
+use crate::memory_stage::memory_store::MemoryStore;
+use crate::memory_stage::sink::Sink;
 use child_edge::{EdgeCall, MemoryEdge, Scripted};
 use ctl_protocol::{Header, Settings, ZoneText};
 use history_model::{Reading, Refusal, Setting, Text};

@@ -1,7 +1,5 @@
-//! A launcher for tests: its edge answers by a script, its store of settings and its journal are in memory. Each of the three
+//! A launcher for trials: its edge answers by a script, its store of settings and its journal are in memory. Each of the three
 //! can be told to refuse.
-#![tactic(auto)]
-
 mod memory_store;
 mod sink;
 mod stage;

@@ -1,6 +1,6 @@
--- The invariants of the loop of `memory_store::MemoryStore::copies`.
+-- The invariants of the loop of `memory_stage::memory_store::MemoryStore::copies`.
 use Rattle.std.proofs.Common.{◌≡◌, take}
-use Rattle.memory_stage.proofs.memory_store.MemoryStore.copies.Given as goal
+use Rattle.trials.proofs.memory_stage.memory_store.MemoryStore.copies.Given as goal
 
 -- what was copied so far
 abbrev pub invariant-loop-setting : goal.invariant-loop-setting

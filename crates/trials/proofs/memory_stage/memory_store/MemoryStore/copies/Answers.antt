@@ -1,7 +1,7 @@
--- The answers to the goals of `memory_store::MemoryStore::copies`.
+-- The answers to the goals of `memory_stage::memory_store::MemoryStore::copies`.
 use Rattle.std.proofs.Common.{◌+◌, ◌≤◌, length, take, ◌++◌, [], ◌∷◌, sym, ap, subst, ◌∙◌}
 use Rattle.std.proofs.lemmas.List.{take_more, take_all}
-use Rattle.memory_stage.proofs.memory_store.MemoryStore.copies.Goals as goal
+use Rattle.trials.proofs.memory_stage.memory_store.MemoryStore.copies.Goals as goal
 
 pub loop-setting-init : goal.loop-setting-init
 loop-setting-init c = c.new-all.ensures.items

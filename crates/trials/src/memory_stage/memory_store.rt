@@ -1,7 +1,7 @@
 //! A store of settings in memory, which refuses if it was told to.
 
 ghost use Rattle.std.specs.Prelude.{◌≡◌, None, MatchResult};
-ghost use Rattle.memory_stage.specs.MemoryAnswers.{MayGive};
+ghost use Rattle.trials.specs.MemoryAnswers.{MayGive};
 
 use history_model::{Setting, Text};
 use outside::{SettingStore, StoreFault};

@@ -1,7 +1,7 @@
 //! A program's run with little memory, and what it says of each call.
 
-use crate::hoard::Hoard;
-use crate::trial::{Trial, Verdict, stand};
+use crate::little_memory::hoard::Hoard;
+use crate::little_memory::trial::{Trial, Verdict, stand};
 use anyhow::{Result, bail};
 use std::alloc::Global;
 use std::env;
