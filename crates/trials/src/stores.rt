@@ -5,6 +5,7 @@ mod cases;
 mod disks;
 mod files;
 mod many;
+mod over_files;
 mod stopped_turns;
 mod stops;
 

@@ -1,8 +1,9 @@
 //! Stores over files that are closed and opened again, on disks in memory: each acknowledged setting is there.
 
-use crate::stores::calls::{FIRST_VERSION, Row, SECOND, connected, files_of, has, opened, runs};
+use crate::stores::calls::{FIRST_VERSION, Row, SECOND, connected, files_of, has, opened};
 use crate::stores::cases::set_all;
 use crate::stores::disks::{Disks, new_disks};
+use crate::stores::over_files::{Task, done_over};
 use override_store::OverrideStore;
 use override_store::again::on_files;
 use sqlite::{Alter, Connection, FileStore, Files, Options};
@@ -118,22 +119,15 @@ pub fn empty_files(alloc: Global) -> Option<Disks> {
     played(alloc, new_disks(alloc), &NOTHING)
 }
 
-/// The connection's files once the text was run.
-fn ran<D: Disk + Drop>(conn: Connection<FileStore<D>>, sql: &str) -> Option<Files<D>> {
-    let mut conn = conn;
-    let is_run = runs(&mut conn, sql);
-    let files = files_of(conn)?;
-    if is_run {
+/// Files of the first version, with two settings.
+pub fn old_files(alloc: Global) -> Option<Disks> {
+    let (done, files) = done_over(alloc, new_disks(alloc), 3, Task::Execute(FIRST_VERSION))?;
+    if done.is_so {
         Some(files)
     } else {
         drop(files);
         None
     }
-}
-
-/// Files of the first version, with two settings.
-pub fn old_files(alloc: Global) -> Option<Disks> {
-    ran(connected(alloc, new_disks(alloc), 3)?, FIRST_VERSION)
 }
 
 /// Whether the rounds pass over files of the first version.

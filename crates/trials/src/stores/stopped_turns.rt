@@ -2,16 +2,15 @@
 //! found by the store that is opened again, and one that was refused is not made.
 
 use crate::memory_stage::{Sink, edge, header};
-use crate::stores::calls::connected;
 use crate::stores::disks::{Disks, copies, left};
-use crate::stores::stops::found;
+use crate::stores::over_files::{Task, done_over};
+use crate::stores::stops::is_so_over;
 use child_edge::{EdgeCall, MemoryEdge, Scripted};
 use history_model::Setting;
 use launcher::{Host, Input};
 use outside::SettingStore;
 use override_store::opened;
-use sqlite::{Alter, Connection, Files};
-use sqlite_disk::Disk;
+use sqlite::{Alter, Connection};
 use std::alloc::Global;
 
 const DISABLE: &[u8] = b"{\"req\":\"disable\",\"job\":\"a\"}";
@@ -20,7 +19,7 @@ const LOAD: &[u8] =
     b"{\"req\":\"load\",\"def\":\"{\\\"Label\\\":\\\"a\\\",\\\"ProgramArguments\\\":[\\\"/bin/a\\\"]}\"}";
 
 /// The codes that `a`'s disabling and then a load of it were answered.
-type Codes = (u8, u8);
+pub type Codes = (u8, u8);
 
 /// A launcher over this store; none if the store refused.
 fn launched<T: SettingStore + Drop>(alloc: Global, store: T) -> Option<Host<T, MemoryEdge, Sink>> {
@@ -56,16 +55,11 @@ fn turned<T: SettingStore + Drop>(alloc: Global, host: Host<T, MemoryEdge, Sink>
 }
 
 /// What stays of the connection, closed as far as that goes; none if a disk stopped before the launcher was made.
-fn run_over<S: Alter + Drop>(alloc: Global, conn: Connection<S>) -> Option<(Codes, S)> {
+pub fn turned_over<S: Alter + Drop>(alloc: Global, conn: Connection<S>) -> Option<(Codes, S)> {
     let (settings, all) = opened(alloc, conn).ok()?;
     drop(all);
     let (codes, settings) = turned(alloc, launched(alloc, settings)?);
     Some((codes, settings.store.close_on().into_store()))
-}
-
-fn run_from<D: Disk + Drop>(alloc: Global, files: Files<D>) -> Option<(Codes, Files<D>)> {
-    let (codes, store) = run_over(alloc, connected(alloc, files, 7)?)?;
-    Some((codes, store.close()))
 }
 
 /// Whether `a` alone has a setting, and that disables it.
@@ -77,7 +71,7 @@ fn is_disabled(all: &[Setting]) -> bool {
 }
 
 /// Whether a store may have these settings if those codes were answered.
-fn may_follow(codes: Codes, all: &[Setting]) -> bool {
+pub fn may_follow_turns(codes: Codes, all: &[Setting]) -> bool {
     match codes {
         (0, 5) => is_disabled(all),
         (9, 0) => all.is_empty() || is_disabled(all),
@@ -87,13 +81,17 @@ fn may_follow(codes: Codes, all: &[Setting]) -> bool {
 
 /// Whether the setting was acknowledged; none if what is found does not follow.
 pub fn turns_stop(alloc: Global, from: &Disks, log: u64, db: u64) -> Option<bool> {
-    let Some((codes, files)) = run_from(alloc, copies(alloc, from, log, db)?) else {
+    let Some((done, files)) = done_over(alloc, copies(alloc, from, log, db)?, 7, Task::Turn) else {
         return Some(false);
     };
-    let all = found(alloc, left(alloc, files)?)?;
-    if may_follow(codes, &all) {
-        Some(codes.0 == 0)
-    } else {
-        None
+    match done.codes {
+        Some(codes) => {
+            let is_so = is_so_over(alloc, left(alloc, files)?, Task::FollowsTurns(codes));
+            if is_so { Some(codes.0 == 0) } else { None }
+        }
+        None => {
+            drop(files);
+            Some(false)
+        }
     }
 }

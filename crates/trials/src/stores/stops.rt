@@ -1,14 +1,14 @@
 //! Disks in memory that stop after so many calls, from the opening of a first version's file to the second of two
 //! settings, or from the opening of a new one through a launcher's turns: what was acknowledged is found again.
 
-use crate::stores::calls::{Row, SECOND, all_of, connected, opened, sets, show_all};
+use crate::stores::calls::{Row, SECOND, sets, show_all};
 use crate::stores::disks::{Disks, MANY, copies, left};
 use crate::stores::files::{empty_files, old_files};
+use crate::stores::over_files::{Task, done_over};
 use crate::stores::stopped_turns::turns_stop;
 use history_model::Setting;
 use override_store::OverrideStore;
-use sqlite::{Alter, Connection, Files, Options};
-use sqlite_disk::Disk;
+use sqlite::{Alter, Connection};
 use std::alloc::Global;
 
 const ON: Row<'static> = ("c", true, SECOND);
@@ -17,13 +17,13 @@ const OFF: Row<'static> = ("c", false, SECOND);
 
 /// What was acknowledged.
 #[derive(Clone, Copy)]
-struct Said {
-    opened: bool,
-    first: bool,
-    second: bool,
+pub struct Said {
+    pub opened: bool,
+    pub first: bool,
+    pub second: bool,
 }
 
-const NOTHING: Said = Said {
+pub const NOTHING: Said = Said {
     opened: false,
     first: false,
     second: false,
@@ -40,7 +40,7 @@ fn set_twice<S: Alter>(store: &mut OverrideStore<S>) -> Said {
 }
 
 /// A store is opened and two settings are made.
-fn run_over<S: Alter + Drop>(alloc: Global, conn: Connection<S>) -> (Said, S) {
+pub fn set_over<S: Alter + Drop>(alloc: Global, conn: Connection<S>) -> (Said, S) {
     match OverrideStore::open_or_give(alloc, conn) {
         Ok(store) => {
             let mut store = store;
@@ -51,36 +51,8 @@ fn run_over<S: Alter + Drop>(alloc: Global, conn: Connection<S>) -> (Said, S) {
     }
 }
 
-/// The same from the opening of the files.
-fn run_from<D: Disk + Drop>(alloc: Global, files: Files<D>) -> Option<(Said, Files<D>)> {
-    if !files.may_be_used() {
-        drop(files);
-        return None;
-    }
-    match Connection::open_files(alloc, files, Options::new(7)) {
-        Ok(conn) => {
-            let (said, store) = run_over(alloc, conn);
-            Some((said, store.close()))
-        }
-        Err((_, unopened)) => Some((NOTHING, unopened.into_files())),
-    }
-}
-
-/// The settings that a store on the connection has.
-fn settings_on<S: Alter + Drop>(alloc: Global, conn: Connection<S>) -> Option<Vec<Setting>> {
-    let mut store = opened(alloc, conn)?;
-    let all = all_of(alloc, &mut store).ok();
-    drop(store);
-    all
-}
-
-/// The settings that a store over these files has.
-pub fn found<D: Disk + Drop>(alloc: Global, files: Files<D>) -> Option<Vec<Setting>> {
-    settings_on(alloc, connected(alloc, files, 9)?)
-}
-
 /// Whether what is found may follow what was acknowledged.
-fn may_follow(said: Said, all: &[Setting]) -> bool {
+pub fn may_follow(said: Said, all: &[Setting]) -> bool {
     let old = show_all(all, &[("a", true, 0), ("b", false, 0)]);
     let on = show_all(all, &[("a", true, 0), ("b", false, 0), ON]);
     let off = show_all(all, &[("a", true, 0), ("b", false, 0), OFF]);
@@ -95,15 +67,22 @@ fn may_follow(said: Said, all: &[Setting]) -> bool {
     }
 }
 
+/// Whether a store over these files lists what the task says.
+pub fn is_so_over(alloc: Global, files: Disks, task: Task) -> bool {
+    match done_over(alloc, files, 9, task) {
+        Some((done, files)) => {
+            drop(files);
+            done.is_so
+        }
+        None => false,
+    }
+}
+
 /// Whether the second setting was acknowledged; none if what is found does not follow.
 fn settings_stop(alloc: Global, from: &Disks, log: u64, db: u64) -> Option<bool> {
-    let (said, files) = run_from(alloc, copies(alloc, from, log, db)?)?;
-    let all = found(alloc, left(alloc, files)?)?;
-    if may_follow(said, &all) {
-        Some(said.second)
-    } else {
-        None
-    }
+    let (done, files) = done_over(alloc, copies(alloc, from, log, db)?, 7, Task::SetTwice)?;
+    let is_so = is_so_over(alloc, left(alloc, files)?, Task::Follows(done.said));
+    if is_so { Some(done.said.second) } else { None }
 }
 
 /// What runs over the disks: two settings, or a launcher.
