@@ -32,7 +32,7 @@ WORDS = "crates/launchctl_words/src/"
 
 def words_in(source, flags_of):
     """The subcommands and options that the source gives to the reader of words."""
-    names = set(re.findall(r'(?:bare|label_words|target_words)\(\s*alloc,\s*"([a-z]+)"', source))
+    names = set(re.findall(r'name: "([a-z]+)",\s*about:', source))
     names |= set(re.findall(r'\("([a-z]+)", Task::', source))
     options = {"--" + name for name in re.findall(r'option\(\s*alloc,\s*"([a-z-]+)"', source)}
     options |= {"--" + name for name in re.findall(r'id: "([a-z-]+)",\s*form: Form::(?:Value|Switch)', source)}

@@ -77,11 +77,6 @@ impl Fault {
         self.status() == NO_MEMORY || self.status() == NO_ANSWER
     }
 
-    /// Whether it is told: that a reader has gone is no fault of the program.
-    pub(crate) fn is_told(&self) -> bool {
-        self.status() != READER_GONE
-    }
-
     pub(crate) fn of_file(error: io::Error) -> Fault {
         match error.kind() {
             ErrorKind::OutOfMemory => Fault::NoMemory,
@@ -102,5 +97,12 @@ impl From<AllocError> for Fault {
 
     fn from(_error: AllocError) -> Fault {
         Fault::NoMemory
+    }
+}
+
+/// Tells what the fault is about, and why. That the output's reader has gone is no fault of the program, and is not told.
+pub(crate) fn tell<R: Eprint>(rt: &R, about: &str, fault: &Fault) {
+    if fault.status() != READER_GONE {
+        let _written = eprintln!(rt; "jobctl: {about}: {fault}");
     }
 }

@@ -1,7 +1,7 @@
 //! One run of the control program.
 
-use crate::fault::Fault;
-use crate::request::{load_event, unload_event};
+use crate::fault::{Fault, tell};
+use crate::request::{label_of, text_at};
 use crate::session::Session;
 use crate::settings::{SettingFault, Settings, settings_of};
 use exit_status::{NO_MEMORY, USAGE};
@@ -124,15 +124,12 @@ fn read_by(alloc: Global, settings: &Settings, words: &[String]) -> Result<Words
 }
 
 fn tell_setting<R: Eprint>(rt: &R, fault: SettingFault) -> u8 {
-    match fault {
+    let (name, why) = match fault {
         SettingFault::NoMemory => return want_memory(rt),
-        SettingFault::Socket => {
-            let _written = eprintln!(rt; "jobctl: JOBD_SOCKET: not UTF-8");
-        }
-        SettingFault::Patience => {
-            let _written = eprintln!(rt; "jobctl: JOBCTL_TIMEOUT: no number of seconds");
-        }
-    }
+        SettingFault::Socket => ("JOBD_SOCKET", "not UTF-8"),
+        SettingFault::Patience => ("JOBCTL_TIMEOUT", "no number of seconds"),
+    };
+    let _written = eprintln!(rt; "jobctl: {name}: {why}");
     USAGE
 }
 
@@ -154,9 +151,7 @@ fn explain_words<R: Print + Eprint>(rt: &R, alloc: Global, words: &[String]) -> 
         Ok(()) => 0,
         Err(error) => {
             let fault = Fault::Output(error);
-            if fault.is_told() {
-                let _written = eprintln!(rt; "jobctl: standard output: {fault}");
-            }
+            tell(rt, "standard output", &fault);
             fault.status()
         }
     }
@@ -217,12 +212,28 @@ fn hand_in_one<R: Net + Files + Print + Eprint>(
     }
 }
 
+/// The event of the file's definition. A fault of the file: it can't be read, is too long for a line, or is not UTF-8; for an
+/// unload also if it is no definition, so that its label is not known.
 fn event_for<R: Files>(rt: &R, alloc: Global, deed: Deed, path: &str) -> Result<Event, Fault> {
+    let text = text_at(rt, alloc, path)?;
     match deed {
         Deed::Load {
             writes_setting,
             force,
-        } => load_event(rt, alloc, path, writes_setting, force),
-        Deed::Unload { writes_setting } => unload_event(rt, alloc, path, writes_setting),
+        } => Ok(Event::Load {
+            def: text,
+            writes_setting,
+            force,
+            bind: true,
+            store: true,
+        }),
+        Deed::Unload { writes_setting } => match label_of(alloc, text) {
+            Ok(job) => Ok(Event::Unload {
+                job,
+                writes_setting,
+                store: true,
+            }),
+            Err(fault) => Err(fault),
+        },
     }
 }

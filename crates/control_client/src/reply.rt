@@ -22,9 +22,9 @@ pub(crate) fn read_reply(alloc: Global, line: &[u8]) -> Result<Option<Replied>, 
 }
 
 fn reply_in(alloc: Global, value: &Value) -> Result<Option<Replied>, AllocError> {
-    match (code_in(value), value.get("text").and_then(Value::as_str)) {
-        (Some(code), Some(text)) => {
-            let text = Text::copy_of(alloc, text)?;
+    match (code_in(value), value.get("text")) {
+        (Some(code), Some(Value::String(text))) => {
+            let text = Text::copy_of(alloc, text.as_str())?;
             Ok(Some(Replied { code, text }))
         }
         _ => Ok(None),
@@ -32,6 +32,6 @@ fn reply_in(alloc: Global, value: &Value) -> Result<Option<Replied>, AllocError>
 }
 
 fn code_in(value: &Value) -> Option<u8> {
-    let number = value.get("code").and_then(Value::as_u64)?;
+    let number = value.get("code")?.as_u64()?;
     u8::try_from(number).ok()
 }

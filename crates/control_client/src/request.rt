@@ -8,69 +8,34 @@ use path_files::read_front;
 use std::alloc::Global;
 use std::fs::Files;
 
-/// The event that loads the file's definition. A fault of the file: it can't be read, is too long for a line, or is not
-/// UTF-8.
-pub(crate) fn load_event<R: Files>(
-    rt: &R,
-    alloc: Global,
-    path: &str,
-    writes_setting: bool,
-    force: bool,
-) -> Result<Event, Fault> {
-    let bytes = read_file(rt, alloc, path)?;
-    let def = text_of(bytes)?;
-    Ok(Event::Load {
-        def,
-        writes_setting,
-        force,
-        bind: true,
-        store: true,
-    })
-}
-
-/// The event that unloads the job of the file's definition. A fault of the file: as for a load, or it is no definition, so
-/// that its label is not known.
-pub(crate) fn unload_event<R: Files>(
-    rt: &R,
-    alloc: Global,
-    path: &str,
-    writes_setting: bool,
-) -> Result<Event, Fault> {
-    let bytes = read_file(rt, alloc, path)?;
-    let text = text_of(bytes)?;
-    let job = label_of(alloc, &text)?;
-    Ok(Event::Unload {
-        job,
-        writes_setting,
-        store: true,
-    })
-}
-
-fn label_of(alloc: Global, text: &Text) -> Result<Text, Fault> {
-    match read_def(alloc, text.as_str().as_bytes()) {
-        Ok(def) => {
-            let label = Text::copy_of(alloc, def.label());
-            drop(def);
-            Ok(label?)
-        }
-        Err(DefFault::NoMemory) => Err(Fault::NoMemory),
-        Err(fault) => Err(Fault::Definition(fault)),
-    }
-}
-
-fn read_file<R: Files>(rt: &R, alloc: Global, path: &str) -> Result<Vec<u8>, Fault> {
+/// The text of the file. A fault: it can't be read, is too long for a line, or is not UTF-8.
+pub(crate) fn text_at<R: Files>(rt: &R, alloc: Global, path: &str) -> Result<Text, Fault> {
     let mut bytes = Vec::new(alloc);
     match read_front(rt, path, LINE_LIMIT, &mut bytes) {
-        Ok(()) if bytes.len() <= LINE_LIMIT => Ok(bytes),
+        Ok(()) if bytes.len() <= LINE_LIMIT => match String::from_utf8(bytes) {
+            Ok(text) => Ok(Text::new(text)),
+            Err(_) => Err(Fault::NotText),
+        },
         Ok(()) => Err(Fault::TooLong),
         Err(error) => Err(Fault::of_file(error)),
     }
 }
 
-fn text_of(bytes: Vec<u8>) -> Result<Text, Fault> {
-    match String::from_utf8(bytes) {
-        Ok(text) => Ok(Text::new(text)),
-        Err(_) => Err(Fault::NotText),
+/// The label of the definition that the text is. A fault: it is none.
+pub(crate) fn label_of(alloc: Global, text: Text) -> Result<Text, Fault> {
+    let read = read_def(alloc, text.as_str().as_bytes());
+    drop(text);
+    match read {
+        Ok(def) => {
+            let label = Text::copy_of(alloc, def.label());
+            drop(def);
+            match label {
+                Ok(label) => Ok(label),
+                Err(_) => Err(Fault::NoMemory),
+            }
+        }
+        Err(DefFault::NoMemory) => Err(Fault::NoMemory),
+        Err(fault) => Err(Fault::Definition(fault)),
     }
 }
 

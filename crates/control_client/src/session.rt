@@ -1,13 +1,12 @@
 //! The requests of one run, in their order, and the exit status that they come to.
 
 use crate::connection::Connection;
-use crate::fault::Fault;
+use crate::fault::{Fault, tell};
 use crate::reply::Replied;
 use crate::request::request_of;
-use exit_status::READER_GONE;
+use exit_status::{BAD_OUTPUT, NO_ANSWER};
 use history_model::{Event, Text};
 use std::alloc::Global;
-use std::io;
 use std::net::Net;
 
 /// One connection for all requests, made for the first.
@@ -82,42 +81,31 @@ impl Session {
 
     /// Tells what kept the request for the file from its reply. That the output's reader has gone is not told.
     pub(crate) fn fail<R: Eprint>(&mut self, rt: &R, file: &str, fault: &Fault) {
-        match fault.status() {
-            READER_GONE => {}
-            69 => {
-                let socket = self.socket.as_str();
-                let _written = eprintln!(rt; "jobctl: {socket}: {fault}");
-            }
-            74 => {
-                let _written = eprintln!(rt; "jobctl: standard output: {fault}");
-            }
-            _ => {
-                let _written = eprintln!(rt; "jobctl: {file}: {fault}");
-            }
-        }
-        self.note(fault.status());
+        let status = fault.status();
+        let about = match status {
+            NO_ANSWER => self.socket.as_str(),
+            BAD_OUTPUT => "standard output",
+            _ => file,
+        };
+        tell(rt, about, fault);
+        self.note(status);
     }
 }
 
+// To the standard output at code 0, else to the standard error. The file's name stands before it if there is one, but on the
+// standard output only if something is said.
 fn print<R: Print + Eprint>(rt: &R, reply: &Replied, name: Option<&str>) -> Result<(), Fault> {
     let text = reply.text.as_str();
-    if reply.code == 0 {
-        return match print_note(rt, text, name) {
-            Ok(()) => Ok(()),
-            Err(error) => Err(Fault::Output(error)),
-        };
+    let (front, name, end) = match name {
+        Some(name) if reply.code != 0 || !text.is_empty() => ("jobctl: ", name, ":\n"),
+        _ => ("", "", ""),
+    };
+    if reply.code != 0 {
+        let _written = eprint!(rt; "{front}{name}{end}{text}");
+        return Ok(());
     }
-    if let Some(name) = name {
-        let _written = eprintln!(rt; "jobctl: {name}:");
-    }
-    let _written = eprint!(rt; "{text}");
-    Ok(())
-}
-
-// To the standard output, behind the file's name if there is one and something is said.
-fn print_note<R: Print>(rt: &R, text: &str, name: Option<&str>) -> io::Result<()> {
-    match name {
-        Some(name) if !text.is_empty() => print!(rt; "jobctl: {name}:\n{text}"),
-        _ => print!(rt; "{text}"),
+    match print!(rt; "{front}{name}{end}{text}") {
+        Ok(()) => Ok(()),
+        Err(error) => Err(Fault::Output(error)),
     }
 }

@@ -1,119 +1,99 @@
 //! The daemon's words: how clap takes them, and what they mean.
 ghost use Rattle.std.specs.Prelude.{◌≡◌, IfOk, map, string_bytes};
-ghost use Rattle.clap.specs.Words.{App, subcommand_rows_of};
+ghost use Rattle.clap.specs.Words.{subcommand_rows_of};
 ghost use Rattle.launchctl_words.specs.Rules.{Makes};
 ghost use Rattle.launchctl_words.specs.Meaning.{Says, rows_in};
 ghost use Rattle.launchctl_words.specs.Jobd as spec;
-ghost use Rattle.launchctl_words.specs.Jobd.{with_places, with_choices, serve_app, overrides_app, jobd_app};
+ghost use Rattle.launchctl_words.specs.Jobd.{jobd_app};
 
-use crate::arguments::{add_arg, add_subcommand, bare, option, value_of};
+use crate::arguments::value_of;
 use crate::command::{DaemonCommand, WordFault, ZoneWords};
+use crate::forms::{Argument, Form, Subcommand, with_subcommands};
 use crate::parse::{Explanation, explain_by, parse};
 use clap::ArgMatches;
 use history_model::Text;
 use std::alloc::{AllocError, Global};
 
-/// The paths that the launcher must be given.
-fn add_places<'a>(
-    alloc: Global,
-    command: Result<clap::Command<'a>, AllocError>,
-) -> Result<clap::Command<'a>, AllocError>
-    ensures { (a : App) → Makes command.entry a → Makes result (with_places a) }
-{
-    let socket = option(alloc, "socket", true, "PATH", "The control socket to make");
-    let store = option(
-        alloc,
-        "store",
-        true,
-        "PATH",
-        "The database of overrides; made where it is not there",
-    );
-    let spool = option(
-        alloc,
-        "spool",
-        true,
-        "DIR",
-        "The folder for requests and replies of job sockets",
-    );
-    let command = add_arg(command, socket);
-    let command = add_arg(command, store);
-    add_arg(command, spool)
-}
+const REPLAY_EXIT: &str =
+    "Exit status: 0 each line has its outcome; 1 no memory; 2 no header; 3 input or output failed; 4 a line too long; 64 these words are no command.";
 
-fn add_choices<'a>(
-    alloc: Global,
-    command: Result<clap::Command<'a>, AllocError>,
-) -> Result<clap::Command<'a>, AllocError>
-    ensures { (a : App) → Makes command.entry a → Makes result (with_choices a) }
-{
-    let journal = option(
-        alloc,
-        "journal",
-        false,
-        "PATH",
-        "Write each event there, to be read by jobd replay",
-    );
-    let zone = option(
-        alloc,
-        "zone",
-        false,
-        "TEXT",
-        "The zone of calendar entries as a POSIX rule; UTC0 where absent",
-    );
-    let zone_file = option(
-        alloc,
-        "zone-file",
-        false,
-        "PATH",
-        "The zone as a zone file, in place of --zone",
-    );
-    let command = add_arg(command, journal);
-    let command = add_arg(command, zone);
-    add_arg(command, zone_file)
-}
+const SERVE_EXIT: &str =
+    "Exit status: 0 every job is gone after a shutdown; 1 no memory; 5 the store; 6 the control socket; 7 the zone; 8 the journal; 9 the clock, or waiting; 64 these words are no command.";
 
-fn serve_words<'a>(alloc: Global) -> Result<clap::Command<'a>, AllocError>
-    ensures { Makes result serve_app }
-{
-    let command = bare(
-        alloc,
-        "serve",
-        "Run the launcher",
-        "Exit status: 0 every job is gone after a shutdown; 1 no memory; 5 the store; 6 the control socket; 7 the zone; 8 the journal; 9 the clock, or waiting; 64 these words are no command.",
-    );
-    let command = add_places(alloc, Ok(command));
-    add_choices(alloc, command)
-}
+const OVERRIDES_EXIT: &str =
+    "Exit status: 0 printed; 1 no memory; 5 the store; 64 these words are no command.";
 
-fn overrides_words<'a>(alloc: Global) -> Result<clap::Command<'a>, AllocError>
-    ensures { Makes result overrides_app }
-{
-    let store = option(alloc, "store", true, "PATH", "The database of overrides");
-    let command = bare(
-        alloc,
-        "overrides",
-        "Print each label's override and the second of its last change",
-        "Exit status: 0 printed; 1 no memory; 5 the store; 64 these words are no command.",
-    );
-    add_arg(Ok(command), store)
-}
+const SUBCOMMANDS: &[Subcommand] = &[
+    Subcommand {
+        name: "replay",
+        about: "Run a journal from standard input, and write its outcomes",
+        after: REPLAY_EXIT,
+        arguments: &[],
+    },
+    Subcommand {
+        name: "serve",
+        about: "Run the launcher",
+        after: SERVE_EXIT,
+        arguments: &[
+            Argument {
+                id: "socket",
+                form: Form::Value { required: true },
+                value: "PATH",
+                help: "The control socket to make",
+            },
+            Argument {
+                id: "store",
+                form: Form::Value { required: true },
+                value: "PATH",
+                help: "The database of overrides; made where it is not there",
+            },
+            Argument {
+                id: "spool",
+                form: Form::Value { required: true },
+                value: "DIR",
+                help: "The folder for requests and replies of job sockets",
+            },
+            Argument {
+                id: "journal",
+                form: Form::Value { required: false },
+                value: "PATH",
+                help: "Write each event there, to be read by jobd replay",
+            },
+            Argument {
+                id: "zone",
+                form: Form::Value { required: false },
+                value: "TEXT",
+                help: "The zone of calendar entries as a POSIX rule; UTC0 where absent",
+            },
+            Argument {
+                id: "zone-file",
+                form: Form::Value { required: false },
+                value: "PATH",
+                help: "The zone as a zone file, in place of --zone",
+            },
+        ],
+    },
+    Subcommand {
+        name: "overrides",
+        about: "Print each label's override and the second of its last change",
+        after: OVERRIDES_EXIT,
+        arguments: &[Argument {
+            id: "store",
+            form: Form::Value { required: true },
+            value: "PATH",
+            help: "The database of overrides",
+        }],
+    },
+];
 
 /// The whole command, with a help text for every word.
 fn jobd_words<'a>(alloc: Global) -> Result<clap::Command<'a>, AllocError>
     ensures { Makes result jobd_app }
 {
-    let replay = bare(
-        alloc,
-        "replay",
-        "Run a journal from standard input, and write its outcomes",
-        "Exit status: 0 each line has its outcome; 1 no memory; 2 no header; 3 input or output failed; 4 a line too long; 64 these words are no command.",
-    );
     let command = clap::Command::new(alloc, "jobd")
         .about("The job launcher")
         .subcommand_required(true);
-    let command = add_subcommand(Ok(command), Ok(replay));
-    let command = add_subcommand(command, serve_words(alloc));
-    add_subcommand(command, overrides_words(alloc))
+    with_subcommands(alloc, Ok(command), SUBCOMMANDS)
 }
 
 /// The zone that these name; none if both do.

@@ -4,6 +4,7 @@
 pub mod arguments;
 mod command;
 mod control_words;
+mod forms;
 mod jobctl;
 mod jobd;
 pub mod parse;

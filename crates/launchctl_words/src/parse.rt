@@ -53,27 +53,31 @@ pub fn explain_by<'a>(
     command: Result<clap::Command<'a>, AllocError>,
     words: &'a [String],
 ) -> Result<Explanation, AllocError> {
-    let mut command = command?;
-    let explanation = explain_with(alloc, &mut command, words);
-    drop(command);
-    explanation
+    match command {
+        Ok(mut command) => {
+            let explanation = match said_of(alloc, command.try_get_matches_from_mut(words)) {
+                Ok(Some(explanation)) => Ok(explanation),
+                Ok(None) => whole_help(&mut command),
+                Err(e) => Err(e),
+            };
+            drop(command);
+            explanation
+        }
+        Err(e) => Err(e),
+    }
 }
 
-fn explain_with<'a>(
+// What is said of the words, if it is not the whole help. What clap found goes at one place.
+fn said_of(
     alloc: Global,
-    command: &mut clap::Command<'a>,
-    words: &'a [String],
-) -> Result<Explanation, AllocError> {
-    match command.try_get_matches_from_mut(words) {
-        Ok(matches) => match reason_in(alloc, &matches)? {
-            Some(text) => Ok(Explanation {
-                text,
-                is_help: false,
-            }),
-            None => whole_help(command),
-        },
-        Err(error) => fault_text(alloc, &error),
-    }
+    found: Result<ArgMatches<'_>, Error>,
+) -> Result<Option<Explanation>, AllocError> {
+    let said = match &found {
+        Ok(matches) => reason_in(alloc, matches),
+        Err(error) => fault_text(alloc, error),
+    };
+    drop(found);
+    said
 }
 
 fn whole_help(command: &mut clap::Command<'_>) -> Result<Explanation, AllocError> {
@@ -84,7 +88,7 @@ fn whole_help(command: &mut clap::Command<'_>) -> Result<Explanation, AllocError
     })
 }
 
-fn fault_text(alloc: Global, error: &Error) -> Result<Explanation, AllocError> {
+fn fault_text(alloc: Global, error: &Error) -> Result<Option<Explanation>, AllocError> {
     let is_help = !error.use_stderr();
     let text = if is_help {
         let version = VERSION_LINE;
@@ -92,5 +96,5 @@ fn fault_text(alloc: Global, error: &Error) -> Result<Explanation, AllocError> {
     } else {
         format!(in alloc; "{error}")?
     };
-    Ok(Explanation { text, is_help })
+    Ok(Some(Explanation { text, is_help }))
 }

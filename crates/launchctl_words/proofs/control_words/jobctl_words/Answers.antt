@@ -4,5 +4,4 @@ use Rattle.launchctl_words.proofs.control_words.jobctl_words.Goals as goal
 
 pub returns : goal.returns
 returns c =
-    let first = c.add_arg-command.ensures _ _ (asks_for_one _ _ _ c.subcommand_required-command.ensures c.bare.ensures) c.option-socket.ensures.rule in
-    c.add_bare.ensures _ (c.add_targets-command.ensures _ (c.add_settings-command.ensures _ (c.add_labels-command.ensures _ (c.add_files-command.ensures _ first))))
+    c.with_subcommands.ensures _ (c.add_arg-command.ensures _ _ (asks_for_one _ _ _ c.subcommand_required-command.ensures c.bare.ensures) c.option-socket.ensures.rule)

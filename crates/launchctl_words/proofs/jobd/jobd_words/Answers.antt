@@ -11,4 +11,4 @@ returns c =
     let asks : app_of c.subcommand_required-command.result ≡ needs_subcommand (app_of c.new.result) = search rules in
     let globals : (out-Command c.subcommand_required-command.result).has_globals ≡ false = search rules in
     let first : HasWords (needs_subcommand (new_app (codes "jobd"))) c.subcommand_required-command.result = record { app = asks ∙ ap needs_subcommand c.new.ensures.app; globals = globals } in
-    c.add_subcommand.ensures _ _ (c.add_subcommand-command-2.ensures _ _ (c.add_subcommand-command.ensures _ _ first c.bare-replay.ensures) c.serve_words.ensures) c.overrides_words.ensures
+    c.with_subcommands.ensures _ first

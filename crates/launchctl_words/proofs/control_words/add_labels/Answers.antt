@@ -1,5 +1,0 @@
--- What the check of `control_words::add_labels` does not find by itself.
-use Rattle.launchctl_words.proofs.control_words.add_labels.Goals as goal
-
-pub returns : goal.returns
-returns c = λ a made. c.add_subcommand-2.ensures _ _ (c.add_subcommand.ensures _ _ made c.label_words-start.ensures) c.label_words-stop.ensures
