@@ -4,7 +4,7 @@ ghost use Rattle.std.specs.Prelude.{◌≡◌};
 ghost use Rattle.serde_json.specs.View.{view, items_view};
 ghost use Rattle.json_kinds.specs.DefFaults.{Gives};
 ghost use Rattle.json_kinds.specs.JsonKinds.{each_item};
-ghost use Rattle.job_defs.specs.Calendars.{part, entry_at, calendar_at, calendar_key};
+ghost use Rattle.job_defs.specs.Calendars.{part, entry_at, calendar_key};
 
 use crate::parts::LIST_LIMIT;
 use history_model::{Entry, KeyName, Reason};
@@ -14,20 +14,13 @@ use json_kinds::names::{DAY, HOUR, MINUTE, MONTH, WEEKDAY, key_name};
 use serde_json::Value;
 use std::alloc::Global;
 
-#[tactic(auto, unfolding(crate::specs::Calendars::calendar_key))]
+#[tactic(auto, using(json_kinds::proofs::CountLemmas::items_count), unfolding(crate::specs::Calendars::calendar_key, crate::specs::Calendars::calendar_at))]
 pub(crate) fn calendar_key_of(alloc: Global, def: &Value) -> Result<Vec<Entry>, DefFault>
     ensures { Gives (λ calendar. calendar.items) result (calendar_key (view def.now)) }
 {
-    match def.get(key_name(KeyName::StartCalendarInterval)) {
-        Some(found) => calendar_of(alloc, found),
-        None => Ok(Vec::new(alloc)),
-    }
-}
-
-#[tactic(auto, using(json_kinds::proofs::CountLemmas::items_count), unfolding(crate::specs::Calendars::calendar_at))]
-fn calendar_of(alloc: Global, found: &Value) -> Result<Vec<Entry>, DefFault>
-    ensures { Gives (λ calendar. calendar.items) result (calendar_at (view found.now)) }
-{
+    let Some(found) = def.get(key_name(KeyName::StartCalendarInterval)) else {
+        return Ok(Vec::new(alloc));
+    };
     let entries = members_or_one_of(found);
     if entries.len() > LIST_LIMIT {
         return Err(DefFault::Bad {
@@ -44,7 +37,10 @@ fn each_entry(alloc: Global, items: &[Value]) -> Result<Vec<Entry>, DefFault>
 {
     let mut calendar = Vec::new(alloc);
     for item in items {
-        calendar.push(entry_of(item)?)?;
+        let entry = given!(entry_of(item));
+        if calendar.push(entry).is_err() {
+            return Err(DefFault::NoMemory);
+        }
     }
     Ok(calendar)
 }
@@ -53,12 +49,12 @@ fn each_entry(alloc: Global, items: &[Value]) -> Result<Vec<Entry>, DefFault>
 fn entry_of(found: &Value) -> Result<Entry, DefFault>
     ensures { Gives (λ entry. entry) result (entry_at (view found.now)) }
 {
-    object_of(found, KeyName::StartCalendarInterval)?;
-    let day = part_of(found, DAY, 1, 31)?;
-    let hour = part_of(found, HOUR, 0, 23)?;
-    let minute = part_of(found, MINUTE, 0, 59)?;
-    let month = part_of(found, MONTH, 1, 12)?;
-    let weekday = part_of(found, WEEKDAY, 0, 7)?;
+    given!(object_of(found, KeyName::StartCalendarInterval));
+    let day = given!(part_of(found, DAY, 1, 31));
+    let hour = given!(part_of(found, HOUR, 0, 23));
+    let minute = given!(part_of(found, MINUTE, 0, 59));
+    let month = given!(part_of(found, MONTH, 1, 12));
+    let weekday = given!(part_of(found, WEEKDAY, 0, 7));
     Ok(Entry {
         minute,
         hour,

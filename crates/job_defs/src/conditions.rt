@@ -57,13 +57,13 @@ fn conditions_of(alloc: Global, found: &Value) -> Result<Keep, DefFault>
     ensures value { Gives keep_of result (conditions_at (view found.now)) }
     ensures count { IfOk result (λ keep. vec_len keep.path_state ≤ LIST_LIMIT) }
 {
-    object_of(found, KeyName::KeepAlive)?;
-    let crashed = optional_bool_of(found, CRASHED, KeyName::KeepAlive)?;
+    given!(object_of(found, KeyName::KeepAlive));
+    let crashed = given!(optional_bool_of(found, CRASHED, KeyName::KeepAlive));
     let path_state = match found.get(PATH_STATE) {
-        Some(paths) => path_state_of(alloc, paths)?,
+        Some(paths) => given!(path_state_of(alloc, paths)),
         None => Vec::new(alloc),
     };
-    let successful_exit = optional_bool_of(found, SUCCESSFUL_EXIT, KeyName::KeepAlive)?;
+    let successful_exit = given!(optional_bool_of(found, SUCCESSFUL_EXIT, KeyName::KeepAlive));
     Ok(Keep {
         always: false,
         successful_exit,
@@ -77,7 +77,7 @@ fn path_state_of(alloc: Global, found: &Value) -> Result<Vec<PathState>, DefFaul
     ensures value { Gives (λ paths. paths.items) result (path_state_at (view found.now)) }
     ensures count { IfOk result (λ paths. vec_len paths ≤ LIST_LIMIT) }
 {
-    let members = object_of(found, KeyName::KeepAlive)?;
+    let members = given!(object_of(found, KeyName::KeepAlive));
     if members.len() > LIST_LIMIT {
         return Err(DefFault::Bad {
             reason: Reason::TooLong,
@@ -104,8 +104,8 @@ fn path_state(alloc: Global, path: &str, present: &Value) -> Result<PathState, D
     ensures { Gives (λ condition. condition ∷ []) result
         (path_state_in path.now (view present.now)) }
 {
-    let path = filled_text(path, KeyName::KeepAlive, PATH_LIMIT)?;
-    let present = bool_of(present, KeyName::KeepAlive)?;
+    let path = given!(filled_text(path, KeyName::KeepAlive, PATH_LIMIT));
+    let present = given!(bool_of(present, KeyName::KeepAlive));
     Ok(PathState {
         path: Text::copy_of(alloc, path)?,
         present,

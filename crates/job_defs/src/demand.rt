@@ -4,7 +4,7 @@ ghost use Rattle.std.specs.Prelude.{◌≡◌, ◌≤◌, ◌+◌, length, vec_l
 ghost use Rattle.serde_json.specs.View.{view, items_view};
 ghost use Rattle.json_kinds.specs.DefFaults.{Gives};
 ghost use Rattle.json_kinds.specs.JsonKinds.{each_item, path_at};
-ghost use Rattle.job_defs.specs.Paths.{paths_at, paths_key};
+ghost use Rattle.job_defs.specs.Paths.{paths_key};
 ghost use Rattle.job_defs.specs.Keys.{demand_at, pace_at};
 ghost use Rattle.job_defs.specs.Parts.{demand_of, pace_of};
 ghost use Rattle.job_defs.specs.declared.parts.TheConstants.{LIST_LIMIT};
@@ -26,14 +26,14 @@ pub(crate) fn demand_keys(alloc: Global, def: &Value) -> Result<Demand, DefFault
     ensures range { IfOk result (λ demand. IfSome demand.start_interval (λ seconds. (1 ≤ seconds)
         × (seconds ≤ 31536000))) }
 {
-    let on_demand = bool_key_of(def, KeyName::OnDemand, true)?;
-    let keep = keep_key_of(alloc, on_demand, def)?;
+    let on_demand = given!(bool_key_of(def, KeyName::OnDemand, true));
+    let keep = given!(keep_key_of(alloc, on_demand, def));
     let before = keep.path_state.len();
-    let watch_paths = paths_key_of(alloc, before, def, KeyName::WatchPaths)?;
+    let watch_paths = given!(paths_key_of(alloc, before, def, KeyName::WatchPaths));
     let before = before + watch_paths.len();
-    let queue_directories = paths_key_of(alloc, before, def, KeyName::QueueDirectories)?;
-    let start_interval = optional_integer_of(def, KeyName::StartInterval, 1, 31_536_000)?;
-    let calendar = calendar_key_of(alloc, def)?;
+    let queue_directories = given!(paths_key_of(alloc, before, def, KeyName::QueueDirectories));
+    let start_interval = given!(optional_integer_of(def, KeyName::StartInterval, 1, 31_536_000));
+    let calendar = given!(calendar_key_of(alloc, def));
     Ok(Demand {
         keep,
         watch_paths,
@@ -49,8 +49,8 @@ pub(crate) fn pace_keys(def: &Value) -> Result<Pace, DefFault>
     ensures range { IfOk result (λ pace. (pace.throttle_interval ≤ 86400)
         × (pace.exit_time_out ≤ 86400)) }
 {
-    let throttle_interval = integer_key_of(def, KeyName::ThrottleInterval, 0, 86_400, 10)?;
-    let exit_time_out = integer_key_of(def, KeyName::ExitTimeOut, 0, 86_400, 20)?;
+    let throttle_interval = given!(integer_key_of(def, KeyName::ThrottleInterval, 0, 86_400, 10));
+    let exit_time_out = given!(integer_key_of(def, KeyName::ExitTimeOut, 0, 86_400, 20));
     Ok(Pace {
         throttle_interval,
         exit_time_out,
@@ -58,7 +58,7 @@ pub(crate) fn pace_keys(def: &Value) -> Result<Pace, DefFault>
 }
 
 /// A list of paths, if the definition had so many before.
-#[tactic(auto, unfolding(crate::specs::Paths::paths_key))]
+#[tactic(auto, using(json_kinds::proofs::CountLemmas::items_count), unfolding(crate::specs::Paths::paths_key, crate::specs::Paths::paths_at))]
 fn paths_key_of(
     alloc: Global,
     before: usize,
@@ -69,24 +69,10 @@ fn paths_key_of(
     ensures value { Gives (λ paths. paths.items) result (paths_key before key (view def.now)) }
     ensures count { IfOk result (λ paths. before + vec_len paths ≤ LIST_LIMIT) }
 {
-    match def.get(key_name(key)) {
-        Some(found) => paths_of(alloc, before, found, key),
-        None => Ok(Vec::new(alloc)),
-    }
-}
-
-#[tactic(auto, using(json_kinds::proofs::CountLemmas::items_count), unfolding(crate::specs::Paths::paths_at))]
-fn paths_of(
-    alloc: Global,
-    before: usize,
-    found: &Value,
-    key: KeyName,
-) -> Result<Vec<Text>, DefFault>
-    requires { before ≤ LIST_LIMIT }
-    ensures value { Gives (λ paths. paths.items) result (paths_at before key (view found.now)) }
-    ensures count { IfOk result (λ paths. before + vec_len paths ≤ LIST_LIMIT) }
-{
-    let items = array_of(found, key)?;
+    let Some(found) = def.get(key_name(key)) else {
+        return Ok(Vec::new(alloc));
+    };
+    let items = given!(array_of(found, key));
     if items.len() > LIST_LIMIT - before {
         return Err(DefFault::Bad {
             reason: Reason::TooLong,

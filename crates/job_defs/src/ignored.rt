@@ -2,7 +2,9 @@
 
 ghost use Rattle.std.specs.Prelude.{◌≡◌, [], ◌∷◌, ◌++◌, codes, string_bytes, IfOk, OnOk};
 ghost use Rattle.serde_json.specs.View.{view, items_view, members_view};
-ghost use Rattle.serde_json.specs.Find.{as_object};
+ghost use Rattle.serde_json.specs.Find.{get, as_object};
+ghost use Rattle.history_model.specs.RefusalTexts.{key_text};
+ghost use Rattle.history_model.specs.declared.KeyName.TheVariants as keys;
 ghost use Rattle.job_defs.specs.Ignored as ignored;
 ghost use Rattle.job_defs.specs.Ignored.{members_in};
 ghost use Rattle.job_defs.specs.Parts.{Gains, names_of};
@@ -28,9 +30,9 @@ pub(crate) fn not_acted_on_of(
     ensures { IfOk result (λ texts. texts.items ≡ ignored.not_acted_on has_sockets (view def.now)) }
 {
     let mut names = BTreeSet::new(alloc);
-    add_unlisted_in(alloc, &mut names, def)?;
-    add_overruled(alloc, &mut names, has_sockets, def)?;
-    add_inside(alloc, &mut names, def)?;
+    given!(add_unlisted_in(alloc, &mut names, def));
+    given!(add_overruled(alloc, &mut names, has_sockets, def));
+    given!(add_inside(alloc, &mut names, def));
     texts_of(alloc, names)
 }
 
@@ -93,7 +95,7 @@ fn add_unlisted(
 {
     for (name, _) in members.iter() {
         if !is_key(name.as_str()) {
-            add(alloc, names, "", name.as_str())?;
+            given!(add(alloc, names, "", name.as_str()));
         }
     }
     Ok(())
@@ -111,7 +113,7 @@ fn add_overruled(
         (Gains names.old (ignored.overruled has_sockets (view def.now)) names.new) }
 {
     let on_demand = has(def, KeyName::OnDemand) && has(def, KeyName::KeepAlive);
-    add_if(alloc, names, on_demand, KeyName::OnDemand)?;
+    given!(add_if(alloc, names, on_demand, KeyName::OnDemand));
     let inetd = has(def, KeyName::InetdCompatibility) && !has_sockets;
     add_if(alloc, names, inetd, KeyName::InetdCompatibility)
 }
@@ -157,25 +159,66 @@ const SOCKET_KEYS: [&str; 8] = [
 fn add_inside(alloc: Global, names: &mut BTreeSet<String>, def: &Value) -> Result<(), AllocError>
     ensures { OnOk result (Gains names.old (ignored.inside (view def.now)) names.new) }
 {
-    if let Some(found) = def.get(key_name(KeyName::KeepAlive)) {
-        add_others_in(alloc, names, "KeepAlive.", &CONDITIONS, found)?;
+    given!(add_under(
+        alloc,
+        names,
+        KeyName::KeepAlive,
+        "KeepAlive.",
+        &CONDITIONS,
+        def
+    ));
+    given!(add_in_calendar(alloc, names, def));
+    given!(add_in_sockets(alloc, names, def));
+    add_under(
+        alloc,
+        names,
+        KeyName::InetdCompatibility,
+        "inetdCompatibility.",
+        &[WAIT],
+        def,
+    )
+}
+
+/// Adds those of the dictionary under a key of the definition.
+fn add_under(
+    alloc: Global,
+    names: &mut BTreeSet<String>,
+    key: KeyName,
+    prefix: &str,
+    known: &[&str],
+    def: &Value,
+) -> Result<(), AllocError>
+    ensures { OnOk result (Gains names.old
+        (ignored.where_found (ignored.others_in prefix.now (texts_in known.now))
+        (get (key_text key) (view def.now)))
+        names.new) }
+{
+    match def.get(key_name(key)) {
+        Some(found) => add_others_in(alloc, names, prefix, known, found),
+        None => Ok(()),
     }
-    if let Some(found) = def.get(key_name(KeyName::StartCalendarInterval)) {
-        add_others_in_each(
+}
+
+fn add_in_calendar(
+    alloc: Global,
+    names: &mut BTreeSet<String>,
+    def: &Value,
+) -> Result<(), AllocError>
+    ensures { OnOk result (Gains names.old
+        (ignored.where_found ignored.others_in_calendar
+        (get (key_text keys.StartCalendarInterval) (view def.now)))
+        names.new) }
+{
+    match def.get(key_name(KeyName::StartCalendarInterval)) {
+        Some(found) => add_others_in_each(
             alloc,
             names,
             "StartCalendarInterval.",
             &PARTS,
             members_or_one_of(found),
-        )?;
+        ),
+        None => Ok(()),
     }
-    if let Some(found) = def.get(key_name(KeyName::Sockets)) {
-        add_others_in_sockets(alloc, names, found)?;
-    }
-    if let Some(found) = def.get(key_name(KeyName::InetdCompatibility)) {
-        add_others_in(alloc, names, "inetdCompatibility.", &[WAIT], found)?;
-    }
-    Ok(())
 }
 
 fn add_others_in(
@@ -208,7 +251,7 @@ fn add_others(
 {
     for (name, _) in members.iter() {
         if !is_among(known, name.as_str()) {
-            add(alloc, names, prefix, name.as_str())?;
+            given!(add(alloc, names, prefix, name.as_str()));
         }
     }
     Ok(())
@@ -227,20 +270,24 @@ fn add_others_in_each(
         names.new) }
 {
     for item in items {
-        add_others_in(alloc, names, prefix, known, item)?;
+        given!(add_others_in(alloc, names, prefix, known, item));
     }
     Ok(())
 }
 
-fn add_others_in_sockets(
+fn add_in_sockets(
     alloc: Global,
     names: &mut BTreeSet<String>,
-    found: &Value,
+    def: &Value,
 ) -> Result<(), AllocError>
     ensures { OnOk result (Gains names.old
-        (ignored.others_in_sockets (members_in (as_object (view found.now))))
+        (ignored.where_found (λ found. ignored.others_in_sockets (members_in (as_object found)))
+        (get (key_text keys.Sockets) (view def.now)))
         names.new) }
 {
+    let Some(found) = def.get(key_name(KeyName::Sockets)) else {
+        return Ok(());
+    };
     match found.as_object() {
         Some(members) => add_others_in_names(alloc, names, members),
         None => Ok(()),
@@ -257,7 +304,7 @@ fn add_others_in_names(
         (Gains names.old (ignored.others_in_sockets (members_view members.now.entries)) names.new) }
 {
     for (name, found) in members.iter() {
-        add_others_under(alloc, names, name.as_str(), found)?;
+        given!(add_others_under(alloc, names, name.as_str(), found));
     }
     Ok(())
 }

@@ -24,12 +24,12 @@ const WORD_LIMIT: usize = 4096;
 pub(crate) fn launch_keys(alloc: Global, def: &Value) -> Result<Launch, DefFault>
     ensures { Gives launch_of result (launch_at (view def.now)) }
 {
-    let label = label_key_of(alloc, def)?;
-    let program = optional_text_of(alloc, def, KeyName::Program, WORD_LIMIT)?;
-    let command = command_key_of(alloc, program, def)?;
-    let run_at_load = bool_key_of(def, KeyName::RunAtLoad, false)?;
-    let launch_only_once = bool_key_of(def, KeyName::LaunchOnlyOnce, false)?;
-    let disabled = bool_key_of(def, KeyName::DisabledKey, false)?;
+    let label = given!(label_key_of(alloc, def));
+    let program = given!(optional_text_of(alloc, def, KeyName::Program, WORD_LIMIT));
+    let command = given!(command_key_of(alloc, program, def));
+    let run_at_load = given!(bool_key_of(def, KeyName::RunAtLoad, false));
+    let launch_only_once = given!(bool_key_of(def, KeyName::LaunchOnlyOnce, false));
+    let disabled = given!(bool_key_of(def, KeyName::DisabledKey, false));
     Ok(Launch {
         label,
         command,
@@ -43,7 +43,8 @@ pub(crate) fn launch_keys(alloc: Global, def: &Value) -> Result<Launch, DefFault
 fn label_key_of(alloc: Global, def: &Value) -> Result<Text, DefFault>
     ensures { Gives (λ label. label) result (label_key (view def.now)) }
 {
-    let text = text_of(required_of(def, KeyName::Label)?, KeyName::Label)?;
+    let found = given!(required_of(def, KeyName::Label));
+    let text = given!(text_of(found, KeyName::Label));
     if !is_label(text) {
         return Err(DefFault::Bad {
             reason: Reason::BadLabel,
@@ -74,7 +75,7 @@ fn command_key_of(alloc: Global, program: Option<Text>, def: &Value) -> Result<C
 fn command_of(alloc: Global, program: Option<Text>, found: &Value) -> Result<Command, DefFault>
     ensures { Gives command_of result (command_at program (view found.now)) }
 {
-    let words = array_of(found, KeyName::ProgramArguments)?;
+    let words = given!(array_of(found, KeyName::ProgramArguments));
     if words.len() > 256 {
         return Err(DefFault::Bad {
             reason: Reason::TooLong,
@@ -94,8 +95,8 @@ fn command_beside(alloc: Global, program: Text, words: &[Value]) -> Result<Comma
 {
     let arguments = match words.split_first() {
         Some((first, rest)) => {
-            plain_of(first, KeyName::ProgramArguments, WORD_LIMIT)?;
-            words_of(alloc, rest)?
+            given!(plain_of(first, KeyName::ProgramArguments, WORD_LIMIT));
+            given!(words_of(alloc, rest))
         }
         None => Vec::new(alloc),
     };
@@ -113,9 +114,9 @@ fn command_alone(alloc: Global, words: &[Value]) -> Result<Command, DefFault>
             key: KeyName::ProgramArguments,
         });
     };
-    let first = filled_of(first, KeyName::ProgramArguments, WORD_LIMIT)?;
+    let first = given!(filled_of(first, KeyName::ProgramArguments, WORD_LIMIT));
     let program = Text::copy_of(alloc, first)?;
-    let arguments = words_of(alloc, rest)?;
+    let arguments = given!(words_of(alloc, rest));
     Ok(Command { program, arguments })
 }
 
@@ -124,7 +125,7 @@ fn words_of(alloc: Global, items: &[Value]) -> Result<Vec<Text>, DefFault>
 {
     let mut words = Vec::new(alloc);
     for item in items {
-        let word = plain_of(item, KeyName::ProgramArguments, WORD_LIMIT)?;
+        let word = given!(plain_of(item, KeyName::ProgramArguments, WORD_LIMIT));
         words.push(Text::copy_of(alloc, word)?)?;
     }
     Ok(words)

@@ -49,12 +49,12 @@ fn def_in(alloc: Global, value: &Value) -> Result<Def, DefFault>
             key: KeyName::NoKey,
         });
     }
-    let launch = launch_keys(alloc, value)?;
-    let demand = demand_keys(alloc, value)?;
-    let pace = pace_keys(value)?;
-    let surroundings = surroundings_keys(alloc, value)?;
-    let sockets = sockets_and_inetd_of(alloc, value)?;
-    refusals_keys(value)?;
+    let launch = given!(launch_keys(alloc, value));
+    let demand = given!(demand_keys(alloc, value));
+    let pace = given!(pace_keys(value));
+    let surroundings = given!(surroundings_keys(alloc, value));
+    let sockets = given!(sockets_and_inetd_of(alloc, value));
+    given!(refusals_keys(value));
     let not_acted_on = not_acted_on_of(alloc, !sockets.is_empty(), value)?;
     Ok(Def {
         launch,
@@ -71,7 +71,7 @@ fn def_in(alloc: Global, value: &Value) -> Result<Def, DefFault>
 fn refusals_keys(def: &Value) -> Result<(), DefFault>
     ensures { Gives (λ done. done) result (refusals_at (view def.now)) }
 {
-    refused_key_of(def, KeyName::UserName)?;
-    refused_key_of(def, KeyName::GroupName)?;
+    given!(refused_key_of(def, KeyName::UserName));
+    given!(refused_key_of(def, KeyName::GroupName));
     refused_key_of(def, KeyName::RootDirectory)
 }

@@ -29,18 +29,17 @@ const SOCKET_PATH_LIMIT: usize = 107;
 pub(crate) fn socket_of(alloc: Global, found: &Value) -> Result<Socket, DefFault>
     ensures { Gives (λ socket. socket) result (socket_at (view found.now)) }
 {
-    object_of(found, KeyName::Sockets)?;
-    refused_of(found, SECURE_KEY, KeyName::Sockets)?;
-    one_of_key(found, SOCKET_TYPE, &["stream"])?;
-    passive_key(found)?;
-    one_of_key(found, FAMILY, &["IPv4", "Unix"])?;
-    one_of_key(found, PROTOCOL, &["TCP"])?;
-    let path = path_key(alloc, found)?;
-    let host = host_key(found)?;
-    let port = port_key(found)?;
-    Ok(Socket {
-        address: address(path, host, port)?,
-    })
+    given!(object_of(found, KeyName::Sockets));
+    given!(refused_of(found, SECURE_KEY, KeyName::Sockets));
+    given!(one_of_key(found, SOCKET_TYPE, &["stream"]));
+    given!(passive_key(found));
+    given!(one_of_key(found, FAMILY, &["IPv4", "Unix"]));
+    given!(one_of_key(found, PROTOCOL, &["TCP"]));
+    let path = given!(path_key(alloc, found));
+    let host = given!(host_key(found));
+    let port = given!(port_key(found));
+    let address = given!(address(path, host, port));
+    Ok(Socket { address })
 }
 
 #[tactic(auto, unfolding(crate::specs::Sockets::address_of))]
@@ -58,22 +57,15 @@ fn address(path: Option<Text>, host: [u8; 4], port: Option<u16>) -> Result<Addre
 }
 
 /// A text that has to be one of `texts`.
+#[tactic(auto, unfolding(crate::specs::Sockets::one_of))]
 fn one_of_key(socket: &Value, name: &str, texts: &[&str]) -> Result<(), DefFault>
     ensures { Gives (λ done. done) result
         (where_there (one_of (texts_in texts.now)) tt (get name.now (view socket.now))) }
 {
-    match socket.get(name) {
-        Some(found) => one_of(found, texts),
-        None => Ok(()),
-    }
-}
-
-#[tactic(auto, unfolding(crate::specs::Sockets::one_of))]
-fn one_of(found: &Value, texts: &[&str]) -> Result<(), DefFault>
-    ensures { Gives (λ done. done) result
-        (sockets.one_of (texts_in texts.now) (view found.now)) }
-{
-    let text = text_of(found, KeyName::Sockets)?;
+    let Some(found) = socket.get(name) else {
+        return Ok(());
+    };
+    let text = given!(text_of(found, KeyName::Sockets));
     if is_among(texts, text) {
         return Ok(());
     }
@@ -83,21 +75,15 @@ fn one_of(found: &Value, texts: &[&str]) -> Result<(), DefFault>
     })
 }
 
+#[tactic(auto, unfolding(crate::specs::Sockets::passive_at))]
 fn passive_key(socket: &Value) -> Result<(), DefFault>
     ensures { Gives (λ done. done) result
         (where_there passive_at tt (get names.passive (view socket.now))) }
 {
-    match socket.get(PASSIVE) {
-        Some(found) => listens(found),
-        None => Ok(()),
-    }
-}
-
-#[tactic(auto, unfolding(crate::specs::Sockets::passive_at))]
-fn listens(found: &Value) -> Result<(), DefFault>
-    ensures { Gives (λ done. done) result (passive_at (view found.now)) }
-{
-    if bool_of(found, KeyName::Sockets)? {
+    let Some(found) = socket.get(PASSIVE) else {
+        return Ok(());
+    };
+    if given!(bool_of(found, KeyName::Sockets)) {
         return Ok(());
     }
     Err(DefFault::Bad {
@@ -119,21 +105,15 @@ fn path_key(alloc: Global, socket: &Value) -> Result<Option<Text>, DefFault>
     }
 }
 
+#[tactic(auto, unfolding(crate::specs::Sockets::host_at))]
 fn host_key(socket: &Value) -> Result<[u8; 4], DefFault>
     ensures { Gives (λ host. host) result
         (where_there host_at any_host (get names.node_name (view socket.now))) }
 {
-    match socket.get(NODE_NAME) {
-        Some(found) => host_of(found),
-        None => Ok([0, 0, 0, 0]),
-    }
-}
-
-#[tactic(auto, unfolding(crate::specs::Sockets::host_at))]
-fn host_of(found: &Value) -> Result<[u8; 4], DefFault>
-    ensures { Gives (λ host. host) result (host_at (view found.now)) }
-{
-    match host_in(text_of(found, KeyName::Sockets)?) {
+    let Some(found) = socket.get(NODE_NAME) else {
+        return Ok([0, 0, 0, 0]);
+    };
+    match host_in(given!(text_of(found, KeyName::Sockets))) {
         Some(host) => Ok(host),
         None => Err(DefFault::Bad {
             reason: Reason::Unsupported,
@@ -142,25 +122,20 @@ fn host_of(found: &Value) -> Result<[u8; 4], DefFault>
     }
 }
 
+/// A port, as a number or as the digits of one.
+#[tactic(auto, unfolding(crate::specs::Sockets::port_at, crate::specs::Sockets::port_by))]
 fn port_key(socket: &Value) -> Result<Option<u16>, DefFault>
     ensures { Gives (λ port. port) result
         (optional port_at (get names.service_name (view socket.now))) }
 {
-    match socket.get(SERVICE_NAME) {
-        Some(found) => Ok(Some(port_of(found)?)),
-        None => Ok(None),
-    }
-}
-
-/// A port, as a number or as the digits of one.
-#[tactic(auto, unfolding(crate::specs::Sockets::port_at, crate::specs::Sockets::port_by))]
-fn port_of(found: &Value) -> Result<u16, DefFault>
-    ensures { Gives (λ port. port) result (port_at (view found.now)) }
-{
-    match found.as_number() {
-        Some(number) => Ok(number_of(number, KeyName::Sockets, 1, 65_535)? as u16),
-        None => port_in(text_of(found, KeyName::Sockets)?),
-    }
+    let Some(found) = socket.get(SERVICE_NAME) else {
+        return Ok(None);
+    };
+    let port = match found.as_number() {
+        Some(number) => given!(number_of(number, KeyName::Sockets, 1, 65_535)) as u16,
+        None => given!(port_in(given!(text_of(found, KeyName::Sockets)))),
+    };
+    Ok(Some(port))
 }
 
 #[tactic(auto, unfolding(crate::specs::Sockets::port_in))]

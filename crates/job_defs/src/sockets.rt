@@ -4,7 +4,7 @@ ghost use Rattle.std.specs.Prelude.{◌≡◌, ◌+◌, nat_lt};
 ghost use Rattle.serde_json.specs.View.{view, items_view, members_view};
 ghost use Rattle.json_kinds.specs.DefFaults.{Gives};
 ghost use Rattle.json_kinds.specs.JsonKinds.{each_item, each_member};
-ghost use Rattle.job_defs.specs.Sockets.{socket_at, socket_count, sockets_in, sockets_at, sockets_key, inetd_at, inetd_key, sockets_and_inetd};
+ghost use Rattle.job_defs.specs.Sockets.{socket_at, socket_count, sockets_in, sockets_key, inetd_at, inetd_key, sockets_and_inetd};
 
 use crate::parts::Socket;
 use crate::socket::socket_of;
@@ -22,26 +22,19 @@ use std::alloc::Global;
 pub fn sockets_and_inetd_of(alloc: Global, def: &Value) -> Result<Vec<Socket>, DefFault>
     ensures { Gives (λ sockets. sockets.items) result (sockets_and_inetd (view def.now)) }
 {
-    let sockets = sockets_key_of(alloc, def)?;
-    inetd_key_of(!sockets.is_empty(), def)?;
+    let sockets = given!(sockets_key_of(alloc, def));
+    given!(inetd_key_of(!sockets.is_empty(), def));
     Ok(sockets)
 }
 
-#[tactic(auto, unfolding(crate::specs::Sockets::sockets_key))]
+#[tactic(auto, unfolding(crate::specs::Sockets::sockets_key, crate::specs::Sockets::sockets_at))]
 fn sockets_key_of(alloc: Global, def: &Value) -> Result<Vec<Socket>, DefFault>
     ensures { Gives (λ sockets. sockets.items) result (sockets_key (view def.now)) }
 {
-    match def.get(key_name(KeyName::Sockets)) {
-        Some(found) => sockets_of(alloc, found),
-        None => Ok(Vec::new(alloc)),
-    }
-}
-
-#[tactic(auto, unfolding(crate::specs::Sockets::sockets_at))]
-fn sockets_of(alloc: Global, found: &Value) -> Result<Vec<Socket>, DefFault>
-    ensures { Gives (λ sockets. sockets.items) result (sockets_at (view found.now)) }
-{
-    let members = object_of(found, KeyName::Sockets)?;
+    let Some(found) = def.get(key_name(KeyName::Sockets)) else {
+        return Ok(Vec::new(alloc));
+    };
+    let members = given!(object_of(found, KeyName::Sockets));
     if has_too_many(members) {
         return Err(DefFault::Bad {
             reason: Reason::TooLong,
@@ -74,7 +67,7 @@ fn each_name(alloc: Global, members: &Map<String, Value>) -> Result<Vec<Socket>,
 {
     let mut sockets = Vec::new(alloc);
     for (_, found) in members.iter() {
-        let mut named = each_socket(alloc, members_or_one_of(found))?;
+        let mut named = given!(each_socket(alloc, members_or_one_of(found)));
         sockets.append(&mut named)?;
     }
     Ok(sockets)
@@ -85,7 +78,10 @@ fn each_socket(alloc: Global, items: &[Value]) -> Result<Vec<Socket>, DefFault>
 {
     let mut sockets = Vec::new(alloc);
     for item in items {
-        sockets.push(socket_of(alloc, item)?)?;
+        let socket = given!(socket_of(alloc, item));
+        if sockets.push(socket).is_err() {
+            return Err(DefFault::NoMemory);
+        }
     }
     Ok(sockets)
 }
@@ -108,7 +104,7 @@ fn inetd_key_of(has_sockets: bool, def: &Value) -> Result<(), DefFault>
 fn inetd_of(has_sockets: bool, found: &Value) -> Result<(), DefFault>
     ensures { Gives (λ done. done) result (inetd_at has_sockets (view found.now)) }
 {
-    object_of(found, KeyName::InetdCompatibility)?;
+    given!(object_of(found, KeyName::InetdCompatibility));
     match optional_bool_of(found, WAIT, KeyName::InetdCompatibility)? {
         Some(false) => Ok(()),
         _ if has_sockets => Err(DefFault::Bad {

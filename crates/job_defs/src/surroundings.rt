@@ -7,7 +7,7 @@ ghost use Rattle.serde_json.specs.View.{view, members_view};
 ghost use Rattle.serde_json.specs.Find.{as_str};
 ghost use Rattle.json_kinds.specs.DefFaults.{Gives};
 ghost use Rattle.json_kinds.specs.JsonKinds.{each_member};
-ghost use Rattle.job_defs.specs.Variables.{is_equals, variable_in, variable_by, environment_at, environment_key};
+ghost use Rattle.job_defs.specs.Variables.{is_equals, variable_in, variable_by, environment_key};
 ghost use Rattle.job_defs.specs.Keys.{surroundings_at};
 ghost use Rattle.job_defs.specs.Parts.{surroundings_of};
 
@@ -24,11 +24,11 @@ use std::alloc::Global;
 pub(crate) fn surroundings_keys(alloc: Global, def: &Value) -> Result<Surroundings, DefFault>
     ensures { Gives surroundings_of result (surroundings_at (view def.now)) }
 {
-    let environment = environment_key_of(alloc, def)?;
-    let working_directory = optional_path_of(alloc, def, KeyName::WorkingDirectory)?;
-    let standard_in_path = optional_path_of(alloc, def, KeyName::StandardInPath)?;
-    let standard_out_path = optional_path_of(alloc, def, KeyName::StandardOutPath)?;
-    let standard_error_path = optional_path_of(alloc, def, KeyName::StandardErrorPath)?;
+    let environment = given!(environment_key_of(alloc, def));
+    let working_directory = given!(optional_path_of(alloc, def, KeyName::WorkingDirectory));
+    let standard_in_path = given!(optional_path_of(alloc, def, KeyName::StandardInPath));
+    let standard_out_path = given!(optional_path_of(alloc, def, KeyName::StandardOutPath));
+    let standard_error_path = given!(optional_path_of(alloc, def, KeyName::StandardErrorPath));
     Ok(Surroundings {
         environment,
         working_directory,
@@ -38,21 +38,14 @@ pub(crate) fn surroundings_keys(alloc: Global, def: &Value) -> Result<Surroundin
     })
 }
 
-#[tactic(auto, unfolding(crate::specs::Variables::environment_key))]
+#[tactic(auto, using(json_kinds::proofs::CountLemmas::members_count), unfolding(crate::specs::Variables::environment_key, crate::specs::Variables::environment_at))]
 fn environment_key_of(alloc: Global, def: &Value) -> Result<Vec<Variable>, DefFault>
     ensures { Gives (λ variables. variables.items) result (environment_key (view def.now)) }
 {
-    match def.get(key_name(KeyName::EnvironmentVariables)) {
-        Some(found) => environment_of(alloc, found),
-        None => Ok(Vec::new(alloc)),
-    }
-}
-
-#[tactic(auto, using(json_kinds::proofs::CountLemmas::members_count), unfolding(crate::specs::Variables::environment_at))]
-fn environment_of(alloc: Global, found: &Value) -> Result<Vec<Variable>, DefFault>
-    ensures { Gives (λ variables. variables.items) result (environment_at (view found.now)) }
-{
-    let members = object_of(found, KeyName::EnvironmentVariables)?;
+    let Some(found) = def.get(key_name(KeyName::EnvironmentVariables)) else {
+        return Ok(Vec::new(alloc));
+    };
+    let members = given!(object_of(found, KeyName::EnvironmentVariables));
     if members.len() > 128 {
         return Err(DefFault::Bad {
             reason: Reason::TooLong,
@@ -81,7 +74,7 @@ fn variable_of(alloc: Global, name: &str, value: &Value) -> Result<Option<Variab
     ensures { Gives (λ variable. option_to_list variable) result
         (variable_in name.now (view value.now)) }
 {
-    let name = filled_text(name, KeyName::EnvironmentVariables, 255)?;
+    let name = given!(filled_text(name, KeyName::EnvironmentVariables, 255));
     if has_equals(name) {
         return Err(DefFault::Bad {
             reason: Reason::OutOfRange,
@@ -99,7 +92,7 @@ fn valued(alloc: Global, name: &str, value: &Value) -> Result<Option<Variable>, 
     let Some(value) = value.as_str() else {
         return Ok(None);
     };
-    let value = plain_text(value, KeyName::EnvironmentVariables, 4096)?;
+    let value = given!(plain_text(value, KeyName::EnvironmentVariables, 4096));
     Ok(Some(Variable {
         name: Text::copy_of(alloc, name)?,
         value: Text::copy_of(alloc, value)?,
