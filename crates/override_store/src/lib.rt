@@ -174,7 +174,10 @@ impl<S: Alter> OverrideStore<S> {
         ensures crash { Between S.Store self.old self.new (λ old new.
             Survives old new (λ _. CommitsOpen old ⊥)) }
     {
-        let rows = statements::read(&mut self.conn)?;
+        let rows = match statements::read(&mut self.conn) {
+            Ok(rows) => rows,
+            Err(fault) => return Err(fault),
+        };
         lists::entries(alloc, rows.as_slice())
     }
 
@@ -200,7 +203,10 @@ impl<S: Alter> OverrideStore<S> {
         ensures crash { Between S.Store self.old self.new (λ old new.
             Survives old new (λ _. CommitsOpen old ⊥)) }
     {
-        let rows = statements::read(&mut self.conn)?;
+        let rows = match statements::read(&mut self.conn) {
+            Ok(rows) => rows,
+            Err(fault) => return Err(fault),
+        };
         lists::changes(alloc, rows.as_slice())
     }
 

@@ -7,7 +7,7 @@ ghost use Rattle.override_store.specs.Settings.{IsChange, IsEntry, IsForeign, Is
 
 use crate::{StoreFault, fault};
 use history_model::{Setting, Text};
-use job_defs::is_label;
+use json_kinds::is_label;
 use sqlite::{Error, ErrorCode, Row};
 use std::alloc::Global;
 
@@ -32,7 +32,10 @@ fn entry(row: &Row) -> Result<Setting, StoreFault>
     ensures foreign { 0 < length row.now →
         result ≡ Err StoreFault.Foreign → IsForeign (column row.now 0) }
 {
-    let label = stored_label(row)?;
+    let label = match stored_label(row) {
+        Ok(label) => label,
+        Err(fault) => return Err(fault),
+    };
     match row.get(1) {
         Ok(disabled) => Ok(Setting {
             label: Text::new(label),
@@ -47,7 +50,10 @@ fn change(row: &Row) -> Result<(String, u64), StoreFault>
     ensures foreign { 0 < length row.now →
         result ≡ Err StoreFault.Foreign → IsForeign (column row.now 0) }
 {
-    let label = stored_label(row)?;
+    let label = match stored_label(row) {
+        Ok(label) => label,
+        Err(fault) => return Err(fault),
+    };
     match row.get(2) {
         Ok(second) => Ok((label, second)),
         Err(error) => Err(fault(error)),
@@ -61,7 +67,10 @@ pub(crate) fn entries(alloc: Global, rows: &[Row]) -> Result<Vec<Setting>, Store
 {
     let mut all = Vec::new(alloc);
     for row in rows {
-        let one = entry(row)?;
+        let one = match entry(row) {
+            Ok(one) => one,
+            Err(fault) => return Err(fault),
+        };
         match all.push(one) {
             Ok(()) => {}
             Err(_) => return Err(StoreFault::NoMemory),
@@ -77,7 +86,10 @@ pub(crate) fn changes(alloc: Global, rows: &[Row]) -> Result<Vec<(String, u64)>,
 {
     let mut all = Vec::new(alloc);
     for row in rows {
-        let one = change(row)?;
+        let one = match change(row) {
+            Ok(one) => one,
+            Err(fault) => return Err(fault),
+        };
         match all.push(one) {
             Ok(()) => {}
             Err(_) => return Err(StoreFault::NoMemory),
