@@ -69,6 +69,9 @@ class Progress(io.StringIO):
 
 def main(program):
     rt = load_rt()
+    lacking = [it for it in ("ci", "run", "edits_of") if not hasattr(rt, it)]
+    if lacking:
+        sys.exit(f"rt of this kit has no function {lacking[0]}, which build_all.py calls: rt ci {program} proves the same")
     start = time.monotonic()
     os.chdir(TOP)
     # rt proves no crates by name where this says that the gate runs
