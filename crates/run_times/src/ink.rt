@@ -5,6 +5,7 @@ ghost use Rattle.std.specs.Fmt.{decimal};
 ghost use Rattle.run_times.specs.Written.{piece_text, pieces_text};
 
 use crate::moment::time_text;
+use crate::span::span_pieces;
 use calendar_due::Zone;
 use history_model::MAX_WALL;
 use std::alloc::{AllocError, Global};
@@ -86,6 +87,14 @@ impl Ink {
         }
     }
 
+    /// Adds the text as Rust writes it in a program: in double quotes, with escapes.
+    pub fn put_quoted(&mut self, part: &str)
+        ensures kept { self.new.is_refused ≡ false → self.old.is_refused ≡ false }
+    {
+        let is_put = write!(self.text, "{part:?}").is_ok();
+        self.is_refused = self.is_refused || !is_put;
+    }
+
     /// Adds a text for which memory may have been refused.
     pub fn put_made(&mut self, made: Result<String, AllocError>)
         ensures added { IfOk made (λ part. self.new.is_refused ≡ false → string_bytes self.new.text ≡ string_bytes self.old.text ++ string_bytes part) }
@@ -103,6 +112,14 @@ impl Ink {
         ensures kept { self.new.is_refused ≡ false → self.old.is_refused ≡ false }
     {
         self.put_made(time_text(alloc, zone, at.min(MAX_WALL)));
+    }
+
+    /// Adds the span by its two greatest units, as `3 days 22 h`, `5 min 10 s` or `7 s`; with `has_tenths` one below a minute as `4.2 s`.
+    /// What is less is dropped.
+    pub fn put_span(&mut self, milliseconds: u64, has_tenths: bool)
+        ensures kept { self.new.is_refused ≡ false → self.old.is_refused ≡ false }
+    {
+        self.put_all(&span_pieces(milliseconds, has_tenths));
     }
 
     /// Memory was refused for what would be added.

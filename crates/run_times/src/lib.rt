@@ -1,12 +1,15 @@
-//! When a job runs next by the clocks alone, and moments and spans of time as texts for people.
+//! When a job runs next by the clocks alone, and moments and spans of time as texts for people, with what such texts are written by.
 #![tactic(auto)]
 
+mod escape;
 mod ink;
 mod moment;
 mod next;
+mod page;
 mod span;
 
+pub use escape::{escaped, is_unwritable};
 pub use ink::{Ink, Piece};
 pub use moment::{time_text, utc};
 pub use next::next_run;
-pub use span::{span_text, span_text_ms};
+pub use page::{Hole, Page};

@@ -1,38 +1,30 @@
 //! A span of time.
 
-use crate::ink::Ink;
+use crate::ink::Piece;
 use crate::ink::Piece::{Number, Text};
-use std::alloc::{AllocError, Global};
 
-/// The span by its two greatest units, as `3 days 22 h`, `5 min 10 s` or `7 s`.
-pub fn span_text(alloc: Global, seconds: u64) -> Result<String, AllocError> {
-    let days = seconds / 86_400;
-    let hours = seconds / 3600 % 24;
-    let minutes = seconds / 60 % 60;
-    let (great, unit, small, last) = if days > 0 {
-        let unit = if days == 1 { " day " } else { " days " };
-        (days, unit, hours, " h")
-    } else if hours > 0 {
-        (hours, " h ", minutes, " min")
-    } else {
-        (minutes, " min ", seconds % 60, " s")
-    };
-    let mut ink = Ink::new(alloc);
-    if great > 0 {
-        ink.put_all(&[Number(great), Text(unit)]);
-    }
-    ink.put_all(&[Number(small), Text(last)]);
-    ink.into_text()
-}
+/// The units of a span, in milliseconds: from which length on one is the greatest, the unit, its name, the next unit, and its name.
+const UNITS: [(u64, u64, &str, u64, &str); 5] = [
+    (172_800_000, 86_400_000, " days ", 3_600_000, " h"),
+    (86_400_000, 86_400_000, " day ", 3_600_000, " h"),
+    (3_600_000, 3_600_000, " h ", 60_000, " min"),
+    (60_000, 60_000, " min ", 1000, " s"),
+    (0, 1000, ".", 100, " s"),
+];
 
-/// A span in milliseconds: below a minute with a tenth of a second, as `4.2 s`; from there as `span_text`. What is less is dropped.
-pub fn span_text_ms(alloc: Global, milliseconds: u64) -> Result<String, AllocError> {
-    let seconds = milliseconds / 1000;
-    if seconds >= 60 {
-        return span_text(alloc, seconds);
+/// The pieces of the span's text.
+pub(crate) fn span_pieces(milliseconds: u64, has_tenths: bool) -> [Piece<'static>; 4] {
+    let least_of_all = if has_tenths { 0 } else { 60_000 };
+    for of in UNITS.iter() {
+        let (least, great, name, small, last) = *of;
+        if milliseconds >= least.max(least_of_all) {
+            return [
+                Number(milliseconds / great.max(1)),
+                Text(name),
+                Number(milliseconds % great.max(1) / small.max(1)),
+                Text(last),
+            ];
+        }
     }
-    let tenths = milliseconds / 100 % 10;
-    let mut ink = Ink::new(alloc);
-    ink.put_all(&[Number(seconds), Text("."), Number(tenths), Text(" s")]);
-    ink.into_text()
+    [Text(""), Text(""), Number(milliseconds / 1000), Text(" s")]
 }

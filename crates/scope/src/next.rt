@@ -11,8 +11,8 @@ use history_model::MAX_WALL;
 use job_defs::{Def, DefFault, read_def};
 use launchctl_words::Paths;
 use path_files::{Found, files_at};
+use run_times::Ink;
 use run_times::Piece::{Number, Text};
-use run_times::{Ink, span_text};
 use std::alloc::{AllocError, Global};
 
 /// A definition, and when the clock wants it next: by an entry of its calendar, and by its interval.
@@ -185,7 +185,7 @@ fn add_start(alloc: Global, from: u64, zone: &Zone, job: &mut Job, ink: &mut Ink
     ink.put("  ");
     ink.put(job.def.label());
     ink.put("  in ");
-    ink.put_made(span_text(alloc, second.saturating_sub(from)));
+    ink.put_span(second.saturating_sub(from).saturating_mul(1000), false);
     if job.by_interval == Some(second) {
         let every = job.def.start_interval().unwrap_or(0);
         ink.put_all(&[

@@ -4,14 +4,14 @@ use crate::charted::{Heard, chart_of};
 use crate::journal::{Feed, journal_path, read_journal};
 use crate::listener::Listener;
 use crate::page::coming_of;
-use crate::telling::{put, put_made, tell_of};
+use crate::telling::{put_made, tell_of};
 use crate::words::command::ScopeCommand;
 use calendar_due::Zone;
 use exit_status::BAD_FILE;
 use history_model::Text;
 use journal_reading::{Journal, runs_table, why_text};
 use run_times::utc;
-use scope_picture::{Chart, Page, blocks_text, page_piece, svg_piece};
+use scope_picture::{Beside, Chart, blocks_text, picture_piece};
 use std::alloc::Global;
 use std::io::IsTerminal;
 use std::{env, io};
@@ -122,7 +122,7 @@ fn paint(
         _ if host.stdout().is_terminal() => {
             put_made(host, blocks_text(alloc, zone, &chart, columns(host)))
         }
-        _ => put_pieces(host, alloc, zone, &chart, &None),
+        _ => put_pieces(host, alloc, zone, &chart, None),
     };
     drop(chart);
     painted
@@ -146,12 +146,12 @@ fn paint_page(
     let table = runs_table(alloc, journal, labels)?;
     let why = why_text(alloc, journal, zone, labels)?;
     let coming = coming_of(alloc, journal, chart)?;
-    let beside = Some(Page {
+    let beside = Beside {
         table: table.as_str(),
         why: why.as_str(),
         coming: coming.as_slice(),
-    });
-    put_pieces(host, alloc, zone, chart, &beside)
+    };
+    put_pieces(host, alloc, zone, chart, Some(&beside))
 }
 
 // Writes the page with what stands beside the picture, or the picture alone: piece by piece, so that its whole text is never held.
@@ -160,17 +160,10 @@ fn put_pieces(
     alloc: Global,
     zone: &Zone,
     chart: &Chart,
-    beside: &Option<Page<'_>>,
+    beside: Option<&Beside<'_>>,
 ) -> io::Result<()> {
-    for index in 0..usize::MAX {
-        let piece = match beside {
-            Some(page) => page_piece(alloc, zone, chart, page, index),
-            None => svg_piece(alloc, zone, chart, index),
-        };
-        match piece? {
-            Some(piece) => put(host, piece.as_str())?,
-            None => break,
-        }
+    for index in 0..chart.rows.len().saturating_add(2) {
+        put_made(host, picture_piece(alloc, zone, chart, beside, index))?;
     }
     Ok(())
 }

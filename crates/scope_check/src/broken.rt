@@ -1,8 +1,7 @@
 //! What stands where a text is no JSON.
 
 use crate::finding::Place;
-use crate::place::{begin_at, place_at};
-use json::{Reader, Scratch, Token};
+use crate::place::{bad_offset, begin_at, place_at};
 use std::alloc::{AllocError, Global};
 
 const XML: &str =
@@ -27,26 +26,6 @@ pub(crate) fn broken_in(
     };
     let (at, told) = told_at(text.as_bytes(), offset, begin_at(text, 0));
     Ok((Some(place_at(text, at)), told))
-}
-
-// Where the first token begins that is no JSON; the text's end if there is none. None if values are nested too deep before it.
-fn bad_offset(alloc: Global, text: &str) -> Result<Option<usize>, AllocError> {
-    let mut scratch = Scratch::new(alloc);
-    let mut reader = Reader::new(text, &mut scratch)?;
-    let mut depth: usize = 0;
-    for _k in 0..text.len() {
-        match reader.next() {
-            Some(Token::Bad) => return Ok(Some(reader.offset())),
-            Some(Token::BeginArray | Token::BeginObject) => depth = depth.saturating_add(1),
-            Some(Token::EndArray | Token::EndObject) => depth = depth.saturating_sub(1),
-            Some(_) => {}
-            None => return Ok(Some(text.len())),
-        }
-        if depth > 127 {
-            return Ok(None);
-        }
-    }
-    Ok(Some(text.len()))
 }
 
 // The place that is told, and what stands there: the text is bad at the offset, and its first byte that is no blank stands at `first`.

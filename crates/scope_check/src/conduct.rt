@@ -144,9 +144,8 @@ fn add_paths(def: &Def, remarks: &mut Remarks<'_>) {
 fn add_tilde(key: KeyName, path: &str, remarks: &mut Remarks<'_>) {
     if path.starts_with('~') {
         let mut ink = Ink::new(remarks.alloc);
-        ink.put(key_name(key));
-        ink.put(": ");
-        ink.put_made(format!(in remarks.alloc; "{path:?}"));
+        ink.put_all(&[Text(key_name(key)), Text(": ")]);
+        ink.put_quoted(path);
         ink.put(" begins with ~, which nothing expands here; write the whole path");
         remarks.add_made(key, ink.into_text());
     }

@@ -7,6 +7,7 @@ use calendar_due::Calendar;
 use history_model::{CivilMinute, Entry, KeyName};
 use json_kinds::key_name;
 use run_times::Ink;
+use run_times::Piece::{Number, Text};
 use std::alloc::{AllocError, Global};
 
 const MONTHS: &[&str] = &[
@@ -63,11 +64,13 @@ fn day_that_never_comes(entry: &Entry) -> Option<(u8, u8)> {
 
 fn told_never(alloc: Global, month: u8, day: u8) -> Result<String, AllocError> {
     let mut ink = Ink::new(alloc);
-    ink.put("StartCalendarInterval: ");
-    ink.put(month_name(month));
-    ink.put(" has no day ");
-    ink.put_number(u64::from(day));
-    ink.put(", so this entry never matches");
+    ink.put_all(&[
+        Text("StartCalendarInterval: "),
+        Text(month_name(month)),
+        Text(" has no day "),
+        Number(u64::from(day)),
+        Text(", so this entry never matches"),
+    ]);
     ink.into_text()
 }
 
@@ -99,22 +102,22 @@ fn told_change(
     } else {
         ("shows ", " twice", ": this entry matches twice")
     };
+    let (hour, at) = (u64::from(minute.hour), u64::from(minute.minute));
     let mut ink = Ink::new(alloc);
-    ink.put("StartCalendarInterval: this year the clock ");
-    ink.put(shows);
-    put_two_digits(&mut ink, minute.hour);
-    ink.put(":");
-    put_two_digits(&mut ink, minute.minute);
-    ink.put(times);
-    ink.put(" on ");
-    ink.put(month_name(minute.month));
-    ink.put(" ");
-    ink.put_number(u64::from(minute.day));
-    ink.put(matches);
+    ink.put_all(&[
+        Text("StartCalendarInterval: this year the clock "),
+        Text(shows),
+        Number(hour / 10),
+        Number(hour % 10),
+        Text(":"),
+        Number(at / 10),
+        Number(at % 10),
+        Text(times),
+        Text(" on "),
+        Text(month_name(minute.month)),
+        Text(" "),
+        Number(u64::from(minute.day)),
+        Text(matches),
+    ]);
     ink.into_text()
-}
-
-fn put_two_digits(ink: &mut Ink, number: u8) {
-    ink.put_number(u64::from(number / 10));
-    ink.put_number(u64::from(number % 10));
 }

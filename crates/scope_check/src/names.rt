@@ -9,6 +9,7 @@ use json_kinds::names::{
     PROTOCOL, SERVICE_NAME, SOCKET_TYPE, SUCCESSFUL_EXIT, WAIT, WEEKDAY,
 };
 use run_times::Ink;
+use run_times::Piece::Text;
 use std::alloc::{AllocError, Global};
 use strsim::levenshtein;
 
@@ -39,37 +40,50 @@ pub(crate) fn add_ignored(remarks: &mut Remarks<'_>, name: &str) {
 }
 
 fn key_place(alloc: Global, text: &str, name: &str) -> Result<Option<Place>, AllocError> {
-    let place = place_by(alloc, text, &[Step::Key(name)], true)?;
-    if place.is_some() {
-        return Ok(place);
+    match place_by(alloc, text, &[Step::Key(name)], true) {
+        Ok(None) => inner_place(alloc, text, name),
+        found => found,
     }
-    let (key, rest) = match name.split_once('.') {
-        Some((key, rest)) => (key, rest),
-        None => (name, ""),
+}
+
+fn inner_place(alloc: Global, text: &str, name: &str) -> Result<Option<Place>, AllocError> {
+    let (key, rest) = name.split_once('.').unwrap_or((name, ""));
+    // Of a socket's key the socket's name stands between.
+    let (inner, last, count) = match rest.rsplit_once('.') {
+        Some((socket, last)) => (socket, last, 5),
+        None => (rest, "", 3),
     };
-    let (key, inner, member) = (Step::Key(key), Step::Key(rest), Step::Member(0));
-    match rest.rsplit_once('.') {
-        // Of a socket's key the socket's name stands between.
-        Some((socket, last)) => {
-            let way = [key, member, Step::Key(socket), member, Step::Key(last)];
-            place_by(alloc, text, &way, true)
-        }
-        None => place_by(alloc, text, &[key, member, inner], true),
-    }
+    let way = [
+        Step::Key(key),
+        Step::Member(0),
+        Step::Key(inner),
+        Step::Member(0),
+        Step::Key(last),
+    ];
+    place_by(alloc, text, way.get(..count).unwrap_or(&way), true)
 }
 
 fn ignored_text(alloc: Global, name: &str) -> Result<String, AllocError> {
     let nearest = nearest_to(alloc, name)?;
+    let (before, behind) = if name.as_bytes().ends_with(nearest.as_bytes()) {
+        ("", "")
+    } else {
+        ("; is ", " meant?")
+    };
+    let shown = if behind.is_empty() { "" } else { nearest };
     let mut ink = Ink::new(alloc);
-    ink.put(name);
-    ink.put(": nothing acts on this key");
-    if !name.ends_with(nearest) {
-        ink.put("; is ");
-        ink.put(nearest);
-        ink.put(" meant?");
-    }
+    ink.put_all(&[
+        Text(name),
+        Text(": nothing acts on this key"),
+        Text(before),
+        Text(shown),
+        Text(behind),
+    ]);
     ink.into_text()
 }
+
+/// The nearest key so far, and how many characters it is apart.
+type Nearest = (&'static str, usize);
 
 // The key that is nearest to the last part of the name: at most two characters apart, or the same in another case. Empty, if none is.
 fn nearest_to(alloc: Global, name: &str) -> Result<&'static str, AllocError> {
@@ -77,41 +91,35 @@ fn nearest_to(alloc: Global, name: &str) -> Result<&'static str, AllocError> {
         Some((_, last)) => last,
         None => name,
     };
-    let is_inner = last.len() < name.len();
-    let mut nearest = usize::MAX;
-    let mut least = 3;
-    let count = if last.len() > 64 {
-        0
-    } else if is_inner {
-        INNER.len()
+    let mut nearest: Nearest = ("", 3);
+    if last.len() > 64 {
+        return Ok("");
+    }
+    if last.len() < name.len() {
+        for key in INNER {
+            compare(alloc, last, *key, &mut nearest)?;
+        }
     } else {
-        ALL.len()
-    };
-    for index in 0..count {
-        let key = key_at(is_inner, index);
-        let distance = if last.eq_ignore_ascii_case(key) {
-            0
-        } else {
-            levenshtein(alloc, last, key)?
-        };
-        if distance < least {
-            least = distance;
-            nearest = index;
+        for key in ALL.iter() {
+            compare(alloc, last, key_name(*key), &mut nearest)?;
         }
     }
-    Ok(key_at(is_inner, nearest))
+    Ok(nearest.0)
 }
 
-// The key with the index, of a dictionary within a definition or of the definition itself; empty if there is none.
-fn key_at(is_inner: bool, index: usize) -> &'static str {
-    if is_inner {
-        return match INNER.get(index) {
-            Some(key) => *key,
-            None => "",
-        };
+fn compare(
+    alloc: Global,
+    last: &str,
+    key: &'static str,
+    nearest: &mut Nearest,
+) -> Result<(), AllocError> {
+    let distance = if last.eq_ignore_ascii_case(key) {
+        0
+    } else {
+        levenshtein(alloc, last, key)?
+    };
+    if distance < nearest.1 {
+        *nearest = (key, distance);
     }
-    match ALL.get(index) {
-        Some(key) => key_name(*key),
-        None => "",
-    }
+    Ok(())
 }

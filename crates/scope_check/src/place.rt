@@ -23,7 +23,7 @@ struct Spot {
 }
 
 /// How far a way is gone, token by token.
-#[derive(Drop)]
+#[derive(Clone, Copy)]
 struct Walk<'a> {
     /// The steps that are left.
     way: &'a [Step<'a>],
@@ -37,7 +37,12 @@ struct Walk<'a> {
     is_next: bool,
     /// How many values of the level are passed.
     passed: usize,
+    /// Where the first token ends that is no JSON, if one was met.
+    bad: Option<usize>,
 }
+
+/// So deep values are nested at most.
+const DEEPEST: usize = 127;
 
 /// The line and the character in it of a byte.
 pub(crate) fn place_at(text: &str, offset: usize) -> Place {
@@ -79,20 +84,62 @@ pub(crate) fn place_by(
     way: &[Step<'_>],
     is_of_key: bool,
 ) -> Result<Option<Place>, AllocError> {
+    match walked(alloc, text, way, 1) {
+        Ok(walk) => Ok(match walk.found {
+            Some(spot) => Some(place_at(text, if is_of_key { spot.key } else { spot.value })),
+            None => None,
+        }),
+        Err(error) => Err(error),
+    }
+}
+
+/// Where the first token ends that is no JSON; the text's end if there is none. None if values are nested too deep before it.
+pub(crate) fn bad_offset(alloc: Global, text: &str) -> Result<Option<usize>, AllocError> {
+    match walked(alloc, text, &[], 0) {
+        Ok(walk) if walk.depth > DEEPEST => Ok(None),
+        Ok(walk) => Ok(Some(walk.bad.unwrap_or(text.len()))),
+        Err(error) => Err(error),
+    }
+}
+
+// The walk over the text from this level on, as far as the way goes on.
+fn walked<'a>(
+    alloc: Global,
+    text: &str,
+    way: &'a [Step<'a>],
+    level: usize,
+) -> Result<Walk<'a>, AllocError> {
     let mut walk = Walk {
         way,
         found: None,
         depth: 0,
-        level: 1,
+        level,
         key: 0,
         is_next: false,
         passed: 0,
+        bad: None,
     };
     let mut scratch = Scratch::new(alloc);
-    let mut reader = Reader::new(text, &mut scratch)?;
+    let is_read = match Reader::new(text, &mut scratch) {
+        Ok(mut reader) => {
+            walk_by(&mut reader, text, &mut walk);
+            drop(reader);
+            true
+        }
+        Err(_) => false,
+    };
+    drop(scratch);
+    if is_read { Ok(walk) } else { Err(AllocError) }
+}
+
+fn walk_by(reader: &mut Reader<'_>, text: &str, walk: &mut Walk<'_>) {
     for _ in 0..text.len() {
         let at = begin_at(text, reader.offset());
         let goes_on = match reader.next() {
+            Some(Token::Bad) => {
+                walk.bad = Some(reader.offset());
+                false
+            }
             Some(token) => walk.take(at, token),
             None => false,
         };
@@ -100,10 +147,6 @@ pub(crate) fn place_by(
             break;
         }
     }
-    Ok(match walk.found {
-        Some(spot) => Some(place_at(text, if is_of_key { spot.key } else { spot.value })),
-        None => None,
-    })
 }
 
 impl Walk<'_> {
@@ -134,11 +177,12 @@ impl Walk<'_> {
             Token::BeginObject => self.depth = self.depth.saturating_add(1),
             Token::String(_) | Token::Number(_) | Token::Bool(_) | Token::Null => {}
         }
-        if is_here {
+        let goes_on = if is_here {
             self.pass(at, is_array)
         } else {
             true
-        }
+        };
+        goes_on & (self.depth <= DEEPEST)
     }
 
     // Passes the value of the level that begins there, to which the next step may be, and says whether the way goes on.

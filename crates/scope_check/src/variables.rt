@@ -5,6 +5,7 @@ use crate::remarks::Remarks;
 use history_model::KeyName;
 use json_kinds::{json_value, key_name};
 use run_times::Ink;
+use run_times::Piece::Text;
 use serde_json::Value;
 
 /// Adds the remarks on variables of the environment whose values are no texts: they are left out.
@@ -36,9 +37,11 @@ fn add_from(value: &Value, remarks: &mut Remarks<'_>) {
 fn add_unset(name: &str, remarks: &mut Remarks<'_>) {
     let key = key_name(KeyName::EnvironmentVariables);
     let mut ink = Ink::new(remarks.alloc);
-    ink.put(key);
-    ink.put(": the value of ");
-    ink.put(name);
-    ink.put(" is no text, so it is not set");
+    ink.put_all(&[
+        Text(key),
+        Text(": the value of "),
+        Text(name),
+        Text(" is no text, so it is not set"),
+    ]);
     remarks.add_at(&[Step::Key(key), Step::Key(name)], ink.into_text());
 }

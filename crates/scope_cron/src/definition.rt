@@ -1,10 +1,11 @@
 //! The definition of a line, as JSON.
 
 use crate::entries::{EntriesFault, entries_of};
-use crate::fault::{LineFault, refused};
+use crate::fault::{LineFault, told};
 use crate::line::When;
 use history_model::Entry;
 use run_times::Ink;
+use run_times::Piece::{Number, Text};
 use serde_json::Value;
 use std::alloc::{AllocError, Global};
 
@@ -19,23 +20,26 @@ pub fn definition_of(
     when: When,
     command: &str,
 ) -> Result<String, LineFault> {
-    let start = start_of(alloc, &when);
-    drop(when);
-    let start = start?;
     let mut ink = Ink::new(alloc);
     ink.put("{\"Label\": \"cron.");
     ink.put_number(number as u64);
     ink.put_made(name_in(alloc, command));
     ink.put("\", \"ProgramArguments\": [\"/bin/sh\", \"-c\", ");
     // A `%` stands for each `\%`.
-    put_quoted(alloc, &mut ink, command.replace(alloc, "\\%", "%"));
-    ink.put("], ");
-    ink.put_made(Ok(start));
-    ink.put("}\n");
-    Ok(ink.into_text()?)
+    put_json(alloc, &mut ink, command.replace(alloc, "\\%", "%"));
+    let fault = put_start(alloc, &mut ink, &when);
+    drop(when);
+    let text = ink.into_text();
+    match (fault, text) {
+        (None, Ok(text)) => Ok(text),
+        (fault, text) => {
+            drop(text);
+            Err(fault.unwrap_or(LineFault::NoMemory))
+        }
+    }
 }
 
-fn put_quoted(alloc: Global, ink: &mut Ink, text: Result<String, AllocError>) {
+fn put_json(alloc: Global, ink: &mut Ink, text: Result<String, AllocError>) {
     match text {
         Ok(text) => {
             let value = Value::String(text);
@@ -69,55 +73,61 @@ fn name_in(alloc: Global, command: &str) -> Result<String, AllocError> {
     Ok(name)
 }
 
-fn start_of(alloc: Global, when: &When) -> Result<String, LineFault> {
+// Adds what starts the job, and the definition's end; or says why nothing does.
+fn put_start(alloc: Global, ink: &mut Ink, when: &When) -> Option<LineFault> {
     let fields = match when {
-        When::Boot => return Ok(String::from_str(alloc, "\"RunAtLoad\": true")?),
+        When::Boot => {
+            ink.put("], \"RunAtLoad\": true}\n");
+            return None;
+        }
         When::Minutes(fields) => fields,
     };
     match entries_of(alloc, fields) {
         Ok(entries) => {
-            let text = calendar_text(alloc, entries.as_slice());
+            put_calendar(ink, entries.as_slice());
             drop(entries);
-            Ok(text?)
+            None
         }
-        Err(EntriesFault::NoMemory) => Err(LineFault::NoMemory),
-        Err(EntriesFault::TooMany(count)) => Err(refused(format!(in alloc;
-            "its fields make {count} entries, wanted at most 64; split the line in several"
-        ))),
-        Err(EntriesFault::BothDays) => Err(refused(String::from_str(
-            alloc,
+        Err(fault) => Some(fault_of(alloc, fault)),
+    }
+}
+
+fn fault_of(alloc: Global, fault: EntriesFault) -> LineFault {
+    let (front, count, behind) = match fault {
+        EntriesFault::NoMemory => return LineFault::NoMemory,
+        EntriesFault::TooMany(count) => (
+            "its fields make ",
+            Number(count as u64),
+            " entries, wanted at most 64; split the line in several",
+        ),
+        EntriesFault::BothDays => (
             "day and weekday must both suit, as one begins with *, and of an entry's either suffices; wanted one of them as *",
-        ))),
-    }
+            Text(""),
+            "",
+        ),
+    };
+    told(alloc, &[Text(front), count, Text(behind)])
 }
 
-fn calendar_text(alloc: Global, entries: &[Entry]) -> Result<String, AllocError> {
-    let mut ink = Ink::new(alloc);
-    ink.put("\"StartCalendarInterval\": [");
-    let mut before = "{";
+fn put_calendar(ink: &mut Ink, entries: &[Entry]) {
+    let mut between = "], \"StartCalendarInterval\": [{";
     for entry in entries {
-        ink.put(before);
-        let is_first = add_key(&mut ink, true, "\"Minute\": ", entry.minute);
-        let is_first = add_key(&mut ink, is_first, "\"Hour\": ", entry.hour);
-        let is_first = add_key(&mut ink, is_first, "\"Day\": ", entry.day);
-        let is_first = add_key(&mut ink, is_first, "\"Month\": ", entry.month);
-        let _is_first = add_key(&mut ink, is_first, "\"Weekday\": ", entry.weekday);
-        ink.put("}");
-        before = ", {";
-    }
-    ink.put("]");
-    ink.into_text()
-}
-
-// Adds a key that stands, and says whether the next one that stands is the first.
-fn add_key(ink: &mut Ink, is_first: bool, key: &str, value: Option<u8>) -> bool {
-    match value {
-        Some(value) => {
-            ink.put(if is_first { "" } else { ", " });
-            ink.put(key);
-            ink.put_number(u64::from(value));
-            false
+        let parts = [
+            ("\"Minute\": ", entry.minute),
+            ("\"Hour\": ", entry.hour),
+            ("\"Day\": ", entry.day),
+            ("\"Month\": ", entry.month),
+            ("\"Weekday\": ", entry.weekday),
+        ];
+        ink.put(between);
+        let mut before = "";
+        for (key, value) in parts.iter() {
+            if let Some(value) = value {
+                ink.put_all(&[Text(before), Text(*key), Number(u64::from(*value))]);
+                before = ", ";
+            }
         }
-        None => is_first,
+        between = "}, {";
     }
+    ink.put("}]}\n");
 }

@@ -1,6 +1,7 @@
 //! What is wrong with a line.
 
-use std::alloc::AllocError;
+use run_times::{Ink, Piece};
+use std::alloc::{AllocError, Global};
 
 /// Why a line has no definition.
 #[derive(Drop)]
@@ -16,9 +17,16 @@ impl From<AllocError> for LineFault {
     }
 }
 
-/// The fault that this text tells, if there was memory for it.
-pub(crate) fn refused(text: Result<String, AllocError>) -> LineFault {
-    match text {
+/// The fault that these pieces tell, if there is memory for it.
+pub(crate) fn told(alloc: Global, pieces: &[Piece<'_>]) -> LineFault {
+    let mut ink = Ink::new(alloc);
+    ink.put_all(pieces);
+    refused(ink)
+}
+
+/// The fault that is told by what was written, if there was memory for it.
+pub(crate) fn refused(ink: Ink) -> LineFault {
+    match ink.into_text() {
         Ok(text) => LineFault::Refused(text),
         Err(_) => LineFault::NoMemory,
     }

@@ -1,6 +1,6 @@
 //! The items of a field's text: `*`, a value, a range, each with a step or without.
 
-use crate::fault::{LineFault, refused};
+use crate::fault::{LineFault, refused, told};
 use crate::kinds::{Kind, number_of, value_of};
 use run_times::Ink;
 use run_times::Piece::{Number, Text};
@@ -12,19 +12,6 @@ pub(crate) struct Item {
     first: u8,
     last: u8,
     step: u8,
-}
-
-/// What is wrong with an item.
-#[derive(Clone, Copy)]
-enum Wrong<'a> {
-    /// This is no value of the field.
-    Value(&'a str),
-    /// This range runs backwards.
-    Backwards(&'a str),
-    /// This is no range, and has this step.
-    NoRange(&'a str, &'a str),
-    /// This is no step from 1 to the number.
-    Step(&'a str, u8),
 }
 
 /// Whether an item has the value.
@@ -39,59 +26,91 @@ pub(crate) fn is_in(items: &[Item], value: u8) -> bool {
     false
 }
 
-/// The items of a field's text. Refused: one is none, is out of the field's bounds, runs backwards, or has a step and no range.
-pub(crate) fn items_of(alloc: Global, kind: &Kind, text: &str) -> Result<Vec<Item>, LineFault> {
-    let mut items = Vec::new(alloc);
+/// Adds the items of a field's text. Refused: one is none, is out of the field's bounds, runs backwards, or has a step and no range.
+pub(crate) fn add_items(
+    alloc: Global,
+    kind: &Kind,
+    text: &str,
+    items: &mut Vec<Item>,
+) -> Result<(), LineFault> {
     for part in text.split(',') {
-        match item_of(kind, part) {
+        match item_of(alloc, kind, part) {
             Ok(item) => {
                 if items.push(item).is_err() {
                     return Err(LineFault::NoMemory);
                 }
             }
-            Err(wrong) => {
-                drop(items);
-                return Err(fault_of(alloc, kind, wrong));
-            }
+            Err(fault) => return Err(fault),
         }
     }
-    Ok(items)
+    Ok(())
 }
 
-fn item_of<'a>(kind: &Kind, text: &'a str) -> Result<Item, Wrong<'a>> {
+fn item_of(alloc: Global, kind: &Kind, text: &str) -> Result<Item, LineFault> {
     let (span, step) = parted(text, '/');
     let (from, to) = parted(span, '-');
+    let until = to.unwrap_or(from);
     let is_every = span == "*";
-    let mut item = Item {
-        first: kind.low,
-        last: kind.high,
-        step: 1,
+    let (first, last) = if is_every {
+        (Some(kind.low), Some(kind.high))
+    } else {
+        (value_of(kind, from), value_of(kind, until))
     };
-    if !is_every {
-        let to = to.unwrap_or(from);
-        let Some(first) = value_of(kind, from) else {
-            return Err(Wrong::Value(from));
-        };
-        let Some(last) = value_of(kind, to) else {
-            return Err(Wrong::Value(to));
-        };
-        if last < first {
-            return Err(Wrong::Backwards(span));
-        }
-        item.first = first;
-        item.last = last;
+    let is_one = !is_every & to.is_none();
+    let (is, between, wanted) = match (first, last, step) {
+        (None, _, _) => (from, ", wanted ", kind.wanted),
+        (_, None, _) => (until, ", wanted ", kind.wanted),
+        (Some(first), Some(last), _) if last < first => (span, ", which runs backwards", ""),
+        (_, _, Some(step)) if is_one => return Err(no_range(alloc, kind, span, step)),
+        (Some(first), Some(last), step) => return stepped(alloc, kind, first, last, step),
+    };
+    let shown = if is.is_empty() { "empty" } else { is };
+    let pieces = [
+        Text(kind.name),
+        Text(" is "),
+        Text(shown),
+        Text(between),
+        Text(wanted),
+    ];
+    Err(told(alloc, &pieces))
+}
+
+fn no_range<'a>(alloc: Global, kind: &Kind, span: &'a str, step: &'a str) -> LineFault {
+    let pieces = [
+        Text(kind.name),
+        Text(" is "),
+        Text(span),
+        Text("/"),
+        Text(step),
+        Text(", wanted a range before the step, as "),
+        Text(span),
+        Text("-"),
+        Number(u64::from(kind.high)),
+        Text("/"),
+        Text(step),
+    ];
+    told(alloc, &pieces)
+}
+
+// The item from the first value to the last by this step, or by 1.
+fn stepped(
+    alloc: Global,
+    kind: &Kind,
+    first: u8,
+    last: u8,
+    step: Option<&str>,
+) -> Result<Item, LineFault> {
+    let text = step.unwrap_or("1");
+    let most = kind.high.saturating_sub(kind.low).saturating_add(1);
+    let step = number_of(text).unwrap_or(0);
+    if 1 <= step && step <= most {
+        return Ok(Item { first, last, step });
     }
-    if let Some(step) = step {
-        if !is_every && to.is_none() {
-            return Err(Wrong::NoRange(span, step));
-        }
-        let most = kind.high.saturating_sub(kind.low).saturating_add(1);
-        item.step = number_of(step).unwrap_or(0);
-        if item.step < 1 || most < item.step {
-            return Err(Wrong::Step(step, most));
-        }
-    }
-    Ok(item)
+    let mut ink = Ink::new(alloc);
+    ink.put_all(&[Text(kind.name), Text(" has the step ")]);
+    ink.put_quoted(text);
+    ink.put_all(&[Text(", wanted 1 to "), Number(u64::from(most))]);
+    Err(refused(ink))
 }
 
 // What stands before the first such letter, and what behind it.
@@ -100,41 +119,4 @@ fn parted(text: &str, by: char) -> (&str, Option<&str>) {
         Some((before, behind)) => (before, Some(behind)),
         None => (text, None),
     }
-}
-
-fn fault_of(alloc: Global, kind: &Kind, wrong: Wrong<'_>) -> LineFault {
-    let mut ink = Ink::new(alloc);
-    ink.put(kind.name);
-    match wrong {
-        Wrong::Value(value) => {
-            let shown = if value.is_empty() { "empty" } else { value };
-            ink.put_all(&[
-                Text(" is "),
-                Text(shown),
-                Text(", wanted "),
-                Text(kind.wanted),
-            ]);
-        }
-        Wrong::Backwards(span) => {
-            ink.put_all(&[Text(" is "), Text(span), Text(", which runs backwards")]);
-        }
-        Wrong::NoRange(span, step) => ink.put_all(&[
-            Text(" is "),
-            Text(span),
-            Text("/"),
-            Text(step),
-            Text(", wanted a range before the step, as "),
-            Text(span),
-            Text("-"),
-            Number(u64::from(kind.high)),
-            Text("/"),
-            Text(step),
-        ]),
-        Wrong::Step(step, most) => {
-            ink.put(" has the step ");
-            ink.put_made(format!(in alloc; "{step:?}"));
-            ink.put_all(&[Text(", wanted 1 to "), Number(u64::from(most))]);
-        }
-    }
-    refused(ink.into_text())
 }

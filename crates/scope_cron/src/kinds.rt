@@ -82,16 +82,8 @@ pub(crate) fn value_of(kind: &Kind, text: &str) -> Option<u8> {
 
 /// The decimal number that the text is, without a sign, if it is below 256.
 pub(crate) fn number_of(text: &str) -> Option<u8> {
-    if text.is_empty() {
+    if text.starts_with('+') {
         return None;
     }
-    let mut value: u8 = 0;
-    for byte in text.as_bytes() {
-        if !byte.is_ascii_digit() {
-            return None;
-        }
-        let digit = byte.saturating_sub(b'0');
-        value = value.checked_mul(10)?.checked_add(digit)?;
-    }
-    Some(value)
+    text.parse::<u8>().ok()
 }

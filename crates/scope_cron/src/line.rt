@@ -1,9 +1,9 @@
 //! What a line of a crontab says.
 
-use crate::fault::{LineFault, refused};
+use crate::fault::{LineFault, told};
 use crate::fields::Fields;
 use crate::reading::{Texts, fields_of};
-use run_times::Ink;
+use run_times::Piece::Text;
 use std::alloc::Global;
 
 /// When a line's command is run.
@@ -39,10 +39,9 @@ pub fn read_line<'a>(alloc: Global, text: &'a str) -> Result<Line<'a>, LineFault
     let (when, command) = timed(alloc, text)?;
     if has_percent(command) {
         drop(when);
-        return Err(refused(String::from_str(
-            alloc,
-            "% ends a command and begins its input, which no definition has; wanted \\% for the sign",
-        )));
+        let text =
+            "% ends a command and begins its input, which no definition has; wanted \\% for the sign";
+        return Err(told(alloc, &[Text(text)]));
     }
     Ok(Line::Command { when, command })
 }
@@ -76,25 +75,27 @@ fn timed<'a>(alloc: Global, text: &'a str) -> Result<(When, &'a str), LineFault>
     let is_named = name.starts_with('@');
     let (texts, rest) = texts_of(if is_named { fields_named(name) } else { text });
     let command = if is_named { behind } else { rest };
-    if command.is_empty() {
-        return Err(refused(String::from_str(
-            alloc,
+    let is_boot = name == "@reboot";
+    let is_none = texts.minute.is_empty() & !is_boot;
+    let (front, behind) = if command.is_empty() {
+        (
             "wanted five fields and a command, or a name as @daily and a command",
-        )));
-    }
-    if name == "@reboot" {
-        return Ok((When::Boot, command));
-    }
-    if is_named && texts.minute.is_empty() {
-        let mut ink = Ink::new(alloc);
-        ink.put(name);
-        ink.put(
+            "",
+        )
+    } else if is_none {
+        (
+            name,
             " is no name of a time, wanted @reboot, @yearly, @annually, @monthly, @weekly, @daily, @midnight or @hourly",
-        );
-        return Err(refused(ink.into_text()));
-    }
-    let fields = fields_of(alloc, texts)?;
-    Ok((When::Minutes(fields), command))
+        )
+    } else if is_boot {
+        return Ok((When::Boot, command));
+    } else {
+        return match fields_of(alloc, texts) {
+            Ok(fields) => Ok((When::Minutes(fields), command)),
+            Err(fault) => Err(fault),
+        };
+    };
+    Err(told(alloc, &[Text(front), Text(behind)]))
 }
 
 fn texts_of(text: &str) -> (Texts<'_>, &str) {

@@ -2,7 +2,7 @@
 
 use crate::fault::LineFault;
 use crate::fields::{Field, Fields};
-use crate::items::{Item, is_in, items_of};
+use crate::items::{Item, add_items, is_in};
 use crate::kinds::{DAY, HOUR, Kind, MINUTE, MONTH, WEEKDAY};
 use std::alloc::{AllocError, Global};
 
@@ -18,7 +18,8 @@ pub(crate) struct Texts<'a> {
 
 /// The fields that the texts are. Of a day and a weekday either suffices if neither begins with `*`.
 pub(crate) fn fields_of(alloc: Global, texts: Texts<'_>) -> Result<Fields, LineFault> {
-    let is_either = !texts.day.starts_with('*') && !texts.weekday.starts_with('*');
+    let is_each_day = texts.day.starts_with('*');
+    let is_either = !(is_each_day | texts.weekday.starts_with('*'));
     let mut fault = None;
     let fields = Fields {
         minutes: field_of(alloc, &MINUTE, texts.minute, true, &mut fault),
@@ -61,10 +62,14 @@ fn add_values(
     text: &str,
     values: &mut Vec<u8>,
 ) -> Result<(), LineFault> {
-    let items = items_of(alloc, kind, text)?;
+    let mut items = Vec::new(alloc);
+    let read = add_items(alloc, kind, text, &mut items);
     let added = add_those_in(kind, items.as_slice(), values);
     drop(items);
-    Ok(added?)
+    match (read, added) {
+        (Ok(()), Err(_)) => Err(LineFault::NoMemory),
+        (read, _) => read,
+    }
 }
 
 // Adds the values that an item has. A value that means the same as the least one, as the weekday 7, is left out behind that.

@@ -1,3 +1,2 @@
 pub mod Axis
 pub mod Bars
-pub mod Escape

@@ -2,14 +2,13 @@
 
 use crate::axis::Axis;
 use crate::chart::{Bar, Chart, Mark, Row, grade};
-use crate::escape::is_unwritable;
-use crate::form::Hole::{Moment, Number};
-use crate::form::{Hole, Pen, put_form};
+use crate::piece::NO_READING;
 use crate::ticks::{Tick, ticks};
 use crate::words::{columns_of, cut, missing};
 use calendar_due::Zone;
-use run_times::Ink;
+use run_times::Hole::{Moment, Number};
 use run_times::Piece::Text;
+use run_times::{Hole, Ink, Page, is_unwritable};
 use std::alloc::{AllocError, Global};
 
 /// The block of a bar by how grave its end is.
@@ -52,34 +51,29 @@ pub fn blocks_text(
     let mut grid = Grid {
         column,
         axis: Axis::new(chart.axis.from, chart.axis.until, room as u16),
-        cells: empty_cells(alloc, room)?,
+        cells: Vec::new(alloc),
     };
-    let mut ink = Ink::new(alloc);
-    put_lines(&mut ink, &Pen { alloc, zone }, &mut grid, chart, width);
+    let mut page = Page::new(alloc, zone, NO_READING);
+    match grid.cells.resize(room, ' ') {
+        Ok(()) => put_lines(&mut page, &mut grid, chart, width),
+        Err(_) => page.ink.refuse(),
+    }
     drop(grid);
-    ink.into_text()
+    page.into_text()
 }
 
-fn empty_cells(alloc: Global, places: usize) -> Result<Vec<char>, AllocError> {
-    let mut cells = Vec::new(alloc);
-    for _ in 0..places {
-        cells.push(' ')?;
-    }
-    Ok(cells)
-}
-
-fn put_lines(ink: &mut Ink, pen: &Pen<'_>, grid: &mut Grid, chart: &Chart, width: usize) {
+fn put_lines(page: &mut Page<'_>, grid: &mut Grid, chart: &Chart, width: usize) {
     let span = [Moment(grid.axis.from), Moment(grid.axis.until)];
-    put_pieces(ink, pen, "$\nto $", &span, '\n', width);
+    put_pieces(page, "$\nto $", &span, '\n', width);
     for row in &chart.rows {
-        grid.put_row(ink, pen.alloc, row);
+        grid.put_row(&mut page.ink, page.alloc, row);
     }
-    grid.put_axis(ink, pen);
-    put_pieces(ink, pen, LEGEND, &[], '\n', width);
+    grid.put_axis(page);
+    put_pieces(page, LEGEND, &[], '\n', width);
     for (sentence, one, other) in missing(chart).iter() {
-        if *one > 0 || *other > 0 {
+        if (*one | *other) > 0 {
             let numbers = [Number(*one), Number(*other)];
-            put_pieces(ink, pen, *sentence, &numbers, ' ', width);
+            put_pieces(page, *sentence, &numbers, ' ', width);
         }
     }
 }
@@ -88,17 +82,6 @@ impl Grid {
     // Adds a line: the label in its column, cut if it is longer and with control characters as question marks, a space, and the cells,
     // which are empty then. Spaces at its end are left out.
     fn put_line(&mut self, ink: &mut Ink, alloc: Global, label: &str) {
-        match self.line_of(alloc, label) {
-            Ok(line) => {
-                let line = line.as_str().trim_end_matches(' ');
-                ink.put_all(&[Text(line), Text("\n")]);
-            }
-            Err(_) => ink.refuse(),
-        }
-        self.cells.fill(' ');
-    }
-
-    fn line_of(&self, alloc: Global, label: &str) -> Result<String, AllocError> {
         let (front, rest) = cut(label, self.column);
         let mut line = Ink::new(alloc);
         for c in front.chars() {
@@ -112,7 +95,11 @@ impl Grid {
         for c in &self.cells {
             line.put_char(*c);
         }
-        line.into_text()
+        let shown = line.text.as_str().trim_end_matches(' ');
+        ink.put_all(&[Text(shown), Text("\n")]);
+        ink.is_refused = ink.is_refused | line.is_refused;
+        drop(line);
+        self.cells.fill(' ');
     }
 
     // A row's bars, and below them its marks, if it has some. The graver ones stand over the others of their place.
@@ -121,13 +108,13 @@ impl Grid {
             self.set_bars(row.bars.as_slice(), grave, *block);
         }
         self.put_line(ink, alloc, row.label.as_str());
-        if row.demands.is_empty() && row.throttles.is_empty() && row.refusals.is_empty() {
-            return;
+        let marks = row.demands.len() | row.throttles.len() | row.refusals.len();
+        if marks > 0 {
+            self.set_marks(row.demands.as_slice(), 'v');
+            self.set_marks(row.throttles.as_slice(), '~');
+            self.set_marks(row.refusals.as_slice(), 'x');
+            self.put_line(ink, alloc, "");
         }
-        self.set_marks(row.demands.as_slice(), 'v');
-        self.set_marks(row.throttles.as_slice(), '~');
-        self.set_marks(row.refusals.as_slice(), 'x');
-        self.put_line(ink, alloc, "");
     }
 
     // Sets the bars whose end is so grave.
@@ -150,22 +137,23 @@ impl Grid {
     }
 
     // The ticks: a line with their texts, and one with what stands below them.
-    fn put_axis(&mut self, ink: &mut Ink, pen: &Pen<'_>) {
+    fn put_axis(&mut self, page: &mut Page<'_>) {
         let most = u64::from(self.axis.places / 11).max(1);
-        match ticks(pen.alloc, pen.zone, &self.axis, most) {
+        match ticks(page.alloc, page.zone, &self.axis, most) {
             Ok(ticks) => {
                 for tick in &ticks {
                     let (text, _) = tick.parts();
                     self.set_tick(tick, '|', text);
                 }
-                self.put_line(ink, pen.alloc, "");
+                self.put_line(&mut page.ink, page.alloc, "");
                 for tick in &ticks {
                     let (_, below) = tick.parts();
                     self.set_tick(tick, ' ', below);
                 }
-                self.put_line(ink, pen.alloc, "");
+                self.put_line(&mut page.ink, page.alloc, "");
+                drop(ticks);
             }
-            Err(_) => ink.refuse(),
+            Err(_) => page.ink.refuse(),
         }
     }
 
@@ -191,33 +179,30 @@ impl Grid {
 }
 
 // Adds the pieces of a form whose holes are filled, in lines of the width.
-fn put_pieces(
-    ink: &mut Ink,
-    pen: &Pen<'_>,
-    form: &str,
-    holes: &[Hole<'_>],
-    between: char,
-    width: usize,
-) {
-    let mut text = Ink::new(pen.alloc);
-    put_form(&mut text, pen, form, holes);
-    match text.into_text() {
-        Ok(text) => put_wrapped(ink, text.as_str(), between, width),
-        Err(_) => ink.refuse(),
+fn put_pieces(page: &mut Page<'_>, form: &str, holes: &[Hole<'_>], between: char, width: usize) {
+    let mut inner = Page::new(page.alloc, page.zone, NO_READING);
+    inner.add(form, holes);
+    match inner.into_text() {
+        Ok(text) => {
+            put_wrapped(&mut page.ink, text.as_str(), between, width);
+            drop(text);
+        }
+        Err(_) => page.ink.refuse(),
     }
 }
 
 // Adds the text's pieces, words with a space between them and others with two, and a piece in a new line if it has no room in the last.
 fn put_wrapped(ink: &mut Ink, text: &str, between: char, width: usize) {
     let gap = if between == ' ' { " " } else { "  " };
-    let mut used: usize = 0;
+    // Before the first piece there is no line, and so no room in it.
+    let mut used: usize = usize::MAX;
     for piece in text.split(between) {
         let wide = columns_of(piece);
         let behind = used.saturating_add(gap.len()).saturating_add(wide);
-        let has_room = used > 0 && behind <= width;
+        let has_room = behind <= width;
         let before = if has_room {
             gap
-        } else if used > 0 {
+        } else if used < usize::MAX {
             "\n"
         } else {
             ""

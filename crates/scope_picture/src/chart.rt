@@ -129,13 +129,11 @@ fn joined(axis: &Axis, last: Bar, next: Bar) -> Option<Bar>
 
 // Adds a moment; those of one place stand together.
 fn add_moment(marks: &mut Vec<Mark>, axis: &Axis, at: u64) -> Result<(), AllocError> {
-    if let Some(last) = marks.pop() {
+    if let Some(last) = marks.last_mut() {
         if axis.place(last.at) == axis.place(at) {
-            let count = last.count.saturating_add(1);
-            marks.push(Mark { at: last.at, count })?;
+            last.count = last.count.saturating_add(1);
             return Ok(());
         }
-        marks.push(last)?;
     }
     Ok(marks.push(Mark { at, count: 1 })?)
 }

@@ -1,12 +1,7 @@
 //! A page that stands alone: the chart, the table of the runs, why each job stands as it does, and the coming starts. No script.
 
-use crate::chart::Chart;
-use crate::form::Hole::{Escaped, Moment, Text};
-use crate::form::{Pen, put_form};
-use crate::svg::{if_there, put_figure};
-use calendar_due::Zone;
-use run_times::Ink;
-use std::alloc::{AllocError, Global};
+use run_times::Hole::{Escaped, Moment, Text};
+use run_times::Page;
 
 /// A start that the clock will want.
 #[derive(Drop)]
@@ -20,7 +15,7 @@ pub struct Coming {
 
 /// What stands on a page beside the chart.
 #[derive(Clone, Copy)]
-pub struct Page<'a> {
+pub struct Beside<'a> {
     /// Lines of cells with tabs between them, the first being the head.
     pub table: &'a str,
     /// Why each job stands as it does.
@@ -29,7 +24,8 @@ pub struct Page<'a> {
     pub coming: &'a [Coming],
 }
 
-const HEAD: &str = "<!DOCTYPE html>
+/// What stands above the chart.
+pub(crate) const HEAD: &str = "<!DOCTYPE html>
 <html lang=\"en\">
 <head>
 <meta charset=\"utf-8\">
@@ -62,60 +58,36 @@ pre { margin: 0; padding: 0.75rem; background: var(--soft); border-radius: 6px; 
 <figure>
 ";
 
-/// A piece of the page as HTML, from 0: its head, one for each row of the chart, and the rest. None behind these. Moments are shown in the
-/// zone.
-pub fn page_piece(
-    alloc: Global,
-    zone: &Zone,
-    chart: &Chart,
-    page: &Page<'_>,
-    index: usize,
-) -> Result<Option<String>, AllocError> {
-    let pen = Pen { alloc, zone };
-    let mut ink = Ink::new(alloc);
-    if index == 0 {
-        ink.put(HEAD);
-    }
-    let is_there = put_figure(&mut ink, &pen, chart, index);
-    if is_there && index > chart.rows.len() {
-        put_rest(&mut ink, &pen, page);
-    }
-    if_there(ink, is_there)
-}
-
-// What stands below the chart. The last text is escaped line by line, so that its newlines stay.
-fn put_rest(ink: &mut Ink, pen: &Pen<'_>, page: &Page<'_>) {
-    ink.put(
+/// Adds what stands below the chart. The last text is escaped line by line, so that its newlines stay.
+pub(crate) fn put_rest(page: &mut Page<'_>, beside: &Beside<'_>) {
+    page.ink.put(
         "</figure>\n<h2>What the runs came to</h2>\n<p>Times are in seconds.</p>\n<div class=\"wide\"><table>\n",
     );
-    put_table(ink, pen, page.table);
-    ink.put("</table></div>\n<h2>Coming starts by the clock</h2>\n");
-    put_coming(ink, pen, page.coming);
-    ink.put("<h2>Why each job stands as it does</h2>\n<pre>");
-    for line in page.why.split('\n') {
-        put_form(ink, pen, "$\n", &[Escaped(line)]);
+    put_table(page, beside.table);
+    put_coming(page, beside.coming);
+    for line in beside.why.split('\n') {
+        page.add("$\n", &[Escaped(line)]);
     }
-    ink.put("</pre>\n</main>\n</body>\n</html>\n");
+    page.ink.put("</pre>\n</main>\n</body>\n</html>\n");
 }
 
-fn put_table(ink: &mut Ink, pen: &Pen<'_>, table: &str) {
+fn put_table(page: &mut Page<'_>, table: &str) {
     let mut is_head = true;
     for line in table.lines() {
         let cell = if is_head { "<th>$</th>" } else { "<td>$</td>" };
-        ink.put("<tr>");
-        put_cells(ink, pen, cell, line);
-        ink.put("</tr>\n");
+        page.ink.put("<tr>");
+        for part in line.split('\t') {
+            page.add(cell, &[Escaped(part)]);
+        }
+        page.ink.put("</tr>\n");
         is_head = false;
     }
 }
 
-fn put_cells(ink: &mut Ink, pen: &Pen<'_>, cell: &str, line: &str) {
-    for part in line.split('\t') {
-        put_form(ink, pen, cell, &[Escaped(part)]);
-    }
-}
-
-fn put_coming(ink: &mut Ink, pen: &Pen<'_>, coming: &[Coming]) {
+// The coming starts, between the headings above and below them.
+fn put_coming(page: &mut Page<'_>, coming: &[Coming]) {
+    page.ink
+        .put("</table></div>\n<h2>Coming starts by the clock</h2>\n");
     let (before, behind) = if coming.is_empty() {
         ("<p>None.</p>\n", "")
     } else {
@@ -124,15 +96,15 @@ fn put_coming(ink: &mut Ink, pen: &Pen<'_>, coming: &[Coming]) {
             "</table></div>\n",
         )
     };
-    ink.put(before);
+    page.ink.put(before);
     for start in coming {
         let holes = [
             Moment(start.at),
             Escaped(start.label.as_str()),
             Text(start.key),
         ];
-        let row = "<tr><td>$</td><td>$</td><td>$</td></tr>\n";
-        put_form(ink, pen, row, &holes);
+        page.add("<tr><td>$</td><td>$</td><td>$</td></tr>\n", &holes);
     }
-    ink.put(behind);
+    let heading = "$<h2>Why each job stands as it does</h2>\n<pre>";
+    page.add(heading, &[Text(behind)]);
 }

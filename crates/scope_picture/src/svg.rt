@@ -1,14 +1,11 @@
 //! The chart as SVG.
 
 use crate::axis::Axis;
-use crate::chart::{Bar, Chart, End, Mark, Row, grade};
-use crate::form::Hole::{Escaped, Moment, Number, Text};
-use crate::form::{Pen, put_form};
+use crate::chart::{Bar, Chart, End, Row, grade};
 use crate::ticks::{Tick, ticks};
 use crate::words::{cut, missing};
-use calendar_due::Zone;
-use run_times::Ink;
-use std::alloc::{AllocError, Global};
+use run_times::Hole::{Escaped, Moment, Number, Text};
+use run_times::Page;
 
 /// How many places the axis of a chart has that is painted as SVG.
 pub const PLACES: u16 = 980;
@@ -32,46 +29,68 @@ const LABEL: usize = 130;
 /// So many ticks are written at most.
 const MOST_TICKS: u64 = 9;
 
-/// The ends of runs, and what they are called below the rows.
-const ENDS: [(End, &str); 6] = [
-    (End::Code(0), "code 0"),
-    (End::Code(1), "another code"),
-    (End::Signal(1), "a signal"),
-    (End::Crash(11), "a crash"),
-    (End::Stopped, "stopped"),
-    (End::Lives, "lives"),
+/// What each colour and shape means, below the rows: how far below them a shape stands, the shape, how far its name, and the name.
+const LEGEND: [(u64, &str, u64, &str); 9] = [
+    (
+        10,
+        "<rect class=\"well\" x=\"10\" y=\"$\" width=\"22\" height=\"12\"/>",
+        21,
+        "<text class=\"faint\" x=\"44\" y=\"$\">code 0</text>\n",
+    ),
+    (
+        10,
+        "<rect class=\"code\" x=\"160\" y=\"$\" width=\"22\" height=\"12\"/><path class=\"code end\" d=\"M182 $m-2 -3h4v18h-4z\"/>\n",
+        21,
+        "<text class=\"faint\" x=\"194\" y=\"$\">another code</text>\n",
+    ),
+    (
+        10,
+        "<rect class=\"signal\" x=\"310\" y=\"$\" width=\"22\" height=\"12\"/><path class=\"signal end\" d=\"M332 $m-2 -3l8 9l-8 9z\"/>\n",
+        21,
+        "<text class=\"faint\" x=\"344\" y=\"$\">a signal</text>\n",
+    ),
+    (
+        10,
+        "<rect class=\"crash\" x=\"460\" y=\"$\" width=\"22\" height=\"12\"/><path class=\"crash open\" d=\"M482 $m-4 1l9 10m0 -10l-9 10\"/>\n",
+        21,
+        "<text class=\"faint\" x=\"494\" y=\"$\">a crash</text>\n",
+    ),
+    (
+        10,
+        "<rect class=\"stopped\" x=\"610\" y=\"$\" width=\"22\" height=\"12\"/>",
+        21,
+        "<text class=\"faint\" x=\"644\" y=\"$\">stopped</text>\n",
+    ),
+    (
+        10,
+        "<rect class=\"lives\" x=\"760\" y=\"$\" width=\"22\" height=\"12\"/><path class=\"lives open\" d=\"M782 $m0 -1l7 7l-7 7\"/>\n",
+        21,
+        "<text class=\"faint\" x=\"794\" y=\"$\">lives</text>\n",
+    ),
+    (
+        32,
+        "<path class=\"demand\" d=\"M25 $m-5 0h10l-5 9z\"/>",
+        41,
+        "<text class=\"faint\" x=\"44\" y=\"$\">a demand</text>\n",
+    ),
+    (
+        32,
+        "<path class=\"throttle\" d=\"M175 $m0 0l4.5 4.5l-4.5 4.5l-4.5 -4.5z\"/>",
+        41,
+        "<text class=\"faint\" x=\"194\" y=\"$\">a throttle</text>\n",
+    ),
+    (
+        32,
+        "<path class=\"refusal\" d=\"M325 $m-4 0.5l8 8m0 -8l-8 8\"/>",
+        41,
+        "<text class=\"faint\" x=\"344\" y=\"$\">a refusal</text>\n",
+    ),
 ];
 
-/// The class of a mark, its name, and its shape from the middle of its upper edge.
-#[derive(Clone, Copy)]
-struct Sign {
-    class: &'static str,
-    name: &'static str,
-    shape: &'static str,
-}
-
-/// Of a demand, a throttle and a refusal.
-const SIGNS: [Sign; 3] = [
-    Sign {
-        class: "demand",
-        name: "a demand",
-        shape: "m-5 0h10l-5 9z",
-    },
-    Sign {
-        class: "throttle",
-        name: "a throttle",
-        shape: "m0 0l4.5 4.5l-4.5 4.5l-4.5 -4.5z",
-    },
-    Sign {
-        class: "refusal",
-        name: "a refusal",
-        shape: "m-4 0.5l8 8m0 -8l-8 8",
-    },
-];
-
-/// The head: how large it is, its title, its colours, and the span.
-const OPENING: &str =
-    "<svg xmlns=\"http://www.w3.org/2000/svg\" class=\"runs\" viewBox=\"0 0 1000 $\" width=\"1000\" height=\"$\" role=\"img\">
+/// The head: how large it is, its title, its colours, and the span. Each has holes for the height, and for the span.
+const OPENING: [&str; 3] = [
+    "<svg xmlns=\"http://www.w3.org/2000/svg\" class=\"runs\" viewBox=\"0 0 1000 $",
+    "\" width=\"1000\" height=\"$\" role=\"img\">
 <title>Runs from $ to $</title>
 <style>
 .runs { color-scheme: light dark; --ground: #ffffff; --ink: #1c2733; --faint: #5b6875; --line: #d9dfe5; --well: #2e7d5b; --code: #b86200; --signal: #7b4fb5; --crash: #c62828; --stopped: #4a6a8a; --lives: #1b76c4; }
@@ -93,9 +112,11 @@ const OPENING: &str =
 .runs .throttle { fill: var(--ground); stroke: var(--code); stroke-width: 1.5; }
 .runs .refusal { fill: none; stroke: var(--crash); stroke-width: 2; }
 </style>
-<rect class=\"ground\" width=\"1000\" height=\"$\"/>
+",
+    "<rect class=\"ground\" width=\"1000\" height=\"$\"/>
 <text x=\"10\" y=\"18\">$ to $</text>
-";
+",
+];
 
 const TICK: &str =
     "<path class=\"tick\" d=\"M$ 58V$\"/><text class=\"faint\" x=\"$\" y=\"38\" text-anchor=\"$\">$</text><text class=\"faint\" x=\"$\" y=\"52\" text-anchor=\"$\">$</text>\n";
@@ -111,47 +132,18 @@ const MARK: &str = "<path class=\"$\" data-count=\"$\" d=\"M$ $$\"><title>$: $</
 const MARKS: &str =
     "<path class=\"$\" data-count=\"$\" d=\"M$ $$\"><title>$: $, and $ more beside it</title></path>\n";
 
-/// A piece of the chart as an SVG document, from 0: its head, one for each row, its foot. None behind these. Moments are shown in the zone.
-/// So no more than a row's text is held at once.
-pub fn svg_piece(
-    alloc: Global,
-    zone: &Zone,
-    chart: &Chart,
-    index: usize,
-) -> Result<Option<String>, AllocError> {
-    let mut ink = Ink::new(alloc);
-    if index == 0 {
-        ink.put("<?xml version=\"1.0\" encoding=\"UTF-8\"?>\n");
-    }
-    let is_there = put_figure(&mut ink, &Pen { alloc, zone }, chart, index);
-    if_there(ink, is_there)
-}
-
-/// The text, if there is such a piece.
-pub(crate) fn if_there(ink: Ink, is_there: bool) -> Result<Option<String>, AllocError> {
-    match ink.into_text() {
-        Ok(text) if is_there => Ok(Some(text)),
-        Ok(text) => {
-            drop(text);
-            Ok(None)
-        }
-        Err(error) => Err(error),
-    }
-}
-
-/// Adds a piece of the chart as an element `svg` within a document, counted as by `svg_piece`. It says whether there is such a piece.
-pub(crate) fn put_figure(ink: &mut Ink, pen: &Pen<'_>, chart: &Chart, index: usize) -> bool {
+/// Adds a piece of the chart as an element `svg`, from 0: its head, one for each row, its foot.
+pub(crate) fn put_figure(page: &mut Page<'_>, chart: &Chart, index: usize) {
     let rows = chart.rows.len();
     let above = index.saturating_sub(1);
     let bottom = below_rows(rows);
     if index == 0 {
-        put_head(ink, pen, chart, bottom);
+        put_head(page, chart, bottom);
     } else if let Some(row) = chart.rows.get(above) {
-        put_row(ink, pen, &chart.axis, row, below_rows(above));
+        put_row(page, &chart.axis, row, below_rows(above));
     } else if above == rows {
-        put_foot(ink, pen, chart, bottom);
+        put_foot(page, chart, bottom);
     }
-    above <= rows
 }
 
 // Where so many rows end.
@@ -160,36 +152,31 @@ fn below_rows(rows: usize) -> u64 {
 }
 
 // The head, and the ticks from above the rows to their bottom.
-fn put_head(ink: &mut Ink, pen: &Pen<'_>, chart: &Chart, bottom: u64) {
+fn put_head(page: &mut Page<'_>, chart: &Chart, bottom: u64) {
     let axis = &chart.axis;
     let mut height = bottom.saturating_add(FOOT);
     for (_, one, other) in missing(chart).iter() {
-        if *one > 0 || *other > 0 {
+        if (*one | *other) > 0 {
             height = height.saturating_add(LINE);
         }
     }
-    let holes = [
-        Number(height),
-        Number(height),
-        Moment(axis.from),
-        Moment(axis.until),
-        Number(height),
-        Moment(axis.from),
-        Moment(axis.until),
-    ];
-    put_form(ink, pen, OPENING, &holes);
-    match ticks(pen.alloc, pen.zone, axis, MOST_TICKS) {
+    let holes = [Number(height), Moment(axis.from), Moment(axis.until)];
+    for form in OPENING.iter() {
+        page.add(*form, &holes);
+    }
+    match ticks(page.alloc, page.zone, axis, MOST_TICKS) {
         Ok(ticks) => {
             for tick in &ticks {
-                put_tick(ink, pen, axis, tick, bottom);
+                put_tick(page, axis, tick, bottom);
             }
+            drop(ticks);
         }
-        Err(_) => ink.refuse(),
+        Err(_) => page.ink.refuse(),
     }
 }
 
 // A tick, with its texts above the rows. Near the edges they stand within the chart.
-fn put_tick(ink: &mut Ink, pen: &Pen<'_>, axis: &Axis, tick: &Tick, bottom: u64) {
+fn put_tick(page: &mut Page<'_>, axis: &Axis, tick: &Tick, bottom: u64) {
     let place = u64::from(axis.place(tick.at));
     let anchor = if place < 50 {
         "start"
@@ -198,22 +185,22 @@ fn put_tick(ink: &mut Ink, pen: &Pen<'_>, axis: &Axis, tick: &Tick, bottom: u64)
     } else {
         "middle"
     };
-    let x = LEFT + place;
+    let x = Number(LEFT + place);
     let (text, below) = tick.parts();
     let holes = [
-        Number(x),
+        x,
         Number(bottom),
-        Number(x),
+        x,
         Text(anchor),
         Text(text),
-        Number(x),
+        x,
         Text(anchor),
         Text(below),
     ];
-    put_form(ink, pen, TICK, &holes);
+    page.add(TICK, &holes);
 }
 
-fn put_row(ink: &mut Ink, pen: &Pen<'_>, axis: &Axis, row: &Row, top: u64) {
+fn put_row(page: &mut Page<'_>, axis: &Axis, row: &Row, top: u64) {
     let label = row.label.as_str();
     let (front, rest) = cut(label, LABEL);
     let holes = [
@@ -223,42 +210,45 @@ fn put_row(ink: &mut Ink, pen: &Pen<'_>, axis: &Axis, row: &Row, top: u64) {
         Escaped(label),
         Number(top.saturating_add(47)),
     ];
-    put_form(ink, pen, TOP, &holes);
-    put_bars(ink, pen, axis, row.bars.as_slice(), top.saturating_add(31));
-    let lane = top.saturating_add(18);
-    put_marks(ink, pen, axis, &SIGNS[0], row.demands.as_slice(), lane);
-    put_marks(ink, pen, axis, &SIGNS[1], row.throttles.as_slice(), lane);
-    put_marks(ink, pen, axis, &SIGNS[2], row.refusals.as_slice(), lane);
-    ink.put("</g>\n");
+    page.add(TOP, &holes);
+    put_bars(page, axis, row.bars.as_slice(), top.saturating_add(31));
+    put_marks(page, axis, row, top.saturating_add(18));
+    page.ink.put("</g>\n");
 }
 
 // The bars whose upper edge is there, and over them their ends, so that a bar which follows at once does not hide an end.
-fn put_bars(ink: &mut Ink, pen: &Pen<'_>, axis: &Axis, bars: &[Bar], top: u64) {
+fn put_bars(page: &mut Page<'_>, axis: &Axis, bars: &[Bar], top: u64) {
     for bar in bars {
-        put_bar(ink, pen, axis, bar, top);
+        put_bar(page, axis, bar, top);
     }
     for bar in bars {
-        let (_, end) = axis.edges(bar.from, bar.until);
-        put_end(ink, pen, bar.end, LEFT + u64::from(end), top);
+        let (class, own, shape, _) = look(bar.end);
+        if !shape.is_empty() {
+            let (_, end) = axis.edges(bar.from, bar.until);
+            let x = Number(LEFT + u64::from(end));
+            let holes = [Text(class), Text(own), x, Number(top), Text(shape)];
+            page.add("<path class=\"$ $\" d=\"M$ $$\"/>\n", &holes);
+        }
     }
 }
 
 // A bar. Its title says how its runs ended: of one its end, of several their number and the gravest end.
-fn put_bar(ink: &mut Ink, pen: &Pen<'_>, axis: &Axis, bar: &Bar, top: u64) {
+fn put_bar(page: &mut Page<'_>, axis: &Axis, bar: &Bar, top: u64) {
     let (_, number) = grade(bar.end);
     let (class, _, _, words) = look(bar.end);
     let (begin, end) = axis.edges(bar.from, bar.until);
     let runs = Number(u64::from(bar.runs));
     let run = Number(bar.run);
-    let form = if bar.runs == 1 {
-        "<g class=\"$\" data-runs=\"$\"><title>run $ "
+    let (form, third) = if bar.runs == 1 {
+        ("<g class=\"$\" data-runs=\"$\"><title>run $ ", run)
     } else {
-        "<g class=\"$\" data-runs=\"$\"><title>$ runs from run $ on; the gravest "
+        (
+            "<g class=\"$\" data-runs=\"$\"><title>$ runs from run $ on; the gravest ",
+            runs,
+        )
     };
-    let third = if bar.runs == 1 { run } else { runs };
-    let front = [Text(class), runs, third, run];
-    put_form(ink, pen, form, &front);
-    put_form(ink, pen, words, &[Number(number)]);
+    page.add(form, &[Text(class), runs, third, run]);
+    page.add(words, &[Number(number)]);
     let holes = [
         Moment(bar.from),
         Moment(bar.until),
@@ -266,7 +256,7 @@ fn put_bar(ink: &mut Ink, pen: &Pen<'_>, axis: &Axis, bar: &Bar, top: u64) {
         Number(top),
         Number(u64::from(end - begin).max(1)),
     ];
-    put_form(ink, pen, BAR, &holes);
+    page.add(BAR, &holes);
 }
 
 // How an end looks: the class of its bar, that of its own shape, and the shape from the bar's upper corner; and the end in words, with a
@@ -287,91 +277,63 @@ fn look<'a>(end: End) -> (&'a str, &'a str, &'a str, &'a str) {
     }
 }
 
-// The shape of an end, if it has one.
-fn put_end(ink: &mut Ink, pen: &Pen<'_>, end: End, x: u64, top: u64) {
-    let (class, form, shape, _) = look(end);
-    if !shape.is_empty() {
-        let holes = [Text(class), Text(form), Number(x), Number(top), Text(shape)];
-        put_form(ink, pen, "<path class=\"$ $\" d=\"M$ $$\"/>\n", &holes);
-    }
-}
-
-fn put_marks(ink: &mut Ink, pen: &Pen<'_>, axis: &Axis, sign: &Sign, marks: &[Mark], top: u64) {
-    for mark in marks {
-        let count = u64::from(mark.count);
-        let form = if count > 1 { MARKS } else { MARK };
-        let holes = [
-            Text(sign.class),
-            Number(count),
-            Number(LEFT + u64::from(axis.place(mark.at))),
-            Number(top),
-            Text(sign.shape),
-            Text(sign.name),
-            Moment(mark.at),
-            Number(count.saturating_sub(1)),
-        ];
-        put_form(ink, pen, form, &holes);
+// The marks whose upper edge is there: of each kind the class, the shape from the middle of the upper edge, and the name.
+fn put_marks(page: &mut Page<'_>, axis: &Axis, row: &Row, top: u64) {
+    let kinds = [
+        (
+            "demand",
+            "m-5 0h10l-5 9z",
+            "a demand",
+            row.demands.as_slice(),
+        ),
+        (
+            "throttle",
+            "m0 0l4.5 4.5l-4.5 4.5l-4.5 -4.5z",
+            "a throttle",
+            row.throttles.as_slice(),
+        ),
+        (
+            "refusal",
+            "m-4 0.5l8 8m0 -8l-8 8",
+            "a refusal",
+            row.refusals.as_slice(),
+        ),
+    ];
+    for (class, shape, name, marks) in kinds.iter() {
+        for mark in *marks {
+            let count = u64::from(mark.count);
+            let form = if count > 1 { MARKS } else { MARK };
+            let holes = [
+                Text(*class),
+                Number(count),
+                Number(LEFT + u64::from(axis.place(mark.at))),
+                Number(top),
+                Text(*shape),
+                Text(*name),
+                Moment(mark.at),
+                Number(count.saturating_sub(1)),
+            ];
+            page.add(form, &holes);
+        }
     }
 }
 
 // What each colour and shape means, and what is not in the chart.
-fn put_foot(ink: &mut Ink, pen: &Pen<'_>, chart: &Chart, bottom: u64) {
-    let mut x = LEFT;
-    for (end, name) in ENDS.iter() {
-        put_swatch(ink, pen, *end, *name, x, bottom);
-        x = x.saturating_add(150);
+fn put_foot(page: &mut Page<'_>, chart: &Chart, bottom: u64) {
+    for (above, shape, below, name) in LEGEND.iter() {
+        let top = Number(bottom.saturating_add(*above));
+        page.add(*shape, &[top, top]);
+        page.add(*name, &[Number(bottom.saturating_add(*below))]);
     }
-    put_signs(ink, pen, bottom);
     let mut line = bottom.saturating_add(64);
     for (sentence, one, other) in missing(chart).iter() {
-        if *one > 0 || *other > 0 {
+        if (*one | *other) > 0 {
             let start = "<text class=\"faint\" x=\"10\" y=\"$\">";
-            put_form(ink, pen, start, &[Number(line)]);
-            put_form(ink, pen, *sentence, &[Number(*one), Number(*other)]);
-            ink.put("</text>\n");
+            page.add(start, &[Number(line)]);
+            page.add(*sentence, &[Number(*one), Number(*other)]);
+            page.ink.put("</text>\n");
             line = line.saturating_add(LINE);
         }
     }
-    ink.put("</svg>\n");
-}
-
-// What a bar and its end mean.
-fn put_swatch(ink: &mut Ink, pen: &Pen<'_>, end: End, name: &'static str, x: u64, bottom: u64) {
-    let (class, _, _, _) = look(end);
-    let top = bottom.saturating_add(10);
-    ink.put("<rect class=\"");
-    ink.put(class);
-    let bar = "\" x=\"$\" y=\"$\" width=\"22\" height=\"12\"/>";
-    put_form(ink, pen, bar, &[Number(x), Number(top)]);
-    put_end(ink, pen, end, x.saturating_add(22), top);
-    let holes = [
-        Number(x.saturating_add(34)),
-        Number(bottom.saturating_add(21)),
-        Text(name),
-    ];
-    put_form(
-        ink,
-        pen,
-        "<text class=\"faint\" x=\"$\" y=\"$\">$</text>\n",
-        &holes,
-    );
-}
-
-// What the marks mean.
-fn put_signs(ink: &mut Ink, pen: &Pen<'_>, bottom: u64) {
-    let form = "<path class=\"$\" d=\"M$ $$\"/><text class=\"faint\" x=\"$\" y=\"$\">$</text>\n";
-    let mut x: u64 = 25;
-    for sign in SIGNS.iter() {
-        let holes = [
-            Text(sign.class),
-            Number(x),
-            Number(bottom.saturating_add(32)),
-            Text(sign.shape),
-            Number(x.saturating_add(19)),
-            Number(bottom.saturating_add(41)),
-            Text(sign.name),
-        ];
-        put_form(ink, pen, form, &holes);
-        x = x.saturating_add(150);
-    }
+    page.ink.put("</svg>\n");
 }

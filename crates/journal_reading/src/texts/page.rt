@@ -2,7 +2,7 @@
 
 use calendar_due::Zone;
 use history_model::{MAX_WALL, Reading};
-use run_times::{Ink, span_text_ms, time_text};
+use run_times::{Ink, time_text};
 use std::alloc::{AllocError, Global};
 
 /// A text, the zone in which it shows moments, and the reading as of which it speaks.
@@ -85,7 +85,7 @@ impl<'a> Page<'a> {
                 self.add_moment(self.now.wall.saturating_add(seconds), false);
             }
             Some(Hole::Minute(wall)) => self.add_moment(*wall, true),
-            Some(Hole::Span(length)) => self.ink.put_made(span_text_ms(self.alloc, *length)),
+            Some(Hole::Span(length)) => self.ink.put_span(*length, true),
             None => {}
         }
     }

@@ -1,6 +1,6 @@
 use Rattle.std.proofs.Common.{string_bytes, ◌≡◌}
-use Rattle.scope_picture.specs.Escape.{escaped_text}
-use Rattle.scope_picture.proofs.escape.escaped.Given as goal
+use Rattle.run_times.specs.Escape.{escaped_text}
+use Rattle.run_times.proofs.escape.escaped.Given as goal
 
 abbrev pub invariant-loop-c : goal.invariant-loop-c
 invariant-loop-c l =

@@ -1,7 +1,7 @@
 //! Text within XML and HTML.
 
 ghost use Rattle.std.specs.Prelude.{◌≡◌, ◌++◌, ◌↔◌, true, IsTrue, OnOk, IfOk, string_bytes, chars};
-ghost use Rattle.scope_picture.specs.Escape.{is_unwritable, escaped, escaped_text};
+ghost use Rattle.run_times.specs.Escape.{is_unwritable, escaped, escaped_text};
 
 use std::alloc::{AllocError, Global};
 
@@ -32,7 +32,7 @@ fn add_char(written: &mut String, c: char) -> Result<(), AllocError>
 }
 
 /// Whether the character may not stand in XML, or is a control character.
-pub(crate) fn is_unwritable(c: char) -> bool
+pub fn is_unwritable(c: char) -> bool
     ensures { result ≡ is_unwritable c }
 {
     c < '\u{20}' || (c > '\u{7E}' && c < '\u{A0}') || c == '\u{FFFE}' || c == '\u{FFFF}'

@@ -2,8 +2,8 @@ use Rattle.std.proofs.Common.{string_bytes, ◌≡◌, ◌++◌, ◌∷◌, [], 
 use Rattle.std.proofs.lemmas.Grind.{flat_map-append}
 use Rattle.std.proofs.lemmas.Iterator.{YieldsList-from_chars}
 use Rattle.std.proofs.lemmas.Iterator.Consumers.{YieldsList-end}
-use Rattle.scope_picture.specs.Escape.{escaped, escaped_text}
-use Rattle.scope_picture.proofs.escape.escaped.Goals as goal
+use Rattle.run_times.specs.Escape.{escaped, escaped_text}
+use Rattle.run_times.proofs.escape.escaped.Goals as goal
 
 pub loop-c-preserved : goal.loop-c-preserved
 loop-c-preserved c =

@@ -1,0 +1,136 @@
+//! A text that grows by forms with holes, and the clock by which it tells moments.
+
+use crate::escape::escaped;
+use crate::ink::Ink;
+use crate::moment::time_text;
+use calendar_due::Zone;
+use history_model::{MAX_WALL, Reading};
+use std::alloc::{AllocError, Global};
+
+/// A text, the zone in which it shows moments, and the reading as of which it speaks.
+#[derive(Drop)]
+pub struct Page<'a> {
+    pub ink: Ink,
+    pub now: Reading,
+    pub alloc: Global,
+    pub zone: &'a Zone,
+    /// The reading's moment whole.
+    moment: Ink,
+}
+
+/// What is put into a hole.
+#[derive(Clone, Copy)]
+pub enum Hole<'a> {
+    /// A text as it is.
+    Text(&'a str),
+    /// A text as it is written within XML or HTML.
+    Escaped(&'a str),
+    Number(u64),
+    /// The present reading's moment, with weekday and offset.
+    Now,
+    /// The moment of a second of `wall`, with weekday and offset.
+    Moment(u64),
+    /// The time of the day of a second of `wall`; the moment whole, if its day or its offset is not that of the present reading.
+    Time(u64),
+    /// As `Time`, of a moment of `up` that comes, if both clocks go on alike.
+    Coming(u64),
+    /// The date and the minute of a second of `wall`.
+    Minute(u64),
+    /// A span of milliseconds, by tenths of a second below a minute.
+    Span(u64),
+}
+
+/// How a moment is shown.
+#[derive(Clone, Copy)]
+enum Look {
+    Whole,
+    /// The time of the day alone, if all else is as of the present reading.
+    Short,
+    Minute,
+}
+
+// Whether two moments differ in the time of the day alone.
+fn is_same_day(one: &str, other: &str) -> bool {
+    let is_same_date = one.get(..15) == other.get(..15);
+    let is_same_offset = one.get(23..) == other.get(23..);
+    is_same_date && is_same_offset
+}
+
+impl<'a> Page<'a> {
+    /// An empty one.
+    pub fn new(alloc: Global, zone: &'a Zone, now: Reading) -> Page<'a> {
+        let mut moment = Ink::new(alloc);
+        moment.put_moment(alloc, zone, now.wall);
+        Page {
+            ink: Ink::new(alloc),
+            now,
+            alloc,
+            zone,
+            moment,
+        }
+    }
+
+    /// The text, if memory was never refused.
+    pub fn into_text(self) -> Result<String, AllocError> {
+        let Page {
+            mut ink,
+            moment,
+            ..
+        } = self;
+        if moment.is_refused {
+            ink.refuse();
+        }
+        drop(moment);
+        ink.into_text()
+    }
+
+    /// Adds the form, in which each `$` stands for the next of the holes. Holes for which there is no `$` are left out.
+    pub fn add(&mut self, form: &str, holes: &[Hole<'_>]) {
+        let mut next: usize = 0;
+        for part in form.split('$') {
+            if next > 0 {
+                self.add_hole(holes.get(next - 1));
+            }
+            self.ink.put(part);
+            next = next.saturating_add(1);
+        }
+    }
+
+    fn add_hole(&mut self, hole: Option<&Hole<'_>>) {
+        let Some(hole) = hole else {
+            return;
+        };
+        let (wall, look) = match *hole {
+            Hole::Text(part) => return self.ink.put(part),
+            Hole::Escaped(part) => return self.ink.put_made(escaped(self.alloc, part)),
+            Hole::Number(number) => return self.ink.put_number(number),
+            Hole::Now => return self.ink.put(self.moment.text.as_str()),
+            Hole::Span(length) => return self.ink.put_span(length, true),
+            Hole::Moment(wall) => (wall, Look::Whole),
+            Hole::Time(wall) => (wall, Look::Short),
+            Hole::Coming(up) => {
+                let seconds = up.saturating_sub(self.now.up).div_ceil(1000);
+                (self.now.wall.saturating_add(seconds), Look::Short)
+            }
+            Hole::Minute(wall) => (wall, Look::Minute),
+        };
+        self.add_moment(wall, look);
+    }
+
+    fn add_moment(&mut self, wall: u64, look: Look) {
+        match time_text(self.alloc, self.zone, wall.min(MAX_WALL)) {
+            Ok(text) => {
+                let moment = text.as_str();
+                let (date, from, until) = match look {
+                    Look::Minute => (10, 14, 20),
+                    Look::Short if is_same_day(moment, self.moment.text.as_str()) => (0, 15, 23),
+                    _ => (moment.len(), 0, 0),
+                };
+                self.ink.put(moment.get(..date).unwrap_or(""));
+                self.ink.put(moment.get(from..until).unwrap_or(""));
+                drop(text);
+            }
+            Err(_) => self.ink.refuse(),
+        }
+    }
+}
