@@ -143,7 +143,10 @@ impl<P: OpenProcess + Drop> Children<P> {
     // The number of the run's child; if it has none, one that no child has.
     fn number(&self, job: JobNo, run: u64) -> usize {
         match self.place(job, run) {
-            Ok(place) => self.runs.get(place).map_or(usize::MAX, |one| one.number),
+            Ok(place) => match self.runs.get(place) {
+                Some(one) => one.number,
+                None => usize::MAX,
+            },
             Err(_) => usize::MAX,
         }
     }
@@ -159,7 +162,10 @@ impl<P: OpenProcess + Drop> Children<P> {
     /// The label of the run's job, if the run has a child.
     pub(crate) fn label(&self, job: JobNo, run: u64) -> Option<&str> {
         match self.started.get(self.number(job, run)) {
-            Some(started) => started.kept.label.as_ref().map(Text::as_str),
+            Some(started) => match &started.kept.label {
+                Some(label) => Some(label.as_str()),
+                None => None,
+            },
             None => None,
         }
     }
@@ -199,7 +205,10 @@ impl<P: OpenProcess + Drop> Children<P> {
     /// The first child, from the job of this number on, that has ended or whose wait the system refuses: its job and run. It
     /// stays until it is polled.
     pub(crate) fn over_from(&mut self, job: JobNo) -> Option<(JobNo, u64)> {
-        let from = self.runs.partition_point(|one| one.job < job);
+        let from = match self.place(job, 0) {
+            Ok(from) => from,
+            Err(from) => from,
+        };
         for one in self.runs.iter().skip(from) {
             if is_over(&mut self.started, one.number) {
                 return Some((one.job, one.run));

@@ -35,6 +35,10 @@ fn are_numbers(text: &str) -> bool {
 }
 
 fn is_number(text: &str) -> bool {
-    let is_plain = text.bytes().all(|byte| byte.is_ascii_digit());
-    is_plain && (text == "0" || !text.starts_with('0')) && text.parse::<u64>().is_ok()
+    for byte in text.as_bytes() {
+        if !byte.is_ascii_digit() {
+            return false;
+        }
+    }
+    (text == "0" || !text.starts_with('0')) && text.parse::<u64>().is_ok()
 }

@@ -11,6 +11,9 @@ pub(crate) fn read(rt: &impl Clock, start: Instant) -> io::Result<Reading> {
     let wall = SystemTime::now(rt)?.duration_since(SystemTime::UNIX_EPOCH);
     Ok(Reading {
         up: u64::try_from(up).unwrap_or(u64::MAX),
-        wall: wall.map_or(0, |since| since.as_secs()),
+        wall: match wall {
+            Ok(since) => since.as_secs(),
+            Err(_) => 0,
+        },
     })
 }

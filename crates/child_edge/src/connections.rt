@@ -259,7 +259,7 @@ impl Connections {
         if !failure.is_lost() {
             return Err(failure);
         }
-        let what = failure.given_up(self.alloc, def).ok();
+        let what = failure.given_up(self.alloc, def);
         notices.refused(job, Asked::Spool, def.label(), Some(run), what);
         self.close(rt, job, conn);
         served_streams(rt, def, None)

@@ -1,8 +1,9 @@
 //! Why a start was refused: which part of it, and what the system said.
 
 use crate::words;
+use crate::words::Hole::{Error, Text};
 use job_defs::Def;
-use std::alloc::{AllocError, Global};
+use std::alloc::Global;
 use std::io;
 use std::io::ErrorKind;
 
@@ -38,68 +39,23 @@ impl Failure {
     }
 
     /// That its client was let go for it.
-    pub(crate) fn given_up(&self, alloc: Global, def: &Def) -> Result<String, AllocError> {
+    pub(crate) fn given_up(&self, alloc: Global, def: &Def) -> Option<String> {
         let why = self.words(alloc, def)?;
-        words::given_up(alloc, why.as_str())
+        words::filled(alloc, "a client was let go: $", &[Text(why.as_str())])
     }
 
-    /// What could not be done, with the path that the definition gives the part.
-    pub(crate) fn words(&self, alloc: Global, def: &Def) -> Result<String, AllocError> {
-        let error = self.error;
-        match self.part {
-            Part::Program => words_of(alloc, "cannot start", Some(def.program()), "", error),
-            Part::Folder => {
-                words_of(
-                    alloc,
-                    "cannot enter the folder",
-                    def.working_directory(),
-                    "",
-                    error,
-                )
-            }
-            Part::Input => {
-                words_of(
-                    alloc,
-                    "cannot open",
-                    def.standard_in_path(),
-                    " for its input",
-                    error,
-                )
-            }
-            Part::Output => {
-                words_of(
-                    alloc,
-                    "cannot open",
-                    def.standard_out_path(),
-                    " for its output",
-                    error,
-                )
-            }
-            Part::Errors => {
-                words_of(
-                    alloc,
-                    "cannot open",
-                    def.standard_error_path(),
-                    " for its errors",
-                    error,
-                )
-            }
-            Part::Request => words_of(alloc, "cannot open", Some("the spooled request"), "", error),
-            Part::Reply => words_of(alloc, "cannot open", Some("the spooled reply"), "", error),
-        }
-    }
-}
-
-// A part without a path has the null device.
-fn words_of(
-    alloc: Global,
-    what: &str,
-    path: Option<&str>,
-    purpose: &str,
-    error: io::Error,
-) -> Result<String, AllocError> {
-    match path {
-        Some(path) => format!(in alloc; "{what} {path}{purpose}: {error}"),
-        None => format!(in alloc; "{what} /dev/null{purpose}: {error}"),
+    /// What could not be done, with the path that the definition gives the part. A part without a path has the null device.
+    pub(crate) fn words(&self, alloc: Global, def: &Def) -> Option<String> {
+        let (form, path) = match self.part {
+            Part::Program => ("cannot start $: $", Some(def.program())),
+            Part::Folder => ("cannot enter the folder $: $", def.working_directory()),
+            Part::Input => ("cannot open $ for its input: $", def.standard_in_path()),
+            Part::Output => ("cannot open $ for its output: $", def.standard_out_path()),
+            Part::Errors => ("cannot open $ for its errors: $", def.standard_error_path()),
+            Part::Request => ("cannot open $: $", Some("the spooled request")),
+            Part::Reply => ("cannot open $: $", Some("the spooled reply")),
+        };
+        let path = path.unwrap_or("/dev/null");
+        words::filled(alloc, form, &[Text(path), Error(self.error)])
     }
 }

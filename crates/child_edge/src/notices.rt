@@ -3,8 +3,9 @@
 ghost use Rattle.std.specs.Prelude.{◌≡◌};
 
 use crate::words;
+use crate::words::Hole::{Number, Text as Words};
 use history_model::{JobNo, Text};
-use std::alloc::{AllocError, Global};
+use std::alloc::Global;
 use std::collections::{BTreeMap, VecDeque};
 use std::io;
 
@@ -31,7 +32,7 @@ const ROOM: usize = 64;
 const PATHS: usize = 1024;
 
 /// What was asked of the system for a job. Of each the reason is told when it is another than the last.
-#[derive(Clone, Copy, PartialEq, Eq, PartialOrd, Ord)]
+#[derive(Clone, Copy)]
 pub(crate) enum Asked {
     Start,
     Term,
@@ -86,13 +87,16 @@ const OF_RUNS: [Asked; 4] = [Asked::Start, Asked::Term, Asked::Kill, Asked::Wait
 /// What the bounds on connections ask for.
 const OF_ROOM: [Asked; 4] = [Asked::Over, Asked::Room, Asked::NoRoom, Asked::Share];
 
+/// A job, and the number of what was asked of the system for it.
+type Call = (JobNo, u8);
+
 /// The notices that wait, and the reason that was told last for each call of a job and for each path.
 #[derive(Drop)]
 pub(crate) struct Notices {
     alloc: Global,
     waiting: VecDeque<Notice>,
     dropped: u64,
-    told: BTreeMap<(JobNo, Asked), String>,
+    told: BTreeMap<Call, String>,
     paths: BTreeMap<String, String>,
 }
 
@@ -117,7 +121,7 @@ impl Notices {
         }
         let dropped = self.dropped;
         self.dropped = 0;
-        let text = format!(in self.alloc; "{dropped} more lines were dropped").ok()?;
+        let text = words::filled(self.alloc, "$ more lines were dropped", &[Number(dropped)])?;
         Some(Notice {
             kind: NoticeKind::Refusal,
             text: Text::new(text),
@@ -126,9 +130,7 @@ impl Notices {
 
     /// Tells what became of a run.
     pub(crate) fn run(&mut self, line: Option<String>) {
-        if let Some(line) = line {
-            self.push(NoticeKind::Run, line.as_str());
-        }
+        self.push(NoticeKind::Run, line);
     }
 
     /// The call for the job was refused, as `what` says: that is told if it was not told last of this call.
@@ -143,22 +145,28 @@ impl Notices {
         let Some(what) = what else {
             return;
         };
-        let alloc = self.alloc;
-        let Ok(reason) = reason_of(alloc, label, what.as_str()) else {
+        let reason = words::filled(self.alloc, "$: $", &[Words(label), Words(what.as_str())]);
+        let line = match run {
+            Some(run) => words::refused_run(self.alloc, label, run, what.as_str()),
+            None => words::filled(self.alloc, "$: $", &[Words(label), Words(what.as_str())]),
+        };
+        drop(what);
+        if let Some(reason) = reason {
+            self.tell((job, asked as u8), reason, line);
+        }
+    }
+
+    // The line is told, if its reason was not told last of this call.
+    fn tell(&mut self, call: Call, reason: String, line: Option<String>) {
+        let is_known = match self.told.get(&call) {
+            Some(last) => last.as_str() == reason.as_str(),
+            None => false,
+        };
+        if is_known || !self.push(NoticeKind::Refusal, line) {
+            drop(reason);
             return;
-        };
-        if let Some(last) = self.told.get(&(job, asked)) {
-            if last.as_str() == reason.as_str() {
-                return;
-            }
         }
-        let is_told = match line_of(alloc, label, run, what.as_str()) {
-            Ok(line) => self.push(NoticeKind::Refusal, line.as_str()),
-            Err(_) => false,
-        };
-        if is_told {
-            let _ = self.told.insert((job, asked), reason);
-        }
+        drop(self.told.insert(call, reason));
     }
 
     /// A client of the job was let go. Nothing is told without the job's label.
@@ -197,7 +205,7 @@ impl Notices {
     /// The call for the job was done: the next refusal is told, whatever its reason.
     pub(crate) fn done(&mut self, job: JobNo, asked: Asked) {
         if !self.told.is_empty() {
-            let _reason = self.told.remove(&(job, asked));
+            drop(self.told.remove(&(job, asked as u8)));
         }
     }
 
@@ -224,54 +232,62 @@ impl Notices {
             Some(last) => last.as_str() == reason.as_str(),
             None => self.paths.len() >= PATHS,
         };
-        if is_told || !self.push(NoticeKind::Refusal, reason.as_str()) {
+        if is_told || !self.push_line(NoticeKind::Refusal, reason.as_str()) {
+            drop(reason);
             return;
         }
-        if let Ok(path) = String::from_str(self.alloc, path) {
-            let _ = self.paths.insert(path, reason);
+        match String::from_str(self.alloc, path) {
+            Ok(path) => drop(self.paths.insert(path, reason)),
+            Err(_) => drop(reason),
         }
     }
 
     /// The path was looked at.
     pub(crate) fn seen(&mut self, path: &str) {
         if !self.paths.is_empty() {
-            let _reason = self.paths.remove(path);
+            drop(self.paths.remove(path));
         }
     }
 
     // Whether the line has room. Want of memory drops it.
-    fn push(&mut self, kind: NoticeKind, line: &str) -> bool {
+    fn push(&mut self, kind: NoticeKind, line: Option<String>) -> bool {
+        match line {
+            Some(line) => {
+                let is_told = self.push_line(kind, line.as_str());
+                drop(line);
+                is_told
+            }
+            None => false,
+        }
+    }
+
+    fn push_line(&mut self, kind: NoticeKind, line: &str) -> bool {
         if self.dropped > 0 || self.waiting.len() >= ROOM {
             self.dropped = self.dropped.saturating_add(1);
             return false;
         }
         match one_line(self.alloc, line) {
-            Ok(line) => {
+            Some(line) => {
                 let text = Text::new(line);
                 self.waiting.push_back(Notice { kind, text }).is_ok()
             }
-            Err(_) => false,
+            None => false,
         }
-    }
-}
-
-fn reason_of(alloc: Global, label: &str, what: &str) -> Result<String, AllocError> {
-    format!(in alloc; "{label}: {what}")
-}
-
-fn line_of(alloc: Global, label: &str, run: Option<u64>, what: &str) -> Result<String, AllocError> {
-    match run {
-        Some(run) => format!(in alloc; "{label}: run {run}: {what}"),
-        None => reason_of(alloc, label, what),
     }
 }
 
 // The text with `?` for each control character: a path may hold a newline, and what stands behind it would pass for a line
 // of the launcher's own.
-fn one_line(alloc: Global, line: &str) -> Result<String, AllocError> {
+fn one_line(alloc: Global, line: &str) -> Option<String> {
     let mut plain = String::new(alloc);
     for letter in line.chars() {
-        plain.push(if letter.is_control() { '?' } else { letter })?;
+        if plain
+            .push(if letter.is_control() { '?' } else { letter })
+            .is_err()
+        {
+            drop(plain);
+            return None;
+        }
     }
-    Ok(plain)
+    Some(plain)
 }

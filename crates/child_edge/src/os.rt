@@ -289,7 +289,7 @@ impl<R: Clock + Files<File = File> + Net + Processes> ChildEdge for OsEdge<R> {
                 Ok(pid)
             }
             Err(failure) => {
-                let what = failure.words(self.alloc, def).ok();
+                let what = failure.words(self.alloc, def);
                 self.notices
                     .refused(job, Asked::Start, def.label(), Some(run), what);
                 Err(self.fail(failure.error))

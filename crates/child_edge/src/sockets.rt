@@ -65,11 +65,13 @@ impl Sockets {
         if self.jobs.contains_key(&job) {
             return Err(BindFault::of_all(ErrorKind::AddrInUse));
         }
-        if let Some(socket) = def.sockets().iter().position(|wanted| self.has(wanted)) {
-            return Err(BindFault {
-                socket,
-                error: io::Error::from(ErrorKind::AddrInUse),
-            });
+        let mut socket = 0usize;
+        for wanted in def.sockets() {
+            if self.has(wanted) {
+                let error = io::Error::from(ErrorKind::AddrInUse);
+                return Err(BindFault { socket, error });
+            }
+            socket = socket.saturating_add(1);
         }
         let Ok(label) = Text::copy_of(self.alloc, def.label()) else {
             return Err(BindFault::of_all(ErrorKind::OutOfMemory));
@@ -104,13 +106,17 @@ impl Sockets {
 
     // Whether a job has the Unix socket already. To ask at its path who listens there would be a client's call.
     fn has(&self, wanted: &Socket) -> bool {
-        match &wanted.address {
-            Address::Unix(path) => self.jobs.values().any(|bound| bound
-                .listeners
-                .iter()
-                .any(|own| own.is_at(path.as_str()))),
-            Address::Inet { .. } => false,
+        let Address::Unix(path) = &wanted.address else {
+            return false;
+        };
+        for bound in self.jobs.values() {
+            for listener in bound.listeners.iter() {
+                if listener.is_at(path.as_str()) {
+                    return true;
+                }
+            }
         }
+        false
     }
 
     /// Gives up the job's sockets, and removes their files.
