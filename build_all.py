@@ -69,7 +69,7 @@ class Progress(io.StringIO):
 
 def main(program):
     rt = load_rt()
-    lacking = [it for it in ("ci", "run", "edits_of") if not hasattr(rt, it)]
+    lacking = [it for it in ("ci", "run", "edits_of", "need") if not hasattr(rt, it)]
     if lacking:
         sys.exit(f"rt of this kit has no function {lacking[0]}, which build_all.py calls: rt ci {program} proves the same")
     start = time.monotonic()
@@ -88,6 +88,9 @@ def main(program):
         return run(crate, tests, ending)
 
     rt.run, rt.edits_of = run_and_take, lambda crate: ([], [])
+    # Checks were seen to take a third to a half of what rt reckons. By its figure the greatest crate waits until little else is left to prove.
+    need = rt.need
+    rt.need = lambda crate: need(crate) // 2
     with open("build/build.log", "w+", encoding="utf-8", errors="replace") as log:
         with contextlib.redirect_stdout(Progress(log, sys.stdout, len(with_those_below(program)))):
             status = rt.ci(False, [program])
