@@ -146,12 +146,12 @@ fn paint_page(
     let table = runs_table(alloc, journal, labels)?;
     let why = why_text(alloc, journal, zone, labels)?;
     let coming = coming_of(alloc, journal, chart)?;
-    let beside = Beside {
+    let beside = Some(Beside {
         table: table.as_str(),
         why: why.as_str(),
         coming: coming.as_slice(),
-    };
-    put_pieces(host, alloc, zone, chart, Some(&beside))
+    });
+    put_pieces(host, alloc, zone, chart, beside.as_ref())
 }
 
 // Writes the page with what stands beside the picture, or the picture alone: piece by piece, so that its whole text is never held.
