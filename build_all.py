@@ -11,8 +11,6 @@ A line is written as each crate is proved: how many of all are, and its name. Wh
 the end of it is written. The program is left in crates/PROGRAM/out/. The last line has the processor time of all, and the time by the clock.
 """
 import contextlib
-import importlib.machinery
-import importlib.util
 import io
 import os
 import re
@@ -22,16 +20,7 @@ import sys
 import time
 
 sys.dont_write_bytecode = True
-
-TOP = os.path.dirname(os.path.abspath(__file__))
-
-
-def load_rt():
-    path = shutil.which("rt") or sys.exit("rt is not on the PATH")
-    loader = importlib.machinery.SourceFileLoader("rt_main", os.path.realpath(path))
-    module = importlib.util.module_from_spec(importlib.util.spec_from_loader("rt_main", loader))
-    loader.exec_module(module)
-    return module
+from kit import TOP, load_rt
 
 
 def with_those_below(name):
@@ -68,10 +57,7 @@ class Progress(io.StringIO):
 
 
 def main(program):
-    rt = load_rt()
-    lacking = [it for it in ("ci", "run", "edits_of", "need") if not hasattr(rt, it)]
-    if lacking:
-        sys.exit(f"rt of this kit has no function {lacking[0]}, which build_all.py calls: rt ci {program} proves the same")
+    rt = load_rt("ci", "run", "edits_of", "need")
     start = time.monotonic()
     os.chdir(TOP)
     # rt proves no crates by name where this says that the gate runs

@@ -3,7 +3,7 @@
 
     bench/modules.py CRATE [NUMBER]
 
-First: `rm -r crates/CRATE/out/incremental; cd crates/CRATE; rt check --jobs 1`. The check keeps what it proved as files in out/incremental,
+First: `rm -r crates/CRATE/out/incremental; python3 check_crate.py CRATE`. The check keeps what it proved as files in out/incremental,
 one for each module, written as it goes. So the time between two files is what the later one took, by the clock. The NUMBER (25) dearest
 modules are listed, then what each kind of module took together. If the crate's library was built too (`rt lib`), a line of an Lts ends with
 how many values are let go within the function, part by part: each is a step, on each way out (docs/ARCHITECTURE.md, "Cheap to prove").

@@ -14,10 +14,7 @@ children included, and put down to the crate that it names:
 
 The last lines are those of rt, then the sum and the time by the clock. The status is rt's.
 """
-import importlib.machinery
-import importlib.util
 import os
-import shutil
 import subprocess
 import sys
 import threading
@@ -27,16 +24,10 @@ sys.dont_write_bytecode = True
 import history
 
 HERE = os.path.dirname(os.path.abspath(__file__))
+sys.path.insert(0, os.path.dirname(HERE))
+import kit
+
 COLUMNS = ("proof", "tests", "edits", "runs")
-
-
-def load_rt():
-    sys.dont_write_bytecode = True
-    path = shutil.which("rt") or sys.exit("rt is not on the PATH")
-    loader = importlib.machinery.SourceFileLoader("rt_main", os.path.realpath(path))
-    module = importlib.util.module_from_spec(importlib.util.spec_from_loader("rt_main", loader))
-    loader.exec_module(module)
-    return module
 
 
 def place_of(words, folder):
@@ -102,7 +93,7 @@ def print_table(spent, begun):
 def main():
     os.chdir(os.path.dirname(HERE))
     os.environ.setdefault("RT_JOBS", str(os.cpu_count()))
-    rt = load_rt()
+    rt = kit.load_rt("ci")
     begun = time.monotonic()
     subprocess.Popen = Timed
     # a kit that keeps what an earlier run passed is told to begin anew
