@@ -1121,7 +1121,7 @@ def chosen(words, given, played):
 def name_thrice(given, folder):
     """The program that started this script, under each of the three names. It has words before its own if a loader runs it, as under
     `rt try`: then the loader is told the name."""
-    front = [word for word in text_at(f"/proc/{os.getppid()}/cmdline").split("\0")[1:] if word and word != "scenes"]
+    front = [word for word in text_at(f"/proc/{os.getppid()}/cmdline").split("\0")[1:] if word and word not in ("trials", "scenes")]
     for name in ("jobd", "jobctl", "jobscope"):
         link = os.path.join(folder, name)
         os.symlink(given.by, link)
