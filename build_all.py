@@ -20,18 +20,7 @@ import sys
 import time
 
 sys.dont_write_bytecode = True
-from kit import TOP, load_rt
-
-
-def with_those_below(name):
-    """The crate and all crates of this tree that it stands on."""
-    with open(f"{TOP}/crates.txt", encoding="utf-8") as it:
-        lines = {found[1]: found[2].split() for line in it if (found := re.match(r"([a-z0-9_]+)[^:#]*:(.*)", line))}
-    found, new = set(), {name}
-    while new:
-        found |= new
-        new = {it for one in new for it in lines[one] if it in lines} - found
-    return found
+from kit import TOP, below, load_rt
 
 
 class Progress(io.StringIO):
@@ -57,6 +46,7 @@ class Progress(io.StringIO):
 
 
 def main(program):
+    count = len(below(program))
     rt = load_rt("ci", "run", "edits_of", "need")
     start = time.monotonic()
     os.chdir(TOP)
@@ -78,7 +68,7 @@ def main(program):
     need = rt.need
     rt.need = lambda crate: need(crate) // 2
     with open("build/build.log", "w+", encoding="utf-8", errors="replace") as log:
-        with contextlib.redirect_stdout(Progress(log, sys.stdout, len(with_those_below(program)))):
+        with contextlib.redirect_stdout(Progress(log, sys.stdout, count)):
             status = rt.ci(False, [program])
         if status:
             log.seek(0)
@@ -90,4 +80,4 @@ def main(program):
 
 
 if __name__ == "__main__":
-    sys.exit(main(*sys.argv[1:]))
+    sys.exit(main(sys.argv[1]) if len(sys.argv) == 2 else __doc__)

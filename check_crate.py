@@ -17,6 +17,7 @@ import kit
 
 
 def main(name, *flags):
+    kit.below(name)
     rt = kit.load_rt("ci", "edits_of", "Crate", "Kept", "rtlib")
     os.chdir(kit.TOP)
     os.environ.pop("CI", None)
@@ -30,9 +31,11 @@ def main(name, *flags):
         if crate.name != name or tests:
             return ci(crate, given, tests)
         jobs = [] if "--jobs" in flags else ["--jobs", "1"]
-        crate.out = shown
         words = crate.words([*jobs, *flags], keeps=False)
+        # rt reads crate.out again, which a pipe can't do
+        aside, crate.out = crate.out, shown
         answer.append(crate.call(rt.rtlib.RATTLE, "check", *words, "--incremental", kept, "--progress"))
+        crate.out = aside
         # so that rt takes it for no proof from nothing
         return 1
 
@@ -49,4 +52,4 @@ def main(name, *flags):
 
 
 if __name__ == "__main__":
-    sys.exit(main(*sys.argv[1:]))
+    sys.exit(main(*sys.argv[1:]) if sys.argv[1:] else __doc__)

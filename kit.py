@@ -2,6 +2,7 @@
 import importlib.machinery
 import importlib.util
 import os
+import re
 import shutil
 import sys
 
@@ -20,3 +21,16 @@ def load_rt(*needed):
         if not hasattr(module, name):
             sys.exit(f"rt of this kit has no {name}, which {os.path.basename(sys.argv[0])} calls")
     return module
+
+
+def below(name):
+    """The crate and all crates of this tree that it stands on. Ends the script if there is no such crate."""
+    with open(f"{TOP}/crates.txt", encoding="utf-8") as it:
+        lines = {found[1]: found[2].split() for line in it if (found := re.match(r"([a-z0-9_]+)[^:#]*:(.*)", line))}
+    if name not in lines:
+        sys.exit(f"crates.txt has no crate {name}")
+    found, new = set(), {name}
+    while new:
+        found |= new
+        new = {it for one in new for it in lines[one] if it in lines} - found
+    return found
