@@ -5,7 +5,8 @@
 
 It is `rt ci PROGRAM` without the wrong bodies, which only the gate tries: rt's own function is called, which finds the order and the number of
 jobs of each check, and works on a copy. What the gate or an earlier build passed on this machine is not proved again, and what this
-passes the gate does not prove again. RT_JOBS bounds the checks that run side by side.
+passes the gate does not prove again. RT_JOBS bounds the checks that run side by side. With a kit whose rt keeps nothing (13b), the same is
+done by proofs_kept.py: what it proves is kept for the next build and for check_crate.py, and the gate proves it again.
 
 A line is written as each crate is proved: how many of all are, and its name. What rt said stands in build/build.log; if something is not proved,
 the end of it is written. The program is left in crates/PROGRAM/out/. The last line has the processor time of all, and the time by the clock.
@@ -20,7 +21,8 @@ import sys
 import time
 
 sys.dont_write_bytecode = True
-from kit import TOP, below, load_rt
+from kit import TOP, below, load_rt, rt_keeps
+from proofs_kept import Proofs
 
 
 class Progress(io.StringIO):
@@ -45,14 +47,26 @@ class Progress(io.StringIO):
         self.log.flush()
 
 
-def main(program):
+def build_by_ours(program):
+    """Builds the program by proofs_kept.py, and leaves it in crates/PROGRAM/out/."""
+    proofs = Proofs()
+    lacking = proofs.prove_all([program])
+    for name in lacking:
+        if os.path.isfile(f"build/{name}.log"):
+            with open(f"build/{name}.log", encoding="utf-8", errors="replace") as log:
+                print("".join(log.readlines()[-60:]), end="", file=sys.stderr)
+    if lacking:
+        return 1
+    to = f"{TOP}/crates/{program}/out"
+    os.makedirs(to, exist_ok=True)
+    shutil.copyfile(f"{proofs.place(program)}/{program}", f"{to}/{program}")
+    return 0
+
+
+def build_by_rt(program):
+    """Builds the program by a kit whose rt keeps what it proved, and leaves it in crates/PROGRAM/out/."""
     count = len(below(program))
     rt = load_rt("ci", "run", "edits_of", "need")
-    start = time.monotonic()
-    os.chdir(TOP)
-    # rt proves no crates by name where this says that the gate runs
-    os.environ.pop("CI", None)
-    os.makedirs("build", exist_ok=True)
     run = rt.run
 
     def run_and_take(crate, tests, ending=""):
@@ -73,6 +87,17 @@ def main(program):
         if status:
             log.seek(0)
             print("".join(log.readlines()[-60:]), end="", file=sys.stderr)
+    return status
+
+
+def main(program):
+    below(program)
+    start = time.monotonic()
+    os.chdir(TOP)
+    # rt proves no crates by name where this says that the gate runs
+    os.environ.pop("CI", None)
+    os.makedirs("build", exist_ok=True)
+    status = build_by_rt(program) if rt_keeps() else build_by_ours(program)
     used = [resource.getrusage(it) for it in (resource.RUSAGE_SELF, resource.RUSAGE_CHILDREN)]
     minutes = sum(it.ru_utime + it.ru_stime for it in used) / 60
     print(f"{minutes:.1f} processor minutes, {(time.monotonic() - start) / 60:.1f} by the clock")

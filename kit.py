@@ -23,6 +23,11 @@ def load_rt(*needed):
     return module
 
 
+def rt_keeps():
+    """Whether this kit's rt keeps what it proved, and proves crates by name."""
+    return hasattr(load_rt(), "Kept")
+
+
 def below(name):
     """The crate and all crates of this tree that it stands on. Ends the script if there is no such crate."""
     with open(f"{TOP}/crates.txt", encoding="utf-8") as it:
