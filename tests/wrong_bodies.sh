@@ -46,6 +46,11 @@ lay_crate() {
   done
 }
 
+# try_edits CRATE: by rt, if it keeps what it proved; else over what proofs_kept.py keeps, since rt would make all libraries anew.
+try_edits() {
+  if python3 -c 'import kit, sys; sys.exit(not kit.rt_keeps())'; then rt must-fail "$1"; else python3 check_crate.py "$1" --must-fail; fi
+}
+
 # try_crate CRATE: tries the crate's wrong bodies in a copy of it, beside the other crates of the repository.
 try_crate() {
   local room other
@@ -53,11 +58,11 @@ try_crate() {
   mkdir -p "$room/crates/$1/must-fail"
   part_edits "$1" "$room/crates/$1/must-fail"
   if [ -n "$(ls "$room/crates/$1/must-fail")" ]; then
-    cp "$top/crates.txt" "$top/HANDLES" "$room/"
+    cp "$top"/{crates.txt,HANDLES,kit.py,check_crate.py,proofs_kept.py} "$room/"
     for other in "$top"/crates/*/; do
       lay_crate "$(basename "$other")" "$room"
     done
-    (cd "$room" && rt must-fail "$1" 2>&1) | sed -nE \
+    (cd "$room" && try_edits "$1" 2>&1) | sed -nE \
       -e 's,^(rt: )?must-fail ([^:]*)\.edit: refused\, as it must be: (note: )?(\./)?(src/.{0\,140}).*,refused \2 by \5,p;t' \
       -e 's,^(rt: )?must-fail ([^:]*)\.edit: refused\, as it must be: (\./)?(proofs/[^ ]*Answers\.antt:[0-9:]+ error: `[^`]*`: `(search|grind|omega)`: .{0\,80}).*,refused \2 by its goal: \4,p;t' \
       -e 's,^(rt: )?must-fail ([^:]*)\.edit: refused\, as it must be ?:?(.*),refused \2 elsewhere:\3,p;t' \
@@ -74,7 +79,7 @@ fi
 said=$(mktemp)
 trap 'rm -f "$said"' EXIT
 export top gate
-export -f part_edits lay_crate try_crate
+export -f part_edits lay_crate try_edits try_crate
 printf '%s\n' "$@" | xargs -P "$jobs" -I{} bash -c 'try_crate {}' | tee "$said"
 python3 "$top/tests/body_results.py" note "$said"
 refused=$(grep -c '^refused' "$said" || true)

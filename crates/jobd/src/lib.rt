@@ -2,11 +2,9 @@
 //! made of is had from here too: the host of its turns, its inputs, the loop of its rounds, and the replay.
 #![tactic(auto)]
 
-mod by_name;
 mod serving;
 mod words;
 
-pub use by_name::run_by_name;
 use exit_status::NO_MEMORY;
 use launchctl_words::{DaemonCommand, WordFault, read_daemon_words};
 pub use launcher::{Host, HostFault, Input};

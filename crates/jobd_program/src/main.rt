@@ -1,9 +1,29 @@
 //! The programs `jobd`, `jobctl` and `jobscope` in one file: it acts by the name that it was started under.
 #![tactic(auto)]
 
-use jobd::run_by_name;
+use control_client::jobctl;
+use jobd::jobd;
+use own_process::{Programs, run_by_name};
+use scope::jobscope;
 use std::process::ExitCode;
+use std::sync::Wait;
+
+struct OneFile;
+
+impl Programs for OneFile {
+    fn jobd<L: Wait>(&self, host: &HostRuntime, waits: &L, words: &[String]) -> u8 {
+        jobd(host, waits, host.alloc(), words)
+    }
+
+    fn jobctl(&self, host: &HostRuntime, words: &[String]) -> u8 {
+        jobctl(host, host.alloc(), words)
+    }
+
+    fn jobscope<L: Wait>(&self, host: &HostRuntime, waits: &L, words: &[String]) -> u8 {
+        jobscope(host, waits, host.alloc(), words)
+    }
+}
 
 fn main(rt: HostRuntime) -> ExitCode {
-    ExitCode::from(run_by_name(&rt, &rt))
+    ExitCode::from(run_by_name(&rt, &rt, &OneFile))
 }

@@ -1,13 +1,15 @@
 //! What a process has to know of itself: the words that it was started with, whether its standard streams are open, whether it sees its children's
-//! ends, and which limits and ignored signals it was started with.
+//! ends, and which limits and ignored signals it was started with; and what it does by its name.
 #![tactic(auto)]
 
+mod by_name;
 mod child;
 mod program;
 mod standing;
 mod streams;
 mod words;
 
+pub use by_name::{Programs, run_by_name};
 pub use child::sees_children;
 pub use program::{Program, program_of};
 pub use standing::{Signal, Standing};

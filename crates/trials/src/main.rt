@@ -22,9 +22,13 @@ mod turns;
 
 use crate::little_memory::report::run_with_little;
 use anyhow::Result;
-use jobd::run_by_name;
+use control_client::jobctl;
+use jobd::jobd;
+use own_process::{Programs, run_by_name};
+use scope::jobscope;
 use std::env;
 use std::process::ExitCode;
+use std::sync::Wait;
 
 /// Says what was tried, and if it went another way than it should.
 fn show(rt: &impl Print, name: &str, is_so: bool) -> Result<()> {
@@ -123,10 +127,26 @@ fn status_of(rt: &HostRuntime, task: Task) -> u8 {
     }
 }
 
+struct OneFile;
+
+impl Programs for OneFile {
+    fn jobd<L: Wait>(&self, host: &HostRuntime, waits: &L, words: &[String]) -> u8 {
+        jobd(host, waits, host.alloc(), words)
+    }
+
+    fn jobctl(&self, host: &HostRuntime, words: &[String]) -> u8 {
+        jobctl(host, host.alloc(), words)
+    }
+
+    fn jobscope<L: Wait>(&self, host: &HostRuntime, waits: &L, words: &[String]) -> u8 {
+        jobscope(host, waits, host.alloc(), words)
+    }
+}
+
 fn main(rt: HostRuntime) -> ExitCode {
     let status = match task_of(&rt) {
         Some(task) => status_of(&rt, task),
-        None => run_by_name(&rt, &rt),
+        None => run_by_name(&rt, &rt, &OneFile),
     };
     ExitCode::from(status)
 }

@@ -1,25 +1,30 @@
 //! Which of the three programs runs: they are one file, which acts by the name that it was started under.
 
-use crate::jobd;
-use control_client::jobctl;
+use crate::program::{Program, program_of};
+use crate::words::{own_program, own_words};
 use exit_status::{NO_MEMORY, USAGE};
-use own_process::{Program, own_program, own_words, program_of};
-use scope::jobscope;
 use std::io;
 use std::sync::Wait;
 
+/// What the file does as each of its programs, by the words that it was started with. Each call answers the exit status. Only what takes
+/// `waits` may wait.
+pub trait Programs {
+    fn jobd<L: Wait>(&self, host: &HostRuntime, waits: &L, words: &[String]) -> u8;
+
+    fn jobctl(&self, host: &HostRuntime, words: &[String]) -> u8;
+
+    fn jobscope<L: Wait>(&self, host: &HostRuntime, waits: &L, words: &[String]) -> u8;
+}
+
 /// Does as the program that the name of this process means, by the words that it was started with, and gives the exit status. Words
 /// that are not all UTF-8 are no command. Both `host` and `waits` are the runtime of `main`: only what takes it as `waits` may wait.
-pub fn run_by_name<L: Wait>(host: &HostRuntime, waits: &L) -> u8 {
+pub fn run_by_name<L: Wait, P: Programs>(host: &HostRuntime, waits: &L, programs: &P) -> u8 {
     match own_words(host) {
-        Ok(words) => {
-            let alloc = host.alloc();
-            match program_of(words.as_slice()) {
-                Program::Jobd => jobd(host, waits, alloc, words.as_slice()),
-                Program::Jobctl => jobctl(host, alloc, words.as_slice()),
-                Program::Jobscope => jobscope(host, waits, alloc, words.as_slice()),
-            }
-        }
+        Ok(words) => match program_of(words.as_slice()) {
+            Program::Jobd => programs.jobd(host, waits, words.as_slice()),
+            Program::Jobctl => programs.jobctl(host, words.as_slice()),
+            Program::Jobscope => programs.jobscope(host, waits, words.as_slice()),
+        },
         Err(fault) => refuse(host, &fault),
     }
 }
