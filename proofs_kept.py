@@ -16,12 +16,10 @@ import time
 
 sys.dont_write_bytecode = True
 from kit import TOP, load_rt
+from lanes import Lanes, measured
 
 # What nobody took for so many seconds is removed.
 UNUSED = 5 * 24 * 3600
-
-# About how long the proof of a crate takes, in seconds, if it takes much longer than its lines tell.
-LONG = {"jobd_program": 500, "trials": 1800, "child_edge": 450, "job_table": 420, "startup": 300}
 
 
 def store():
@@ -63,7 +61,7 @@ class Proofs:
     """The crates of the tree, and what is kept of them."""
 
     def __init__(self):
-        self.rt = load_rt("Crate", "handles_of", "in_lanes", "need", "rtlib", "run", "must_fail_all", "edits_of")
+        self.rt = load_rt("Crate", "handles_of", "need", "free", "processors", "rtlib", "run", "must_fail_all", "edits_of")
         rtlib = self.rt.rtlib
         self.rt.Crate.allowed = self.rt.handles_of(TOP)
         # as under rt ci: the crates above a library load its statements
@@ -149,39 +147,44 @@ class Proofs:
             last = it.read().splitlines()[-1]
         return [float(it.partition("=")[2]) for it in last.split()]
 
-    def weight(self, crate):
-        return LONG.get(crate.name, 20 + crate.count(rb"\n") // 6 + 3 * len(crate.below()))
+    def guess(self, crate):
+        """About how many seconds the proof of a crate takes that was never measured."""
+        return 20 + crate.count(rb"\n") // 6 + 3 * len(crate.below())
 
     def prove_all(self, names, shown=print):
         """Proves these crates and all below them, side by side. Answers the names of those that are not proved."""
         subprocess.Popen = Timed
         crates = self.with_those_below(names)
-        done, guard = [0], threading.Lock()
+        done, guard, failed, known = [0], threading.Lock(), set(), measured(f"{TOP}/bench/crate_seconds.csv")
 
-        def work(crate, given, jobs):
-            if not all(given[it.name, "proof"] for it in crate.below()):
+        def work(name, jobs):
+            crate = self.crates[name]
+            if failed & {it.name for it in crate.below()}:
+                failed.add(name)
                 return False
-            kept = self.is_kept(crate.name)
+            kept = self.is_kept(name)
             try:
                 stands = self.prove(crate, jobs)
             except SystemExit:
                 stands = False
             with guard:
+                if not stands:
+                    failed.add(name)
                 done[0] += 1
                 told = "" if stands else " NOT PROVED"
                 spent = " (kept)" if kept else " {:.0f} s, {:.0f} by the clock".format(*self.seconds(crate.name)) if stands else ""
                 shown(f"[{done[0]}/{len(crates)}] {crate.name}{told}{spent}", flush=True)
             return stands
 
-        tasks = {}
-        for it in crates:
-            waits = [(below.name, "proof") for below in it.below()]
-            # checks were seen to take a third to a half of what rt reckons
-            needs = self.rt.need(it) // 2
-            tasks[it.name, "proof"] = (waits, self.weight(it), needs, lambda given, jobs, crate=it: work(crate, given, jobs))
-        given = self.rt.in_lanes(tasks)
+        below = {it.name: {dep.name for dep in it.below()} for it in crates}
+        seconds = {it.name: 0.1 if self.is_kept(it.name) else known.get(it.name, self.guess(it)) for it in crates}
+        # checks were seen to take a third to a half of what rt reckons
+        memory = {it.name: self.rt.need(it) // 2 for it in crates}
+        number = os.environ.get("RT_JOBS", "")
+        lanes = Lanes(below, seconds, memory, int(number) if number.isdigit() else self.rt.processors(), 0.85 * self.rt.free())
+        given = lanes.run(work)
         self.prune()
-        return [it.name for it in crates if not given[it.name, "proof"]]
+        return [it.name for it in crates if not given[it.name]]
 
     def prune(self):
         for name in os.listdir(store()):
