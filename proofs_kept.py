@@ -21,7 +21,7 @@ from kit import TOP, load_rt
 UNUSED = 5 * 24 * 3600
 
 # About how long the proof of a crate takes, in seconds, if it takes much longer than its lines tell.
-LONG = {"jobd_program": 500, "trials": 1800, "child_edge": 450, "job_table": 420, "startup": 300}
+LONG = {"jobd_program": 500, "trials": 1800, "child_edge": 450, "loaded_jobs": 400, "startup": 300}
 
 
 def store():
