@@ -10,14 +10,14 @@ use Rattle.history_model.specs.NextMomentByFacts.{next_by}
 use Rattle.history_model.specs.Machine.{Job}
 use Rattle.history_model.proofs.ComingLemmas.{next-by}
 use Rattle.history_model.proofs.BooleanLemmas.{or-second}
-use Rattle.job_table.specs.Tables.{Row}
-use Rattle.job_table.specs.StandsFor.{KeepsJob, KeepsJobs}
-use Rattle.job_table.specs.Seats.{row, rows, name}
-use Rattle.job_table.specs.Index.{AreTimed, AreAlone, moment_for}
-use Rattle.job_table.specs.Minutes.{is_some_entry, has_calendars}
+use Rattle.loaded_jobs.specs.Tables.{Row}
+use Rattle.loaded_jobs.specs.StandsFor.{KeepsJob, KeepsJobs}
+use Rattle.loaded_jobs.specs.Seats.{row, rows, name}
+use Rattle.loaded_jobs.specs.Index.{AreTimed, AreAlone, moment_for}
+use Rattle.loaded_jobs.specs.Minutes.{is_some_entry, has_calendars}
 use Rattle.job_table.specs.NextMoments.{is_moment, IsNextUp, have_calendars}
-use Rattle.job_table.specs.declared.seat.Seat.{Seat}
-use Rattle.job_table.proofs.AdvanceLemmas.{holder}
+use Rattle.loaded_jobs.specs.declared.seat.Seat.{Seat}
+use Rattle.loaded_jobs.proofs.AdvanceLemmas.{holder}
 use Rattle.history_model.proofs.LawfulLemmas.{eqb-self}
 
 -- ---- the moments of jobs

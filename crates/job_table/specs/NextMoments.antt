@@ -6,7 +6,7 @@ use Rattle.std.specs.Option.{ForSome}
 use Rattle.history_model.specs.Clock.{definition_of}
 use Rattle.history_model.specs.Moments.{next_moment}
 use Rattle.history_model.specs.Machine.{Job}
-use Rattle.job_table.specs.Minutes.{is_some_entry}
+use Rattle.loaded_jobs.specs.Minutes.{is_some_entry}
 
 -- there is a moment, and it is this one
 abbrev pub is_moment : ℕ → Option ℕ → Bool

@@ -11,7 +11,7 @@ use history_model::{Answer, Ask, Ended, JobItem, JobNo, Refusal};
 
 impl JobTable {
     ghost use Rattle.job_table.specs.Ends.{IsAnswer, TableGoesOn, AreKnown};
-    ghost use Rattle.job_table.specs.Tables.{label_of};
+    ghost use Rattle.loaded_jobs.specs.Tables.{label_of};
     ghost use Rattle.job_core.specs.Memory.{NeedsNoMemory};
 
     /// Starts the job, as `start` of launchctl(1): a demand that is pending until a later spawn went well. A job whose child

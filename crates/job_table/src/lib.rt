@@ -12,40 +12,16 @@ ghost use Rattle.history_model.specs.Acceptance.{refusal_in};
 ghost use Rattle.history_model.specs.declared.Refusal.TheVariants.{NoMemory};
 ghost use Rattle.history_model.specs.Machine.{State, opened, past_of, ListJobs, PrintJob, OfJob, UnloadJob, ShutDown, Tick, Sight};
 
-mod all_seats;
-mod byte_order;
 mod calls;
-mod events;
-mod gone_jobs;
-mod held_parts;
-mod index;
-mod jobs;
-mod loading;
-mod marks;
 mod moments;
 mod next_in_order;
-mod opening;
-mod places;
 mod prepared;
-mod questions;
-mod reading;
-mod reasons;
-mod seat;
-mod setting_order;
-mod settings;
-mod settings_change;
-mod texts;
-mod trigger;
-mod triggers;
-mod visits;
 
-use all_seats::all_gone;
 use calendar_due::Zone;
 use history_model::{DemandKind, JobItem, JobNo, Obs, Order, Reading, Reasons, Refusal, Setting};
 use job_defs::Def;
-use jobs::Jobs;
-pub use loading::Ready;
-pub use settings_change::NewSetting;
+use loaded_jobs::{Jobs, all_gone, list};
+pub use loaded_jobs::{NewSetting, Ready};
 use std::alloc::Global;
 use std::marker::Model;
 
@@ -56,11 +32,11 @@ pub struct JobTable {
 }
 
 impl Model for JobTable {
-    ghost use Rattle.job_table.specs.Tables.{Table};
+    ghost use Rattle.loaded_jobs.specs.Tables.{Table};
 
     ghost Value = { Table };
 
-    ghost use Rattle.job_table.specs.Sound.{seen_table, IsWhole};
+    ghost use Rattle.loaded_jobs.specs.Sound.{seen_table, IsWhole};
 
     ghost view = { λ t. seen_table t.jobs };
 
@@ -79,7 +55,7 @@ pub struct Step<'a> {
 
 impl<'a> Step<'a> {
     ghost use Rattle.std.specs.Prelude.{is_some};
-    ghost use Rattle.job_table.specs.Tables.{label_of, definition_of_number};
+    ghost use Rattle.loaded_jobs.specs.Tables.{label_of, definition_of_number};
     ghost use Rattle.job_table.specs.Ends.{names_in};
 
     /// The label of the job with this number, also of one that is just gone; the empty text for a number that no job has.
@@ -103,14 +79,14 @@ impl<'a> Step<'a> {
 
 impl JobTable {
     ghost use Rattle.job_table.specs.Ends.{IsAnswer, TableGoesOn, TableGoesOnUnless, AreKnown, lent_acts, names_in};
-    ghost use Rattle.job_table.specs.TableOutcomes.{UnlessMemory, IsReplyText, Means};
+    ghost use Rattle.loaded_jobs.specs.TableOutcomes.{UnlessMemory, IsReplyText, Means};
     ghost use Rattle.job_core.specs.Memory.{NeedsNoMemory};
-    ghost use Rattle.job_table.specs.StandsFor.{acts_in, is_none, KeepsState};
-    ghost use Rattle.job_table.specs.Opening.{opening_refusal};
-    ghost use Rattle.job_table.specs.Minutes.{has_calendars};
-    ghost use Rattle.job_table.specs.Numbers.{IsNumbered};
-    ghost use Rattle.job_table.specs.Waking.{waking, spawning, demanding, holding};
-    ghost use Rattle.job_table.specs.Triggers.{listed_in};
+    ghost use Rattle.loaded_jobs.specs.StandsFor.{acts_in, is_none, KeepsState};
+    ghost use Rattle.loaded_jobs.specs.Opening.{opening_refusal};
+    ghost use Rattle.loaded_jobs.specs.Minutes.{has_calendars};
+    ghost use Rattle.loaded_jobs.specs.Numbers.{IsNumbered};
+    ghost use Rattle.loaded_jobs.specs.Waking.{waking, spawning, demanding, holding};
+    ghost use Rattle.loaded_jobs.specs.Triggers.{listed_in};
     ghost use Rattle.history_model.specs.JobItems.{item_of};
 
     /// A table with no job, opened at a reading in a zone, with the overrides that `enable` and `disable` left, oldest
@@ -143,7 +119,7 @@ impl JobTable {
     }
 
     /// Lends what the last event gave.
-    #[tactic(auto, using(crate::proofs::NumbersLemmas::numbered, crate::proofs::TriggerCountLemmas::triggers_held))]
+    #[tactic(auto, using(loaded_jobs::proofs::NumbersLemmas::numbered, loaded_jobs::proofs::TriggerCountLemmas::triggers_held))]
     pub fn last_step(&self) -> Step<'_>
         ensures orders { lent_acts result ≡ acts_in self.now }
         ensures visited { result.visited ≡ self.now.visited }
@@ -228,7 +204,7 @@ impl JobTable {
         ensures text { IfOk result (λ text. IsReplyText ListJobs self.now (string_bytes text)) }
         ensures memory { IfErr result (λ refusal. refusal ≡ NoMemory) }
     {
-        match questions::list(alloc, &self.jobs.seats) { // for the proof
+        match list(alloc, &self.jobs.seats) { // for the proof
             Ok(text) => Ok(text),
             Err(_) => Err(Refusal::NoMemory),
         }

@@ -1,15 +1,13 @@
 //! When time alone may next make an order due: the moments of all loaded jobs, and whether some have calendar entries.
 
-ghost use Rattle.std.specs.Prelude.{◌≡◌, not, ◌&&◌};
-ghost use Rattle.std.specs.List.{list_any};
+ghost use Rattle.std.specs.Prelude.{◌≡◌};
 ghost use Rattle.history_model.specs.Machine.{State};
-ghost use Rattle.job_table.specs.StandsFor.{KeepsState};
-ghost use Rattle.job_table.specs.Minutes.{is_some_entry, has_calendars};
+ghost use Rattle.loaded_jobs.specs.StandsFor.{KeepsState};
+ghost use Rattle.loaded_jobs.specs.Minutes.{has_calendars};
 ghost use Rattle.job_table.specs.NextMoments.{IsNextUp, have_calendars};
 
 use crate::JobTable;
-use crate::gone_jobs::Gone;
-use crate::seat::Seat;
+use loaded_jobs::{Gone, is_some_with_calendar};
 
 impl JobTable {
     /// The least moment, in milliseconds of `up` and after the last reading, at which time alone may make an order of a loaded
@@ -32,13 +30,4 @@ impl JobTable {
             _ => is_some_with_calendar(&self.jobs.seats),
         }
     }
-}
-
-/// Whether a job that is not gone has calendar entries.
-fn is_some_with_calendar(seats: &[Seat]) -> bool
-    ensures { result ≡ list_any (λ e. not e.has_gone && is_some_entry e.def.calendar) seats.now }
-{
-    seats
-        .iter()
-        .any(|seat| !seat.has_gone && !seat.def.calendar().is_empty())
 }

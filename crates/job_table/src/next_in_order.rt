@@ -1,24 +1,13 @@
 //! What comes next in byte order: a job with a child, a listed path.
 
-ghost use Rattle.std.specs.Prelude.{◌≡◌, true, false, List, is_some, map};
 ghost use Rattle.std.specs.Option.{option_map};
-ghost use Rattle.history_model.specs.declared.Reading.{Reading};
-ghost use Rattle.history_model.specs.Items.{History};
-ghost use Rattle.history_model.specs.Runs.{child};
-ghost use Rattle.history_model.specs.FactsOfPast.{Keeps};
-ghost use Rattle.history_model.specs.Machine.{Job, State};
-ghost use Rattle.history_model.specs.MachineLaws.{AreInOrder};
-ghost use Rattle.job_table.specs.StandsFor.{KeepsJobs, KeepsState};
-ghost use Rattle.job_table.specs.Seats.{name, rows};
-ghost use Rattle.job_table.specs.Nearest.{IsNearestOf, IsNextChild, listed_paths, with_child};
-ghost use Rattle.job_table.specs.Tables.{labels_in};
+ghost use Rattle.history_model.specs.Machine.{State};
+ghost use Rattle.loaded_jobs.specs.StandsFor.{KeepsState};
+ghost use Rattle.loaded_jobs.specs.Nearest.{IsNearestOf, IsNextChild, listed_paths};
 
 use crate::JobTable;
-use crate::jobs::Jobs;
-use crate::places::{place_before, place_here};
-use crate::seat::Seat;
-use crate::triggers::path_after;
 use history_model::JobNo;
+use loaded_jobs::path_after;
 
 impl JobTable {
     /// The job with a child whose label comes next after the text in byte order, with its number and the child's run. Calls
@@ -42,46 +31,4 @@ impl JobTable {
             text,
         )
     }
-}
-
-impl Jobs {
-    ghost use Rattle.job_table.specs.Sound.{seen_table, IsSound};
-
-    /// The next job with a child.
-    pub fn child_after(&self, text: &str) -> Option<(&str, JobNo, u64)>
-        requires { IsSound self.now }
-        ensures { (s : State) → KeepsState (seen_table self.now) s →
-            IsNextChild (seen_table self.now) text.now s result }
-    {
-        let label = label_after(&self.seats, text)?;
-        let place = place_here(&self.seats, label)?;
-        let seat = &self.seats[place];
-        Some((label, seat.number, seat.core.shown().runs))
-    }
-}
-
-/// The label of the next job with a child: the first that has one of those behind the text.
-fn label_after<'x>(seats: &'x [Seat], text: &str) -> Option<&'x str>
-    requires { AreInOrder (labels_in (map name seats.now)) }
-    ensures { (at : Reading) (jobs : List Job) → KeepsJobs at (rows seats.now) jobs →
-        IsNearestOf text.now (with_child jobs) (option_map (λ label. label.now) result) }
-{
-    let mut place = place_before(seats, text);
-    while place < seats.len() {
-        let seat = &seats[place];
-        if has_child(seat) {
-            return Some(seat.def.label());
-        }
-        place += 1;
-    }
-    None
-}
-
-/// Whether the job is not gone and has a child.
-fn has_child(seat: &Seat) -> bool
-    ensures going { seat.now.has_gone ≡ true → result ≡ false }
-    ensures child { (past : History) → seat.now.has_gone ≡ false →
-        Keeps seat.now.core.facts past → result ≡ is_some (child past) }
-{
-    !seat.has_gone && seat.core.shown().pid.is_some()
 }

@@ -2,10 +2,10 @@
 use Rattle.std.proofs.Common.{◌≡◌, ℕ, true, List, [], Option, None, refl, sym, ap, subst, ◌∙◌}
 use Rattle.std.specs.List.{list_all}
 use Rattle.history_model.specs.Machine.{State, Event}
-use Rattle.job_table.specs.Tables.{Table, is_known}
-use Rattle.job_table.specs.StandsFor.{KeepsState, labelled, acts_in}
+use Rattle.loaded_jobs.specs.Tables.{Table, is_known}
+use Rattle.loaded_jobs.specs.StandsFor.{KeepsState, labelled, acts_in}
 use Rattle.job_table.specs.Ends.{AreKnown, lent_acts, names_in}
-use Rattle.job_table.specs.Numbers.{IsNumbered}
+use Rattle.loaded_jobs.specs.Numbers.{IsNumbered}
 use Rattle.job_table.specs.declared.Step.{Step}
 use Rattle.outside.specs.declared.unheard.Unheard.{Unheard}
 use Rattle.launcher.specs.Journals.{JournalState, Grows}

@@ -22,7 +22,7 @@ use Rattle.ctl_protocol.specs.declared.header.ZoneText.TheVariants.{Posix, Offse
 use Rattle.ctl_protocol.specs.Objects.{whole}
 use Rattle.ctl_protocol.specs.HeaderLines.{hex_digit, hex_of, setting_members}
 use Rattle.ctl_protocol.proofs.HeaderReaderLemmas.{labels_in}
-use Rattle.job_table.specs.Opening.{opening_refusal}
+use Rattle.loaded_jobs.specs.Opening.{opening_refusal}
 use Rattle.launcher.specs.Writable.{IsFit, IsFitZone, IsWritableHeader}
 
 -- ---- the order of the settings

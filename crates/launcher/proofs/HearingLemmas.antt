@@ -9,8 +9,8 @@ use Rattle.history_model.specs.Machine.{State, Event}
 use Rattle.history_model.specs.Acceptance.{refusal_in}
 use Rattle.history_model.specs.Step.{outcome, step, step_by}
 use Rattle.history_model.specs.Texts.{text_after}
-use Rattle.job_table.specs.Tables.{Table, Name}
-use Rattle.job_table.specs.TableOutcomes.{UnlessMemory}
+use Rattle.loaded_jobs.specs.Tables.{Table, Name}
+use Rattle.loaded_jobs.specs.TableOutcomes.{UnlessMemory}
 use Rattle.outside.specs.declared.asking.Outside.{Outside}
 use Rattle.outside.specs.Stores.{StoreCall}
 use Rattle.outside.proofs.AskLemmas.{told_nothing}
@@ -23,7 +23,7 @@ use Rattle.launcher.specs.declared.event_ref.EventRef.TheVariants as happenings
 use Rattle.launcher.specs.EventRefs.{event_of_ref, is_clock}
 use Rattle.launcher.specs.JournaledLines.{journaled_by}
 use Rattle.launcher.specs.HostTurns.{AreNumbered, TurnsOf, Turns, IsUncalled, Trace, trace}
-use Rattle.job_table.specs.Loads.{refused_with}
+use Rattle.loaded_jobs.specs.Loads.{refused_with}
 use Rattle.launcher.specs.LoadTurns.{is_memory, standing}
 use Rattle.table_opening.specs.JournalEvents.{machine_event}
 use Rattle.launcher.specs.Inputs.{answered}

@@ -10,8 +10,8 @@ use Rattle.history_model.specs.Machine.{State, Event}
 use Rattle.history_model.specs.Acceptance.{refusal_in}
 use Rattle.history_model.specs.Step.{outcome, outcome_by, step}
 use Rattle.history_model.specs.Texts.{text_after}
-use Rattle.job_table.specs.Tables.{Table}
-use Rattle.job_table.specs.StandsFor.{KeepsState}
+use Rattle.loaded_jobs.specs.Tables.{Table}
+use Rattle.loaded_jobs.specs.StandsFor.{KeepsState}
 use Rattle.child_edge.specs.Calls.{ToldCall}
 use Rattle.child_edge.proofs.CallsLemmas.{tells_nothing}
 use Rattle.outside.specs.Orders.{answers_in}
@@ -21,7 +21,7 @@ use Rattle.ctl_protocol.specs.EventWriter.{event_line}
 use Rattle.launcher.specs.Journals.{JournalState, Grows}
 use Rattle.launcher.proofs.JournalsLemmas.{grows_append, grows_nothing}
 use Rattle.launcher.specs.HostTurns.{IsLed}
-use Rattle.job_table.specs.Loads.{refused_with}
+use Rattle.loaded_jobs.specs.Loads.{refused_with}
 use Rattle.launcher.specs.JournaledLines.{answer_texts}
 use Rattle.launcher.specs.LoadTurns.{is_memory, settings_after, Standing, standing}
 use Rattle.launcher.specs.Inputs.{answered}

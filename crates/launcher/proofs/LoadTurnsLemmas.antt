@@ -11,11 +11,11 @@ use Rattle.history_model.specs.Step.{outcome, outcome_by, step, step_by, set_if}
 use Rattle.job_defs.specs.Described.{Described}
 use Rattle.job_defs.specs.Definitions.{given, has_sockets}
 use Rattle.job_defs.specs.Keys.{def_of}
-use Rattle.job_table.specs.Tables.{Table, Row, Name, IsOnce}
-use Rattle.job_table.specs.StandsFor.{KeepsState}
-use Rattle.job_table.specs.Loads.{IsAdmitted, load_of_bytes, given_in, refusal_outside, described_in, number_in, new_setting_in}
-use Rattle.job_table.specs.TableOutcomes.{IsSameFor, Means}
-use Rattle.job_table.specs.declared.loading.Ready.{Ready}
+use Rattle.loaded_jobs.specs.Tables.{Table, Row, Name, IsOnce}
+use Rattle.loaded_jobs.specs.StandsFor.{KeepsState}
+use Rattle.loaded_jobs.specs.Loads.{IsAdmitted, load_of_bytes, given_in, refusal_outside, described_in, number_in, new_setting_in}
+use Rattle.loaded_jobs.specs.TableOutcomes.{IsSameFor, Means}
+use Rattle.loaded_jobs.specs.declared.loading.Ready.{Ready}
 use Rattle.child_edge.specs.Calls.{ToldCall}
 use Rattle.child_edge.proofs.CallsLemmas.{tells_nothing}
 use Rattle.outside.specs.declared.asking.Outside.{Outside}
@@ -25,7 +25,7 @@ use Rattle.outside.proofs.AskLemmas.{told_nothing}
 use Rattle.launcher.specs.Journals.{JournalState, Grows}
 use Rattle.launcher.specs.HostTurns.{AreNumbered, IsLed, TurnsOf, trace}
 use Rattle.launcher.proofs.NumbersLemmas.{AreNamed, rows-named, keeps-numbers, same-numbers}
-use Rattle.job_table.specs.Numbers.{row_names}
+use Rattle.loaded_jobs.specs.Numbers.{row_names}
 use Rattle.launcher.proofs.StoredSettingsLemmas.{load_settings}
 use Rattle.launcher.specs.JournaledLines.{load_line}
 use Rattle.launcher.specs.LoadTurns.{AsksFor, EndsLoad, LoadTurnOf, Makes, is_memory, label_read, label_written, load_request, settings_after, stamps_after, standing}

@@ -14,8 +14,8 @@ use Rattle.history_model.specs.Acceptance.{refused_if}
 use Rattle.calendar_due.specs.Offsets.{shown_by}
 use Rattle.ctl_protocol.specs.declared.header.Header.{Header}
 use Rattle.ctl_protocol.specs.HeaderLines.{header_line}
-use Rattle.job_table.specs.Opening.{opening_refusal}
-use Rattle.job_table.specs.Tables.{Table}
+use Rattle.loaded_jobs.specs.Opening.{opening_refusal}
+use Rattle.loaded_jobs.specs.Tables.{Table}
 use Rattle.outside.specs.declared.store.StoreFault.{StoreFault}
 use Rattle.outside.specs.declared.store.StoreFault.TheVariants as answers
 use Rattle.outside.specs.Stores.{StoreCall, AreTold}

@@ -14,9 +14,9 @@ use Rattle.history_model.specs.Labels.{Label, is_same}
 use Rattle.history_model.specs.Machine.{Job, is_of, past_in}
 use Rattle.history_model.specs.MachineLaws.{labels_of}
 use Rattle.job_defs.specs.Described.{Described}
-use Rattle.job_table.specs.Tables.{Table, Row, Name, IsOther, IsOnce, is_known, label_of, definition_of_number}
-use Rattle.job_table.specs.StandsFor.{KeepsJobs, labelled}
-use Rattle.job_table.specs.Numbers.{row_name, row_names}
+use Rattle.loaded_jobs.specs.Tables.{Table, Row, Name, IsOther, IsOnce, is_known, label_of, definition_of_number}
+use Rattle.loaded_jobs.specs.StandsFor.{KeepsJobs, labelled}
+use Rattle.loaded_jobs.specs.Numbers.{row_name, row_names}
 use Rattle.child_edge.specs.declared.plain.Scripted.{Scripted}
 use Rattle.child_edge.specs.declared.plain.Scripted.TheVariants.{Started, Done, Running, Over, Seen, At, Refused, NoMemory}
 use Rattle.child_edge.specs.Calls.{ToldCall}

@@ -15,13 +15,13 @@ use Rattle.history_model.specs.Acceptance.{refusal_in}
 use Rattle.history_model.specs.Step.{outcome, step, step_by, heard_one}
 use Rattle.history_model.specs.MachineLaws.{labels_of}
 use Rattle.history_model.proofs.StepLemmas.{IsGood}
-use Rattle.job_table.specs.Tables.{Table, Row, Name, IsOnce, is_known, label_of, definition_of_number}
-use Rattle.job_table.specs.StandsFor.{KeepsJobs, KeepsState, labelled}
+use Rattle.loaded_jobs.specs.Tables.{Table, Row, Name, IsOnce, is_known, label_of, definition_of_number}
+use Rattle.loaded_jobs.specs.StandsFor.{KeepsJobs, KeepsState, labelled}
 use Rattle.job_defs.specs.Described.{Described}
-use Rattle.job_table.specs.TableOutcomes.{IsNextTable, IsNextTableUnless, UnlessMemory}
+use Rattle.loaded_jobs.specs.TableOutcomes.{IsNextTable, IsNextTableUnless, UnlessMemory}
 use Rattle.history_model.specs.declared.Refusal.TheVariants.{NoMemory}
 use Rattle.job_table.specs.Ends.{AreKnown, IsAnswer, Visits, Numbers, names_in}
-use Rattle.job_table.specs.Numbers.{row_names, IsNumbered}
+use Rattle.loaded_jobs.specs.Numbers.{row_names, IsNumbered}
 use Rattle.job_table.specs.declared.Step.{Step}
 use Rattle.outside.specs.declared.unheard.Unheard.{Unheard}
 use Rattle.outside.specs.Orders.{answers_in}
@@ -29,7 +29,7 @@ use Rattle.history_model.specs.Turns.{JobOrder, wanting, is_answer}
 use Rattle.history_model.proofs.TurnsLemmas.{IsTurning, turning-step}
 use Rattle.history_model.proofs.LabelOrderLemmas.{heard_one-labels, same_self, order-run, all-stays}
 use Rattle.launcher.specs.HostTurns.{AreNumbered, Carried, orders_lent, IsUncalled, answer_event, AreTheirs, IsLabel, IsOrderly, IsWaiting, HappensTo, Happens, Handled, trace}
-use Rattle.job_table.specs.Loads.{refused_with}
+use Rattle.loaded_jobs.specs.Loads.{refused_with}
 use Rattle.job_core.specs.Memory.{NeedsNoMemory}
 use Rattle.ctl_protocol.specs.EventWriter.{event_line}
 use Rattle.launcher.specs.Journals.{JournalState, Grows}
@@ -37,7 +37,7 @@ use Rattle.launcher.specs.JournaledLines.{journaled_answer}
 use Rattle.launcher.proofs.CarryLemmas.{none-called}
 use Rattle.launcher.proofs.NumbersLemmas.{AreNamed, rows-named, label-is, named-next, orders-known, once-number, loaded, keeps-numbers, same-numbers, theirs-append, made-theirs}
 use Rattle.child_edge.specs.Calls.{ToldCall}
-use Rattle.job_table.proofs.OutcomesLemmas.{resting}
+use Rattle.loaded_jobs.proofs.OutcomesLemmas.{resting}
 
 pub unless : {A : Type 0} {P : Type 0} (result : Result A Refusal) → P → UnlessMemory result P
 unless (Ok a) holds = holds

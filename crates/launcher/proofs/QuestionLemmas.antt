@@ -10,11 +10,11 @@ use Rattle.history_model.specs.Labels.{Label}
 use Rattle.history_model.specs.Machine.{State, Event, ListJobs, PrintJob}
 use Rattle.history_model.specs.Acceptance.{refusal_in}
 use Rattle.history_model.specs.Step.{Outcome, outcome, step, step_by}
-use Rattle.job_table.specs.Tables.{Table}
-use Rattle.job_table.specs.StandsFor.{KeepsState}
-use Rattle.job_table.specs.Loads.{refused_with}
-use Rattle.job_table.specs.Numbers.{IsNumbered}
-use Rattle.job_table.specs.TableOutcomes.{UnlessMemory, IsReplyText, Means}
+use Rattle.loaded_jobs.specs.Tables.{Table}
+use Rattle.loaded_jobs.specs.StandsFor.{KeepsState}
+use Rattle.loaded_jobs.specs.Loads.{refused_with}
+use Rattle.loaded_jobs.specs.Numbers.{IsNumbered}
+use Rattle.loaded_jobs.specs.TableOutcomes.{UnlessMemory, IsReplyText, Means}
 use Rattle.outside.specs.Stores.{StoreCall}
 use Rattle.outside.proofs.AskLemmas.{told_nothing}
 use Rattle.launcher.specs.Journals.{JournalState, Grows}

@@ -8,9 +8,9 @@ use Rattle.history_model.specs.Search.{or_else}
 use Rattle.history_model.specs.Labels.{Label, is_label}
 use Rattle.history_model.specs.Machine.{State, past_of}
 use Rattle.history_model.specs.Acceptance.{refusal_in, refusal_at, refusal_stored, refused_if}
-use Rattle.job_table.specs.SettingChanges.{set_of}
-use Rattle.job_table.specs.Tables.{Table}
-use Rattle.job_table.specs.StandsFor.{KeepsState}
+use Rattle.loaded_jobs.specs.SettingChanges.{set_of}
+use Rattle.loaded_jobs.specs.Tables.{Table}
+use Rattle.loaded_jobs.specs.StandsFor.{KeepsState}
 use Rattle.outside.specs.Stores.{StoreCall, AreTold, set_call}
 use Rattle.outside.proofs.AskLemmas.{told_nothing}
 use Rattle.launcher.specs.Journals.{JournalState, Grows}
@@ -20,7 +20,7 @@ use Rattle.launcher.specs.JournaledLines.{set_line}
 use Rattle.launcher.specs.LoadTurns.{AsksStore, SetTurnOf, set_request, standing}
 use Rattle.launcher.proofs.LoadTurnsLemmas.{nothing_done}
 use Rattle.child_edge.specs.Calls.{ToldCall}
-use Rattle.job_table.proofs.ChangesLemmas.{set_same}
+use Rattle.loaded_jobs.proofs.ChangesLemmas.{set_same}
 
 -- a setting names no label that comes
 pub short_set : (label : Label) (disabled unload store : Bool) → NamesLabel (set_of label disabled unload store)

@@ -5,9 +5,9 @@ use Rattle.history_model.specs.declared.event.Setting.{Setting}
 use Rattle.history_model.specs.Labels.{Label}
 use Rattle.history_model.specs.Machine.{State}
 use Rattle.history_model.specs.Step.{step}
-use Rattle.job_table.specs.Tables.{Name}
-use Rattle.job_table.specs.StandsFor.{KeepsState}
-use Rattle.job_table.specs.SettingChanges.{set_of}
+use Rattle.loaded_jobs.specs.Tables.{Name}
+use Rattle.loaded_jobs.specs.StandsFor.{KeepsState}
+use Rattle.loaded_jobs.specs.SettingChanges.{set_of}
 use Rattle.outside.specs.Asking.{told_of}
 use Rattle.launcher.specs.Journals.{JournalState, Grows}
 use Rattle.launcher.proofs.JournalsLemmas.{grows_nothing}

@@ -5,8 +5,8 @@ use Rattle.std.proofs.lemmas.List.{append-nil, map-append, take_more, take_all, 
 use Rattle.history_model.specs.declared.Order.{Order}
 use Rattle.history_model.specs.Machine.{State, Event}
 use Rattle.history_model.specs.Step.{outcome, step, run, orders_in}
-use Rattle.job_table.specs.Tables.{Table, Name}
-use Rattle.job_table.specs.StandsFor.{KeepsState, labelled}
+use Rattle.loaded_jobs.specs.Tables.{Table, Name}
+use Rattle.loaded_jobs.specs.StandsFor.{KeepsState, labelled}
 use Rattle.child_edge.specs.Calls.{Tells, ToldCall}
 use Rattle.child_edge.proofs.CallsLemmas.{tells_append, tells_nothing}
 use Rattle.outside.specs.declared.unheard.Unheard.{Unheard}

@@ -3,8 +3,8 @@ use Rattle.std.proofs.Common.{◌≡◌, Bool, true, false, List, Option, Some, 
 use Rattle.history_model.specs.declared.Refusal.{Refusal}
 use Rattle.history_model.specs.Labels.{Label}
 use Rattle.history_model.specs.Machine.{State}
-use Rattle.job_table.specs.Tables.{Table}
-use Rattle.job_table.specs.StandsFor.{KeepsState}
+use Rattle.loaded_jobs.specs.Tables.{Table}
+use Rattle.loaded_jobs.specs.StandsFor.{KeepsState}
 use Rattle.outside.specs.Stores.{HoldsAfter, Stamp}
 use Rattle.launcher.specs.declared.event_ref.EventRef.{EventRef}
 use Rattle.launcher.specs.declared.event_ref.EventRef.TheVariants as happenings

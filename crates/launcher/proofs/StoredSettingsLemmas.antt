@@ -10,8 +10,8 @@ use Rattle.history_model.specs.Step.{set_if, step, step_by, run}
 use Rattle.job_defs.specs.Described.{Described}
 use Rattle.job_defs.specs.Definitions.{has_sockets, given}
 use Rattle.job_defs.specs.Keys.{def_of}
-use Rattle.job_table.specs.Tables.{Name}
-use Rattle.job_table.specs.Loads.{load_of_bytes, given_in, refusal_outside}
+use Rattle.loaded_jobs.specs.Tables.{Name}
+use Rattle.loaded_jobs.specs.Loads.{load_of_bytes, given_in, refusal_outside}
 use Rattle.outside.specs.declared.unheard.Unheard.{Unheard}
 use Rattle.outside.specs.Orders.{answers_in}
 use Rattle.launcher.specs.HostTurns.{answer_event, answer_events}

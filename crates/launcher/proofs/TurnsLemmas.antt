@@ -15,9 +15,9 @@ use Rattle.history_model.specs.Acceptance.{refusal_in}
 use Rattle.history_model.specs.Step.{outcome, outcome_by, step, step_by, taken, sight_of, run, orders_in}
 use Rattle.history_model.specs.MachineLaws.{labels_of}
 use Rattle.history_model.proofs.StepLemmas.{good-step}
-use Rattle.job_table.specs.Tables.{Table, Name, label_of}
-use Rattle.job_table.specs.StandsFor.{KeepsState, labelled}
-use Rattle.job_table.specs.TableOutcomes.{UnlessMemory}
+use Rattle.loaded_jobs.specs.Tables.{Table, Name, label_of}
+use Rattle.loaded_jobs.specs.StandsFor.{KeepsState, labelled}
+use Rattle.loaded_jobs.specs.TableOutcomes.{UnlessMemory}
 use Rattle.history_model.specs.declared.Refusal.TheVariants.{NoMemory}
 use Rattle.outside.specs.declared.unheard.Unheard.{Unheard}
 use Rattle.outside.specs.Orders.{call_of, answer_in, answers_in, IsTellablePending}
@@ -26,7 +26,7 @@ use Rattle.history_model.specs.AwaitedOrders.{weigh_orders}
 use Rattle.history_model.proofs.LabelOrderLemmas.{heard-labels, heard_one-labels, order-run, all-stays, all-with}
 use Rattle.history_model.proofs.TurnBoundLemmas.{turning-start, within-step, length-heavy}
 use Rattle.launcher.specs.HostTurns.{answer_event, answer_events, AreTheirs, IsWaiting, Begins, Happens, Settled, NamesLabel, IsLabel, IsNamedIn, IsLed, TurnsOf, Turns, trace}
-use Rattle.job_table.specs.Loads.{refused_with}
+use Rattle.loaded_jobs.specs.Loads.{refused_with}
 use Rattle.launcher.specs.EventRefs.{event_of_ref}
 use Rattle.ctl_protocol.specs.EventWriter.{event_line}
 use Rattle.launcher.specs.Journals.{JournalState, Grows}

@@ -12,9 +12,9 @@ use Rattle.history_model.specs.Machine.{State, Event, Load, OfJob}
 use Rattle.history_model.specs.Step.{outcome, step, run, orders_in}
 use Rattle.history_model.specs.MachineLaws.{AreInOrder, labels_of}
 use Rattle.job_defs.specs.Described.{Described}
-use Rattle.job_table.specs.Tables.{Table, Row, Name, IsOnce, is_known, label_of, definition_of_number}
-use Rattle.job_table.specs.StandsFor.{KeepsState, labelled}
-use Rattle.job_table.specs.TableOutcomes.{IsSameFor}
+use Rattle.loaded_jobs.specs.Tables.{Table, Row, Name, IsOnce, is_known, label_of, definition_of_number}
+use Rattle.loaded_jobs.specs.StandsFor.{KeepsState, labelled}
+use Rattle.loaded_jobs.specs.TableOutcomes.{IsSameFor}
 use Rattle.job_table.specs.Ends.{AreKnown}
 use Rattle.job_table.specs.declared.Step.{Step}
 use Rattle.child_edge.specs.Calls.{Tells, ToldCall}

@@ -14,9 +14,9 @@ use Rattle.job_defs.specs.Keys.{def_of}
 use Rattle.ctl_protocol.specs.declared.header.Header.{Header}
 use Rattle.ctl_protocol.specs.EventWriter.{event_line}
 use Rattle.ctl_protocol.specs.HeaderLines.{header_line}
-use Rattle.job_table.specs.Tables.{Name, definition_of_number}
-use Rattle.job_table.specs.StandsFor.{KeepsState}
-use Rattle.job_table.specs.Loads.{load_of_bytes}
+use Rattle.loaded_jobs.specs.Tables.{Name, definition_of_number}
+use Rattle.loaded_jobs.specs.StandsFor.{KeepsState}
+use Rattle.loaded_jobs.specs.Loads.{load_of_bytes}
 use Rattle.child_edge.specs.Calls.{ToldCall}
 use Rattle.outside.specs.declared.asking.Outside.{Outside}
 use Rattle.outside.specs.Asking.{Told, told_of}

@@ -7,7 +7,7 @@ use Rattle.history_model.specs.declared.event.Event as journal
 use Rattle.history_model.specs.declared.event.Event.TheVariants as journaled
 use Rattle.history_model.specs.Labels.{Label}
 use Rattle.ctl_protocol.specs.EventWriter.{event_line}
-use Rattle.job_table.specs.Tables.{Name, label_of}
+use Rattle.loaded_jobs.specs.Tables.{Name, label_of}
 use Rattle.outside.specs.declared.asking.Outside.{Outside}
 use Rattle.outside.specs.declared.unheard.Unheard.{Unheard}
 use Rattle.launcher.specs.declared.event_ref.EventRef.{EventRef}

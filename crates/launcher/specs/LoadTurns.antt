@@ -10,12 +10,12 @@ use Rattle.history_model.specs.Step.{outcome, step}
 use Rattle.job_defs.specs.Described.{Described}
 use Rattle.job_defs.specs.Definitions.{given}
 use Rattle.job_defs.specs.Keys.{def_of}
-use Rattle.job_table.specs.Tables.{Table, Name, definition_of_number}
-use Rattle.job_table.specs.StandsFor.{KeepsState, acts_in}
-use Rattle.job_table.specs.Loads.{load_of_bytes, refusal_outside, described_in, number_in, new_setting_in}
-use Rattle.job_table.specs.declared.loading.Ready.{Ready}
-use Rattle.job_table.specs.SettingChanges.{set_of}
-use Rattle.job_table.specs.TableOutcomes.{IsSameFor}
+use Rattle.loaded_jobs.specs.Tables.{Table, Name, definition_of_number}
+use Rattle.loaded_jobs.specs.StandsFor.{KeepsState, acts_in}
+use Rattle.loaded_jobs.specs.Loads.{load_of_bytes, refusal_outside, described_in, number_in, new_setting_in}
+use Rattle.loaded_jobs.specs.declared.loading.Ready.{Ready}
+use Rattle.loaded_jobs.specs.SettingChanges.{set_of}
+use Rattle.loaded_jobs.specs.TableOutcomes.{IsSameFor}
 use Rattle.child_edge.specs.Calls.{Tells, ToldCall}
 use Rattle.outside.specs.declared.asking.Outside.{Outside}
 use Rattle.outside.specs.Asking.{Asks, Told, told_of}

@@ -6,7 +6,7 @@ use Rattle.history_model.specs.Labels.{is_label}
 use Rattle.history_model.specs.MachineLaws.{AreInOrder}
 use Rattle.history_model.specs.Refusals.{is_clock_refused}
 use Rattle.ctl_protocol.specs.declared.header.Header.{Header}
-use Rattle.job_table.specs.Tables.{Table}
+use Rattle.loaded_jobs.specs.Tables.{Table}
 use Rattle.outside.specs.declared.store.StoreFault.{StoreFault}
 use Rattle.outside.specs.declared.store.StoreFault.TheVariants as answers
 use Rattle.table_opening.specs.Openings.{IsNoZone, StandsOpened}

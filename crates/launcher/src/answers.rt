@@ -5,7 +5,7 @@ ghost use Rattle.history_model.specs.declared.TheConstants.{MAX_JOBS};
 ghost use Rattle.history_model.specs.Machine.{State};
 ghost use Rattle.history_model.specs.Turns.{JobOrder};
 ghost use Rattle.history_model.specs.AwaitedOrders.{weigh_orders};
-ghost use Rattle.job_table.specs.Tables.{Name};
+ghost use Rattle.loaded_jobs.specs.Tables.{Name};
 ghost use Rattle.outside.specs.declared.unheard.Unheard.{Unheard as Answered};
 ghost use Rattle.launcher.specs.HostTurns.{IsWaiting, Handled, Settled, trace};
 

@@ -2,10 +2,10 @@
 
 ghost use Rattle.std.specs.Prelude.{◌≡◌, Err, OnErr, true};
 ghost use Rattle.history_model.specs.declared.Refusal.TheVariants.{NoMemory};
-ghost use Rattle.job_table.specs.TableOutcomes.{UnlessMemory};
+ghost use Rattle.loaded_jobs.specs.TableOutcomes.{UnlessMemory};
 ghost use Rattle.launcher.specs.EventRefs.{event_of_ref, is_clock};
 ghost use Rattle.launcher.specs.HostTurns.{Happens, IsUncalled, answer_event};
-ghost use Rattle.job_table.specs.Loads.{refused_with};
+ghost use Rattle.loaded_jobs.specs.Loads.{refused_with};
 
 use crate::answer_queue::AnswerQueue;
 use crate::event_ref::EventRef;

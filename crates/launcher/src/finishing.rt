@@ -2,8 +2,8 @@
 
 ghost use Rattle.std.specs.Prelude.{◌≡◌, ℕ, List, []};
 ghost use Rattle.history_model.specs.Machine.{State, Event};
-ghost use Rattle.job_table.specs.Tables.{Table};
-ghost use Rattle.job_table.specs.StandsFor.{KeepsState};
+ghost use Rattle.loaded_jobs.specs.Tables.{Table};
+ghost use Rattle.loaded_jobs.specs.StandsFor.{KeepsState};
 ghost use Rattle.launcher.specs.Journals.{JournalState, Grows};
 ghost use Rattle.launcher.specs.HostTurns.{IsLed, NamesLabel, trace};
 ghost use Rattle.launcher.specs.LoadTurns.{Finishes, HasTaken};

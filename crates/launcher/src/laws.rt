@@ -8,8 +8,8 @@ ghost use Rattle.history_model.specs.Step.{set_if, step, run};
 ghost use Rattle.job_defs.specs.Described.{Described};
 ghost use Rattle.job_defs.specs.Definitions.{has_sockets};
 ghost use Rattle.job_defs.specs.Keys.{def_of};
-ghost use Rattle.job_table.specs.Tables.{Name};
-ghost use Rattle.job_table.specs.Loads.{load_of_bytes, refusal_outside};
+ghost use Rattle.loaded_jobs.specs.Tables.{Name};
+ghost use Rattle.loaded_jobs.specs.Loads.{load_of_bytes, refusal_outside};
 ghost use Rattle.launcher.specs.HostTurns.{answer_events};
 ghost use Rattle.child_edge.specs.Calls.{ToldCall};
 

@@ -4,7 +4,7 @@
 ghost use Rattle.std.specs.Prelude.{◌≡◌, ◌<◌, ◌^◌, IsUtf8, nat_lt, true};
 ghost use Rattle.std.specs.List.{list_all};
 ghost use Rattle.ctl_protocol.specs.Objects.{whole};
-ghost use Rattle.job_table.specs.Numbers.{IsNumbered};
+ghost use Rattle.loaded_jobs.specs.Numbers.{IsNumbered};
 ghost use Rattle.launcher.specs.Inputs.{asked_in};
 ghost use Rattle.launcher.specs.Writable.{IsFit, IsFitZone, IsWritableInput, SaysFitIf};
 

@@ -3,7 +3,7 @@
 ghost use Rattle.std.specs.Prelude.{◌≡◌};
 ghost use Rattle.job_table.specs.Ends.{AreKnown};
 ghost use Rattle.launcher.specs.HostTurns.{Carried, orders_lent, AreKnownIn};
-ghost use Rattle.job_table.specs.Loads.{refused_with};
+ghost use Rattle.loaded_jobs.specs.Loads.{refused_with};
 
 use crate::answer_queue::AnswerQueue;
 use child_edge::{ChildEdge, SocketEdge};

@@ -7,8 +7,8 @@ ghost use Rattle.history_model.specs.declared.event.Event.TheVariants as journal
 ghost use Rattle.history_model.specs.Acceptance.{refusal_in};
 ghost use Rattle.history_model.specs.Machine.{State, ListJobs, PrintJob};
 ghost use Rattle.ctl_protocol.specs.EventWriter.{event_line};
-ghost use Rattle.job_table.specs.StandsFor.{KeepsState};
-ghost use Rattle.job_table.specs.TableOutcomes.{UnlessMemory, IsReplyText, Means};
+ghost use Rattle.loaded_jobs.specs.StandsFor.{KeepsState};
+ghost use Rattle.loaded_jobs.specs.TableOutcomes.{UnlessMemory, IsReplyText, Means};
 ghost use Rattle.launcher.specs.Journals.{Grows};
 
 use crate::host::Host;

@@ -2,7 +2,7 @@
 
 ghost use Rattle.std.specs.Prelude.{◌≡◌, IfOk, Some, [], is_some, true};
 ghost use Rattle.std.specs.String.{string_bytes};
-ghost use Rattle.job_table.specs.Loads.{refused_with};
+ghost use Rattle.loaded_jobs.specs.Loads.{refused_with};
 ghost use Rattle.launcher.specs.LoadTurns.{is_memory};
 
 use history_model::{Refusal, Reply, Text};

@@ -4,14 +4,14 @@
 ghost use Rattle.std.specs.Prelude.{◌≡◌, ◌||◌, ℕ, Bool, List, [], None, Some, true, false};
 ghost use Rattle.history_model.specs.Acceptance.{refusal_in};
 ghost use Rattle.history_model.specs.Machine.{State};
-ghost use Rattle.job_table.specs.SettingChanges.{set_of, IsReadySet};
-ghost use Rattle.job_table.specs.StandsFor.{KeepsState};
+ghost use Rattle.loaded_jobs.specs.SettingChanges.{set_of, IsReadySet};
+ghost use Rattle.loaded_jobs.specs.StandsFor.{KeepsState};
 ghost use Rattle.launcher.specs.Journals.{JournalState, Grows};
 ghost use Rattle.outside.specs.Asking.{told_of};
 ghost use Rattle.outside.specs.Stores.{HoldsAfter};
 ghost use Rattle.launcher.specs.Hosts.{stands};
 ghost use Rattle.launcher.specs.HostTurns.{IsLed, trace};
-ghost use Rattle.job_table.specs.Loads.{refused_with};
+ghost use Rattle.loaded_jobs.specs.Loads.{refused_with};
 ghost use Rattle.launcher.specs.LoadTurns.{SetTurnOf, Sets, IsUntouched, is_memory, set_request, settings_after, stamps_after};
 
 use crate::host::Host;

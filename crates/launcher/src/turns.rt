@@ -4,8 +4,8 @@ ghost use Rattle.std.specs.Prelude.{◌≡◌, Err, Some, [], is_some, true, fal
 ghost use Rattle.history_model.specs.declared.Refusal.TheVariants.{NoMemory};
 ghost use Rattle.history_model.specs.declared.event.Event.TheVariants as journaled;
 ghost use Rattle.ctl_protocol.specs.EventWriter.{event_line};
-ghost use Rattle.job_table.specs.Loads.{refused_with};
-ghost use Rattle.job_table.specs.TableOutcomes.{UnlessMemory};
+ghost use Rattle.loaded_jobs.specs.Loads.{refused_with};
+ghost use Rattle.loaded_jobs.specs.TableOutcomes.{UnlessMemory};
 ghost use Rattle.launcher.specs.EventRefs.{event_of_ref, is_clock};
 ghost use Rattle.launcher.specs.Hosts.{HostHears, HostStamps};
 ghost use Rattle.launcher.specs.Accepting.{is_accepted_load};

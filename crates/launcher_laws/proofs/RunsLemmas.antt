@@ -12,8 +12,8 @@ use Rattle.history_model.specs.Items.{Answered}
 use Rattle.history_model.specs.Labels.{Label}
 use Rattle.history_model.specs.Machine.{State, Event, OfJob}
 use Rattle.history_model.specs.Step.{Outcome, outcome, step, run, outcomes}
-use Rattle.job_table.specs.Tables.{Table, Name, label_of}
-use Rattle.job_table.specs.StandsFor.{KeepsState}
+use Rattle.loaded_jobs.specs.Tables.{Table, Name, label_of}
+use Rattle.loaded_jobs.specs.StandsFor.{KeepsState}
 use Rattle.outside.specs.declared.unheard.Unheard.{Unheard}
 use Rattle.outside.specs.Orders.{answers_in}
 use Rattle.ctl_protocol.specs.EventWriter.{event_line}

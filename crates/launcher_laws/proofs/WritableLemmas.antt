@@ -8,7 +8,7 @@ use Rattle.history_model.specs.declared.Answer.TheVariants.{Spawned, SpawnRefuse
 use Rattle.history_model.specs.declared.event.Event as journal
 use Rattle.history_model.specs.declared.event.Event.TheVariants as events
 use Rattle.history_model.specs.Labels.{Label, is_label}
-use Rattle.job_table.specs.Tables.{Name, label_of}
+use Rattle.loaded_jobs.specs.Tables.{Name, label_of}
 use Rattle.outside.specs.declared.unheard.Unheard.{Unheard}
 use Rattle.outside.specs.Orders.{answers_in, IsTellable, IsTellablePending}
 use Rattle.launcher.specs.JournaledLines.{journaled_answer}

@@ -3,7 +3,7 @@ use Rattle.std.specs.Prelude.{◌≡◌, List, map}
 use Rattle.history_model.specs.declared.event.Setting.{Setting}
 use Rattle.history_model.specs.Machine.{State}
 use Rattle.history_model.specs.Step.{run, outcomes}
-use Rattle.job_table.specs.StandsFor.{KeepsState}
+use Rattle.loaded_jobs.specs.StandsFor.{KeepsState}
 use Rattle.table_opening.specs.JournalEvents.{machine_event}
 use Rattle.launcher_laws.specs.TurnRuns.{Snapshot, Turn, Part, AreParts, events_in, outcomes_in}
 

@@ -7,8 +7,8 @@ use Rattle.history_model.specs.declared.Order.{Order}
 use Rattle.history_model.specs.declared.event.Event as journal
 use Rattle.history_model.specs.declared.event.Setting.{Setting}
 use Rattle.history_model.specs.Step.{Outcome}
-use Rattle.job_table.specs.Tables.{Name, label_of}
-use Rattle.job_table.specs.StandsFor.{labelled}
+use Rattle.loaded_jobs.specs.Tables.{Name, label_of}
+use Rattle.loaded_jobs.specs.StandsFor.{labelled}
 use Rattle.child_edge.specs.Calls.{Tells, ToldCall}
 use Rattle.outside.specs.declared.unheard.Unheard.{Unheard}
 use Rattle.outside.specs.Orders.{call_of, calls_in, answers_in, IsTellablePending}

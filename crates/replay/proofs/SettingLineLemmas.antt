@@ -6,14 +6,14 @@ use Rattle.history_model.specs.declared.Act.{Act}
 use Rattle.history_model.specs.Labels.{Label}
 use Rattle.history_model.specs.Machine.{State}
 use Rattle.history_model.specs.Acceptance.{refusal_in, refusal_stored}
-use Rattle.job_table.specs.Tables.{Table}
-use Rattle.job_table.specs.StandsFor.{KeepsState, acts_in}
-use Rattle.job_table.specs.TableOutcomes.{IsSameFor}
-use Rattle.job_table.specs.SettingChanges.{set_of, IsChanged, Changes}
-use Rattle.job_table.specs.declared.settings_change.NewSetting.{NewSetting}
+use Rattle.loaded_jobs.specs.Tables.{Table}
+use Rattle.loaded_jobs.specs.StandsFor.{KeepsState, acts_in}
+use Rattle.loaded_jobs.specs.TableOutcomes.{IsSameFor}
+use Rattle.loaded_jobs.specs.SettingChanges.{set_of, IsChanged, Changes}
+use Rattle.loaded_jobs.specs.declared.settings_change.NewSetting.{NewSetting}
 use Rattle.ctl_protocol.specs.OutcomeLines.{outcome_line}
 use Rattle.replay.specs.Answers.{IsReplied}
-use Rattle.job_table.proofs.ChangesLemmas.{set_same}
+use Rattle.loaded_jobs.proofs.ChangesLemmas.{set_same}
 
 ready_set : (ready : NewSetting) (label : Label) (disabled unload store : Bool) → ready.setting.label ≡ label → ready.setting.disabled ≡ (disabled || unload) → ready.unload ≡ unload
     → set_of ready.setting.label ready.setting.disabled ready.unload store ≡ set_of label disabled unload store

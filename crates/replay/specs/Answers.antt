@@ -2,8 +2,8 @@
 use Rattle.std.specs.Prelude.{◌≡◌, ℕ, List, Option, Some, None}
 use Rattle.history_model.specs.Machine.{State, Event}
 use Rattle.history_model.specs.Step.{outcome, step}
-use Rattle.job_table.specs.Tables.{Table}
-use Rattle.job_table.specs.StandsFor.{KeepsState}
+use Rattle.loaded_jobs.specs.Tables.{Table}
+use Rattle.loaded_jobs.specs.StandsFor.{KeepsState}
 use Rattle.ctl_protocol.specs.OutcomeLines.{outcome_line}
 use Rattle.ctl_protocol.specs.Headers.{header_at}
 use Rattle.ctl_protocol.specs.declared.header.Header.{Header}

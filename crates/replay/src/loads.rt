@@ -1,8 +1,8 @@
 //! Events that ask the outside: a load, of its sockets and of the store, and a setting, of the store.
 ghost use Rattle.std.specs.Prelude.{◌≡◌, IfOk};
 ghost use Rattle.history_model.specs.Machine.{Set, UnloadJob};
-ghost use Rattle.job_table.specs.SettingChanges.{set_of};
-ghost use Rattle.job_table.specs.Loads.{load_of_bytes, refusal_outside};
+ghost use Rattle.loaded_jobs.specs.SettingChanges.{set_of};
+ghost use Rattle.loaded_jobs.specs.Loads.{load_of_bytes, refusal_outside};
 ghost use Rattle.replay.specs.Answers.{IsReplied};
 
 use crate::lines::{accepted_line, answer_line, refused_line};

@@ -16,9 +16,9 @@ use Rattle.calendar_due.specs.ZoneRules.{offsets, minute_at}
 use Rattle.calendar_due.specs.Zone.{IsBadFile, IsOfTable}
 use Rattle.calendar_due.proofs.RuleLemmas.{agrees-not-bad}
 use Rattle.calendar_due.specs.declared.zone.TheConstants.{LONGEST_FILE}
-use Rattle.job_table.specs.Tables.{Table}
-use Rattle.job_table.specs.StandsFor.{KeepsState}
-use Rattle.job_table.specs.Opening.{opening_refusal}
+use Rattle.loaded_jobs.specs.Tables.{Table}
+use Rattle.loaded_jobs.specs.StandsFor.{KeepsState}
+use Rattle.loaded_jobs.specs.Opening.{opening_refusal}
 use Rattle.ctl_protocol.specs.declared.header.Header.{Header}
 use Rattle.ctl_protocol.specs.declared.header.ZoneText.{ZoneText}
 use Rattle.ctl_protocol.specs.declared.header.ZoneText.TheVariants.{Posix, Offset, File}

@@ -1,10 +1,10 @@
 -- The rows are those of the jobs that are not gone, and their calendars those of the machine's jobs.
 use Rattle.std.proofs.Common.{◌≡◌, not, ◌&&◌, ap, sym, subst, ◌∙◌}
 use Rattle.std.specs.List.{list_any}
-use Rattle.job_table.specs.Leaving.{StayBut}
-use Rattle.job_table.specs.Minutes.{is_some_entry, has_calendars}
+use Rattle.loaded_jobs.specs.Leaving.{StayBut}
+use Rattle.loaded_jobs.specs.Minutes.{is_some_entry, has_calendars}
 use Rattle.job_table.proofs.LeastMomentLemmas.{calendars-rows, calendars-jobs}
-use Rattle.job_table.proofs.EventsLemmas.{calendars-rows as stay-rows, calendars-names}
+use Rattle.loaded_jobs.proofs.EventsLemmas.{calendars-rows as stay-rows, calendars-names}
 use Rattle.job_table.proofs.JobTable.has_calendars.Goals as goal
 
 by-flag : (c : goal.In-Nobody) → c.self.inside.jobs.has_calendars ≡ has_calendars c.args.self.now.rows

@@ -1,13 +1,13 @@
 -- The index's least moment is that of the machine's jobs.
 use Rattle.std.proofs.Common.{◌≡◌, ap, sym, subst, ◌∙◌}
 use Rattle.history_model.specs.Machine.{State}
-use Rattle.job_table.specs.StandsFor.{KeepsJobs, KeepsState}
-use Rattle.job_table.specs.Seats.{rows}
-use Rattle.job_table.specs.Index.{AreTimed}
+use Rattle.loaded_jobs.specs.StandsFor.{KeepsJobs, KeepsState}
+use Rattle.loaded_jobs.specs.Seats.{rows}
+use Rattle.loaded_jobs.specs.Index.{AreTimed}
 use Rattle.job_table.specs.NextMoments.{IsNextUp}
-use Rattle.job_table.specs.Tables.{Table}
-use Rattle.job_table.specs.Sound.{seen_table}
-use Rattle.job_table.specs.declared.jobs.Jobs.{Jobs}
+use Rattle.loaded_jobs.specs.Tables.{Table}
+use Rattle.loaded_jobs.specs.Sound.{seen_table}
+use Rattle.loaded_jobs.specs.declared.jobs.Jobs.{Jobs}
 use Rattle.timer_heap.specs.Timers.{IsLeast}
 use Rattle.job_table.proofs.LeastMomentLemmas.{none-up, least-up}
 use Rattle.job_table.proofs.JobTable.next_up.Goals as goal

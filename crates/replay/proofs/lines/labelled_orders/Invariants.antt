@@ -2,7 +2,7 @@
 use Rattle.std.proofs.Common.{◌≡◌, take}
 use Rattle.ctl_protocol.specs.OutcomeLines.{plain_orders}
 use Rattle.job_table.specs.Ends.{names_in}
-use Rattle.job_table.specs.StandsFor.{labelled}
+use Rattle.loaded_jobs.specs.StandsFor.{labelled}
 use Rattle.replay.proofs.lines.labelled_orders.Given as goal
 
 -- the orders before are told

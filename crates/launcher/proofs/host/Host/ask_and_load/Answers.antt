@@ -1,7 +1,7 @@
 -- The load was made, after the outside answered well and its line was written.
 use Rattle.std.proofs.Common.{◌&&◌, false, ap, subst, sym, ◌∙◌}
 use Rattle.history_model.specs.Step.{set_if}
-use Rattle.job_table.specs.Loads.{refusal_outside, described_in}
+use Rattle.loaded_jobs.specs.Loads.{refusal_outside, described_in}
 use Rattle.outside.specs.Asking.{Asks, told_of}
 use Rattle.outside.specs.Stores.{HoldsAfter, stamp_if}
 use Rattle.launcher.specs.JournaledLines.{load_line}

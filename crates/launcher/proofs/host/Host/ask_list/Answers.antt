@@ -2,7 +2,7 @@
 use Rattle.std.proofs.Common.{Some, refl, sym, subst}
 use Rattle.std.specs.String.{string_bytes}
 use Rattle.history_model.specs.declared.event.Event.TheVariants as events
-use Rattle.job_table.specs.Loads.{refused_with}
+use Rattle.loaded_jobs.specs.Loads.{refused_with}
 use Rattle.launcher.specs.Hosts.{Hears}
 use Rattle.launcher.proofs.HostsLemmas.{as_replied}
 use Rattle.launcher.proofs.QuestionLemmas.{listed}

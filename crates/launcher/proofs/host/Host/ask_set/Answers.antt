@@ -2,7 +2,7 @@
 use Rattle.std.proofs.Common.{[], Option, Some, true, sym, subst}
 use Rattle.history_model.specs.declared.Refusal.{Refusal}
 use Rattle.history_model.specs.Labels.{Label}
-use Rattle.job_table.specs.Loads.{refused_with}
+use Rattle.loaded_jobs.specs.Loads.{refused_with}
 use Rattle.launcher.specs.JournaledLines.{journaled_set}
 use Rattle.launcher.specs.LoadTurns.{stamps_after, standing}
 use Rattle.launcher.proofs.HostsLemmas.{as_replied}

@@ -1,7 +1,7 @@
 -- The answer goes to the job that its number stands for.
 use Rattle.launcher.proofs.OneEventLemmas.{handled}
 use Rattle.std.proofs.Common.{ap, ◌∙◌}
-use Rattle.job_table.specs.Tables.{label_of}
+use Rattle.loaded_jobs.specs.Tables.{label_of}
 use Rattle.launcher.proofs.host.Host.handle.Goals as goal
 
 pub returns-clause-handled : goal.returns-clause-handled

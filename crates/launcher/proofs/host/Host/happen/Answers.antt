@@ -2,7 +2,7 @@
 use Rattle.std.proofs.Common.{[], Option, Some, sym, subst}
 use Rattle.history_model.specs.Labels.{Label}
 use Rattle.launcher.specs.JournaledLines.{journaled_by}
-use Rattle.job_table.specs.Loads.{refused_with}
+use Rattle.loaded_jobs.specs.Loads.{refused_with}
 use Rattle.launcher.specs.Hosts.{Hears, label_asked}
 use Rattle.launcher.proofs.HostsLemmas.{as_replied}
 use Rattle.launcher.proofs.HearingLemmas.{happened}

@@ -3,9 +3,9 @@ use Rattle.std.proofs.Common.{◌≡◌, List, Some, ap, subst, sym}
 use Rattle.std.specs.Prelude.{Ok, is_some}
 use Rattle.history_model.specs.Machine.{Load}
 use Rattle.job_defs.specs.Definitions.{given}
-use Rattle.job_table.specs.Tables.{Name, IsOnce, definition_of_number}
+use Rattle.loaded_jobs.specs.Tables.{Name, IsOnce, definition_of_number}
 use Rattle.launcher.proofs.NumbersLemmas.{AreNamed}
-use Rattle.job_table.specs.Loads.{described_in, number_in, new_setting_in}
+use Rattle.loaded_jobs.specs.Loads.{described_in, number_in, new_setting_in}
 use Rattle.launcher.proofs.host.Host.load_ready.Goals as goal
 
 pub returns-clause-made : goal.returns-clause-made

@@ -3,8 +3,8 @@ use Rattle.std.proofs.Common.{◌≡◌, ◌||◌, Bool, true, Some, None, refl,
 use Rattle.history_model.specs.declared.Refusal.TheVariants.{BadRequest, StoreRefused}
 use Rattle.history_model.specs.Machine.{State}
 use Rattle.history_model.specs.Acceptance.{refusal_in, refusal_stored}
-use Rattle.job_table.specs.StandsFor.{KeepsState}
-use Rattle.job_table.specs.SettingChanges.{set_of}
+use Rattle.loaded_jobs.specs.StandsFor.{KeepsState}
+use Rattle.loaded_jobs.specs.SettingChanges.{set_of}
 use Rattle.launcher.specs.HostTurns.{AreNumbered, trace}
 use Rattle.launcher.proofs.NumbersLemmas.{keeps-numbers, same-numbers}
 use Rattle.outside.specs.Stores.{HoldsAfter, set_call}

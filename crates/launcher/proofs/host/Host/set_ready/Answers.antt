@@ -1,6 +1,6 @@
 -- The setting, and then what it orders.
 use Rattle.std.proofs.Common.{ap, refl, ◌∙◌}
-use Rattle.job_table.specs.SettingChanges.{set_of}
+use Rattle.loaded_jobs.specs.SettingChanges.{set_of}
 use Rattle.launcher.proofs.LoadTurnsLemmas.{named-before}
 use Rattle.launcher.proofs.SetTurnsLemmas.{short_set}
 use Rattle.launcher.proofs.host.Host.set_ready.Goals as goal

@@ -3,7 +3,7 @@ use Rattle.std.proofs.Common.{◌≡◌, ◌≤◌, ◌*◌, ◌-◌, List}
 use Rattle.history_model.specs.Machine.{State}
 use Rattle.history_model.specs.Turns.{JobOrder}
 use Rattle.history_model.specs.AwaitedOrders.{weigh_orders}
-use Rattle.job_table.specs.Tables.{Name}
+use Rattle.loaded_jobs.specs.Tables.{Name}
 use Rattle.launcher.specs.HostTurns.{IsWaiting}
 use Rattle.launcher.proofs.SettlingLemmas.{IsSoFar}
 use Rattle.launcher.proofs.host.Host.settle.Given as goal

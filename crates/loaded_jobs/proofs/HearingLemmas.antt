@@ -1,0 +1,100 @@
+-- Once every job has heard the touch, the table stands for the jobs with their items.
+use Rattle.std.proofs.Common.{◌≡◌, ℕ, Bool, true, false, zero, suc, List, [], ◌∷◌, ◌++◌, map, take, drop, Option, Some, None, refl, ap, ◌∙◌, subst, Bor}
+use Rattle.std.specs.Prelude.{Result, Ok, Err, OnOk, if◌then◌else◌}
+use Rattle.history_model.specs.declared.Obs.{Obs}
+use Rattle.history_model.specs.declared.CivilMinute.{CivilMinute}
+use Rattle.history_model.specs.declared.Reading.{Reading as Moment}
+use Rattle.history_model.specs.declared.Refusal.{Refusal}
+use Rattle.history_model.specs.Items.{Item, Saw, History}
+use Rattle.history_model.specs.Clock.{now, definition_of}
+use Rattle.history_model.specs.Facts.{Facts}
+use Rattle.history_model.specs.FactsOfPast.{Keeps, reply}
+use Rattle.history_model.specs.Machine.{Job}
+use Rattle.history_model.specs.Step.{heard, with_item, lists}
+use Rattle.job_defs.specs.Definitions.{definition}
+use Rattle.job_defs.specs.Described.{Described}
+use Rattle.loaded_jobs.specs.StandsFor.{KeepsJobs}
+use Rattle.loaded_jobs.specs.Seats.{row}
+use Rattle.loaded_jobs.specs.Touch.{item_for, nothing_for}
+use Rattle.loaded_jobs.specs.Hearing.{followed, refusal_if, IsHeard, AreHeard, AreFor, IsAccepted, Brings}
+use Rattle.loaded_jobs.specs.declared.seat.Seat.{Seat}
+use Rattle.loaded_jobs.specs.declared.seat.Touch.TheVariants.{Shutdown, Reading, Sight}
+
+pub accepted-kept : (result : Result (Unit {0}) Refusal) (o : Option Refusal) (new : Facts) (past : History) → result ≡ reply o → o ≡ None → OnOk result (Keeps new past) → Keeps new past
+accepted-kept (Ok u) o new past is none kept = kept
+accepted-kept (Err r) None new past is none kept = cc
+accepted-kept (Err r) (Some s) new past is none kept = cc
+
+pub heard-as : {at : Moment} {o p : Option Item} {e new : Seat} → o ≡ p → IsHeard at o e new → IsHeard at p e new
+heard-as {at} {o} {p} {e} {new} same heard = subst (λ q. IsHeard at q e new) same heard
+
+pub heard-nothing : {at : Moment} {e : Seat} → IsHeard at None e e
+heard-nothing = record { name = refl; going = refl; decided = refl; kept = λ past keeps present fine. keeps }
+
+pub label-with : (job : Job) (o : Option Item) → job.label ≡ (with_item job o).label
+label-with job None = refl
+label-with job (Some item) = refl
+
+pub past-with : (job : Job) (o : Option Item) → followed o job.past ≡ (with_item job o).past
+past-with job None = refl
+past-with job (Some item) = refl
+
+-- ---- what is heard leaves the definition, and brings the reading
+
+sight-definition : (past : History) (b : Bool) (path : List ℕ) (obs : Obs) → definition_of past ≡ definition_of (followed (if b then Some (Saw path obs) else None) past)
+sight-definition past true path obs = refl
+sight-definition past false path obs = refl
+
+sight-present : (past : History) (b : Bool) (path : List ℕ) (obs : Obs) → now past ≡ now (followed (if b then Some (Saw path obs) else None) past)
+sight-present past true path obs = refl
+sight-present past false path obs = refl
+
+pub sight-brings : (path : Bor (List ℕ)) (obs : Obs) (at : Moment) → Brings (item_for (Sight path obs)) at at
+sight-brings path obs at = record {
+  present = λ d past is. is ∙ sight-present past (lists (definition d) path.now) path.now obs;
+  definition = λ d past. sight-definition past (lists (definition d) path.now) path.now obs;
+}
+
+pub shutdown-brings : (at : Moment) → Brings (item_for Shutdown) at at
+shutdown-brings at = record { present = λ d past is. is; definition = λ d past. refl }
+
+pub reading-brings : (before at : Moment) (minutes : Bor (List CivilMinute)) → Brings (item_for (Reading at minutes)) before at
+reading-brings before at minutes = record { present = λ d past is. refl; definition = λ d past. refl }
+
+pub nothing-brings : (at : Moment) → Brings nothing_for at at
+nothing-brings at = record { present = λ d past is. is; definition = λ d past. refl }
+
+module _ (hears : Described → Option Item) (before at : Moment) (brings : Brings hears before at) where
+  pub definition-with : (job : Job) (d : Described) (o : Option Item) → hears d ≡ o → definition_of job.past ≡ definition_of (with_item job o).past
+  definition-with job d o same = brings.definition d job.past ∙ ap (λ p. definition_of (followed p job.past)) same ∙ ap definition_of (past-with job o)
+
+  pub present-with : (job : Job) (d : Described) (o : Option Item) → hears d ≡ o → before ≡ now job.past → at ≡ now (with_item job o).past
+  present-with job d o same is = brings.present d job.past is ∙ ap (λ p. now (followed p job.past)) same ∙ ap now (past-with job o)
+
+pub take-of-drop : {X : Type 0} (xs : List X) (i : ℕ) (x : X) (rest : List X) → drop i xs ≡ x ∷ rest → take (suc i) xs ≡ take i xs ++ x ∷ []
+take-of-drop [] zero x rest e = cc
+take-of-drop [] (suc i) x rest e = cc
+take-of-drop (y ∷ ys) zero x rest e = let same : y ≡ x = cc in ap (λ z. z ∷ []) same
+take-of-drop (y ∷ ys) (suc i) x rest e = ap (λ zs. y ∷ zs) (take-of-drop ys i x rest e)
+
+module _ (hears : Described → Option Item) (before at : Moment) (brings : Brings hears before at) where
+  -- each job of the machine with its item
+  pub heard-rows : (item : Job → Option Item) (es later : List Seat) (jobs : List Job) → AreHeard before hears es later → AreFor hears item (map row es) jobs → IsAccepted before item →
+      KeepsJobs before (map row es) jobs → KeepsJobs at (map row later) (heard item jobs)
+  heard-rows item [] [] [] all for accepted keeps = tt
+  heard-rows item [] [] (job ∷ jobs) all for accepted keeps = absurd keeps
+  heard-rows item [] (n ∷ ns) jobs all for accepted keeps = absurd all
+  heard-rows item (e ∷ es) [] jobs all for accepted keeps = absurd all
+  heard-rows item (e ∷ es) (n ∷ ns) [] all for accepted keeps = absurd keeps
+  heard-rows item (e ∷ es) (n ∷ ns) (job ∷ jobs) all for accepted keeps =
+      let this = keeps.0 in
+      let same : hears e.def ≡ item job = for.0 in
+      let past = all.0.kept job.past this.keeps this.present (ap (λ o. refusal_if o job.past) same ∙ accepted job this.present) in (
+        record {
+          label = ap (λ m. m.described.label) all.0.name ∙ this.label ∙ label-with job (item job);
+          definition = ap (λ m. definition m.described) all.0.name ∙ this.definition ∙ definition-with hears before at brings job e.def (item job) same;
+          keeps = subst (Keeps n.core.facts) (ap (λ o. followed o job.past) same ∙ past-with job (item job)) past;
+          present = present-with hears before at brings job e.def (item job) same this.present;
+        },
+        heard-rows item es ns jobs all.1 for.1 accepted keeps.1,
+      )

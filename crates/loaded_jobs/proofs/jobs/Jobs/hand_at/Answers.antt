@@ -1,0 +1,73 @@
+-- The event goes to the one job at the place.
+use Rattle.std.proofs.Common.{◌≡◌, true, ap, subst, sym, ◌∙◌, refl}
+use Rattle.std.specs.List.{list_all}
+use Rattle.history_model.specs.JobItems.{item_of}
+use Rattle.history_model.specs.MachineLaws.{AreInOrder}
+use Rattle.loaded_jobs.specs.Periods.{HavePeriods}
+use Rattle.loaded_jobs.specs.Tables.{IsOnce, is_known, labels_in}
+use Rattle.loaded_jobs.specs.Triggers.{AreListed}
+use Rattle.loaded_jobs.specs.Loads.{refused_with}
+use Rattle.loaded_jobs.specs.Sound.{AreFree}
+use Rattle.loaded_jobs.specs.Index.{IsNamed}
+use Rattle.loaded_jobs.specs.Minutes.{some_calendar}
+use Rattle.loaded_jobs.specs.declared.seat.Seat.{Seat}
+use Rattle.loaded_jobs.proofs.EventsLemmas.{silent}
+use Rattle.loaded_jobs.proofs.PlacesLemmas.{IsHanded, answers, heard-kept, handed}
+use Rattle.loaded_jobs.proofs.CountsLemmas.{counts-set}
+use Rattle.loaded_jobs.proofs.HeldNumbersLemmas.{held-names}
+use Rattle.loaded_jobs.proofs.TellingLemmas.{refusal-reply}
+use Rattle.loaded_jobs.proofs.TouchedLemmas.{changed-at, handed-at}
+use Rattle.loaded_jobs.proofs.jobs.Jobs.hand_at.Goals as goal
+
+abbrev after : goal.After-self-1 → Seat
+after c = let e = c.index_mut-seat.result.now in record { number = e.number; def = e.def; core = c.event.new.self; has_gone = e.has_gone }
+
+seat-handed : (c : goal.After-self-1) → IsHanded c.args.self.now.seats.items c.args.place c.index_mut-seat.result.now (after c)
+seat-handed c = handed c.args.self.now.seats.items c.args.place c.index_mut-seat.result.now (after c) c.requires.stay c.requires.inside c.index_mut-seat.ensures.value refl refl
+
+pub returns-clause-answer : goal.returns-clause-answer
+returns-clause-answer c = λ label jobs at keeps.
+    ap refused_with (answers c.args.self.now.reading label (item_of c.args.item) c.args.self.now.seats.items c.args.place c.index_mut-seat.result.now jobs c.event.result
+    c.requires.stay at c.index_mut-seat.ensures.value c.event.ensures.refused keeps)
+    ∙ refusal-reply _
+
+pub returns-clause-place : goal.returns-clause-place
+returns-clause-place c = λ label at. handed-at label c.args.self.now.seats.items c.args.place c.index_mut-seat.result.now (after c) at c.index_mut-seat.ensures.value refl
+
+pub returns-clause-others : goal.returns-clause-others
+returns-clause-others c = changed-at c.args.self.now.seats.items c.args.place (after c) c.requires.inside
+
+pub returns-clause-kept : goal.returns-clause-kept
+returns-clause-kept c = λ label jobs at keeps.
+    heard-kept c.args.self.now.reading label (item_of c.args.item) c.args.self.now.seats.items c.args.place c.index_mut-seat.result.now (after c) jobs c.event.result
+    c.requires.stay at c.index_mut-seat.ensures.value refl refl (silent c.args.item) c.event.ensures.kept keeps
+
+pub returns-clause-stay : goal.returns-clause-stay
+returns-clause-stay c = (seat-handed c).stay
+
+pub returns-clause-names : goal.returns-clause-names
+returns-clause-names c = (seat-handed c).names
+
+pub returns-clause-counts : goal.returns-clause-counts
+returns-clause-counts c =
+    counts-set c.args.self.now.seats.items c.args.place c.index_mut-seat.result.now (after c) c.requires.stay (seat-handed c).stay c.requires.inside
+    c.index_mut-seat.ensures.value refl c.event.ensures.decided
+
+pub returns-clause-sound : goal.returns-clause-sound
+returns-clause-sound c =
+    let is = seat-handed c in
+    record {
+      in_range = c.requires.sound.in_range;
+      wall = c.requires.sound.wall;
+      once = subst IsOnce (sym is.names) c.requires.sound.once;
+      held = held-names _ _ c.args.self.now.numbers (sym is.names) c.requires.sound.held;
+      free = subst (AreFree c.args.self.now.numbers) (sym is.names) c.requires.sound.free;
+      known = subst (λ ns. list_all (is_known ns) c.args.self.now.orders.items ≡ true) (sym is.names) c.requires.sound.known;
+      few = c.requires.sound.few;
+      room = c.requires.sound.room;
+      named = subst (IsNamed c.args.self.now.index) (sym is.names) c.requires.sound.named;
+      periods = subst HavePeriods (sym is.names) c.requires.sound.periods;
+      calendars = c.requires.sound.calendars ∙ ap some_calendar (sym is.names);
+      listed = subst (AreListed c.args.self.now.triggers.items) (sym is.names) c.requires.sound.listed;
+      order = subst (λ ns. AreInOrder (labels_in ns)) (sym is.names) c.requires.sound.order;
+    }

@@ -1,0 +1,163 @@
+-- The new job stands among the others, which rest, and the label's setting before the others.
+use Rattle.std.proofs.Common.{◌≡◌, ◌≤◌, ◌<◌, suc, Some, map, refl, ap, sym, subst, ◌∙◌, [], ◌∷◌, drop, length, arith}
+use Rattle.std.specs.Prelude.{is_some, Ok}
+use Rattle.std.specs.List.{filter, position, AllByRecursion}
+use Rattle.std.specs.Vec.{with_items}
+use Rattle.calendar_due.specs.ZoneRules.{minute_at}
+use Rattle.history_model.specs.Search.{first}
+use Rattle.history_model.specs.Labels.{Label}
+use Rattle.history_model.specs.Items.{Loaded}
+use Rattle.history_model.specs.FactsOfPast.{Keeps}
+use Rattle.history_model.specs.Machine.{Job, Load, sets}
+use Rattle.history_model.specs.Step.{taken, with_job}
+use Rattle.history_model.specs.Texts.{load_text}
+use Rattle.job_defs.specs.Definitions.{definition, given}
+use Rattle.loaded_jobs.specs.Tables.{IsOnce, Row, definition_of_number}
+use Rattle.loaded_jobs.specs.StandsFor.{KeepsJob, KeepsJobs}
+use Rattle.loaded_jobs.specs.Seats.{row, name, rows, AllStay, is_above, place_for}
+use Rattle.loaded_jobs.specs.Counts.{counts, count_in}
+use Rattle.loaded_jobs.specs.Index.{ArePlaced}
+use Rattle.loaded_jobs.specs.Sound.{seen_table}
+use Rattle.loaded_jobs.specs.Touched.{RestBut}
+use Rattle.loaded_jobs.specs.Touch.{is_at}
+use Rattle.loaded_jobs.specs.declared.jobs.Jobs.{Jobs}
+use Rattle.loaded_jobs.proofs.CountsLemmas.{counted-from, counts-placed}
+use Rattle.loaded_jobs.proofs.NewJobLemmas.{place-low, more-seats, new-apart, rest-entered, entered-sound, replaced-sound, timed-entered}
+use Rattle.loaded_jobs.proofs.EnteringLemmas.{stay-names, stay-placed, entered-kept}
+use Rattle.loaded_jobs.proofs.EventsLemmas.{own-jobs, IsHead}
+use Rattle.loaded_jobs.proofs.ListLemmas.{lent-back}
+use Rattle.loaded_jobs.proofs.NumbersLemmas.{numbered, named-placed}
+use Rattle.loaded_jobs.proofs.PlacesLemmas.{rows-all}
+use Rattle.loaded_jobs.proofs.SettingLemmas.{settings-after}
+use Rattle.loaded_jobs.proofs.OutcomesLemmas.{accepted}
+use Rattle.loaded_jobs.proofs.TouchedLemmas.{heard-already}
+use Rattle.loaded_jobs.proofs.jobs.Jobs.load.Goals as goal
+
+pub place_all-requires-clause-once : goal.place_all-requires-clause-once
+place_all-requires-clause-once c =
+    let e = c.enter.ensures in
+    subst (λ all. IsOnce (map name all)) (sym c.deref.ensures.value)
+    (entered-sound c.args.self.now c.enter.new.self c.args.ready c.requires.sound.sound c.requires.ready e.alike.reading e.seats e.count e.orders e.vacant e.numbers e.index e.period e.calendars e.exact e.listed).once
+
+pub place_all-requires-clause-fits : goal.place_all-requires-clause-fits
+place_all-requires-clause-fits c = λ number named.
+    let e = c.enter.ensures in
+    subst (λ ps. number < length ps) (sym c.deref_mut.ensures.value)
+    ((entered-sound c.args.self.now c.enter.new.self c.args.ready c.requires.sound.sound c.requires.ready e.alike.reading e.seats e.count e.orders e.vacant e.numbers e.index e.period e.calendars e.exact e.listed).named.fits number
+    (ap (λ all. is_some (definition_of_number (map name all) number)) (sym c.deref.ensures.value) ∙ named))
+
+pub ask_at-requires-clause-can : goal.ask_at-requires-clause-can
+ask_at-requires-clause-can c =
+    record {
+      sound = (
+          let e = c.enter.ensures in
+          let t = c.enter.new.self in
+          let after = c.place_all.new.places in
+          let lent = lent-back after (drop (length after) t.index.places.items) t.index.places.len (omega arith) in
+          replaced-sound t (with_items t.index.places after) (ap length lent ∙ c.place_all.ensures.length ∙ ap length c.deref_mut.ensures.value)
+          (entered-sound c.args.self.now t c.args.ready c.requires.sound.sound c.requires.ready e.alike.reading e.seats e.count e.orders e.vacant e.numbers e.index e.period e.calendars e.exact e.listed)
+          );
+      stay = (
+          let es = c.args.self.now.seats.items in
+          let new = c.args.ready.seat in
+          subst AllStay (sym c.enter.ensures.seats) (stay-placed new es (place_for new.def.label es) c.requires.ready.stays (stay-names es c.requires.ready.tidy))
+          );
+      empty = (
+          ap (λ orders. orders.items) c.enter.ensures.orders ∙ c.requires.ready.empty
+          );
+      placed = (
+          let t = c.enter.new.self in
+          let after = c.place_all.new.places in
+          let lent = lent-back after (drop (length after) t.index.places.items) t.index.places.len (omega arith) in
+          subst (λ ps. ArePlaced ps t.seats.items) (sym lent) (subst (ArePlaced after) c.deref.ensures.value c.place_all.ensures.placed)
+          );
+      timed = (
+          let old = c.args.self.now in
+          let es = old.seats.items in
+          let new = c.args.ready.seat in
+          let t = c.enter.new.self in
+          timed-entered old (record t { index = record t.index { places = with_items t.index.places c.place_all.new.places } }) new (place_for new.def.label es) c.args.place c.enter.ensures.seats
+          c.requires.place (place-low (is_above new.def.label) es (position (is_above new.def.label) es) refl) c.requires.sound.indexed
+          (ap (λ i. i.timers) c.enter.ensures.index) c.enter.ensures.alike.reading
+          );
+    }
+
+pub ask_at-requires-clause-inside : goal.ask_at-requires-clause-inside
+ask_at-requires-clause-inside c =
+    let es = c.args.self.now.seats.items in
+    let new = c.args.ready.seat in
+    let k = place_for new.def.label es in
+    let low : k ≤ length es = place-low (is_above new.def.label) es (position (is_above new.def.label) es) refl in
+    let more : length c.enter.new.self.seats.items ≡ suc (length es) = ap length c.enter.ensures.seats ∙ more-seats new es k in
+    let at : c.args.place ≡ k = c.requires.place in
+    omega (arith, low, more, at)
+
+pub returns-clause-loads : goal.returns-clause-loads
+returns-clause-loads c = λ s force bind store keeps none.
+    let old = c.args.self.now in
+    let es = old.seats.items in
+    let new = c.args.ready.seat in
+    let label = new.def.label in
+    let e = Load (Ok (given new.def)) (is_some c.args.ready.setting) force bind store in
+    let t : Jobs = record c.enter.new.self { index = record c.enter.new.self.index { places = with_items c.enter.new.self.index.places c.place_all.new.places } } in
+    let alike = c.enter.ensures.alike in
+    let job : Job = record { label = label; past = Loaded (definition new.def) s.reading ∷ [] } in
+    let this : KeepsJob old.reading (row new) job = record {
+      label = refl;
+      definition = refl;
+      keeps = subst (λ at. Keeps new.core.facts (Loaded (definition new.def) at ∷ [])) keeps.reading c.requires.ready.loaded;
+      present = keeps.reading;
+    } in
+    let stay = stay-names es c.requires.ready.tidy in
+    let before = own-jobs old s keeps in
+    let jobs = entered-kept old.reading new job this es s.jobs stay c.requires.ready.stays before in
+    let here : KeepsJobs t.reading (rows t.seats.items) (with_job job s.jobs) =
+    subst (λ at. KeepsJobs at (rows t.seats.items) (with_job job s.jobs)) (sym alike.reading)
+    (subst (λ all. KeepsJobs old.reading (rows all) (with_job job s.jobs)) (sym c.enter.ensures.seats) jobs) in
+    let rests : RestBut (is_at c.args.place) 0 (rows t.seats.items) (with_job job s.jobs) =
+    subst (λ place. RestBut (is_at place) 0 (rows t.seats.items) (with_job job s.jobs)) (sym c.requires.place)
+    (rest-entered old.reading new job this (rows t.seats.items) es s.jobs (position (is_above label) es) (subst (λ rs. KeepsJobs old.reading rs s.jobs) (rows-all es stay) before) refl keeps.rests) in
+    let after : IsHead t (taken s e) = record {
+      reading = alike.reading ∙ keeps.reading;
+      zone = ap minute_at alike.zone ∙ keeps.zone;
+      settings = λ l. ap (λ held. first (filter (sets l) held.items)) alike.settings ∙ c.set_if.ensures.kept l
+          ∙ settings-after c.args.ready.setting label old.settings.items s.settings c.requires.ready.setting keeps.settings l;
+      shutdown = alike.shutdown ∙ keeps.shutdown;
+    } in
+    let done = accepted (seen_table old) (seen_table c.ask_at.new.self) s e (load_text new.def.not_acted_on) c.requires.sound.sound.in_range keeps none
+    (heard-already t c.ask_at.new.self (taken s e) c.args.place c.ask_at.ensures.alike after here rests c.ask_at.ensures.kept c.ask_at.ensures.orders) refl in
+    record { kept = done.kept; outcome = done.outcome }
+
+pub returns-clause-counted : goal.returns-clause-counted
+returns-clause-counted c =
+    let es = c.args.self.now.seats.items in
+    let new = c.args.ready.seat in
+    let t = c.enter.new.self in
+    let same : (label : Label) → count_in (counts (rows t.seats.items)) label ≡ count_in (counts (rows es)) label = λ label. ap (λ all. count_in (counts (rows all)) label) c.enter.ensures.seats
+    ∙ counts-placed new es (place_for new.def.label es) label (stay-names es c.requires.ready.tidy) c.requires.ready.stays c.requires.ready.absent c.requires.ready.fresh in
+    counted-from (counts (rows t.seats.items)) (counts (rows es)) _ _ _ same c.ask_at.ensures.counted
+
+-- no job of another label was asked
+pub returns-clause-spared : goal.returns-clause-spared
+returns-clause-spared c = λ force bind store s keeps label past found apart.
+    let es = c.args.self.now.seats.items in
+    let new = c.args.ready.seat in
+    let k = place_for new.def.label es in
+    let t = c.enter.new.self in
+    c.ask_at.ensures.spared label
+    (new-apart new es t.seats.items k c.args.place label c.enter.ensures.seats c.requires.place
+    (place-low (is_above new.def.label) es (position (is_above new.def.label) es) refl) apart)
+    ∙ ap (λ all. count_in (counts (rows all)) label) c.enter.ensures.seats
+    ∙ counts-placed new es k label (stay-names es c.requires.ready.tidy) c.requires.ready.stays c.requires.ready.absent c.requires.ready.fresh
+
+pub returns-clause-names : goal.returns-clause-names
+returns-clause-names c =
+    let es = c.args.self.now.seats.items in
+    let new = c.args.ready.seat in
+    let names = c.ask_at.ensures.names ∙ ap (map name) c.enter.ensures.seats in
+    let each = named-placed new es (place_for new.def.label es) (subst IsOnce names c.ask_at.ensures.whole.sound.once) in
+    record {
+      numbered = numbered c.ask_at.new.self c.ask_at.ensures.whole.sound;
+      others = subst (λ ns. AllByRecursion (λ (r : Row). definition_of_number ns r.number ≡ Some r.described) (rows es)) (sym names) each.1;
+      own = subst (λ ns. definition_of_number ns new.number ≡ Some new.def) (sym names) each.0;
+    }

@@ -1,0 +1,62 @@
+-- The sight is heard by the jobs that list the path.
+use Rattle.std.proofs.Common.{refl, [], ap, ◌∙◌}
+use Rattle.history_model.specs.Items.{Saw}
+use Rattle.history_model.specs.Machine.{State, Sight}
+use Rattle.history_model.specs.Step.{sight_of, taken}
+use Rattle.loaded_jobs.specs.StandsFor.{KeepsState}
+use Rattle.loaded_jobs.specs.Counts.{counts, count_in}
+use Rattle.loaded_jobs.specs.Seats.{rows}
+use Rattle.loaded_jobs.specs.TableOutcomes.{plain_outcome}
+use Rattle.loaded_jobs.specs.Sound.{seen_table}
+use Rattle.loaded_jobs.specs.Touch.{reaches}
+use Rattle.loaded_jobs.specs.declared.seat.Touch.TheVariants as touch
+use Rattle.loaded_jobs.proofs.HearingLemmas.{sight-brings}
+use Rattle.loaded_jobs.proofs.OutcomesLemmas.{IsDone, accepted}
+use Rattle.loaded_jobs.proofs.EventsLemmas.{alike-state, own-jobs, head, with_orders-so, sights, sights-fine}
+use Rattle.loaded_jobs.proofs.TouchedLemmas.{rest-each, unlisted-spared}
+use Rattle.std.specs.Prelude.{Ok}
+use Rattle.loaded_jobs.proofs.jobs.Jobs.saw.Goals as goal
+
+pub ask_touched-requires-clause-can : goal.ask_touched-requires-clause-can
+ask_touched-requires-clause-can c = record {
+  sound = c.begin.ensures.sound;
+  stay = c.begin.ensures.stay;
+  empty = c.begin.ensures.orders;
+  placed = c.begin.ensures.whole.indexed.placed;
+  timed = λ k e there apart. c.begin.ensures.whole.indexed.timed k e there;
+}
+
+pub ask_touched-requires-clause-brings : goal.ask_touched-requires-clause-brings
+ask_touched-requires-clause-brings c = sight-brings c.args.path c.args.obs c.begin.new.self.reading
+
+done : (c : goal.After-ask_touched) (s : State) → KeepsState (seen_table c.args.self.now) s →
+    IsDone s (Sight c.args.path.now c.args.obs) (seen_table c.ask_touched.new.self) (plain_outcome (Ok tt) (seen_table c.ask_touched.new.self))
+done c s keeps =
+    let path = c.args.path in
+    let obs = c.args.obs in
+    let begun = c.begin.new.self in
+    let after = c.ask_touched.new.self in
+    let start = alike-state c.args.self.now begun s c.begin.ensures.alike keeps c.begin.ensures.rows in
+    let jobs = own-jobs begun s start in
+    let item = sight_of path.now (Saw path.now obs) in
+    let for = sights begun.reading path obs (rows begun.seats.items) s.jobs jobs in
+    let same = head c.args.self.now begun s c.begin.ensures.alike keeps in
+    let rests = rest-each (reaches (touch.Sight path obs)) 0 (rows begun.seats.items) s.jobs keeps.rests in
+    accepted (seen_table c.args.self.now) (seen_table after) s (Sight path.now obs) [] c.requires.sound.sound.in_range keeps refl
+    (with_orders-so begun after (taken s (Sight path.now obs)) c.ask_touched.ensures.alike
+    (record { reading = same.reading; zone = same.zone; settings = same.settings; shutdown = same.shutdown })
+    (c.ask_touched.ensures.kept s.jobs item for (sights-fine begun.reading path.now obs) rests jobs)
+    (c.ask_touched.ensures.orders s.jobs item for (sights-fine begun.reading path.now obs) rests jobs)) refl
+
+pub returns-clause-answer : goal.returns-clause-answer
+returns-clause-answer c = λ s keeps. (done c s keeps).outcome
+
+pub returns-clause-kept : goal.returns-clause-kept
+returns-clause-kept c = λ s keeps. (done c s keeps).kept
+
+pub returns-clause-spared : goal.returns-clause-spared
+returns-clause-spared c = λ s keeps label past found apart.
+    let begun = c.begin.new.self in
+    let start = alike-state c.args.self.now begun s c.begin.ensures.alike keeps c.begin.ensures.rows in
+    unlisted-spared c.args.path c.args.obs begun c.ask_touched.new.self s label past (own-jobs begun s start) c.begin.ensures.stay c.begin.ensures.sound.once c.ask_touched.ensures.spared found apart
+    ∙ ap (λ rs. count_in (counts rs) label) c.begin.ensures.rows

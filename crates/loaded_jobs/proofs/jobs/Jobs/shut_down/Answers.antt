@@ -1,0 +1,60 @@
+-- The shutdown is heard by every job.
+use Rattle.std.proofs.Common.{Option, true, refl, ap, sym, [], Some, None, ◌∙◌}
+use Rattle.std.specs.Prelude.{Ok}
+use Rattle.history_model.specs.declared.Ask.TheVariants.{Shutdown}
+use Rattle.history_model.specs.declared.Refusal.TheVariants.{ShuttingDown}
+use Rattle.history_model.specs.Items.{Item, Asked}
+use Rattle.history_model.specs.Acceptance.{refused_if}
+use Rattle.history_model.specs.Machine.{State, Job, ShutDown}
+use Rattle.history_model.specs.Step.{taken}
+use Rattle.loaded_jobs.specs.StandsFor.{KeepsState}
+use Rattle.loaded_jobs.specs.Seats.{rows}
+use Rattle.loaded_jobs.specs.TableOutcomes.{plain_outcome}
+use Rattle.loaded_jobs.specs.Sound.{seen_table}
+use Rattle.loaded_jobs.specs.Touch.{reaches}
+use Rattle.loaded_jobs.specs.declared.seat.Touch.TheVariants as touch
+use Rattle.loaded_jobs.proofs.HearingLemmas.{shutdown-brings}
+use Rattle.loaded_jobs.specs.declared.jobs.Jobs.{Jobs}
+use Rattle.loaded_jobs.proofs.OutcomesLemmas.{IsDone, accepted}
+use Rattle.loaded_jobs.proofs.EventsLemmas.{alike-state, own-jobs, head, with_orders-so, shutdowns}
+use Rattle.loaded_jobs.proofs.TouchedLemmas.{rest-each}
+use Rattle.loaded_jobs.proofs.jobs.Jobs.shut_down.Goals as goal
+
+pub ask_touched-requires-clause-can : goal.ask_touched-requires-clause-can
+ask_touched-requires-clause-can c = record {
+  sound = c.begin.ensures.sound;
+  stay = c.begin.ensures.stay;
+  empty = c.begin.ensures.orders;
+  placed = c.begin.ensures.whole.indexed.placed;
+  timed = λ k e there apart. c.begin.ensures.whole.indexed.timed k e there;
+}
+
+pub ask_touched-requires-clause-brings : goal.ask_touched-requires-clause-brings
+ask_touched-requires-clause-brings c = shutdown-brings c.begin.new.self.reading
+
+-- the table that is left
+abbrev going-as : goal.After-self-1 → Jobs
+going-as c = record c.ask_touched.new.self { is_shutting_down = true }
+
+done : (c : goal.After-self-1) (s : State) → KeepsState (seen_table c.args.self.now) s → IsDone s ShutDown (seen_table (going-as c)) (plain_outcome (Ok tt) (seen_table (going-as c)))
+done c s keeps =
+    let begun = c.begin.new.self in
+    let start = alike-state c.args.self.now begun s c.begin.ensures.alike keeps c.begin.ensures.rows in
+    let jobs = own-jobs begun s start in
+    let item : Job → Option Item = λ job. Some (Asked Shutdown) in
+    let for = shutdowns (rows begun.seats.items) s.jobs in
+    let rests = rest-each (reaches touch.Shutdown) 0 (rows begun.seats.items) s.jobs keeps.rests in
+    let same = head c.args.self.now begun s c.begin.ensures.alike keeps in
+    let alike = c.ask_touched.ensures.alike in
+    accepted (seen_table c.args.self.now) (seen_table (going-as c)) s ShutDown [] c.requires.sound.sound.in_range keeps (ap (λ b. refused_if b ShuttingDown None) (sym keeps.shutdown ∙ c.if-self.false))
+    (with_orders-so (record begun { is_shutting_down = true }) (going-as c) (taken s ShutDown)
+    (record { reading = alike.reading; zone = alike.zone; settings = alike.settings; shutdown = refl })
+    (record { reading = same.reading; zone = same.zone; settings = same.settings; shutdown = refl })
+    (c.ask_touched.ensures.kept s.jobs item for (λ job present. refl) rests jobs)
+    (c.ask_touched.ensures.orders s.jobs item for (λ job present. refl) rests jobs)) refl
+
+pub returns-clause-answer : goal.returns-clause-answer
+returns-clause-answer c = λ s keeps. (done c s keeps).outcome
+
+pub returns-clause-kept : goal.returns-clause-kept
+returns-clause-kept c = λ s keeps. (done c s keeps).kept

@@ -1,0 +1,24 @@
+-- The touch is one item, or none, for this job.
+use Rattle.std.proofs.Common.{ap, ◌∙◌, sym}
+use Rattle.std.specs.Prelude.{Some, None, if◌then◌else◌}
+use Rattle.std.specs.List.{list_any}
+use Rattle.history_model.specs.Calendar.{matches}
+use Rattle.history_model.specs.Items.{Read, Saw}
+use Rattle.history_model.specs.Step.{lists}
+use Rattle.job_defs.specs.Definitions.{definition}
+use Rattle.loaded_jobs.specs.Touch.{item_for}
+use Rattle.loaded_jobs.proofs.HearingLemmas.{heard-as, heard-nothing}
+use Rattle.loaded_jobs.proofs.seat.Seat.hear.Goals as goal
+
+pub returns-in-Reading : goal.returns-in-Reading
+returns-in-Reading c =
+    let fires = c.fires-fires.ensures.any ∙ ap (λ entries. list_any (λ minute. list_any (λ entry. matches entry minute) entries) c.in-Reading.minutes.now) c.calendar.ensures in
+    heard-as (ap (λ b. Some (Read c.in-Reading.at b)) fires ∙ ap (λ n. item_for n c.args.self.now.def) (sym c.in-Reading.is)) c.take_in-in-Reading.ensures
+
+pub returns-then-lists : goal.returns-then-lists
+returns-then-lists c =
+    heard-as (ap (λ b. if b then Some (Saw c.in-Sight.path.now c.in-Sight.obs) else None) (sym c.if-lists.true ∙ c.lists.ensures ∙ ap (λ d. lists (definition d) c.in-Sight.path.now) c.lent.ensures) ∙ ap (λ n. item_for n c.args.self.now.def) (sym c.in-Sight.is)) c.take_in-then-lists.ensures
+
+pub returns-else-lists : goal.returns-else-lists
+returns-else-lists c =
+    heard-as (ap (λ b. if b then Some (Saw c.in-Sight.path.now c.in-Sight.obs) else None) (sym c.if-lists.false ∙ c.lists.ensures ∙ ap (λ d. lists (definition d) c.in-Sight.path.now) c.lent.ensures) ∙ ap (λ n. item_for n c.args.self.now.def) (sym c.in-Sight.is)) heard-nothing

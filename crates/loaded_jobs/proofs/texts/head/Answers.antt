@@ -1,0 +1,5 @@
+-- The state's word stands in the text.
+use Rattle.loaded_jobs.proofs.texts.head.Goals as goal
+
+pub returns : goal.returns
+returns c = rw c.doing-state.ensures at c.format.ensures.ok

@@ -1,0 +1,200 @@
+//! What happens to the loaded jobs.
+
+ghost use Rattle.std.specs.Prelude.{◌≡◌, ◌≤◌, Ok, Err, OnOk, IfOk, IfErr, Bool, true, false};
+ghost use Rattle.history_model.specs.declared.TheConstants.{MAX_WALL};
+ghost use Rattle.history_model.specs.Acceptance.{is_heard};
+ghost use Rattle.history_model.specs.Refusals.{is_clock_refused};
+ghost use Rattle.history_model.specs.Items.{Answered};
+ghost use Rattle.history_model.specs.Machine.{OfJob, UnloadJob, ShutDown, Tick, Sight};
+ghost use Rattle.history_model.specs.JobItems.{item_of};
+ghost use Rattle.history_model.specs.declared.Refusal.TheVariants.{NoMemory};
+ghost use Rattle.loaded_jobs.specs.TableOutcomes.{IsOutcome, IsNextTable, UnlessMemory, IsNextTableUnless};
+ghost use Rattle.loaded_jobs.specs.Minutes.{AreMinutes, has_calendars};
+ghost use Rattle.loaded_jobs.specs.Tables.{label_of};
+ghost use Rattle.loaded_jobs.specs.Seats.{AllStay};
+ghost use Rattle.loaded_jobs.specs.Counts.{counts, Counts, IsCounted};
+ghost use Rattle.loaded_jobs.specs.Numbers.{row_names, KeepsNames};
+ghost use Rattle.loaded_jobs.specs.Room.{HasSameRoom};
+ghost use Rattle.loaded_jobs.specs.Touching.{SparesUntouched, SparesOthers};
+ghost use Rattle.job_core.specs.Memory.{NeedsNoMemory};
+
+use crate::jobs::Jobs;
+use crate::places::{place_of, place_of_number};
+use crate::seat::Touch;
+use history_model::{
+    Answer, Ask, CivilMinute, JobItem, JobNo, MAX_UP, MAX_WALL, Obs, Reading, Refusal,
+};
+use job_defs::is_label;
+use std::alloc::Global;
+
+impl Jobs {
+    ghost use Rattle.loaded_jobs.specs.Sound.{seen_table, IsSound, IsWhole};
+    ghost use Rattle.loaded_jobs.specs.Alike.{IsAlike};
+
+    /// Tells the job with this label what happened to it, then asks it.
+    pub fn hear(&mut self, label: &str, item: JobItem) -> Result<(), Refusal>
+        requires sound { IsWhole self.old }
+        ensures answer { IsOutcome (OfJob label.now (item_of item)) (seen_table self.old) result
+            (seen_table self.new) }
+        ensures kept { IsNextTable (OfJob label.now (item_of item)) (seen_table self.old)
+            (seen_table self.new) }
+        ensures counted { Counts result (seen_table self.old) (seen_table self.new) }
+        ensures spared { SparesOthers (OfJob label.now (item_of item)) (seen_table self.old)
+            (seen_table self.new) }
+        ensures names { KeepsNames result (seen_table self.old) (seen_table self.new) }
+        ensures room { HasSameRoom (seen_table self.old) (seen_table self.new) }
+        ensures memory { NeedsNoMemory result }
+        ensures sound { IsWhole self.new }
+    {
+        if !is_label(label) || !is_heard(item) {
+            return Err(Refusal::BadRequest);
+        }
+        self.begin();
+        let found = place_of(&self.seats, label);
+        self.tell(found, item)
+    }
+
+    /// Tells the job with this number the outside's answer to an order, then asks it. Its place is known: no label is looked for.
+    pub fn hear_answer(&mut self, number: JobNo, answer: Answer) -> Result<(), Refusal>
+        requires sound { IsWhole self.old }
+        ensures answer { IsOutcome (OfJob (label_of (seen_table self.old).names number) (Answered answer))
+            (seen_table self.old) result (seen_table self.new) }
+        ensures kept { IsNextTable (OfJob (label_of (seen_table self.old).names number) (Answered answer))
+            (seen_table self.old) (seen_table self.new) }
+        ensures counted { Counts result (seen_table self.old) (seen_table self.new) }
+        ensures spared { SparesOthers
+            (OfJob (label_of (seen_table self.old).names number) (Answered answer)) (seen_table self.old)
+            (seen_table self.new) }
+        ensures names { KeepsNames result (seen_table self.old) (seen_table self.new) }
+        ensures room { HasSameRoom (seen_table self.old) (seen_table self.new) }
+        ensures memory { NeedsNoMemory result }
+        ensures sound { IsWhole self.new }
+    {
+        let item = JobItem::Answered(answer);
+        if !is_label(self.label(number)) || !is_heard(item) {
+            return Err(Refusal::BadRequest);
+        }
+        self.begin();
+        let found = place_of_number(&self.seats, &self.index.places, number);
+        self.tell(found, item)
+    }
+
+    /// Removes the job with this label. No setting is written, so the store is not asked.
+    pub fn unload(&mut self, label: &str) -> Result<(), Refusal>
+        requires sound { IsWhole self.old }
+        ensures answer { (store : Bool) →
+            IsOutcome (UnloadJob label.now false store) (seen_table self.old) result (seen_table self.new) }
+        ensures kept { (store : Bool) →
+            IsNextTable (UnloadJob label.now false store) (seen_table self.old) (seen_table self.new) }
+        ensures counted { Counts result (seen_table self.old) (seen_table self.new) }
+        ensures spared { SparesOthers (UnloadJob label.now false true) (seen_table self.old)
+            (seen_table self.new) }
+        ensures names { KeepsNames result (seen_table self.old) (seen_table self.new) }
+        ensures room { HasSameRoom (seen_table self.old) (seen_table self.new) }
+        ensures memory { NeedsNoMemory result }
+        ensures sound { IsWhole self.new }
+        ensures alike { IsAlike self.old self.new }
+    {
+        if !is_label(label) {
+            return Err(Refusal::BadRequest);
+        }
+        self.begin();
+        let found = place_of(&self.seats, label);
+        self.tell(found, JobItem::Asked(Ask::Unload))
+    }
+
+    /// Takes in a sight of a path.
+    pub fn saw(&mut self, path: &str, obs: Obs)
+        requires sound { IsWhole self.old }
+        ensures answer { IsOutcome (Sight path.now obs) (seen_table self.old) (Ok tt) (seen_table self.new) }
+        ensures kept { IsNextTable (Sight path.now obs) (seen_table self.old) (seen_table self.new) }
+        ensures spared { SparesOthers (Sight path.now obs) (seen_table self.old) (seen_table self.new) }
+        ensures counted { IsCounted (counts (seen_table self.old).rows) (seen_table self.new).rows
+            (seen_table self.new).gone (seen_table self.new).visited }
+        ensures names { (seen_table self.new).names ≡ row_names (seen_table self.old).rows }
+        ensures room { HasSameRoom (seen_table self.old) (seen_table self.new) }
+        ensures sound { IsWhole self.new }
+    {
+        self.begin();
+        self.ask_touched(Touch::Sight(path, obs));
+    }
+
+    /// Removes every job.
+    pub fn shut_down(&mut self) -> Result<(), Refusal>
+        requires sound { IsWhole self.old }
+        ensures answer { IsOutcome ShutDown (seen_table self.old) result (seen_table self.new) }
+        ensures kept { IsNextTable ShutDown (seen_table self.old) (seen_table self.new) }
+        ensures spared { SparesOthers ShutDown (seen_table self.old) (seen_table self.new) }
+        ensures counted { Counts result (seen_table self.old) (seen_table self.new) }
+        ensures names { KeepsNames result (seen_table self.old) (seen_table self.new) }
+        ensures room { HasSameRoom (seen_table self.old) (seen_table self.new) }
+        ensures memory { NeedsNoMemory result }
+        ensures sound { IsWhole self.new }
+    {
+        if self.is_shutting_down {
+            return Err(Refusal::ShuttingDown);
+        }
+        self.begin();
+        self.ask_touched(Touch::Shutdown);
+        self.is_shutting_down = true;
+        Ok(())
+    }
+
+    /// Takes in a reading of the clocks.
+    pub fn clock(&mut self, alloc: Global, at: Reading) -> Result<(), Refusal>
+        requires sound { IsWhole self.old }
+        ensures answer { UnlessMemory result
+            (IsOutcome (Tick at) (seen_table self.old) result (seen_table self.new)) }
+        ensures memory { result ≡ Err NoMemory → has_calendars (seen_table self.old).rows ≡ true }
+        ensures kept { IsNextTableUnless result (Tick at) (seen_table self.old) (seen_table self.new) }
+        ensures counted { Counts result (seen_table self.old) (seen_table self.new) }
+        ensures untouched { OnOk result (SparesUntouched at (seen_table self.old) (seen_table self.new)) }
+        ensures names { KeepsNames result (seen_table self.old) (seen_table self.new) }
+        ensures room { HasSameRoom (seen_table self.old) (seen_table self.new) }
+        ensures sound { IsWhole self.new }
+    {
+        if is_clock_refused(self.reading, at) {
+            return Err(Refusal::ClockRefused);
+        }
+        self.begin();
+        let minutes = self.crossed(alloc, at)?;
+        self.gone = self.advance(at, &minutes);
+        Ok(())
+    }
+
+    /// The civil minutes that a reading crosses, or none if no loaded job has calendar entries.
+    fn crossed(&self, alloc: Global, at: Reading) -> Result<Vec<CivilMinute>, Refusal>
+        requires sound { IsSound self.now }
+        requires stay { AllStay self.now.seats.items }
+        requires in_range { at.wall ≤ MAX_WALL }
+        ensures minutes { IfOk result (λ minutes. AreMinutes (seen_table self.now) at minutes.items) }
+        ensures memory { IfErr result (λ refusal. (refusal ≡ NoMemory)
+            × (has_calendars (seen_table self.now).rows ≡ true)) }
+    {
+        if !self.has_calendars {
+            return Ok(Vec::new(alloc));
+        }
+        match self.zone.crossed(alloc, self.reading.wall, at.wall) { // for the proof
+            Ok(minutes) => Ok(minutes),
+            Err(_) => Err(Refusal::NoMemory),
+        }
+    }
+}
+
+/// Whether a reading falls, or is past a limit.
+pub fn is_clock_refused(before: Reading, at: Reading) -> bool
+    ensures { result ≡ is_clock_refused before at }
+{
+    at.up < before.up || at.up > MAX_UP || at.wall > MAX_WALL
+}
+
+/// Whether a call on one job brings the item. A process id is not 0.
+fn is_heard(item: JobItem) -> bool
+    ensures { result ≡ is_heard (item_of item) }
+{
+    match item {
+        JobItem::Asked(Ask::Unload | Ask::Shutdown) => false,
+        JobItem::Answered(Answer::Spawned { run: _run, pid }) => pid > 0,
+        _ => true,
+    }
+}

@@ -1,0 +1,78 @@
+//! The index beside the seats: the place of each job, and room for one more.
+
+ghost use Rattle.std.specs.Prelude.{◌≡◌, ◌≤◌, ◌<◌, ◌+◌, ℕ, OnOk, Some, is_some, length, map, slice_get, true};
+ghost use Rattle.place_set.specs.Places.{place_room};
+ghost use Rattle.timer_heap.specs.Timers.{room};
+ghost use Rattle.history_model.specs.declared.TheConstants.{MAX_JOBS};
+ghost use Rattle.loaded_jobs.specs.Tables.{IsOnce, definition_of_number};
+ghost use Rattle.loaded_jobs.specs.Seats.{name};
+ghost use Rattle.loaded_jobs.specs.Index.{ArePlaced, IsIndexOf, IsNamed, place_in};
+ghost use Rattle.loaded_jobs.specs.declared.seat.Seat.{Seat};
+
+use crate::jobs::Index;
+use crate::seat::Seat;
+use history_model::JobNo;
+use std::alloc::{AllocError, Global};
+
+/// Gives each seat's number its place. It takes no memory.
+pub fn place_all(places: &mut [u32], seats: &[Seat])
+    requires once { IsOnce (map name seats.now) }
+    requires few { length seats.now ≤ MAX_JOBS }
+    requires fits { (number : ℕ) →
+        is_some (definition_of_number (map name seats.now) number) ≡ true →
+        number < length places.old }
+    ensures placed { ArePlaced places.new seats.now }
+    ensures length { length places.new ≡ length places.old }
+{
+    place_from(places, seats, 0);
+}
+
+/// Gives each seat's number its place, from a place on: those before it have theirs. It takes no memory.
+pub fn place_from(places: &mut [u32], seats: &[Seat], from: usize)
+    requires once { IsOnce (map name seats.now) }
+    requires few { length seats.now ≤ MAX_JOBS }
+    requires fits { (number : ℕ) →
+        is_some (definition_of_number (map name seats.now) number) ≡ true →
+        number < length places.old }
+    requires inside { from ≤ length seats.now }
+    requires before { (k : ℕ) (e : Seat) → slice_get seats.now k ≡ Some e → k < from →
+        place_in places.old e.number ≡ k }
+    ensures placed { ArePlaced places.new seats.now }
+    ensures length { length places.new ≡ length places.old }
+{
+    let mut place = from;
+    while place < seats.len() {
+        let seat = &seats[place];
+        places[seat.number as usize] = place as u32;
+        place += 1;
+    }
+}
+
+/// Makes room for a job with this number beside the seats.
+pub fn grow(
+    index: &mut Index,
+    alloc: Global,
+    number: JobNo,
+    seats: &[Seat],
+) -> Result<(), AllocError>
+    requires once { IsOnce (map name seats.now) }
+    requires few { length seats.now ≤ MAX_JOBS }
+    requires named { IsNamed index.old (map name seats.now) }
+    ensures indexed { (up : ℕ) →
+        IsIndexOf index.old up seats.now → IsIndexOf index.new up seats.now }
+    ensures moments { OnOk result (number < room index.new.timers) }
+    ensures marks { OnOk result (length seats.now + 1 ≤ place_room index.new.ready) }
+    ensures numbered { OnOk result (number < length index.new.places.items) }
+{
+    let Some(above) = number.checked_add(1) else {
+        return Err(AllocError);
+    };
+    index.timers.reserve(alloc, above)?;
+    index.ready.reserve(seats.len() as u32 + 1)?;
+    if index.places.len() > number as usize {
+        return Ok(());
+    }
+    index.places = vec![in alloc; 0; above as usize * 2]?;
+    place_all(&mut index.places, seats);
+    Ok(())
+}

@@ -1,0 +1,35 @@
+//! The loaded jobs, with all that finds them and asks them: one step of all jobs for each event. The crate `job_table` has the calls.
+#![tactic(auto)]
+
+mod all_seats;
+mod byte_order;
+mod events;
+mod gone_jobs;
+mod held_parts;
+mod index;
+mod jobs;
+mod loading;
+mod marks;
+mod next_in_order;
+mod opening;
+mod places;
+mod questions;
+mod reading;
+mod reasons;
+mod seat;
+mod setting_order;
+mod settings;
+mod settings_change;
+mod texts;
+mod trigger;
+mod triggers;
+mod visits;
+
+pub use all_seats::{all_gone, is_some_with_calendar};
+pub use gone_jobs::Gone;
+pub use jobs::Jobs;
+pub use loading::Ready;
+pub use places::place_before;
+pub use questions::list;
+pub use settings_change::NewSetting;
+pub use triggers::path_after;

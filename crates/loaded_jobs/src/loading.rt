@@ -1,0 +1,378 @@
+//! The load of a job, in two parts: what can be refused, and what cannot.
+
+ghost use Rattle.std.specs.Prelude.{◌≡◌, ◌≤◌, ◌<◌, ◌+◌, ◌*◌, ◌∷◌, [], Bool, false, Some, None, Ok, IfOk, IfErr, OnOk, is_some, map, length, not, ◌&&◌, ◌||◌, count_by};
+ghost use Rattle.history_model.specs.declared.TheConstants.{MAX_JOBS, MAX_UP};
+ghost use Rattle.history_model.specs.Items.{Loaded};
+ghost use Rattle.history_model.specs.FactsOfPast.{Keeps};
+ghost use Rattle.loaded_jobs.specs.declared.seat.TheConstants.{ORDERS};
+ghost use Rattle.std.specs.Vec.{vec_capacity, vec_len};
+ghost use Rattle.place_set.specs.Places.{place_room};
+ghost use Rattle.timer_heap.specs.Timers.{room};
+ghost use Rattle.slab.specs.Slab.{HasRoomFor, get, Updates};
+ghost use Rattle.history_model.specs.declared.Refusal.TheVariants.{NoMemory};
+ghost use Rattle.history_model.specs.Machine.{State, Load, past_of};
+ghost use Rattle.history_model.specs.Acceptance.{refusal_of_load, refusal_in, refusal_there};
+ghost use Rattle.history_model.specs.Search.{or_else};
+ghost use Rattle.history_model.specs.MachineLaws.{AreInOrder};
+ghost use Rattle.job_defs.specs.Keys.{def_of};
+ghost use Rattle.job_defs.specs.Definitions.{definition, given};
+ghost use Rattle.loaded_jobs.specs.Tables.{labels_in};
+ghost use Rattle.loaded_jobs.specs.StandsFor.{KeepsState};
+ghost use Rattle.loaded_jobs.specs.TableOutcomes.{IsSameFor, Means};
+ghost use Rattle.loaded_jobs.specs.Loads.{load_of_bytes, refusal_outside, refused_with, IsAdmitted, IsReady, Loads, IsAbsent, IsMade, IsBad, enabled_if};
+ghost use Rattle.loaded_jobs.specs.Counts.{counts, IsCounted};
+ghost use Rattle.loaded_jobs.specs.Minutes.{is_some_entry};
+ghost use Rattle.loaded_jobs.specs.Periods.{HasPositivePeriod};
+ghost use Rattle.loaded_jobs.specs.Triggers.{triggers_of, under, AreOrdered};
+ghost use Rattle.loaded_jobs.specs.declared.trigger.Listed.{Listed};
+ghost use Rattle.loaded_jobs.specs.declared.trigger.Trigger.{Trigger};
+ghost use Rattle.loaded_jobs.specs.Numbers.{IsNamedBeside};
+ghost use Rattle.loaded_jobs.specs.Room.{HasSameRoom, held_after};
+ghost use Rattle.loaded_jobs.specs.Touching.{SparesOthers};
+ghost use Rattle.loaded_jobs.specs.Seats.{name, AllStay, place_for, seats_with};
+
+use crate::held_parts::{HeldCore, HeldDef};
+use crate::index::{grow, place_all};
+use crate::jobs::Jobs;
+use crate::places::place_of;
+use crate::seat::{ORDERS, Seat};
+use crate::settings::{is_disabled, set_if};
+use crate::trigger::{Trigger, triggers_of};
+use crate::triggers::enlist;
+use history_model::{JobNo, MAX_JOBS, Reading, Refusal, Setting, Text};
+use job_core::JobCore;
+use job_defs::{Def, DefFault, read_def};
+use std::alloc::{AllocError, Global};
+
+/// A job that is about to be loaded, and its label's new setting.
+#[derive(Drop)]
+pub struct Ready {
+    pub seat: Seat,
+    pub setting: Option<Setting>,
+    /// What touches the job.
+    pub triggers: Vec<Trigger>,
+}
+
+impl Ready {
+    ghost use Rattle.loaded_jobs.specs.Loads.{described_in, number_in};
+
+    /// The definition that was read.
+    pub fn def(&self) -> &Def
+        ensures { result.now ≡ described_in self.now }
+    {
+        self.seat.def.lent()
+    }
+
+    /// The number that the job is to have.
+    pub fn job(&self) -> JobNo
+        ensures { result ≡ number_in self.now }
+    {
+        self.seat.number
+    }
+}
+
+impl Jobs {
+    ghost use Rattle.loaded_jobs.specs.Sound.{seen_table, IsSound, IsWhole};
+    ghost use Rattle.loaded_jobs.specs.Alike.{IsAlike};
+
+    /// Makes a load ready: looks for each refusal but the outside's, and takes all the memory.
+    pub fn make_ready(
+        &mut self,
+        alloc: Global,
+        bytes: &[u8],
+        writes_setting: bool,
+        force: bool,
+    ) -> Result<Ready, Refusal>
+        requires sound { IsWhole self.old }
+        ensures admitted { IfOk result (λ ready.
+            IsAdmitted (seen_table self.old) bytes.now writes_setting force ready.seat.def) }
+        ensures writes_setting { IfOk result (λ ready. is_some ready.setting ≡ writes_setting) }
+        ensures ready { IfOk result (IsReady (seen_table self.new)) }
+        ensures refused { IfErr result (λ refusal. Means refusal ((s : State) (bind store : Bool) →
+            KeepsState (seen_table self.old) s →
+            refusal_in s (load_of_bytes bytes.now writes_setting force bind store) ≡ Some refusal)) }
+        ensures same { IsSameFor (seen_table self.old) (seen_table self.new) }
+        ensures rows { (seen_table self.new).rows ≡ (seen_table self.old).rows }
+        ensures sound { IsWhole self.new }
+    {
+        if self.is_shutting_down {
+            return Err(Refusal::ShuttingDown);
+        }
+        let def = read(alloc, bytes)?;
+        self.begin();
+        if let Err(refusal) = self.admit(&def, writes_setting, force) {
+            return Err(refusal);
+        }
+        let Ok(triggers) = triggers_of(alloc, &def) else {
+            return Err(Refusal::NoMemory);
+        };
+        self.reserve(alloc, triggers.len())?;
+        self.made(alloc, def, writes_setting, triggers)
+    }
+
+    /// Looks for the refusals of a load while no shutdown was accepted, but for those of the outside.
+    fn admit(&self, def: &Def, writes_setting: bool, force: bool) -> Result<(), Refusal>
+        requires sound { IsSound self.now }
+        requires stay { AllStay self.now.seats.items }
+        requires running { self.now.is_shutting_down ≡ false }
+        ensures answer { (s : State) (bind store : Bool) → KeepsState (seen_table self.now) s →
+            refusal_of_load s def.now.label (definition def.now) writes_setting force bind store
+            ≡ or_else (refused_with result) (refusal_outside def.now writes_setting bind store) }
+        ensures absent { OnOk result (IsAbsent def.now.label (map name self.now.seats.items)) }
+        ensures few { OnOk result (vec_len self.now.seats < MAX_JOBS) }
+    {
+        if let Some(refusal) = self.refusal_there(def.label()) {
+            return Err(refusal);
+        }
+        if self.seats.len() >= MAX_JOBS {
+            return Err(Refusal::TooManyJobs);
+        }
+        let disabled = is_disabled(&self.settings, def.label(), def.disabled());
+        if is_held_back(writes_setting, force, disabled) {
+            return Err(Refusal::Disabled);
+        }
+        Ok(())
+    }
+
+    /// Why a load of a label that is loaded is refused.
+    pub fn refusal_there(&self, label: &str) -> Option<Refusal>
+        requires sound { IsSound self.now }
+        requires stay { AllStay self.now.seats.items }
+        ensures answer { (s : State) → KeepsState (seen_table self.now) s →
+            result ≡ refusal_there (past_of s label.now) }
+        ensures absent { result ≡ None → IsAbsent label.now (map name self.now.seats.items) }
+    {
+        let Some(place) = place_of(&self.seats, label) else {
+            return None;
+        };
+        if self.seats[place].core.is_removing() {
+            return Some(Refusal::Removing);
+        }
+        Some(Refusal::AlreadyLoaded)
+    }
+
+    /// Takes the memory that one more job with so many triggers needs in the table.
+    fn reserve(&mut self, alloc: Global, triggers: usize) -> Result<(), Refusal>
+        requires sound { IsWhole self.old }
+        requires few { vec_len self.old.seats < MAX_JOBS }
+        ensures seats { self.new.seats.items ≡ self.old.seats.items }
+        ensures count { vec_len self.new.seats ≡ vec_len self.old.seats }
+        ensures orders { self.new.orders.items ≡ self.old.orders.items }
+        ensures settings { self.new.settings.items ≡ self.old.settings.items }
+        ensures places { OnOk result (vec_len self.new.seats < vec_capacity self.new.seats) }
+        ensures room { OnOk result (ORDERS * (vec_len self.new.seats + 1)
+            ≤ vec_capacity self.new.orders) }
+        ensures numbers { OnOk result (HasRoomFor self.new.numbers 1) }
+        ensures setting { OnOk result (vec_len self.new.settings < vec_capacity self.new.settings) }
+        ensures moments { OnOk result (self.new.numbers.vacant_key < room self.new.index.timers) }
+        ensures marks { OnOk result (vec_len self.new.seats + 1 ≤ place_room self.new.index.ready) }
+        ensures numbered { OnOk result (self.new.numbers.vacant_key
+            < length self.new.index.places.items) }
+        ensures triggers { OnOk result (vec_len self.new.triggers + triggers
+            ≤ vec_capacity self.new.triggers) }
+        ensures refused { IfErr result (λ refusal. refusal ≡ NoMemory) }
+        ensures sound { IsWhole self.new }
+        ensures reading { self.new.reading ≡ self.old.reading }
+        ensures zone { self.new.zone ≡ self.old.zone }
+        ensures shutdown { self.new.is_shutting_down ≡ self.old.is_shutting_down }
+    {
+        if self.seats.reserve(1).is_err() {
+            return Err(Refusal::NoMemory);
+        }
+        let all = ORDERS * (self.seats.len() + 1);
+        if self.orders.reserve(all).is_err() {
+            return Err(Refusal::NoMemory);
+        }
+        if self.numbers.reserve(1).is_err() {
+            return Err(Refusal::NoMemory);
+        }
+        if self.settings.reserve(1).is_err() {
+            return Err(Refusal::NoMemory);
+        }
+        if self.triggers.reserve(triggers).is_err() {
+            return Err(Refusal::NoMemory);
+        }
+        let Ok(number) = u32::try_from(self.numbers.vacant_key()) else {
+            return Err(Refusal::NoMemory);
+        };
+        if grow(&mut self.index, alloc, number, &self.seats).is_err() {
+            return Err(Refusal::NoMemory);
+        }
+        Ok(())
+    }
+
+    /// Makes the job and its label's setting.
+    fn made(
+        &self,
+        alloc: Global,
+        def: Def,
+        writes_setting: bool,
+        triggers: Vec<Trigger>,
+    ) -> Result<Ready, Refusal>
+        requires sound { IsSound self.now }
+        ensures made { IfOk result (IsMade self.now.reading self.now.numbers def writes_setting) }
+        ensures triggers { IfOk result (λ ready. ready.triggers ≡ triggers) }
+        ensures refused { IfErr result (λ refusal. refusal ≡ NoMemory) }
+    {
+        let setting = enabled(alloc, def.label(), writes_setting)?;
+        match self.seat_of(alloc, def) {
+            Ok(seat) => Ok(Ready {
+                seat,
+                setting,
+                triggers,
+            }),
+            Err(refusal) => Err(refusal),
+        }
+    }
+
+    /// The seat of a job that is loaded at the last reading, under the next number.
+    fn seat_of(&self, alloc: Global, def: Def) -> Result<Seat, Refusal>
+        requires sound { IsSound self.now }
+        ensures number { IfOk result (λ seat. seat.number ≡ self.now.numbers.vacant_key) }
+        ensures same { IfOk result (λ seat. seat.def ≡ def) }
+        ensures loaded { IfOk result (λ seat.
+            Keeps seat.core.facts (Loaded (definition def) self.now.reading ∷ [])) }
+        ensures stays { IfOk result (λ seat. seat.has_gone ≡ false) }
+        ensures fresh { IfOk result (λ seat. seat.core.decided ≡ 0) }
+        ensures refused { IfErr result (λ refusal. refusal ≡ NoMemory) }
+    {
+        let Ok(number) = u32::try_from(self.numbers.vacant_key()) else {
+            return Err(Refusal::NoMemory);
+        };
+        let Ok(core) = core_of(alloc, &def, self.reading) else {
+            return Err(Refusal::NoMemory);
+        };
+        let Ok(def) = HeldDef::new(alloc, def) else {
+            return Err(Refusal::NoMemory);
+        };
+        Ok(Seat {
+            number,
+            def,
+            core,
+            has_gone: false,
+        })
+    }
+
+    /// Loads the job that was made ready, at its place among the others (`place_before`), and asks it alone.
+    pub fn load(&mut self, ready: Ready, place: usize)
+        requires sound { IsWhole self.old }
+        requires ready { IsReady (seen_table self.old) ready }
+        requires place { place ≡ place_for ready.seat.def.label self.old.seats.items }
+        ensures loads { Loads (seen_table self.old) ready (seen_table self.new) }
+        ensures counted { IsCounted (counts (seen_table self.old).rows) (seen_table self.new).rows
+            (seen_table self.new).gone (seen_table self.new).visited }
+        ensures spared { (force bind store : Bool) →
+            SparesOthers
+            (Load (Ok (given ready.seat.def)) (is_some ready.setting) force bind store)
+            (seen_table self.old) (seen_table self.new) }
+        ensures names { IsNamedBeside ready (seen_table self.old) (seen_table self.new) }
+        ensures held { length (seen_table self.new).settings
+            ≡ held_after ready.setting (seen_table self.old).settings }
+        ensures triggers { (seen_table self.new).reserved.held_triggers
+            ≡ (seen_table self.old).reserved.held_triggers + length ready.triggers.items }
+        ensures room { HasSameRoom (seen_table self.old) (seen_table self.new) }
+        ensures sound { IsWhole self.new }
+    {
+        let Ready {
+            seat,
+            setting,
+            triggers,
+        } = ready;
+        set_if(&mut self.settings, setting);
+        self.enter(seat, triggers, place);
+        place_all(&mut self.index.places, &self.seats);
+        self.ask_at(place);
+    }
+
+    /// Puts the seat before the first with a greater label, which is this place, and gives its number out.
+    fn enter(&mut self, seat: Seat, triggers: Vec<Trigger>, place: usize)
+        requires places { vec_len self.old.seats < vec_capacity self.old.seats }
+        requires numbers { HasRoomFor self.old.numbers 1 }
+        requires place { place ≡ place_for seat.def.label self.old.seats.items }
+        requires listed { AreOrdered self.old.triggers.items }
+        requires room { vec_len self.old.triggers + vec_len triggers
+            ≤ vec_capacity self.old.triggers }
+        ensures seats { self.new.seats.items ≡ seats_with seat self.old.seats.items }
+        ensures count { vec_len self.new.seats ≡ vec_len self.old.seats + 1 }
+        ensures orders { self.new.orders ≡ self.old.orders }
+        ensures vacant { get self.old.numbers self.old.numbers.vacant_key ≡ None }
+        ensures numbers { Updates self.old.numbers self.new.numbers self.old.numbers.vacant_key
+            (Some tt) }
+        ensures alike { IsAlike self.old self.new }
+        ensures room { HasSameRoom (seen_table self.old) (seen_table self.new) }
+        ensures index { self.new.index ≡ self.old.index }
+        ensures period { HasPositivePeriod seat.def }
+        ensures calendars { self.new.has_calendars
+            ≡ (self.old.has_calendars || is_some_entry seat.def.calendar) }
+        ensures exact { (test : Listed → Bool) → count_by test self.new.triggers.items
+            ≡ count_by test self.old.triggers.items
+            + count_by (λ trigger. test (under seat.number trigger)) triggers.items }
+        ensures triggers { vec_len self.new.triggers
+            ≡ vec_len self.old.triggers + vec_len triggers }
+        ensures listed { AreOrdered self.new.triggers.items }
+    {
+        has_period(seat.def.lent()); // for the proof
+        let _number = self.numbers.insert_reserved(());
+        let fires = !seat.def.calendar().is_empty();
+        self.has_calendars = self.has_calendars || fires;
+        enlist(&mut self.triggers, triggers, seat.number);
+        match self.seats.insert(place, seat) {
+            Ok(()) => {}
+            Err(_) => unreachable!(),
+        }
+    }
+}
+
+/// The interval of a definition that was read is above 0, if it has one.
+fn has_period(def: &Def)
+    ensures { HasPositivePeriod def.now }
+{
+    let _seconds = def.start_interval();
+}
+
+/// Whether a load of a label is held back because it is disabled.
+fn is_held_back(writes_setting: bool, force: bool, disabled: bool) -> bool
+    ensures { result ≡ (not writes_setting && not force && disabled) }
+{
+    !writes_setting && !force && disabled
+}
+
+/// What decides over a job that is loaded at this reading.
+fn core_of(alloc: Global, def: &Def, at: Reading) -> Result<HeldCore, AllocError>
+    requires { at.up ≤ MAX_UP }
+    ensures loaded { IfOk result (λ core.
+        Keeps core.facts (Loaded (definition def.now) at ∷ [])) }
+    ensures fresh { IfOk result (λ core. core.decided ≡ 0) }
+{
+    let core = JobCore::new(alloc, def, at)?;
+    HeldCore::new(alloc, core)
+}
+
+/// The setting that enables the label, if one is wanted.
+fn enabled(alloc: Global, label: &str, writes_setting: bool) -> Result<Option<Setting>, Refusal>
+    ensures made { IfOk result (λ setting. setting ≡ enabled_if writes_setting label.now) }
+    ensures refused { IfErr result (λ refusal. refusal ≡ NoMemory) }
+{
+    if !writes_setting {
+        return Ok(None);
+    }
+    match Text::copy_of(alloc, label) {
+        Ok(label) => Ok(Some(Setting {
+            label,
+            disabled: false,
+        })),
+        Err(_) => Err(Refusal::NoMemory),
+    }
+}
+
+/// Reads a definition.
+fn read(alloc: Global, bytes: &[u8]) -> Result<Def, Refusal>
+    ensures ok { IfOk result (λ def. def_of bytes.now ≡ Ok def) }
+    ensures bad { IfErr result (λ refusal. Means refusal (IsBad (def_of bytes.now) refusal)) }
+{
+    match read_def(alloc, bytes) {
+        Ok(def) => Ok(def),
+        Err(DefFault::NoMemory) => Err(Refusal::NoMemory),
+        Err(DefFault::Bad { reason, key }) => Err(Refusal::BadDefinition(reason, key)),
+    }
+}

@@ -1,0 +1,71 @@
+//! A reading of the clocks, which touches few jobs.
+
+ghost use Rattle.std.specs.Prelude.{◌≡◌, ◌≤◌, [], Ok, true, false};
+ghost use Rattle.history_model.specs.Machine.{Tick};
+ghost use Rattle.history_model.specs.Refusals.{is_clock_refused};
+ghost use Rattle.loaded_jobs.specs.TableOutcomes.{IsOutcome, IsNextTable};
+ghost use Rattle.loaded_jobs.specs.Touching.{SparesUntouched};
+ghost use Rattle.loaded_jobs.specs.Minutes.{AreMinutes};
+ghost use Rattle.loaded_jobs.specs.Seats.{AllStay};
+ghost use Rattle.loaded_jobs.specs.Counts.{counts, IsCounted};
+ghost use Rattle.loaded_jobs.specs.Numbers.{row_names};
+ghost use Rattle.loaded_jobs.specs.Room.{HasSameRoom};
+ghost use Rattle.loaded_jobs.specs.Leaving.{StayBut};
+
+use crate::gone_jobs::Gone;
+use crate::jobs::Jobs;
+use crate::marks::{mark_due, mark_minutes};
+use crate::seat::Touch;
+use crate::visits::visit_ready;
+use history_model::{CivilMinute, Reading};
+
+impl Jobs {
+    ghost use Rattle.loaded_jobs.specs.Sound.{seen_table, IsSound};
+    ghost use Rattle.loaded_jobs.specs.Index.{IsIndexed};
+
+    /// Takes in a reading that is not refused, and the civil minutes that it crosses: the jobs that it touches hear it and give their orders,
+    /// and nothing is done for any other. It tells which jobs may have gone.
+    pub fn advance(&mut self, at: Reading, minutes: &[CivilMinute]) -> Gone
+        requires sound { IsSound self.old }
+        requires indexed { IsIndexed self.old }
+        requires stay { AllStay self.old.seats.items }
+        requires empty { self.old.orders.items ≡ [] }
+        requires accepted { is_clock_refused self.old.reading at ≡ false }
+        requires minutes { AreMinutes (seen_table self.old) at minutes.now }
+        ensures answer { IsOutcome (Tick at) (seen_table self.old) (Ok tt) (seen_table self.new) }
+        ensures kept { IsNextTable (Tick at) (seen_table self.old) (seen_table self.new) }
+        ensures counted { IsCounted (counts (seen_table self.old).rows) (seen_table self.new).rows
+            (seen_table self.new).gone (seen_table self.new).visited }
+        ensures names { (seen_table self.new).names ≡ row_names (seen_table self.old).rows }
+        ensures room { HasSameRoom (seen_table self.old) (seen_table self.new) }
+        ensures untouched { SparesUntouched at (seen_table self.old) (seen_table self.new) }
+        ensures sound { IsSound self.new }
+        ensures stay { StayBut result self.new.seats.items }
+        ensures indexed { IsIndexed self.new }
+    {
+        mark_due(
+            &mut self.index.timers,
+            &self.index.places,
+            &mut self.index.ready,
+            at.up,
+        );
+        mark_minutes(
+            &self.triggers,
+            minutes,
+            &self.index.places,
+            &mut self.index.ready,
+        );
+        let (visited, gone) = visit_ready(
+            &mut self.seats,
+            &mut self.index.ready,
+            &mut self.index.timers,
+            Touch::Reading(at, minutes),
+            self.reading,
+            at,
+            &mut self.orders,
+        );
+        self.visited = visited;
+        self.reading = at;
+        gone
+    }
+}

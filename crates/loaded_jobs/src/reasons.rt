@@ -1,0 +1,76 @@
+//! Why a loaded job has no spawn due, and when time alone may change that.
+
+ghost use Rattle.std.specs.Prelude.{◌≡◌};
+ghost use Rattle.std.specs.Option.{option_map};
+ghost use Rattle.history_model.specs.Machine.{State, past_of};
+ghost use Rattle.history_model.specs.Reasons.{reasons_of};
+ghost use Rattle.loaded_jobs.specs.StandsFor.{KeepsState};
+ghost use Rattle.loaded_jobs.specs.Waking.{waking, spawning, demanding, holding};
+
+use crate::jobs::Jobs;
+use crate::places::place_here;
+use history_model::{DemandKind, Reasons};
+
+impl Jobs {
+    ghost use Rattle.loaded_jobs.specs.Sound.{seen_table, IsSound};
+
+    /// What keeps the spawn of the job with this label from being due, at the last reading; none if no such job is loaded.
+    pub fn reasons(&self, label: &str) -> Option<Reasons>
+        requires { IsSound self.now }
+        ensures { (s : State) → KeepsState (seen_table self.now) s →
+            result ≡ option_map reasons_of (past_of s label.now) }
+    {
+        match place_here(&self.seats, label) { // for the proof
+            None => None,
+            Some(place) => Some(self.seats[place].core.reasons(self.reading)),
+        }
+    }
+
+    /// The next moment, after the last reading, at which time alone may make an order of the job due.
+    pub fn wakes(&self, label: &str) -> Option<u64>
+        requires { IsSound self.now }
+        ensures { (s : State) → KeepsState (seen_table self.now) s →
+            result ≡ waking (past_of s label.now) }
+    {
+        match place_here(&self.seats, label) { // for the proof
+            None => None,
+            Some(place) => self.seats[place].core.next_moment(self.reading),
+        }
+    }
+
+    /// The moment from which a reading makes the job's spawn due, if nothing but readings happens and no calendar entry fires.
+    pub fn spawns_from(&self, label: &str) -> Option<u64>
+        requires { IsSound self.now }
+        ensures { (s : State) → KeepsState (seen_table self.now) s →
+            result ≡ spawning (past_of s label.now) }
+    {
+        match place_here(&self.seats, label) { // for the proof
+            None => None,
+            Some(place) => self.seats[place].core.spawns_from(self.reading),
+        }
+    }
+
+    /// What made the job's pending demand.
+    pub fn latest_demand(&self, label: &str) -> Option<DemandKind>
+        requires { IsSound self.now }
+        ensures { (s : State) → KeepsState (seen_table self.now) s →
+            result ≡ demanding (past_of s label.now) }
+    {
+        match place_here(&self.seats, label) { // for the proof
+            None => None,
+            Some(place) => self.seats[place].core.latest_demand(),
+        }
+    }
+
+    /// The path that holds the job wanted.
+    pub fn path_that_holds(&self, label: &str) -> Option<&str>
+        requires { IsSound self.now }
+        ensures { (s : State) → KeepsState (seen_table self.now) s →
+            option_map (λ path. path.now) result ≡ holding (past_of s label.now) }
+    {
+        match place_here(&self.seats, label) { // for the proof
+            None => None,
+            Some(place) => self.seats[place].core.path_that_holds(),
+        }
+    }
+}

@@ -1,0 +1,205 @@
+//! One place of the table: a job with its definition and its number.
+
+ghost use Rattle.std.specs.Prelude.{◌≡◌, false, ◌<◌, Some, cond, ◌+◌, ◌%◌, ◌^◌, ◌≤◌, ◌∷◌, ◌++◌, [], map, List, is_some, true};
+ghost use Rattle.loaded_jobs.specs.declared.seat.TheConstants.{ORDERS};
+ghost use Rattle.std.specs.Vec.{vec_capacity, vec_len};
+ghost use Rattle.history_model.specs.declared.TheConstants.{MAX_UP};
+ghost use Rattle.history_model.specs.Items.{History};
+ghost use Rattle.history_model.specs.Runs.{is_gone};
+ghost use Rattle.std.specs.List.{list_any, list_all};
+ghost use Rattle.history_model.specs.Demands.{waiting, is_same_path};
+ghost use Rattle.history_model.specs.Due.{due};
+ghost use Rattle.history_model.specs.FactsOfPast.{Keeps, ordered};
+ghost use Rattle.history_model.specs.Step.{acts_of, lists};
+ghost use Rattle.history_model.specs.Clock as clock;
+ghost use Rattle.job_defs.specs.Definitions.{definition};
+ghost use Rattle.job_core.specs.JobEvents.{item_of_event};
+ghost use Rattle.loaded_jobs.specs.StandsFor.{numbered_orders};
+ghost use Rattle.loaded_jobs.specs.Touch.{item_for};
+ghost use Rattle.loaded_jobs.specs.Hearing.{IsHeard};
+ghost use Rattle.loaded_jobs.specs.Visiting.{IsVisit};
+ghost use Rattle.loaded_jobs.specs.Seats.{name};
+ghost use Rattle.loaded_jobs.specs.Tables.{Name, definition_of_number, is_known};
+
+use crate::held_parts::{HeldCore, HeldDef};
+use calendar_due::Calendar;
+use history_model::{
+    Act, Ask, CivilMinute, JobItem, JobNo, MAX_CONNECTIONS, Obs, Order, Reading, Text,
+};
+use job_core::JobEvent;
+use job_defs::{Def, PathState};
+
+/// How many orders one job gives at most in a step: each connection that waits is closed, one order more, and it is gone.
+pub const ORDERS: usize = MAX_CONNECTIONS + 2;
+
+/// A job with its definition and its number. One that is gone stays until the next event.
+pub struct Seat {
+    pub number: JobNo,
+    pub def: HeldDef,
+    pub core: HeldCore,
+    pub has_gone: bool,
+}
+
+// for the proof: who lets it go calls this, in place of letting each part go
+impl Drop for Seat {
+    fn drop(self) {
+        let Seat {
+            number: _,
+            def: _,
+            core: _,
+            has_gone: _,
+        } = self;
+    }
+}
+
+/// How an event touches the jobs that it is for: what they hear of it.
+#[derive(Clone, Copy)]
+pub enum Touch<'a> {
+    /// The launcher shuts down.
+    Shutdown,
+    /// The clock, and the civil minutes that it crossed.
+    Reading(Reading, &'a [CivilMinute]),
+    /// A look at a path, which counts for the jobs that list it.
+    Sight(&'a str, Obs),
+}
+
+impl Seat {
+    /// Takes in what the touch is for this job. It hears nothing that it refuses.
+    pub fn hear(&mut self, touch: Touch<'_>, now: Reading)
+        requires { now.up ≤ MAX_UP }
+        ensures { IsHeard now (item_for touch.entry self.old.def) self.old self.new }
+    {
+        match touch {
+            Touch::Shutdown => self.take_in(JobEvent::Item(JobItem::Asked(Ask::Shutdown)), now),
+            Touch::Reading(at, minutes) => {
+                let fires = Calendar::fires(self.def.calendar(), minutes);
+                self.take_in(JobEvent::Read(at, fires), now);
+            }
+            Touch::Sight(path, obs) => {
+                if lists(self.def.lent(), path) {
+                    self.take_in(JobEvent::Saw(path, obs), now);
+                }
+            }
+        }
+    }
+
+    /// Takes in an event that the job does not refuse.
+    fn take_in(&mut self, event: JobEvent<'_>, now: Reading)
+        requires { now.up ≤ MAX_UP }
+        ensures { IsHeard now (Some (item_of_event event.entry)) self.old self.new }
+    {
+        let _accepted = self.core.event(event, now);
+    }
+
+    /// Takes in what the touch is for this job, and asks it for its orders.
+    pub fn visit(
+        &mut self,
+        touch: Touch<'_>,
+        before: Reading,
+        now: Reading,
+        orders: &mut Vec<Order>,
+    )
+        requires before_in_range { before.up ≤ MAX_UP }
+        requires in_range { now.up ≤ MAX_UP }
+        requires room { vec_len orders.old + ORDERS ≤ vec_capacity orders.old }
+        ensures visit { IsVisit before now (item_for touch.entry self.old.def)
+            self.old self.new orders.old.items orders.new.items }
+        ensures decided { self.new.core.decided
+            ≡ cond self.new.has_gone self.old.core.decided ((self.old.core.decided + 1) % 2 ^ 64) }
+        ensures known { (names : List Name) →
+            is_some (definition_of_number names self.old.number) ≡ true →
+            list_all (is_known names) orders.old.items ≡ true →
+            list_all (is_known names) orders.new.items ≡ true }
+        ensures name { name self.new ≡ name self.old }
+        ensures count { vec_len orders.new ≤ vec_len orders.old + ORDERS }
+        ensures capacity { vec_capacity orders.new ≡ vec_capacity orders.old }
+    {
+        self.hear(touch, before);
+        self.ask(now, orders);
+    }
+
+    /// Asks the job for its orders. One that is gone closes its connections and leaves.
+    pub fn ask(&mut self, now: Reading, orders: &mut Vec<Order>)
+        requires in_range { now.up ≤ MAX_UP }
+        requires room { vec_len orders.old + ORDERS ≤ vec_capacity orders.old }
+        ensures orders { (past : History) → Keeps self.old.core.facts past → now ≡ clock.now past →
+            orders.new.items ≡ orders.old.items ++ numbered_orders self.old.number (acts_of past) }
+        ensures going { (past : History) → Keeps self.old.core.facts past → now ≡ clock.now past →
+            self.new.has_gone ≡ is_gone past }
+        ensures kept { (past : History) → Keeps self.old.core.facts past → now ≡ clock.now past →
+            is_gone past ≡ false →
+            Keeps self.new.core.facts (ordered (due past) past) }
+        ensures decided { self.new.core.decided
+            ≡ cond self.new.has_gone self.old.core.decided ((self.old.core.decided + 1) % 2 ^ 64) }
+        ensures known { (names : List Name) →
+            is_some (definition_of_number names self.old.number) ≡ true →
+            list_all (is_known names) orders.old.items ≡ true →
+            list_all (is_known names) orders.new.items ≡ true }
+        ensures name { name self.new ≡ name self.old }
+        ensures count { vec_len orders.new ≤ vec_len orders.old + ORDERS }
+        ensures capacity { vec_capacity orders.new ≡ vec_capacity orders.old }
+    {
+        self.has_gone = self.core.is_gone();
+        if self.has_gone {
+            self.leave(orders);
+        } else if let Some(act) = self.core.decide(now) {
+            orders.push_reserved(Order {
+                job: self.number,
+                act,
+            });
+        }
+    }
+
+    /// Closes the waiting connections in order of arrival, and says that the job is gone.
+    fn leave(&self, orders: &mut Vec<Order>)
+        requires room { vec_len orders.old + ORDERS ≤ vec_capacity orders.old }
+        ensures orders { (past : History) → Keeps self.now.core.facts past →
+            orders.new.items
+            ≡ orders.old.items
+            ++ numbered_orders self.now.number (map Act.Close (waiting past) ++ Act.Gone ∷ []) }
+        ensures known { (names : List Name) →
+            is_some (definition_of_number names self.now.number) ≡ true →
+            list_all (is_known names) orders.old.items ≡ true →
+            list_all (is_known names) orders.new.items ≡ true }
+        ensures count { vec_len orders.new ≤ vec_len orders.old + ORDERS }
+        ensures capacity { vec_capacity orders.new ≡ vec_capacity orders.old }
+    {
+        let mut place = 0;
+        while let Some(conn) = self.core.connection(place) {
+            orders.push_reserved(Order {
+                job: self.number,
+                act: Act::Close { conn },
+            });
+            place += 1;
+        }
+        orders.push_reserved(Order {
+            job: self.number,
+            act: Act::Gone,
+        });
+    }
+}
+
+/// Whether the definition lists the path: in `PathState`, `WatchPaths` or `QueueDirectories`.
+fn lists(def: &Def, path: &str) -> bool
+    ensures { result ≡ lists (definition def.now) path.now }
+{
+    if has_state(def.path_state(), path) {
+        return true;
+    }
+    if has_path(def.watch_paths(), path) {
+        return true;
+    }
+    has_path(def.queue_directories(), path)
+}
+
+fn has_state(states: &[PathState], path: &str) -> bool
+    ensures { result ≡ list_any (λ wish. is_same_path path.now wish.path) states.now }
+{
+    states.iter().any(|state| path == state.path.as_str())
+}
+
+fn has_path(paths: &[Text], path: &str) -> bool
+    ensures { result ≡ list_any (is_same_path path.now) paths.now }
+{
+    paths.iter().any(|listed| path == listed.as_str())
+}
