@@ -27,7 +27,7 @@ def same(what, wanted, found):
 
 # ---- subcommands and options
 
-WORDS = "crates/launchctl_words/src/"
+WORDS = "crates/command_words/src/"
 
 
 def words_in(source, flags_of):
@@ -106,7 +106,7 @@ check_program("build/jobscope", "man/jobscope.1", read(SCOPE + "forms.rt", SCOPE
 # ---- the version
 
 version = read("VERSION").strip()
-for path in ("crates/launchctl_words/src/version.rt", "docs/USING.md", "crates/trials/data/word_scenes.py"):
+for path in ("crates/command_words/src/version.rt", "docs/USING.md", "crates/trials/data/word_scenes.py"):
     if {f"Kivgrond {version}"} != set(re.findall(r"Kivgrond [0-9.]*[0-9]", read(path))):
         faults.append(f"{path}: it does not name the version {version} alone")
 newest = re.search(r"^## (\S+), \d{4}-\d\d-\d\d$", read("CHANGELOG.md"), re.M)

@@ -1,5 +1,1 @@
-pub mod Rules
-pub mod Meaning
-pub mod Jobctl
-pub mod Jobd
-pub mod Forms
+pub mod Saying

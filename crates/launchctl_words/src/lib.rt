@@ -1,17 +1,10 @@
 //! What the words of the two programs mean: launchctl's for the control program, and the daemon's own.
 #![tactic(auto)]
 
-pub mod arguments;
-mod command;
-mod control_words;
-mod forms;
-mod jobctl;
-mod jobd;
-pub mod parse;
-mod reason;
-mod version;
+mod reading;
 
-pub use command::{Command, DaemonCommand, Paths, WordFault, Words, ZoneWords};
-pub use jobctl::{explain, read_words, read_words_beside};
-pub use jobd::{explain_daemon, read_daemon_words};
-pub use parse::Explanation;
+pub use command_words::{
+    Command, DaemonCommand, Explanation, Paths, WordFault, Words, ZoneWords, arguments, explain,
+    explain_daemon, parse,
+};
+pub use reading::{read_daemon_words, read_words, read_words_beside};

@@ -1,0 +1,29 @@
+-- From what each of clap's builders does to the words that a command has.
+use Rattle.std.proofs.Common.{◌≡◌, ◌∙◌, ◌||◌, ap, ap₂, IfOk, Result, Ok, Err, true, false}
+use Rattle.clap.specs.Simple.{app_of_fields}
+use Rattle.clap.specs.Words.{App, AddsArg, AddsSubcommand, Rule, rule_of, with_rule, with_subcommand}
+use Rattle.clap.specs.declared.Arg.{Arg}
+use Rattle.clap.specs.declared.Command.{Command, out-Command}
+use Rattle.command_words.specs.Meaning.{needs_subcommand}
+use Rattle.command_words.specs.Rules.{HasWords, Makes}
+
+pub grown : {E : Type 0} (old : Command) (x : Arg) (made : Result Command E) (a : App) (r : Rule)
+    → IfOk made (λ new. AddsArg old x new) → x.global ≡ false → HasWords a old → rule_of x ≡ r → Makes made (with_rule a r)
+grown old x (Ok new) a r adds is_local words is = record {
+  app = adds.shape is_local ∙ ap₂ with_rule words.app is;
+  globals = adds.globals ∙ ap₂ ◌||◌ words.globals is_local;
+}
+grown old x (Err e) a r adds is_local words is = tt
+
+pub joined : {E : Type 0} (old sub : Command) (made : Result Command E) (a s : App)
+    → IfOk made (λ new. AddsSubcommand old sub new) → HasWords a old → HasWords s sub → Makes made (with_subcommand a s.top)
+joined old sub (Ok new) a s adds words subs = record {
+  app = adds.shape subs.globals ∙ ap₂ with_subcommand words.app (ap (λ (b : App). b.top) subs.app);
+  globals = adds.globals ∙ ap₂ ◌||◌ words.globals subs.globals;
+}
+joined old sub (Err e) a s adds words subs = tt
+
+-- a command that asks for a subcommand
+pub asks_for_one : (old new : Command) (a : App) → out-Command new ≡ record (out-Command old) { subcommand_required = true } → HasWords a old
+    → HasWords (needs_subcommand a) new
+asks_for_one old new a is words = record { app = ap app_of_fields is ∙ ap needs_subcommand words.app; globals = rw is words.globals }

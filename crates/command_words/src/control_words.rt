@@ -1,0 +1,141 @@
+//! The control program's command, in clap's words, with a help text for each.
+ghost use Rattle.command_words.specs.Rules.{Makes};
+ghost use Rattle.command_words.specs.Jobctl.{jobctl_app};
+
+use crate::arguments::{add_arg, bare, option};
+use crate::forms::{Argument, Form, Subcommand, with_subcommands};
+use std::alloc::{AllocError, Global};
+
+const EXIT_HELP: &str =
+    "Exit status: 0 done, or the daemon's first refusal: 1 no memory, 2 bad request, 3 no such job, 4 already loaded, 5 disabled, 6 being removed, 7 not running, 8 bad definition, 9 the store refused, 10 too many jobs, 11 a socket refused, 15 shutting down. Without one: 64 these words are no command; 65 a file can't be read or used; 69 no answer from the daemon.";
+
+const LABEL: Argument = Argument {
+    id: "label",
+    form: Form::Word,
+    value: "LABEL",
+    help: "The job's label",
+};
+
+const TARGET: Argument = Argument {
+    id: "target",
+    form: Form::Word,
+    value: "TARGET",
+    help: "LABEL, system/LABEL, user/UID/LABEL or gui/UID/LABEL",
+};
+
+const PATHS: Argument = Argument {
+    id: "paths",
+    form: Form::Words,
+    value: "PATH",
+    help: "A definition, or a folder of definitions (*.plist, *.json)",
+};
+
+const SUBCOMMANDS: &[Subcommand] = &[
+    Subcommand {
+        name: "load",
+        about: "Load job definitions",
+        after: EXIT_HELP,
+        arguments: &[
+            Argument {
+                id: "write",
+                form: Form::Letter('w'),
+                value: "",
+                help: "Also enable the label",
+            },
+            Argument {
+                id: "force",
+                form: Form::Letter('F'),
+                value: "",
+                help: "Load a disabled definition too",
+            },
+            PATHS,
+        ],
+    },
+    Subcommand {
+        name: "unload",
+        about: "Stop and remove the jobs of these definitions",
+        after: EXIT_HELP,
+        arguments: &[
+            Argument {
+                id: "write",
+                form: Form::Letter('w'),
+                value: "",
+                help: "Also disable the label",
+            },
+            PATHS,
+        ],
+    },
+    Subcommand {
+        name: "start",
+        about: "Start a job",
+        after: EXIT_HELP,
+        arguments: &[LABEL],
+    },
+    Subcommand {
+        name: "stop",
+        about: "Stop a job's running child",
+        after: EXIT_HELP,
+        arguments: &[LABEL],
+    },
+    Subcommand {
+        name: "enable",
+        about: "Let a label be loaded, from now on",
+        after: EXIT_HELP,
+        arguments: &[TARGET],
+    },
+    Subcommand {
+        name: "disable",
+        about: "Keep a label from being loaded, from now on",
+        after: EXIT_HELP,
+        arguments: &[TARGET],
+    },
+    Subcommand {
+        name: "kickstart",
+        about: "Start a job now, within its throttle",
+        after: EXIT_HELP,
+        arguments: &[
+            Argument {
+                id: "kill",
+                form: Form::Letter('k'),
+                value: "",
+                help: "End a running child by KILL first",
+            },
+            TARGET,
+        ],
+    },
+    Subcommand {
+        name: "print",
+        about: "Show what a job does",
+        after: EXIT_HELP,
+        arguments: &[TARGET],
+    },
+    Subcommand {
+        name: "list",
+        about: "List the loaded jobs",
+        after: EXIT_HELP,
+        arguments: &[],
+    },
+    Subcommand {
+        name: "shutdown",
+        about: "Stop every job, then the daemon",
+        after: EXIT_HELP,
+        arguments: &[],
+    },
+];
+
+/// The whole command, with a help text for every word.
+pub fn jobctl_words<'a>(alloc: Global) -> Result<clap::Command<'a>, AllocError>
+    ensures { Makes result jobctl_app }
+{
+    let socket = option(
+        alloc,
+        "socket",
+        false,
+        "PATH",
+        "The daemon's control socket; jobd.sock where absent",
+    );
+    let about = "Control the job launcher jobd";
+    let command = bare(alloc, "jobctl", about, EXIT_HELP).subcommand_required(true);
+    let command = add_arg(Ok(command), socket);
+    with_subcommands(alloc, command, SUBCOMMANDS)
+}

@@ -1,0 +1,100 @@
+//! One reading of words by clap, and the text for words that it does not take.
+ghost use Rattle.std.specs.Prelude.{◌≡◌, ◌≢◌, IfOk, true, false, map, string_bytes, IfErr};
+ghost use Rattle.clap.specs.Words.{app_of, fault_of, is_simple_and_free, kind_of};
+ghost use Rattle.command_words.specs.Meaning.{IsFound, is_empty_list};
+
+use crate::command::WordFault;
+use crate::reason::reason_in;
+use crate::version::VERSION_LINE;
+use clap::error::ErrorKind;
+use clap::{ArgMatches, Error};
+use std::alloc::{AllocError, Global};
+
+/// What clap finds among the words.
+pub fn parse<'a>(
+    command: clap::Command<'a>,
+    words: &'a [String],
+) -> Result<ArgMatches<'a>, WordFault>
+    ensures found { is_simple_and_free (app_of command.entry) ≡ true →
+        IfOk result (λ m. IsFound (app_of command.entry) (map string_bytes words.entry.now) m) }
+    ensures usage { is_simple_and_free (app_of command.entry) ≡ true
+        → IfErr result (λ e. e ≡ WordFault.Usage
+        → is_empty_list (fault_of (app_of command.entry) (map string_bytes words.entry.now))
+        ≡ false) }
+{
+    match command.try_get_matches_from(words) {
+        Ok(matches) => Ok(matches),
+        Err(error) => Err(fault_in(&error)),
+    }
+}
+
+/// Want of memory, or words that clap does not take.
+fn fault_in(error: &Error) -> WordFault
+    ensures { result ≡ WordFault.Usage → kind_of error.now ≢ ErrorKind.OutOfMemory }
+{
+    match error.kind() {
+        ErrorKind::OutOfMemory => WordFault::NoMemory,
+        _ => WordFault::Usage,
+    }
+}
+
+/// What to print for words that are no command.
+#[derive(Drop)]
+pub struct Explanation {
+    pub text: String,
+    /// Help was asked for: the text belongs to standard output.
+    pub is_help: bool,
+}
+
+/// The text for words that clap does not take; a help ends with the version's line. If clap takes them, the line that says why
+/// they are no command all the same, or the whole help if they are one.
+pub fn explain_by<'a>(
+    alloc: Global,
+    command: Result<clap::Command<'a>, AllocError>,
+    words: &'a [String],
+) -> Result<Explanation, AllocError> {
+    match command {
+        Ok(mut command) => {
+            let explanation = match said_of(alloc, command.try_get_matches_from_mut(words)) {
+                Ok(Some(explanation)) => Ok(explanation),
+                Ok(None) => whole_help(&mut command),
+                Err(e) => Err(e),
+            };
+            drop(command);
+            explanation
+        }
+        Err(e) => Err(e),
+    }
+}
+
+// What is said of the words, if it is not the whole help. What clap found goes at one place.
+fn said_of(
+    alloc: Global,
+    found: Result<ArgMatches<'_>, Error>,
+) -> Result<Option<Explanation>, AllocError> {
+    let said = match &found {
+        Ok(matches) => reason_in(alloc, matches),
+        Err(error) => fault_text(alloc, error),
+    };
+    drop(found);
+    said
+}
+
+fn whole_help(command: &mut clap::Command<'_>) -> Result<Explanation, AllocError> {
+    let text = command.render_help()?;
+    Ok(Explanation {
+        text,
+        is_help: false,
+    })
+}
+
+fn fault_text(alloc: Global, error: &Error) -> Result<Option<Explanation>, AllocError> {
+    let is_help = !error.use_stderr();
+    let text = if is_help {
+        let version = VERSION_LINE;
+        format!(in alloc; "{error}\n{version}\n")?
+    } else {
+        format!(in alloc; "{error}")?
+    };
+    Ok(Some(Explanation { text, is_help }))
+}
