@@ -12,7 +12,7 @@ use job_defs::Def;
 use launchctl_words::Paths;
 use path_files::{Found, files_at};
 use run_times::Ink;
-use scope_check::{
+use definition_files::check::{
     Change, Checked, Grade, Remark, changes_in_year, check_def, finding_line, place_of, summary_of,
 };
 use std::alloc::{AllocError, Global};

@@ -3,7 +3,7 @@
 use crate::telling::{Outcome, tell_error, tell_of};
 use exit_status::{BAD_FILE, REFUSED};
 use launchctl_words::Paths;
-use scope_cron::{Line, LineFault, definition_of, read_line};
+use definition_files::cron::{Line, LineFault, definition_of, read_line};
 use std::alloc::{AllocError, Global};
 use std::io::Read;
 

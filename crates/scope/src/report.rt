@@ -11,7 +11,7 @@ use exit_status::BAD_FILE;
 use history_model::Text;
 use journal_reading::{Journal, runs_table, why_text};
 use run_times::utc;
-use scope_picture::{Beside, Chart, blocks_text, picture_piece};
+use run_times::picture::{Beside, Chart, blocks_text, picture_piece};
 use std::alloc::Global;
 use std::io::IsTerminal;
 use std::{env, io};

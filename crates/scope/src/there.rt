@@ -4,7 +4,7 @@ use history_model::KeyName;
 use job_defs::Def;
 use json_kinds::key_name;
 use path_files::read_front;
-use scope_check::{Grade, Remark, place_of};
+use definition_files::check::{Grade, Remark, place_of};
 use std::alloc::{AllocError, Global};
 use std::fs::metadata;
 use std::io::ErrorKind;
