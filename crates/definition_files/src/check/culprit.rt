@@ -55,14 +55,15 @@ fn in_items<'a>(value: &'a Value, inside: &Inside) -> Option<(usize, &'a Value, 
     if items.len() > inside.most && value.is_array() {
         return None;
     }
-    let mut rules = inside.first;
-    let mut index: usize = 0;
-    for item in items {
+    for (index, item) in items.iter().enumerate() {
+        let rules = if index == 0 {
+            inside.first
+        } else {
+            inside.others
+        };
         if let Some((found, rule)) = in_item(item, rules) {
             return Some((index, found, rule));
         }
-        rules = inside.others;
-        index = index.saturating_add(1);
     }
     None
 }

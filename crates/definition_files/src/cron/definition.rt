@@ -110,24 +110,33 @@ fn fault_of(alloc: Global, fault: EntriesFault) -> LineFault {
 }
 
 fn put_calendar(ink: &mut Ink, entries: &[Entry]) {
-    let mut between = "], \"StartCalendarInterval\": [{";
+    let mut is_first = true;
     for entry in entries {
-        let parts = [
-            ("\"Minute\": ", entry.minute),
-            ("\"Hour\": ", entry.hour),
-            ("\"Day\": ", entry.day),
-            ("\"Month\": ", entry.month),
-            ("\"Weekday\": ", entry.weekday),
-        ];
-        ink.put(between);
-        let mut before = "";
-        for (key, value) in parts.iter() {
-            if let Some(value) = value {
-                ink.put_all(&[Text(before), Text(*key), Number(u64::from(*value))]);
-                before = ", ";
-            }
-        }
-        between = "}, {";
+        ink.put(if is_first {
+            "], \"StartCalendarInterval\": [{"
+        } else {
+            "}, {"
+        });
+        put_entry(ink, entry);
+        is_first = false;
     }
     ink.put("}]}\n");
+}
+
+fn put_entry(ink: &mut Ink, entry: &Entry) {
+    let parts = [
+        ("\"Minute\": ", entry.minute),
+        ("\"Hour\": ", entry.hour),
+        ("\"Day\": ", entry.day),
+        ("\"Month\": ", entry.month),
+        ("\"Weekday\": ", entry.weekday),
+    ];
+    let mut is_first = true;
+    for (key, value) in parts.iter() {
+        if let Some(value) = value {
+            let before = if is_first { "" } else { ", " };
+            ink.put_all(&[Text(before), Text(*key), Number(u64::from(*value))]);
+            is_first = false;
+        }
+    }
 }

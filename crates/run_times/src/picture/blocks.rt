@@ -2,12 +2,13 @@
 
 use crate::escape::is_unwritable;
 use crate::ink::Ink;
+use crate::ink::Piece::Text;
 use crate::page::Hole::{Moment, Number};
 use crate::page::{Hole, Page};
 use crate::picture::axis::Axis;
 use crate::picture::chart::{Bar, Chart, Mark, Row, grade};
 use crate::picture::piece::NO_READING;
-use crate::picture::ticks::{Tick, parts_at, ticks};
+use crate::picture::ticks::{Tick, ticks};
 use crate::picture::words::{columns_of, cut, missing};
 use calendar_due::Zone;
 use std::alloc::{AllocError, Global};
@@ -168,7 +169,7 @@ fn put_axis(page: &mut Page<'_>, layout: &Layout, cells: &mut [char]) {
 fn set_ticks(cells: &mut [char], axis: &Axis, ticks: &[Tick], is_below: bool) {
     for (index, tick) in ticks.iter().enumerate() {
         let (place, _) = axis.filled(tick.at, tick.at);
-        let (text, below) = parts_at(ticks, index);
+        let (text, below) = tick.parts(ticks.get(index.wrapping_sub(1)));
         if is_below {
             set_text(cells, usize::from(place), ' ', below);
         } else {
@@ -214,15 +215,19 @@ fn put_wrapped(ink: &mut Ink, text: &str, between: char, width: usize) {
     let gap = if between == ' ' { " " } else { "  " };
     // Before the first piece there is no line, and so no room in it.
     let mut used: usize = usize::MAX;
-    let mut before = "";
     for piece in text.split(between) {
         let wide = columns_of(piece);
         let behind = used.saturating_add(gap.len()).saturating_add(wide);
         let has_room = behind <= width;
-        ink.put(if has_room { gap } else { before });
-        ink.put(piece);
+        let before = if has_room {
+            gap
+        } else if used < usize::MAX {
+            "\n"
+        } else {
+            ""
+        };
+        ink.put_all(&[Text(before), Text(piece)]);
         used = if has_room { behind } else { wide };
-        before = "\n";
     }
     ink.put("\n");
 }

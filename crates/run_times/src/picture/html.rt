@@ -72,19 +72,20 @@ pub(crate) fn put_rest(page: &mut Page<'_>, beside: &Beside<'_>) {
 }
 
 fn put_table(page: &mut Page<'_>, table: &str) {
-    let mut cell = "<th>$</th>";
+    let mut is_head = true;
     for line in table.lines() {
-        page.ink.put("<tr>");
-        put_cells(page, cell, line);
-        page.ink.put("</tr>\n");
-        cell = "<td>$</td>";
+        put_cells(page, line, is_head);
+        is_head = false;
     }
 }
 
-fn put_cells(page: &mut Page<'_>, cell: &str, line: &str) {
+fn put_cells(page: &mut Page<'_>, line: &str, is_head: bool) {
+    let cell = if is_head { "<th>$</th>" } else { "<td>$</td>" };
+    page.ink.put("<tr>");
     for part in line.split('\t') {
         page.add(cell, &[Escaped(part)]);
     }
+    page.ink.put("</tr>\n");
 }
 
 // The coming starts, between the headings above and below them.

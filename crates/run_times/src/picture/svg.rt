@@ -4,7 +4,7 @@ use crate::page::Hole::{Escaped, Moment, Number, Text};
 use crate::page::Page;
 use crate::picture::axis::Axis;
 use crate::picture::chart::{Bar, Chart, End, Mark, Row, grade};
-use crate::picture::ticks::{Tick, parts_at, ticks};
+use crate::picture::ticks::{Tick, ticks};
 use crate::picture::words::{cut, missing};
 
 /// How many places the axis of a chart has that is painted as SVG.
@@ -220,7 +220,7 @@ fn put_ticks(page: &mut Page<'_>, axis: &Axis, ticks: &[Tick], bottom: u64) {
             "middle"
         };
         let x = Number(LEFT + place);
-        let (text, below) = parts_at(ticks, index);
+        let (text, below) = tick.parts(ticks.get(index.wrapping_sub(1)));
         let holes = [
             x,
             Number(bottom),

@@ -159,14 +159,14 @@ fn parts_of(tick: &Tick) -> (&str, &str) {
     (text, moment.get(..below).unwrap_or(""))
 }
 
-/// What is written at the tick of this index, and what below: nothing, if the same stands below the tick before.
-pub(crate) fn parts_at(ticks: &[Tick], index: usize) -> (&str, &str) {
-    let Some(tick) = ticks.get(index) else {
-        return ("", "");
-    };
-    let (text, below) = parts_of(tick);
-    match ticks.get(index.wrapping_sub(1)) {
-        Some(before) if parts_of(before).1 == below => (text, ""),
-        _ => (text, below),
+impl Tick {
+    /// What is written at the tick, and what below: nothing, if the same stands below the tick before.
+    pub(crate) fn parts(&self, before: Option<&Tick>) -> (&str, &str) {
+        let (text, below) = parts_of(self);
+        let is_again = match before {
+            Some(before) => parts_of(before).1 == below,
+            None => false,
+        };
+        (text, if is_again { "" } else { below })
     }
 }
