@@ -123,24 +123,24 @@ fn add_command(def: &Def, remarks: &mut Remarks<'_>) {
 }
 
 fn add_paths(def: &Def, remarks: &mut Remarks<'_>) {
-    let keys = [
-        (KeyName::WorkingDirectory, def.working_directory()),
-        (KeyName::StandardInPath, def.standard_in_path()),
-        (KeyName::StandardOutPath, def.standard_out_path()),
-        (KeyName::StandardErrorPath, def.standard_error_path()),
-    ];
-    for (key, path) in keys.iter() {
-        add_tilde(*key, path.unwrap_or(""), remarks);
-    }
+    add_tilde(KeyName::WorkingDirectory, def.working_directory(), remarks);
+    add_tilde(KeyName::StandardInPath, def.standard_in_path(), remarks);
+    add_tilde(KeyName::StandardOutPath, def.standard_out_path(), remarks);
+    add_tilde(
+        KeyName::StandardErrorPath,
+        def.standard_error_path(),
+        remarks,
+    );
     for path in def.watch_paths() {
-        add_tilde(KeyName::WatchPaths, path.as_str(), remarks);
+        add_tilde(KeyName::WatchPaths, Some(path.as_str()), remarks);
     }
     for path in def.queue_directories() {
-        add_tilde(KeyName::QueueDirectories, path.as_str(), remarks);
+        add_tilde(KeyName::QueueDirectories, Some(path.as_str()), remarks);
     }
 }
 
-fn add_tilde(key: KeyName, path: &str, remarks: &mut Remarks<'_>) {
+fn add_tilde(key: KeyName, path: Option<&str>, remarks: &mut Remarks<'_>) {
+    let path = path.unwrap_or("");
     if path.starts_with('~') {
         let mut ink = Ink::new(remarks.alloc);
         ink.put_all(&[Text(key_name(key)), Text(": ")]);
