@@ -92,22 +92,23 @@ fn put_cells(page: &mut Page<'_>, line: &str, is_head: bool) {
 fn put_coming(page: &mut Page<'_>, coming: &[Coming]) {
     page.ink
         .put("</table></div>\n<h2>Coming starts by the clock</h2>\n");
-    if coming.is_empty() {
-        page.ink.put("<p>None.</p>\n");
+    let (before, behind) = if coming.is_empty() {
+        ("<p>None.</p>\n", "")
     } else {
-        page.ink.put(
+        (
             "<div class=\"wide\"><table class=\"left\">\n<tr><th>time</th><th>label</th><th>by</th></tr>\n",
-        );
-        for start in coming {
-            let holes = [
-                Moment(start.at),
-                Escaped(start.label.as_str()),
-                Text(start.key),
-            ];
-            page.add("<tr><td>$</td><td>$</td><td>$</td></tr>\n", &holes);
-        }
-        page.ink.put("</table></div>\n");
+            "</table></div>\n",
+        )
+    };
+    page.ink.put(before);
+    for start in coming {
+        let holes = [
+            Moment(start.at),
+            Escaped(start.label.as_str()),
+            Text(start.key),
+        ];
+        page.add("<tr><td>$</td><td>$</td><td>$</td></tr>\n", &holes);
     }
-    page.ink
-        .put("<h2>Why each job stands as it does</h2>\n<pre>");
+    let heading = "$<h2>Why each job stands as it does</h2>\n<pre>";
+    page.add(heading, &[Text(behind)]);
 }

@@ -3,7 +3,7 @@
 use crate::page::Hole::{Escaped, Moment, Number, Text};
 use crate::page::Page;
 use crate::picture::axis::Axis;
-use crate::picture::chart::{Bar, Chart, Mark, MarkKind, Row, grade};
+use crate::picture::chart::{Bar, Chart, End, Mark, Row, grade};
 use crate::picture::ticks::{Tick, ticks};
 use crate::picture::words::{cut, missing};
 
@@ -142,54 +142,30 @@ const MARKS: &str =
 /// The beginning of what tells what is not in the chart.
 const LEFT_OUT: &str = "<text class=\"faint\" x=\"10\" y=\"$\">";
 
-/// How an end looks: the class of its bar, that of its own shape, and the shape from the bar's upper corner; and the end in words, with a
-/// hole for its code or signal.
-struct Look {
+/// How the marks of a kind look: their class, their shape from the middle of the upper edge, and their name.
+struct Shape {
     class: &'static str,
-    own: &'static str,
-    shape: &'static str,
-    words: &'static str,
+    path: &'static str,
+    name: &'static str,
 }
 
-/// The ends by how grave they are.
-const LOOKS: &[Look; 6] = &[
-    Look {
-        class: "lives",
-        own: "open",
-        shape: "m0 -1l7 7l-7 7",
-        words: "lives",
-    },
-    Look {
-        class: "well",
-        own: "",
-        shape: "",
-        words: "ended with code $",
-    },
-    Look {
-        class: "stopped",
-        own: "",
-        shape: "",
-        words: "was stopped",
-    },
-    Look {
-        class: "code",
-        own: "end",
-        shape: "m-2 -3h4v18h-4z",
-        words: "ended with code $",
-    },
-    Look {
-        class: "signal",
-        own: "end",
-        shape: "m-2 -3l8 9l-8 9z",
-        words: "ended by signal $",
-    },
-    Look {
-        class: "crash",
-        own: "open",
-        shape: "m-4 1l9 10m0 -10l-9 10",
-        words: "crashed by signal $",
-    },
-];
+const DEMAND: Shape = Shape {
+    class: "demand",
+    path: "m-5 0h10l-5 9z",
+    name: "a demand",
+};
+
+const THROTTLE: Shape = Shape {
+    class: "throttle",
+    path: "m0 0l4.5 4.5l-4.5 4.5l-4.5 -4.5z",
+    name: "a throttle",
+};
+
+const REFUSAL: Shape = Shape {
+    class: "refusal",
+    path: "m-4 0.5l8 8m0 -8l-8 8",
+    name: "a refusal",
+};
 
 /// Adds a piece of the chart as an element `svg`, from 0: its head, one for each row, its foot.
 pub(crate) fn put_figure(page: &mut Page<'_>, chart: &Chart, index: usize) {
@@ -272,21 +248,9 @@ fn put_row(page: &mut Page<'_>, axis: &Axis, row: &Row, top: u64) {
     page.add(TOP, &holes);
     put_bars(page, axis, row.bars.as_slice(), top.saturating_add(31));
     let above = top.saturating_add(18);
-    put_marks(page, axis, MarkKind::Demand, row.demands.as_slice(), above);
-    put_marks(
-        page,
-        axis,
-        MarkKind::Throttle,
-        row.throttles.as_slice(),
-        above,
-    );
-    put_marks(
-        page,
-        axis,
-        MarkKind::Refusal,
-        row.refusals.as_slice(),
-        above,
-    );
+    put_marks(page, axis, &DEMAND, row.demands.as_slice(), above);
+    put_marks(page, axis, &THROTTLE, row.throttles.as_slice(), above);
+    put_marks(page, axis, &REFUSAL, row.refusals.as_slice(), above);
     page.ink.put("</g>\n");
 }
 
@@ -296,16 +260,11 @@ fn put_bars(page: &mut Page<'_>, axis: &Axis, bars: &[Bar], top: u64) {
         put_bar(page, axis, bar, top);
     }
     for bar in bars {
-        let look = &LOOKS[grade(bar.end).0];
-        if !look.shape.is_empty() {
+        let (class, own, shape, _) = look(bar.end);
+        if !shape.is_empty() {
             let (_, end) = axis.edges(bar.from, bar.until);
-            let holes = [
-                Text(look.class),
-                Text(look.own),
-                Number(LEFT + u64::from(end)),
-                Number(top),
-                Text(look.shape),
-            ];
+            let x = Number(LEFT + u64::from(end));
+            let holes = [Text(class), Text(own), x, Number(top), Text(shape)];
             page.add("<path class=\"$ $\" d=\"M$ $$\"/>\n", &holes);
         }
     }
@@ -313,8 +272,8 @@ fn put_bars(page: &mut Page<'_>, axis: &Axis, bars: &[Bar], top: u64) {
 
 // A bar. Its title says how its runs ended: of one its end, of several their number and the gravest end.
 fn put_bar(page: &mut Page<'_>, axis: &Axis, bar: &Bar, top: u64) {
-    let (grave, number) = grade(bar.end);
-    let look = &LOOKS[grave];
+    let (_, number) = grade(bar.end);
+    let (class, _, _, words) = look(bar.end);
     let (begin, end) = axis.edges(bar.from, bar.until);
     let runs = Number(u64::from(bar.runs));
     let run = Number(bar.run);
@@ -326,8 +285,8 @@ fn put_bar(page: &mut Page<'_>, axis: &Axis, bar: &Bar, top: u64) {
             runs,
         )
     };
-    page.add(form, &[Text(look.class), runs, third, run]);
-    page.add(look.words, &[Number(number)]);
+    page.add(form, &[Text(class), runs, third, run]);
+    page.add(words, &[Number(number)]);
     let holes = [
         Moment(bar.from),
         Moment(bar.until),
@@ -338,22 +297,35 @@ fn put_bar(page: &mut Page<'_>, axis: &Axis, bar: &Bar, top: u64) {
     page.add(BAR, &holes);
 }
 
-// The marks of a kind whose upper edge is there: its class, its shape from the middle of the upper edge, and its name.
-fn put_marks(page: &mut Page<'_>, axis: &Axis, kind: MarkKind, marks: &[Mark], top: u64) {
-    let (class, shape, name) = match kind {
-        MarkKind::Demand => ("demand", "m-5 0h10l-5 9z", "a demand"),
-        MarkKind::Throttle => ("throttle", "m0 0l4.5 4.5l-4.5 4.5l-4.5 -4.5z", "a throttle"),
-        MarkKind::Refusal => ("refusal", "m-4 0.5l8 8m0 -8l-8 8", "a refusal"),
-    };
+// How an end looks: the class of its bar, that of its own shape, and the shape from the bar's upper corner; and the end in words, with a
+// hole for its code or signal.
+fn look<'a>(end: End) -> (&'a str, &'a str, &'a str, &'a str) {
+    match end {
+        End::Lives => ("lives", "open", "m0 -1l7 7l-7 7", "lives"),
+        End::Code(0) => ("well", "", "", "ended with code $"),
+        End::Stopped => ("stopped", "", "", "was stopped"),
+        End::Code(_) => ("code", "end", "m-2 -3h4v18h-4z", "ended with code $"),
+        End::Signal(_) => ("signal", "end", "m-2 -3l8 9l-8 9z", "ended by signal $"),
+        End::Crash(_) => (
+            "crash",
+            "open",
+            "m-4 1l9 10m0 -10l-9 10",
+            "crashed by signal $",
+        ),
+    }
+}
+
+// The marks of a kind whose upper edge is there.
+fn put_marks(page: &mut Page<'_>, axis: &Axis, shape: &Shape, marks: &[Mark], top: u64) {
     for mark in marks {
         let count = u64::from(mark.count);
         let holes = [
-            Text(class),
+            Text(shape.class),
             Number(count),
             Number(LEFT + u64::from(axis.place(mark.at))),
             Number(top),
-            Text(shape),
-            Text(name),
+            Text(shape.path),
+            Text(shape.name),
             Moment(mark.at),
             Number(count.saturating_sub(1)),
         ];
