@@ -43,20 +43,18 @@ pub fn finding_line(
         Grade::Warning => ": warning: ",
         Grade::Note => ": note: ",
     };
-    let (colon, line, column) = match place {
-        Some(Place { line, column }) => (":", Number(line as u64), Number(column as u64)),
-        None => ("", Text(""), Text("")),
-    };
     let mut ink = Ink::new(alloc);
-    ink.put_all(&[
-        Text(file),
-        Text(colon),
-        line,
-        Text(colon),
-        column,
-        Text(graded),
-        Text(text),
-        Text("\n"),
-    ]);
+    ink.put(file);
+    if let Some(Place { line, column }) = place {
+        ink.put_all(&[
+            Text(":"),
+            Number(line as u64),
+            Text(":"),
+            Number(column as u64),
+        ]);
+    }
+    ink.put(graded);
+    ink.put(text);
+    ink.put("\n");
     ink.into_text()
 }

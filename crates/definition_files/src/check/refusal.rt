@@ -110,21 +110,18 @@ fn words_of(reason: Reason, key: KeyName) -> &'static str {
 
 // Adds where the value stands, what it is, and what is wanted.
 fn put_culprit(alloc: Global, ink: &mut Ink, culprit: &Culprit<'_>) {
-    let member = Number(culprit.member.saturating_add(1) as u64);
     let below = culprit.rule.name;
     let (before, inside, between, below) = match culprit.steps {
-        1 => ("", Text(""), "", ""),
-        2 => (": member ", member, "", ""),
-        5 if !below.is_empty() => (": ", Text(culprit.inside), ": ", below),
-        _ => (": ", Text(culprit.inside), "", ""),
+        1 => ("", "", "", ""),
+        2 => (": member ", "", "", ""),
+        5 if !below.is_empty() => (": ", culprit.inside, ": ", below),
+        _ => (": ", culprit.inside, "", ""),
     };
-    ink.put_all(&[
-        Text(before),
-        inside,
-        Text(between),
-        Text(below),
-        Text(" is "),
-    ]);
+    ink.put(before);
+    if culprit.steps == 2 {
+        ink.put_number(culprit.member.saturating_add(1) as u64);
+    }
+    ink.put_all(&[Text(inside), Text(between), Text(below), Text(" is ")]);
     put_shown(alloc, ink, culprit.value);
     let kind = match culprit.rule.fit {
         Fit::Number(_, _) if culprit.value.as_i64().is_none() => "a whole number, ",
