@@ -110,24 +110,29 @@ fn words_of(reason: Reason, key: KeyName) -> &'static str {
 
 // Adds where the value stands, what it is, and what is wanted.
 fn put_culprit(alloc: Global, ink: &mut Ink, culprit: &Culprit<'_>) {
-    let below = culprit.rule.name;
-    let (before, inside, between, below) = match culprit.steps {
-        1 => ("", "", "", ""),
-        2 => (": member ", "", "", ""),
-        5 if !below.is_empty() => (": ", culprit.inside, ": ", below),
-        _ => (": ", culprit.inside, "", ""),
-    };
-    ink.put(before);
-    if culprit.steps == 2 {
-        ink.put_number(culprit.member.saturating_add(1) as u64);
+    match culprit.steps {
+        1 => {}
+        2 => {
+            ink.put(": member ");
+            ink.put_number(culprit.member.saturating_add(1) as u64);
+        }
+        _ => {
+            ink.put(": ");
+            ink.put(culprit.inside);
+        }
     }
-    ink.put_all(&[Text(inside), Text(between), Text(below), Text(" is ")]);
+    if culprit.steps == 5 && !culprit.rule.name.is_empty() {
+        ink.put(": ");
+        ink.put(culprit.rule.name);
+    }
+    ink.put(" is ");
     put_shown(alloc, ink, culprit.value);
-    let kind = match culprit.rule.fit {
-        Fit::Number(_, _) if culprit.value.as_i64().is_none() => "a whole number, ",
-        _ => "",
-    };
-    ink.put_all(&[Text(", wanted "), Text(kind), Text(culprit.rule.wanted)]);
+    ink.put(", wanted ");
+    match culprit.rule.fit {
+        Fit::Number(_, _) if culprit.value.as_i64().is_none() => ink.put("a whole number, "),
+        _ => {}
+    }
+    ink.put(culprit.rule.wanted);
 }
 
 // The longest text that is shown itself, in bytes.
