@@ -1,2 +1,4 @@
+pub mod AxisLemmas
+pub mod BarsLemmas
 pub mod NextRunLemmas
 pub mod WrittenLemmas

@@ -1,3 +1,5 @@
+pub mod Axis
+pub mod Bars
 pub mod Escape
 pub mod Told
 pub mod Written

@@ -1,4 +1,5 @@
-//! When a job runs next by the clocks alone, and moments and spans of time as texts for people, with what such texts are written by.
+//! The times of jobs' runs: when a job runs next by the clocks alone, moments and spans of time as texts for people, with what such texts are
+//! written by, and pictures of runs over time.
 #![tactic(auto)]
 
 mod escape;
@@ -6,6 +7,7 @@ mod ink;
 mod moment;
 mod next;
 mod page;
+pub mod picture;
 mod span;
 
 pub use escape::{escaped, is_unwritable};

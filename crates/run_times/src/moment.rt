@@ -30,22 +30,34 @@ pub fn time_text(alloc: Global, zone: &Zone, second: u64) -> Result<String, Allo
 {
     let at = zone.civil_minute(second);
     let (sign, offset) = offset_of(&at, second);
-    // Each number has two digits; the words stand before it.
-    let parts = [
-        ("-", u64::from(at.month)),
-        ("-", u64::from(at.day)),
-        (WEEKDAYS[usize::from(at.weekday % 7)], u64::from(at.hour)),
-        (":", u64::from(at.minute)),
-        (":", second % 60),
-        (sign, offset / 60),
-        ("", offset % 60),
-    ];
+    let (month, day) = (u64::from(at.month), u64::from(at.day));
+    let (hour, minute) = (u64::from(at.hour), u64::from(at.minute));
+    let (hours, minutes) = (offset / 60, offset % 60);
     let mut ink = Ink::new(alloc);
-    // No year is before 1969, nor after 9999.
-    ink.put_number(u64::from(at.year.unsigned_abs()));
-    for (before, number) in parts.iter() {
-        ink.put_all(&[Text(*before), Number(*number / 10), Number(*number % 10)]);
-    }
+    // No year is before 1969, nor after 9999. Each other number has two digits.
+    ink.put_all(&[
+        Number(u64::from(at.year.unsigned_abs())),
+        Text("-"),
+        Number(month / 10),
+        Number(month % 10),
+        Text("-"),
+        Number(day / 10),
+        Number(day % 10),
+        Text(WEEKDAYS[usize::from(at.weekday % 7)]),
+        Number(hour / 10),
+        Number(hour % 10),
+        Text(":"),
+        Number(minute / 10),
+        Number(minute % 10),
+        Text(":"),
+        Number(second % 60 / 10),
+        Number(second % 10),
+        Text(sign),
+        Number(hours / 10),
+        Number(hours % 10),
+        Number(minutes / 10),
+        Number(minutes % 10),
+    ]);
     ink.into_text()
 }
 

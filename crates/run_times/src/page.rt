@@ -100,21 +100,20 @@ impl<'a> Page<'a> {
         let Some(hole) = hole else {
             return;
         };
-        let (wall, look) = match *hole {
-            Hole::Text(part) => return self.ink.put(part),
-            Hole::Escaped(part) => return self.ink.put_made(escaped(self.alloc, part)),
-            Hole::Number(number) => return self.ink.put_number(number),
-            Hole::Now => return self.ink.put(self.moment.text.as_str()),
-            Hole::Span(length) => return self.ink.put_span(length, true),
-            Hole::Moment(wall) => (wall, Look::Whole),
-            Hole::Time(wall) => (wall, Look::Short),
+        match *hole {
+            Hole::Text(part) => self.ink.put(part),
+            Hole::Escaped(part) => self.ink.put_made(escaped(self.alloc, part)),
+            Hole::Number(number) => self.ink.put_number(number),
+            Hole::Now => self.ink.put(self.moment.text.as_str()),
+            Hole::Span(length) => self.ink.put_span(length, true),
+            Hole::Moment(wall) => self.add_moment(wall, Look::Whole),
+            Hole::Time(wall) => self.add_moment(wall, Look::Short),
             Hole::Coming(up) => {
                 let seconds = up.saturating_sub(self.now.up).div_ceil(1000);
-                (self.now.wall.saturating_add(seconds), Look::Short)
+                self.add_moment(self.now.wall.saturating_add(seconds), Look::Short);
             }
-            Hole::Minute(wall) => (wall, Look::Minute),
-        };
-        self.add_moment(wall, look);
+            Hole::Minute(wall) => self.add_moment(wall, Look::Minute),
+        }
     }
 
     fn add_moment(&mut self, wall: u64, look: Look) {

@@ -5,7 +5,7 @@ ghost use Rattle.scope.specs.RunBars.{run_bar_end};
 
 use history_model::Text;
 use journal_reading::{Asked, Journal, News, Run, RunEnd, What};
-use scope_picture::{Axis, Bar, Chart, End, MarkKind, PLACES, Row};
+use run_times::picture::{Axis, Bar, Chart, End, MarkKind, PLACES, Row};
 use std::alloc::{AllocError, Global};
 use std::collections::VecDeque;
 

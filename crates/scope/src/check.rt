@@ -6,15 +6,15 @@ use crate::there::add_missing;
 use crate::words::command::ScopeCommand;
 use crate::zone::zone_of;
 use calendar_due::Zone;
+use definition_files::check::{
+    Change, Checked, Grade, Remark, changes_in_year, check_def, finding_line, place_of, summary_of,
+};
 use exit_status::{BAD_CLOCK, BAD_FILE, REFUSED};
 use history_model::KeyName;
 use job_defs::Def;
 use launchctl_words::Paths;
 use path_files::{Found, files_at};
 use run_times::Ink;
-use scope_check::{
-    Change, Checked, Grade, Remark, changes_in_year, check_def, finding_line, place_of, summary_of,
-};
 use std::alloc::{AllocError, Global};
 
 /// What was found so far.

@@ -1,9 +1,9 @@
 //! Lines of a crontab as definitions.
 
 use crate::telling::{Outcome, tell_error, tell_of};
+use definition_files::cron::{Line, LineFault, definition_of, read_line};
 use exit_status::{BAD_FILE, REFUSED};
 use launchctl_words::Paths;
-use scope_cron::{Line, LineFault, definition_of, read_line};
 use std::alloc::{AllocError, Global};
 use std::io::Read;
 

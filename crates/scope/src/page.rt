@@ -4,7 +4,7 @@ use crate::coming::calendar_after;
 use history_model::{MAX_WALL, Reading};
 use job_defs::Def;
 use journal_reading::{Job, Journal};
-use scope_picture::{Chart, Coming};
+use run_times::picture::{Chart, Coming};
 use std::alloc::{AllocError, Global};
 
 /// The next start by the calendar and the next by the interval of each job of the chart that is loaded, in the order of time.

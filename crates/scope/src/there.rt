@@ -1,10 +1,10 @@
 //! Whether what a definition names is there.
 
+use definition_files::check::{Grade, Remark, place_of};
 use history_model::KeyName;
 use job_defs::Def;
 use json_kinds::key_name;
 use path_files::read_front;
-use scope_check::{Grade, Remark, place_of};
 use std::alloc::{AllocError, Global};
 use std::fs::metadata;
 use std::io::ErrorKind;

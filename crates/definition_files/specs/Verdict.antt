@@ -1,0 +1,11 @@
+-- The verdict of a check is that of a load.
+use Rattle.std.specs.Prelude.{◌≡◌, ℕ, List, Ok, Err}
+use Rattle.json_kinds.specs.DefFaults.{bad}
+use Rattle.job_defs.specs.Keys.{def_of}
+use Rattle.definition_files.specs.declared.check.checked.Checked.{Checked}
+use Rattle.definition_files.specs.declared.check.checked.Checked.TheVariants.{Loads, Refused}
+
+-- the bytes are read as this definition, or are refused for this reason at this key
+abbrev pub IsVerdict : List ℕ → Checked → Type 0
+IsVerdict bytes (Loads def remarks) = def_of bytes ≡ Ok def
+IsVerdict bytes (Refused reason key place text) = def_of bytes ≡ Err (bad reason key)

@@ -1,0 +1,22 @@
+//! What a load would say of a definition's bytes, with the place of each fault, and what may be wrong with a definition that loads.
+
+mod broken;
+mod changes;
+mod checked;
+mod conduct;
+mod culprit;
+mod entries;
+mod finding;
+mod names;
+mod place;
+mod refusal;
+mod remarks;
+mod rules;
+mod summary;
+mod variables;
+
+pub use changes::{Change, changes_in_year};
+pub use checked::{Checked, check_def};
+pub use finding::{Grade, Place, Remark, finding_line};
+pub use place::place_of;
+pub use summary::summary_of;

@@ -1,0 +1,117 @@
+//! Keys that nothing acts on, and the key that is meant.
+
+use crate::check::finding::{Grade, Place};
+use crate::check::place::{Step, place_by};
+use crate::check::remarks::Remarks;
+use json_kinds::key_name;
+use json_kinds::names::{
+    ALL, CRASHED, DAY, FAMILY, HOUR, MINUTE, MONTH, NODE_NAME, PASSIVE, PATH_NAME, PATH_STATE,
+    PROTOCOL, SERVICE_NAME, SOCKET_TYPE, SUCCESSFUL_EXIT, WAIT, WEEKDAY,
+};
+use run_times::Ink;
+use run_times::Piece::Text;
+use std::alloc::{AllocError, Global};
+use strsim::levenshtein;
+
+const INNER: &[&str] = &[
+    CRASHED,
+    PATH_STATE,
+    SUCCESSFUL_EXIT,
+    DAY,
+    HOUR,
+    MINUTE,
+    MONTH,
+    WEEKDAY,
+    SOCKET_TYPE,
+    PASSIVE,
+    FAMILY,
+    PROTOCOL,
+    PATH_NAME,
+    NODE_NAME,
+    SERVICE_NAME,
+    WAIT,
+];
+
+/// Adds the remark on a key that nothing acts on; the name of an inner one is behind those of the dictionaries around it.
+pub(crate) fn add_ignored(remarks: &mut Remarks<'_>, name: &str) {
+    let nearest = nearest_to(remarks.alloc, name);
+    let mut ink = Ink::new(remarks.alloc);
+    ink.put_all(&[Text(name), Text(": nothing acts on this key")]);
+    if !name.as_bytes().ends_with(nearest.key.as_bytes()) {
+        ink.put_all(&[Text("; is "), Text(nearest.key), Text(" meant?")]);
+    }
+    ink.is_refused = ink.is_refused || nearest.is_refused;
+    let place = key_place(remarks.alloc, remarks.text, name);
+    remarks.push(place, Grade::Warning, ink.into_text());
+}
+
+// Where the key of this name stands: one of the definition itself, or an inner one.
+fn key_place(alloc: Global, text: &str, name: &str) -> Result<Option<Place>, AllocError> {
+    let (key, rest) = name.split_once('.').unwrap_or((name, ""));
+    // Of a socket's key the socket's name stands between.
+    let (inner, last, count) = match rest.rsplit_once('.') {
+        Some((socket, last)) => (socket, last, 5),
+        None => (rest, "", 3),
+    };
+    let way = [
+        Step::Key(key),
+        Step::Member(0),
+        Step::Key(inner),
+        Step::Member(0),
+        Step::Key(last),
+    ];
+    match place_by(alloc, text, &[Step::Key(name)], true) {
+        Ok(None) => place_by(alloc, text, way.get(..count).unwrap_or(&way), true),
+        found => found,
+    }
+}
+
+/// The nearest key so far, how many characters it is apart, and whether memory was refused to see it.
+#[derive(Clone, Copy)]
+struct Nearest {
+    key: &'static str,
+    distance: usize,
+    is_refused: bool,
+}
+
+// The key that is nearest to the last part of the name: at most two characters apart, or the same in another case. Empty, if none is.
+fn nearest_to(alloc: Global, name: &str) -> Nearest {
+    let last = match name.rsplit_once('.') {
+        Some((_, last)) => last,
+        None => name,
+    };
+    let mut nearest = Nearest {
+        key: "",
+        distance: 3,
+        is_refused: false,
+    };
+    if last.len() > 64 {
+        return nearest;
+    }
+    if last.len() < name.len() {
+        for key in INNER {
+            compare(alloc, last, *key, &mut nearest);
+        }
+    } else {
+        for key in ALL.iter() {
+            compare(alloc, last, key_name(*key), &mut nearest);
+        }
+    }
+    nearest
+}
+
+fn compare(alloc: Global, last: &str, key: &'static str, nearest: &mut Nearest) {
+    let distance = if last.eq_ignore_ascii_case(key) {
+        Ok(0)
+    } else {
+        levenshtein(alloc, last, key)
+    };
+    match distance {
+        Ok(distance) if distance < nearest.distance => {
+            nearest.key = key;
+            nearest.distance = distance;
+        }
+        Ok(_) => {}
+        Err(_) => nearest.is_refused = true,
+    }
+}

@@ -1,0 +1,263 @@
+//! What values are to be: a rule for each key of a definition, and rules for what stands within its value. The ranges are those of the
+//! table of keys.
+
+use history_model::KeyName;
+use json_kinds::names::{
+    CRASHED, DAY, FAMILY, HOUR, MINUTE, MONTH, NODE_NAME, PASSIVE, PATH_NAME, PATH_STATE, PROTOCOL,
+    SECURE_KEY, SERVICE_NAME, SOCKET_TYPE, SUCCESSFUL_EXIT, WAIT, WEEKDAY,
+};
+
+/// What a value is to be.
+#[derive(Clone, Copy, Drop)]
+pub(crate) enum Fit {
+    /// Whatever it is, as far as this can tell.
+    Any,
+    /// It may not stand there.
+    Nothing,
+    Flag,
+    True,
+    /// A whole number from the first to the second.
+    Number(u64, u64),
+    /// A text, none of its bytes 0: of so many at least, and of so many at most.
+    Text(usize, usize),
+    /// One of these texts.
+    Either(&'static str, &'static str),
+    /// An array of at most so many members.
+    Array(usize),
+    /// A dictionary of at most so many keys.
+    Dictionary(usize),
+    /// A dictionary with the path or the port of a socket.
+    Address,
+    Host,
+    Port,
+}
+
+/// What the value of a key is to be, and that in words; with an empty name, what a value itself is to be.
+#[derive(Clone, Copy, Drop)]
+pub(crate) struct Rule {
+    pub(crate) name: &'static str,
+    pub(crate) fit: Fit,
+    pub(crate) wanted: &'static str,
+}
+
+/// The rules for the members of an array, which are at most so many, or for a value that is none: those for the first, and those for the
+/// others.
+#[derive(Clone, Copy, Drop)]
+pub(crate) struct Inside {
+    pub(crate) most: usize,
+    pub(crate) first: &'static [Rule],
+    pub(crate) others: &'static [Rule],
+}
+
+const PATH: Rule = Rule {
+    name: "",
+    fit: Fit::Text(1, 1024),
+    wanted: "a text of 1 to 1024 bytes, none of them 0",
+};
+
+const PROGRAM: Rule = Rule {
+    name: "",
+    fit: Fit::Text(1, 4096),
+    wanted: "a text of 1 to 4096 bytes, none of them 0",
+};
+
+const ARGUMENT: Rule = Rule {
+    name: "",
+    fit: Fit::Text(0, 4096),
+    wanted: "a text of at most 4096 bytes, none of them 0",
+};
+
+/// What a variable of the environment is to be.
+pub(crate) const VARIABLE: Rule = Rule {
+    name: "",
+    fit: Fit::Text(0, 4096),
+    wanted: "a name of 1 to 255 bytes without = and a text of at most 4096 bytes, no byte of them 0",
+};
+
+/// The keys of an entry of a calendar.
+const ENTRY: &[Rule] = &[
+    Rule {
+        name: "",
+        fit: Fit::Dictionary(usize::MAX),
+        wanted: "a dictionary of Minute, Hour, Day, Weekday and Month",
+    },
+    Rule {
+        name: DAY,
+        fit: Fit::Number(1, 31),
+        wanted: "1 to 31",
+    },
+    Rule {
+        name: HOUR,
+        fit: Fit::Number(0, 23),
+        wanted: "0 to 23",
+    },
+    Rule {
+        name: MINUTE,
+        fit: Fit::Number(0, 59),
+        wanted: "0 to 59",
+    },
+    Rule {
+        name: MONTH,
+        fit: Fit::Number(1, 12),
+        wanted: "1 to 12",
+    },
+    Rule {
+        name: WEEKDAY,
+        fit: Fit::Number(0, 7),
+        wanted: "0 to 7",
+    },
+];
+
+/// The keys of `KeepAlive`; the first two are right if they fit, so that the fault is in the third.
+const CONDITIONS: &[Rule] = &[
+    Rule {
+        name: CRASHED,
+        fit: Fit::Flag,
+        wanted: "true or false",
+    },
+    Rule {
+        name: SUCCESSFUL_EXIT,
+        fit: Fit::Flag,
+        wanted: "true or false",
+    },
+    Rule {
+        name: PATH_STATE,
+        fit: Fit::Nothing,
+        wanted: "a dictionary of at most 64 paths of 1 to 1024 bytes, each true or false",
+    },
+];
+
+const INETD: &[Rule] = &[Rule {
+    name: WAIT,
+    fit: Fit::Nothing,
+    wanted: "false: each connection has a run of its own",
+}];
+
+/// The keys of a socket in the order in which they are checked.
+const SOCKET: &[Rule] = &[
+    Rule {
+        name: "",
+        fit: Fit::Dictionary(usize::MAX),
+        wanted: "a dictionary",
+    },
+    Rule {
+        name: SECURE_KEY,
+        fit: Fit::Nothing,
+        wanted: "no such key: sockets with a key of launchd's own are not made here",
+    },
+    Rule {
+        name: SOCKET_TYPE,
+        fit: Fit::Either("stream", "stream"),
+        wanted: "\"stream\"",
+    },
+    Rule {
+        name: PASSIVE,
+        fit: Fit::True,
+        wanted: "true",
+    },
+    Rule {
+        name: FAMILY,
+        fit: Fit::Either("IPv4", "Unix"),
+        wanted: "\"IPv4\" or \"Unix\"",
+    },
+    Rule {
+        name: PROTOCOL,
+        fit: Fit::Either("TCP", "TCP"),
+        wanted: "\"TCP\"",
+    },
+    Rule {
+        name: PATH_NAME,
+        fit: Fit::Text(1, 107),
+        wanted: "a text of 1 to 107 bytes, none of them 0",
+    },
+    Rule {
+        name: NODE_NAME,
+        fit: Fit::Host,
+        wanted: "four numbers of 0 to 255 joined by dots, or \"localhost\"",
+    },
+    Rule {
+        name: SERVICE_NAME,
+        fit: Fit::Port,
+        wanted: "1 to 65535, or a text of the digits of one: no service is looked up",
+    },
+    Rule {
+        name: "",
+        fit: Fit::Address,
+        wanted: "one with SockPathName or SockServiceName",
+    },
+];
+
+/// What the value of a key is to be.
+pub(crate) fn rule_of(key: KeyName) -> Rule {
+    let (fit, wanted) = match key {
+        KeyName::RunAtLoad | KeyName::LaunchOnlyOnce | KeyName::DisabledKey | KeyName::OnDemand => (
+            Fit::Flag,
+            "true or false",
+        ),
+        KeyName::StartInterval => (Fit::Number(1, 31_536_000), "1 to 31536000"),
+        KeyName::ThrottleInterval | KeyName::ExitTimeOut => (Fit::Number(0, 86_400), "0 to 86400"),
+        KeyName::Program => return PROGRAM,
+        KeyName::ProgramArguments => (Fit::Array(256), "an array of at most 256 texts"),
+        KeyName::WatchPaths | KeyName::QueueDirectories => (
+            Fit::Array(64),
+            "an array of at most 64 paths, those of WatchPaths, QueueDirectories and PathState together",
+        ),
+        KeyName::EnvironmentVariables => (
+            Fit::Dictionary(128),
+            "a dictionary of at most 128 texts",
+        ),
+        KeyName::WorkingDirectory
+        | KeyName::StandardInPath
+        | KeyName::StandardOutPath
+        | KeyName::StandardErrorPath => return PATH,
+        KeyName::Label => (
+            Fit::Any,
+            "a text of 1 to 255 bytes, no / and no control character",
+        ),
+        KeyName::KeepAlive => (
+            Fit::Any,
+            "true, false, or a dictionary of SuccessfulExit, Crashed (true or false) and PathState (at most 64 paths, each true or false)",
+        ),
+        KeyName::StartCalendarInterval => (
+            Fit::Any,
+            "a dictionary of Minute, Hour, Day, Weekday and Month, or an array of at most 64",
+        ),
+        KeyName::Sockets => (
+            Fit::Any,
+            "a dictionary of at most 8 sockets, each a dictionary, or of arrays of such",
+        ),
+        KeyName::InetdCompatibility => (Fit::Any, "{\"Wait\": false}"),
+        _ => (Fit::Any, "another value"),
+    };
+    Rule {
+        name: "",
+        fit,
+        wanted,
+    }
+}
+
+/// What is to stand within the value of a key; of `Sockets`, within a value under a name.
+pub(crate) fn inside_of(key: KeyName) -> Inside {
+    let (most, first, others) = match key {
+        KeyName::StartCalendarInterval => (64, ENTRY, ENTRY),
+        KeyName::Sockets => (8, SOCKET, SOCKET),
+        KeyName::KeepAlive => (0, CONDITIONS, CONDITIONS),
+        KeyName::InetdCompatibility => (0, INETD, INETD),
+        KeyName::ProgramArguments => (256, PROGRAM_FIRST, ARGUMENTS),
+        KeyName::WatchPaths | KeyName::QueueDirectories => (64, PATHS, PATHS),
+        _ => (0, NONE, NONE),
+    };
+    Inside {
+        most,
+        first,
+        others,
+    }
+}
+
+const PROGRAM_FIRST: &[Rule] = &[PROGRAM];
+
+const ARGUMENTS: &[Rule] = &[ARGUMENT];
+
+const PATHS: &[Rule] = &[PATH];
+
+const NONE: &[Rule] = &[];

@@ -1,0 +1,68 @@
+//! The axis of a chart: a span of Unix time over a number of places.
+
+ghost use Rattle.std.specs.Prelude.{◌≡◌, ◌≤◌, ◌<◌, ◌+◌, ◌-◌, min, max};
+ghost use Rattle.history_model.specs.declared.TheConstants.{MAX_WALL};
+ghost use Rattle.run_times.specs.Axis.{place_of};
+
+use history_model::MAX_WALL;
+
+/// A span of time over places: the first is 0 and begins at `from`; `until` stands at `places`. Both in seconds of Unix time.
+#[derive(Clone, Copy)]
+pub struct Axis {
+    pub from: u64,
+    pub until: u64,
+    pub places: u16,
+    ghost ordered: { from < until },
+    ghost known: { until ≤ MAX_WALL },
+}
+
+impl Axis {
+    /// The axis of the span; of at least a second, and within what a clock may show (`MAX_WALL`).
+    pub fn new(from: u64, until: u64, places: u16) -> Axis
+        ensures from { result.from ≡ min from (MAX_WALL - 1) }
+        ensures until { result.until ≡ max (min until MAX_WALL) (min from (MAX_WALL - 1) + 1) }
+        ensures places { result.places ≡ places }
+    {
+        let from = from.min(MAX_WALL - 1);
+        let until = until.min(MAX_WALL).max(from + 1);
+        Axis {
+            from,
+            until,
+            places,
+        }
+    }
+
+    /// Where the second stands. What is before the axis stands at its beginning, and what is after it at its end.
+    #[tactic(auto, using(crate::proofs::AxisLemmas::place_fits, crate::proofs::AxisLemmas::product_fits))]
+    pub fn place(&self, at: u64) -> u16
+        ensures value { result ≡ place_of self.now.from self.now.until self.now.places at }
+        ensures within { result ≤ self.now.places }
+    {
+        let span = self.until - self.from;
+        let gone = at.saturating_sub(self.from).min(span);
+        (gone * u64::from(self.places) / span) as u16
+    }
+
+    /// Where a span begins and ends. One that ends before it begins, since the clock was set back, ends where it begins.
+    #[tactic(auto, using(crate::proofs::AxisLemmas::place_rises))]
+    pub fn edges(&self, from: u64, until: u64) -> (u16, u16)
+        ensures begin { result.0 ≡ place_of self.now.from self.now.until self.now.places from }
+        ensures end { result.1 ≡ place_of self.now.from self.now.until self.now.places (max from until) }
+        ensures ordered { result.0 ≤ result.1 }
+        ensures within { result.1 ≤ self.now.places }
+    {
+        (self.place(from), self.place(until.max(from)))
+    }
+
+    /// Which places a span fills: from the first up to, and without, the second. It is one at least, and none is outside.
+    pub fn filled(&self, from: u64, until: u64) -> (u16, u16)
+        ensures begin { result.0 ≡ min (place_of self.now.from self.now.until self.now.places from) (self.now.places - 1) }
+        ensures end { result.1 ≡ max (place_of self.now.from self.now.until self.now.places (max from until)) (result.0 + 1) }
+        ensures some { result.0 < result.1 }
+        ensures within { result.1 ≤ max self.now.places 1 }
+    {
+        let (begin, end) = self.edges(from, until);
+        let first = begin.min(self.places.saturating_sub(1));
+        (first, end.max(first + 1))
+    }
+}

@@ -1,0 +1,168 @@
+//! What a chart shows: a row for each job, with its runs as bars, and with the demands, throttles and refusals as marks.
+
+ghost use Rattle.std.specs.Prelude.{◌≡◌, ◌≤◌, ◌+◌, OnOk, IfSome};
+ghost use Rattle.run_times.specs.Bars.{runs_in, bar_end};
+
+use crate::picture::axis::Axis;
+use std::alloc::AllocError;
+
+/// How a run stands or ended.
+#[derive(Clone, Copy)]
+pub enum End {
+    Lives,
+    Code(u8),
+    /// TERM or KILL was ordered for it, and it ended then, by no crash.
+    Stopped,
+    Signal(u8),
+    Crash(u8),
+}
+
+/// A run, or some of one place that stand together.
+#[derive(Clone, Copy)]
+pub struct Bar {
+    /// When it began and ended, in seconds of Unix time. A run that lives ends where the chart does.
+    pub from: u64,
+    pub until: u64,
+    /// The gravest end of its runs.
+    pub end: End,
+    /// The number of the first of its runs.
+    pub run: u64,
+    /// How many runs it stands for.
+    pub runs: u32,
+}
+
+/// What a mark stands for.
+#[derive(Clone, Copy)]
+pub enum MarkKind {
+    /// A demand came, or a start was asked for.
+    Demand,
+    /// It is wanted, and waits since it is throttled.
+    Throttle,
+    /// A start, a load or what a client asked was refused.
+    Refusal,
+}
+
+/// A moment that matters, or some of one place.
+#[derive(Clone, Copy)]
+pub struct Mark {
+    pub at: u64,
+    pub count: u32,
+}
+
+/// A job's runs and marks, in the order in which they came.
+#[derive(Drop)]
+pub struct Row {
+    pub label: String,
+    pub bars: Vec<Bar>,
+    pub demands: Vec<Mark>,
+    pub throttles: Vec<Mark>,
+    pub refusals: Vec<Mark>,
+}
+
+/// The rows over their axis, and what was too much to keep.
+#[derive(Drop)]
+pub struct Chart {
+    pub axis: Axis,
+    pub rows: Vec<Row>,
+    /// How many runs, and how many marks, are older than what is kept.
+    pub missing_runs: u64,
+    pub missing_marks: u64,
+    /// How many refusals were of jobs that were not loaded before, so that they had no row.
+    pub rowless_refusals: u64,
+}
+
+impl Bar {
+    /// The bar of one run: from its begin to its end, or to the end of the axis if the run lives.
+    pub fn of_run(axis: &Axis, run: u64, end: End, begun: u64, ended: u64) -> Bar
+        ensures begin { result.from ≡ begun }
+        ensures end { result.until ≡ bar_end end axis.now.until ended }
+        ensures kind { result.end ≡ end }
+        ensures one { (result.run ≡ run) × (result.runs ≡ 1) }
+    {
+        let until = match end {
+            End::Lives => axis.until,
+            _ => ended,
+        };
+        Bar {
+            from: begun,
+            until,
+            end,
+            run,
+            runs: 1,
+        }
+    }
+}
+
+/// How grave an end is, from 0 for a run that lives to 5 for a crash; and its code or signal, 0 if it has none.
+pub(crate) fn grade(end: End) -> (usize, u64)
+    ensures { result.0 ≤ 5 }
+{
+    match end {
+        End::Lives => (0, 0),
+        End::Code(0) => (1, 0),
+        End::Stopped => (2, 0),
+        End::Code(code) => (3, u64::from(code)),
+        End::Signal(signal) => (4, u64::from(signal)),
+        End::Crash(signal) => (5, u64::from(signal)),
+    }
+}
+
+// The bar that stands for both, if both lie in one place of the axis.
+fn joined(axis: &Axis, last: Bar, next: Bar) -> Option<Bar>
+    ensures { IfSome result (λ bar. bar.runs ≡ last.runs + next.runs) }
+{
+    let (begin, end) = axis.edges(last.from, last.until);
+    let (next_begin, next_end) = axis.edges(next.from, next.until);
+    if begin != end || next_begin != begin || next_end != begin {
+        return None;
+    }
+    let runs = last.runs.checked_add(next.runs)?;
+    let is_graver = grade(next.end).0 > grade(last.end).0;
+    Some(Bar {
+        from: last.from,
+        until: next.until.max(last.until),
+        end: if is_graver { next.end } else { last.end },
+        run: last.run,
+        runs,
+    })
+}
+
+// Adds a moment; those of one place stand together.
+fn add_moment(marks: &mut Vec<Mark>, axis: &Axis, at: u64) -> Result<(), AllocError> {
+    if let Some(last) = marks.last_mut() {
+        if axis.place(last.at) == axis.place(at) {
+            last.count = last.count.saturating_add(1);
+            return Ok(());
+        }
+    }
+    Ok(marks.push(Mark { at, count: 1 })?)
+}
+
+impl Row {
+    /// Adds a run. Runs that lie whole in one place of the axis stand together in one bar, so that no more bars are kept than can
+    /// be seen; none is lost.
+    #[tactic(auto, using(crate::proofs::BarsLemmas::one_more))]
+    pub fn add(&mut self, axis: &Axis, bar: Bar) -> Result<(), AllocError>
+        ensures { OnOk result (runs_in self.new.bars.items ≡ runs_in self.old.bars.items + bar.runs) }
+    {
+        let Some(last) = self.bars.pop() else {
+            return Ok(self.bars.push(bar)?);
+        };
+        match joined(axis, last, bar) {
+            Some(joined) => Ok(self.bars.push(joined)?),
+            None => {
+                self.bars.push(last)?;
+                Ok(self.bars.push(bar)?)
+            }
+        }
+    }
+
+    /// Adds a mark. Those of one kind and one place stand together.
+    pub fn mark(&mut self, axis: &Axis, kind: MarkKind, at: u64) -> Result<(), AllocError> {
+        match kind {
+            MarkKind::Demand => add_moment(&mut self.demands, axis, at),
+            MarkKind::Throttle => add_moment(&mut self.throttles, axis, at),
+            MarkKind::Refusal => add_moment(&mut self.refusals, axis, at),
+        }
+    }
+}

@@ -1,0 +1,114 @@
+//! A page that stands alone: the chart, the table of the runs, why each job stands as it does, and the coming starts. No script.
+
+use crate::page::Hole::{Escaped, Moment, Text};
+use crate::page::Page;
+
+/// A start that the clock will want.
+#[derive(Drop)]
+pub struct Coming {
+    pub label: String,
+    /// When, in seconds of Unix time.
+    pub at: u64,
+    /// The key that wants it.
+    pub key: &'static str,
+}
+
+/// What stands on a page beside the chart.
+#[derive(Clone, Copy)]
+pub struct Beside<'a> {
+    /// Lines of cells with tabs between them, the first being the head.
+    pub table: &'a str,
+    /// Why each job stands as it does.
+    pub why: &'a str,
+    /// In the order of time.
+    pub coming: &'a [Coming],
+}
+
+/// What stands above the chart.
+pub(crate) const HEAD: &str = "<!DOCTYPE html>
+<html lang=\"en\">
+<head>
+<meta charset=\"utf-8\">
+<meta name=\"viewport\" content=\"width=device-width, initial-scale=1\">
+<title>Runs of jobs</title>
+<style>
+:root { color-scheme: light dark; --page: #ffffff; --text: #1c2733; --rule: #d9dfe5; --soft: #f4f6f8; }
+@media (prefers-color-scheme: dark) { :root { --page: #11171d; --text: #e6ebf0; --rule: #2c3742; --soft: #1a222b; } }
+body { margin: 0; background: var(--page); color: var(--text); font: 16px/1.45 system-ui, 'DejaVu Sans', sans-serif; }
+main { max-width: 75rem; margin: 0 auto; padding: 1rem; }
+h1 { font-size: 1.5rem; margin: 0 0 0.75rem; }
+h2 { font-size: 1.15rem; margin: 1.75rem 0 0.5rem; }
+p { margin: 0 0 0.5rem; }
+figure, .wide { margin: 0; overflow-x: auto; border: 1px solid var(--rule); border-radius: 6px; }
+figure svg { display: block; width: 100%; min-width: 60rem; height: auto; }
+table { border-collapse: collapse; width: 100%; font-variant-numeric: tabular-nums; }
+th, td { padding: 0.3rem 0.7rem; text-align: right; white-space: nowrap; border-bottom: 1px solid var(--rule); }
+th:first-child, td:first-child, .left td, .left th { text-align: left; }
+td:first-child, .left td:nth-child(2) { white-space: normal; overflow-wrap: anywhere; min-width: 12rem; }
+.left td:first-child { white-space: nowrap; }
+tr:last-child td { border-bottom: 0; }
+th { background: var(--soft); font-weight: 600; }
+pre { margin: 0; padding: 0.75rem; background: var(--soft); border-radius: 6px; white-space: pre-wrap; overflow-wrap: anywhere; font: 0.85rem/1.45 ui-monospace, 'DejaVu Sans Mono', Menlo, Consolas, monospace; }
+@media (max-width: 40rem) { th, td { padding: 0.3rem 0.45rem; } td:first-child, .left td:nth-child(2) { min-width: 10rem; } .left td:first-child { white-space: normal; min-width: 8.5rem; } }
+</style>
+</head>
+<body>
+<main>
+<h1>Runs of jobs</h1>
+<figure>
+";
+
+/// Adds what stands below the chart. The last text is escaped line by line, so that its newlines stay.
+pub(crate) fn put_rest(page: &mut Page<'_>, beside: &Beside<'_>) {
+    page.ink.put(
+        "</figure>\n<h2>What the runs came to</h2>\n<p>Times are in seconds.</p>\n<div class=\"wide\"><table>\n",
+    );
+    put_table(page, beside.table);
+    put_coming(page, beside.coming);
+    for line in beside.why.split('\n') {
+        page.add("$\n", &[Escaped(line)]);
+    }
+    page.ink.put("</pre>\n</main>\n</body>\n</html>\n");
+}
+
+fn put_table(page: &mut Page<'_>, table: &str) {
+    let mut is_head = true;
+    for line in table.lines() {
+        put_cells(page, line, is_head);
+        is_head = false;
+    }
+}
+
+fn put_cells(page: &mut Page<'_>, line: &str, is_head: bool) {
+    let cell = if is_head { "<th>$</th>" } else { "<td>$</td>" };
+    page.ink.put("<tr>");
+    for part in line.split('\t') {
+        page.add(cell, &[Escaped(part)]);
+    }
+    page.ink.put("</tr>\n");
+}
+
+// The coming starts, between the headings above and below them.
+fn put_coming(page: &mut Page<'_>, coming: &[Coming]) {
+    page.ink
+        .put("</table></div>\n<h2>Coming starts by the clock</h2>\n");
+    let (before, behind) = if coming.is_empty() {
+        ("<p>None.</p>\n", "")
+    } else {
+        (
+            "<div class=\"wide\"><table class=\"left\">\n<tr><th>time</th><th>label</th><th>by</th></tr>\n",
+            "</table></div>\n",
+        )
+    };
+    page.ink.put(before);
+    for start in coming {
+        let holes = [
+            Moment(start.at),
+            Escaped(start.label.as_str()),
+            Text(start.key),
+        ];
+        page.add("<tr><td>$</td><td>$</td><td>$</td></tr>\n", &holes);
+    }
+    let heading = "$<h2>Why each job stands as it does</h2>\n<pre>";
+    page.add(heading, &[Text(behind)]);
+}

@@ -1,2 +1,0 @@
-pub mod Axis
-pub mod Bars
