@@ -1,7 +1,7 @@
 -- Where the bar of a run ends in a chart.
 use Rattle.std.specs.Prelude.{ℕ, Option, Some, None}
-use Rattle.journal_reading.specs.declared.run.RunEnd.{RunEnd}
-use Rattle.journal_reading.specs.declared.run.RunEnd.TheVariants.{Awaited, Lives, Refused}
+use Rattle.scope.specs.declared.journal.run.RunEnd.{RunEnd}
+use Rattle.scope.specs.declared.journal.run.RunEnd.TheVariants.{Awaited, Lives, Refused}
 
 -- the second at which the bar of a run ends: that of its end, or of the axis's end if it lives; none if the run did not begin
 abbrev pub run_bar_end : RunEnd → ℕ → ℕ → Option ℕ

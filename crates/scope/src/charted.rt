@@ -3,8 +3,13 @@
 ghost use Rattle.std.specs.Prelude.{◌≡◌, IfSome, option_map};
 ghost use Rattle.scope.specs.RunBars.{run_bar_end};
 
+use crate::journal::hearing::{News, What};
+use crate::journal::job::Asked;
+use crate::journal::past::Past;
+use crate::journal::reader::Journal;
+use crate::journal::run::{Run, RunEnd};
+use crate::texts::log::is_named;
 use history_model::Text;
-use journal_reading::{Asked, Journal, News, Run, RunEnd, What};
 use run_times::picture::{Axis, Bar, Chart, End, MarkKind, PLACES, Row};
 use std::alloc::{AllocError, Global};
 use std::collections::VecDeque;
@@ -14,7 +19,7 @@ const MOST_MARKS: usize = 65_536;
 
 /// A mark, and the serial number of its job.
 #[derive(Clone, Copy)]
-struct Kept {
+pub(crate) struct Kept {
     job: u64,
     kind: MarkKind,
     at: u64,
@@ -23,53 +28,40 @@ struct Kept {
 /// What is kept of the lines that were read, of all jobs or of those that are named.
 #[derive(Drop)]
 pub(crate) struct Heard<'a> {
-    labels: &'a [Text],
-    marks: VecDeque<Kept>,
-    dropped: u64,
+    pub(crate) labels: &'a [Text],
+    pub(crate) marks: VecDeque<Kept>,
+    pub(crate) dropped: u64,
     /// How many refusals were of jobs that were not loaded before.
-    rowless: u64,
+    pub(crate) rowless: u64,
     /// How many runs that had begun are over.
-    ended: u64,
+    pub(crate) ended: u64,
     /// The least and the greatest second that the clock showed.
-    from: u64,
-    until: u64,
+    pub(crate) from: u64,
+    pub(crate) until: u64,
 }
 
-impl<'a> Heard<'a> {
-    /// Nothing is heard yet of the jobs of these labels, or of all if there is none.
-    pub(crate) fn new(alloc: Global, labels: &'a [Text]) -> Heard<'a> {
-        Heard {
-            labels,
-            marks: VecDeque::new(alloc),
-            dropped: 0,
-            rowless: 0,
-            ended: 0,
-            from: u64::MAX,
-            until: 0,
-        }
-    }
-
+impl Heard<'_> {
     /// Takes in what the journal's last line gave.
     pub(crate) fn hear(&mut self, journal: &Journal) -> Result<(), AllocError> {
-        let at = journal.reading().wall;
+        let at = journal.table.reading().wall;
         self.from = self.from.min(at);
         self.until = self.until.max(at);
         for news in &journal.news {
             if is_named(self.labels, news.label.as_str()) {
-                self.hear_news(journal, news, at)?;
+                self.hear_news(&journal.past, news, at)?;
             }
         }
         Ok(())
     }
 
-    fn hear_news(&mut self, journal: &Journal, news: &News, at: u64) -> Result<(), AllocError> {
+    fn hear_news(&mut self, past: &Past, news: &News, at: u64) -> Result<(), AllocError> {
         if let What::Ended { .. } = news.what {
             self.ended = self.ended.saturating_add(1);
         }
         let Some(kind) = mark_of(&news.what) else {
             return Ok(());
         };
-        let Some(job) = journal.past.job(news.label.as_str()) else {
+        let Some(job) = past.jobs.get(news.label.as_str()) else {
             self.rowless = self.rowless.saturating_add(1);
             return Ok(());
         };
@@ -77,19 +69,9 @@ impl<'a> Heard<'a> {
             let _oldest = self.marks.pop_front();
             self.dropped = self.dropped.saturating_add(1);
         }
-        let job = job.serial;
+        let job = job.record.serial;
         Ok(self.marks.push_back(Kept { job, kind, at })?)
     }
-}
-
-// Whether the label is among those; each is if there is none.
-fn is_named(labels: &[Text], label: &str) -> bool {
-    for named in labels {
-        if named.as_str() == label {
-            return true;
-        }
-    }
-    labels.is_empty()
 }
 
 // The mark that an event of a journal makes, if it makes one.
@@ -128,11 +110,7 @@ pub(crate) fn bar_of(axis: &Axis, run: &Run) -> Option<Bar>
 }
 
 /// The chart of the journal's jobs, or of those named that it has.
-pub(crate) fn chart_of(
-    alloc: Global,
-    journal: &Journal,
-    heard: &Heard<'_>,
-) -> Result<Chart, AllocError> {
+pub(crate) fn chart_of(alloc: Global, past: &Past, heard: &Heard<'_>) -> Result<Chart, AllocError> {
     let mut rows = Rows {
         chart: Chart {
             axis: Axis::new(heard.from, heard.until, PLACES),
@@ -143,7 +121,7 @@ pub(crate) fn chart_of(
         },
         places: Vec::new(alloc),
     };
-    let filled = rows.fill(alloc, journal, heard);
+    let filled = rows.fill(alloc, past, heard);
     let Rows { chart, places } = rows;
     drop(places);
     match filled {
@@ -163,31 +141,16 @@ struct Rows {
 }
 
 impl Rows {
-    fn fill(
-        &mut self,
-        alloc: Global,
-        journal: &Journal,
-        heard: &Heard<'_>,
-    ) -> Result<(), AllocError> {
-        self.add_jobs(alloc, journal, heard.labels)?;
+    fn fill(&mut self, alloc: Global, past: &Past, heard: &Heard<'_>) -> Result<(), AllocError> {
+        for (label, job) in &past.jobs {
+            if is_named(heard.labels, label.as_str()) {
+                self.add_job(alloc, label.as_str(), job.record.serial)?;
+            }
+        }
         self.places.sort_unstable();
-        self.add_runs(journal, heard)?;
+        self.add_runs(past, heard)?;
         for mark in &heard.marks {
             self.add_mark(mark)?;
-        }
-        Ok(())
-    }
-
-    fn add_jobs(
-        &mut self,
-        alloc: Global,
-        journal: &Journal,
-        labels: &[Text],
-    ) -> Result<(), AllocError> {
-        for (label, job) in &journal.past.jobs {
-            if is_named(labels, label.as_str()) {
-                self.add_job(alloc, label.as_str(), job.serial)?;
-            }
         }
         Ok(())
     }
@@ -214,16 +177,16 @@ impl Rows {
     }
 
     // The runs that are over and kept, and those that live.
-    fn add_runs(&mut self, journal: &Journal, heard: &Heard<'_>) -> Result<(), AllocError> {
+    fn add_runs(&mut self, past: &Past, heard: &Heard<'_>) -> Result<(), AllocError> {
         let mut drawn: u64 = 0;
-        for run in &journal.past.runs {
+        for run in &past.runs {
             if self.add_run(run)? {
                 drawn = drawn.saturating_add(1);
             }
         }
         self.chart.missing_runs = heard.ended.saturating_sub(drawn);
-        for (_, job) in &journal.past.jobs {
-            if let Some(run) = &job.current {
+        for (_, job) in &past.jobs {
+            if let Some(run) = &job.record.current {
                 let _is_drawn = self.add_run(run)?;
             }
         }

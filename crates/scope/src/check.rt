@@ -1,20 +1,20 @@
 //! What a load would say of definitions, and what may be wrong with them.
 
-use crate::files::{bytes_of, is_empty_folder, now};
+use crate::files::{bytes_of, is_empty_folder};
 use crate::telling::Outcome;
-use crate::there::add_missing;
+use crate::there::{add_missing, add_warning};
 use crate::words::command::ScopeCommand;
-use crate::zone::zone_of;
 use calendar_due::Zone;
 use definition_files::check::{
-    Change, Checked, Grade, Remark, changes_in_year, check_def, finding_line, place_of, summary_of,
+    Change, Checked, Grade, Remark, changes_in_year, check_def, finding_line, summary_of,
 };
-use exit_status::{BAD_CLOCK, BAD_FILE, REFUSED};
+use exit_status::{BAD_FILE, REFUSED};
 use history_model::KeyName;
 use job_defs::Def;
 use launchctl_words::Paths;
 use path_files::{Found, files_at};
 use run_times::Ink;
+use run_times::Piece::Text;
 use std::alloc::{AllocError, Global};
 
 /// What was found so far.
@@ -29,25 +29,9 @@ struct Findings {
 }
 
 /// For each file of the paths a line if all is well with its definition, else a line for each finding. The status is 0 if all would be
-/// read by a load; 1 if one would not, or if one has a warning and the command is strict; 65 if a file can't be read, or the zone is
-/// none. In the zone the entries of calendars are looked at.
-pub(crate) fn check(
-    host: &HostRuntime,
-    alloc: Global,
-    of: &ScopeCommand,
-) -> Result<Outcome, AllocError> {
-    let Some(zone) = zone_of(host, alloc, &of.zone)? else {
-        return Ok(Outcome::failed(alloc, BAD_FILE));
-    };
-    let checked = match now(host) {
-        Some(second) => check_in(host, alloc, of, &zone, second),
-        None => Ok(Outcome::failed(alloc, BAD_CLOCK)),
-    };
-    drop(zone);
-    checked
-}
-
-fn check_in(
+/// read by a load; 1 if one would not, or if one has a warning and the command is strict; 65 if a file can't be read. In the zone the
+/// entries of calendars are looked at, a year on from the second.
+pub(crate) fn check_in(
     host: &HostRuntime,
     alloc: Global,
     of: &ScopeCommand,
@@ -155,23 +139,16 @@ fn add_label(
     remarks: &mut Vec<Remark>,
 ) -> Result<(), AllocError> {
     match path_with(findings.labels.as_slice(), def.label()) {
-        Some(other) => add_double(alloc, bytes, other, remarks),
+        Some(other) => {
+            let told = [
+                Text("Label: "),
+                Text(other),
+                Text(" has this label too; only one of them can be loaded"),
+            ];
+            add_warning(alloc, bytes, KeyName::Label, &told, remarks)
+        }
         None => keep_label(alloc, path, def.label(), findings),
     }
-}
-
-fn add_double(
-    alloc: Global,
-    bytes: &[u8],
-    other: &str,
-    remarks: &mut Vec<Remark>,
-) -> Result<(), AllocError> {
-    let place = place_of(alloc, bytes, KeyName::Label)?;
-    let text = format!(in alloc;
-        "Label: {other} has this label too; only one of them can be loaded"
-    )?;
-    let grade = Grade::Warning;
-    Ok(remarks.push(Remark { place, grade, text })?)
 }
 
 fn keep_label(

@@ -14,8 +14,10 @@ mod page;
 mod program;
 mod report;
 mod telling;
+mod texts;
 mod there;
 mod words;
 mod zone;
 
+pub use journal::telling::{Cause, causes};
 pub use program::jobscope;

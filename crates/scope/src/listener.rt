@@ -1,36 +1,52 @@
 //! What is made of a journal's lines as they are read.
 
 use crate::charted::Heard;
+use crate::journal::reader::Journal;
 use crate::telling::put;
+use crate::texts::log::add_lines;
+use crate::words::command::{ScopeCommand, Task};
 use calendar_due::Zone;
-use history_model::Text;
-use journal_reading::{Journal, begin_line, log_lines};
+use run_times::Hole::Now;
+use run_times::{Page, utc};
 use std::alloc::{AllocError, Global};
+use std::collections::VecDeque;
 use std::io;
 
-/// Who hears what each line of a journal gave.
+/// What hears each line of a journal: for a picture the marks of a chart are kept, for a log its lines are shown. Else the journal's end
+/// says all.
 #[derive(Drop)]
-pub(crate) enum Listener<'a> {
-    /// Nobody: the journal's end says all.
-    Nobody,
-    /// The marks of a chart.
-    Chart(Heard<'a>),
-    /// The journal for people.
-    Log(Shown<'a>),
-}
-
-/// The journal for people: what of it is shown, and the text that is not written yet.
-#[derive(Drop)]
-pub(crate) struct Shown<'a> {
+pub(crate) struct Listener<'a> {
+    task: Task,
+    pub(crate) heard: Heard<'a>,
     /// Whether times are shown in UTC, and not in the journal's zone.
-    pub(crate) is_utc: bool,
-    pub(crate) utc: Zone,
-    pub(crate) since: u64,
-    pub(crate) labels: &'a [Text],
-    pub(crate) text: String,
+    is_utc: bool,
+    utc: Zone,
+    /// The second from which on lines are shown, and the text that is not written yet.
+    since: u64,
+    text: String,
 }
 
 impl Listener<'_> {
+    /// Nothing is heard yet of what the command asks for.
+    pub(crate) fn new(alloc: Global, of: &ScopeCommand) -> Listener<'_> {
+        Listener {
+            task: of.task,
+            heard: Heard {
+                labels: of.words.as_slice(),
+                marks: VecDeque::new(alloc),
+                dropped: 0,
+                rowless: 0,
+                ended: 0,
+                from: u64::MAX,
+                until: 0,
+            },
+            is_utc: of.is_utc,
+            utc: utc(),
+            since: of.since.unwrap_or(0),
+            text: String::new(alloc),
+        }
+    }
+
     /// Hears what the journal's last line gave.
     pub(crate) fn hear(
         &mut self,
@@ -38,52 +54,59 @@ impl Listener<'_> {
         journal: &Journal,
         is_header: bool,
     ) -> Result<(), AllocError> {
-        match self {
-            Listener::Nobody => Ok(()),
-            Listener::Chart(heard) => heard.hear(journal),
-            Listener::Log(shown) => shown.add_line(alloc, journal, is_header),
+        match self.task {
+            Task::Picture => self.heard.hear(journal),
+            Task::Log => self.add_line(alloc, journal, is_header),
+            _ => Ok(()),
         }
     }
 
     /// Whether there is nothing to show as the journal is read.
     pub(crate) fn is_quiet(&self) -> bool {
-        match self {
-            Listener::Log(_) => false,
-            Listener::Nobody | Listener::Chart(_) => true,
+        match self.task {
+            Task::Log => false,
+            _ => true,
+        }
+    }
+
+    /// The zone in which times are shown.
+    pub(crate) fn zone_of<'b>(&'b self, journal: &'b Journal) -> &'b Zone {
+        if self.is_utc {
+            &self.utc
+        } else {
+            &journal.zone
         }
     }
 
     /// Writes the text that is not written yet.
     pub(crate) fn write(&mut self, host: &HostRuntime) -> io::Result<()> {
-        if let Listener::Log(shown) = self {
-            put(host, shown.text.as_str())?;
-            shown.text.clear();
-        }
+        put(host, self.text.as_str())?;
+        self.text.clear();
         Ok(())
     }
-}
 
-impl Shown<'_> {
+    // Behind the header's line stands that a launcher began.
     fn add_line(
         &mut self,
         alloc: Global,
         journal: &Journal,
         is_header: bool,
     ) -> Result<(), AllocError> {
-        if journal.reading().wall < self.since {
+        let now = journal.table.reading();
+        if now.wall < self.since || (journal.news.is_empty() && !is_header) {
             return Ok(());
         }
-        let zone = if self.is_utc {
-            &self.utc
-        } else {
-            &journal.zone
-        };
-        let lines = if is_header {
-            begin_line(alloc, journal, zone)
-        } else {
-            log_lines(alloc, journal, zone, self.labels)
-        };
-        match lines {
+        let mut page = Page::new(alloc, self.zone_of(journal), now);
+        page.add(
+            if is_header {
+                "$  the launcher began\n"
+            } else {
+                ""
+            },
+            &[Now],
+        );
+        add_lines(&mut page, journal, self.heard.labels);
+        match page.into_text() {
             Ok(lines) => {
                 let added = self.text.push_str(lines.as_str());
                 drop(lines);

@@ -1,13 +1,11 @@
 //! The coming starts of calendars and intervals, in the order of time.
 
 use crate::coming::{calendar_after, interval_after};
-use crate::files::{bytes_of, is_empty_folder, now};
+use crate::files::{bytes_of, is_empty_folder};
 use crate::telling::{Outcome, tell_of};
 use crate::words::command::ScopeCommand;
-use crate::zone::zone_of;
 use calendar_due::Zone;
-use exit_status::{BAD_CLOCK, BAD_FILE};
-use history_model::MAX_WALL;
+use exit_status::BAD_FILE;
 use job_defs::{Def, DefFault, read_def};
 use launchctl_words::Paths;
 use path_files::{Found, files_at};
@@ -26,30 +24,10 @@ struct Job {
 /// How many starts are shown where the words do not say it.
 const COUNT: u64 = 10;
 
-/// As many coming starts of the definitions as the command wants, in the order of time, each after its second, or after now. An
-/// interval is counted from there, as if the job were loaded then. 65 if a file can't be read or is no definition, or the zone is none:
-/// the others' starts are written all the same. A job that the clock never starts is told.
-pub(crate) fn next(
-    host: &HostRuntime,
-    alloc: Global,
-    of: &ScopeCommand,
-) -> Result<Outcome, AllocError> {
-    let Some(zone) = zone_of(host, alloc, &of.zone)? else {
-        return Ok(Outcome::failed(alloc, BAD_FILE));
-    };
-    let from = match of.from {
-        Some(second) => Some(second),
-        None => now(host),
-    };
-    let made = match from {
-        Some(from) => next_in(host, alloc, of, &zone, from.min(MAX_WALL)),
-        None => Ok(Outcome::failed(alloc, BAD_CLOCK)),
-    };
-    drop(zone);
-    made
-}
-
-fn next_in(
+/// As many coming starts of the definitions as the command wants, in the order of time, each after the second. An interval is counted
+/// from there, as if the job were loaded then. 65 if a file can't be read or is no definition: the others' starts are written all the
+/// same. A job that the clock never starts is told.
+pub(crate) fn next_in(
     host: &HostRuntime,
     alloc: Global,
     of: &ScopeCommand,

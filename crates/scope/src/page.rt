@@ -1,9 +1,9 @@
 //! The coming starts that stand on a page.
 
 use crate::coming::calendar_after;
+use crate::journal::reader::Journal;
 use history_model::{MAX_WALL, Reading};
 use job_defs::Def;
-use journal_reading::{Job, Journal};
 use run_times::picture::{Chart, Coming};
 use std::alloc::{AllocError, Global};
 
@@ -13,32 +13,21 @@ pub(crate) fn coming_of(
     journal: &Journal,
     chart: &Chart,
 ) -> Result<Vec<Coming>, AllocError> {
+    let now = journal.table.reading();
     let mut coming = Vec::new(alloc);
     for row in &chart.rows {
         let label = row.label.as_str();
-        if let Some(job) = journal.past.job(label) {
-            add_coming(alloc, journal, label, job, &mut coming)?;
+        if let Some(job) = journal.past.jobs.get(label) {
+            if let Some(def) = &job.def {
+                let calendar = calendar_after(def.calendar(), &journal.zone, now.wall);
+                add(alloc, label, "StartCalendarInterval", calendar, &mut coming)?;
+                let interval = interval_end(def, job.record.loaded, now);
+                add(alloc, label, "StartInterval", interval, &mut coming)?;
+            }
         }
     }
     coming.sort_by_key(|start| start.at)?;
     Ok(coming)
-}
-
-fn add_coming(
-    alloc: Global,
-    journal: &Journal,
-    label: &str,
-    job: &Job,
-    coming: &mut Vec<Coming>,
-) -> Result<(), AllocError> {
-    let Some(def) = &job.def else {
-        return Ok(());
-    };
-    let now = journal.reading();
-    let calendar = calendar_after(def.calendar(), &journal.zone, now.wall);
-    add(alloc, label, "StartCalendarInterval", calendar, coming)?;
-    let interval = interval_end(def, job.loaded, now);
-    add(alloc, label, "StartInterval", interval, coming)
 }
 
 fn add(

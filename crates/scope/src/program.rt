@@ -1,16 +1,20 @@
 //! One run of the program: which subcommand runs, and what ends it.
 
-use crate::check::check;
+use crate::check::check_in;
 use crate::cron::cron;
-use crate::log::log;
-use crate::next::next;
-use crate::report::{Subject, report};
-use crate::telling::{put, put_outcome, tell_end, want_memory};
-use crate::words::command::{ScopeCommand, Task};
-use crate::words::reading::{explain_scope, read_scope_words};
-use exit_status::USAGE;
+use crate::files::now;
+use crate::next::next_in;
+use crate::report::report;
+use crate::telling::{Outcome, put, put_outcome, tell_end, want_memory};
+use crate::words::command::{Meaning, ScopeCommand, Task};
+use crate::words::forms::jobscope_words;
+use crate::words::reading::read_scope_words;
+use crate::zone::zone_of;
+use exit_status::{BAD_CLOCK, BAD_FILE, USAGE};
+use history_model::MAX_WALL;
 use launchctl_words::WordFault;
-use std::alloc::Global;
+use launchctl_words::parse::explain_by;
+use std::alloc::{AllocError, Global};
 use std::io;
 use std::sync::Wait;
 
@@ -20,10 +24,15 @@ use std::sync::Wait;
 /// is told and the status is 141. Both `host` and `waits` are the runtime of `main`: only what takes it as `waits` may wait.
 pub fn jobscope<W: Wait>(host: &HostRuntime, waits: &W, alloc: Global, words: &[String]) -> u8 {
     let ended = match read_scope_words(alloc, words) {
-        Ok(command) => {
+        Ok(Meaning::Command(command)) => {
             let ended = run(host, waits, alloc, &command);
             drop(command);
             ended
+        }
+        Ok(Meaning::Wrong(text)) => {
+            tell_wrong(host, text.as_str());
+            drop(text);
+            Ok(USAGE)
         }
         Err(WordFault::Usage) => explain(host, alloc, words),
         Err(WordFault::NoMemory) => return want_memory(host),
@@ -34,6 +43,10 @@ pub fn jobscope<W: Wait>(host: &HostRuntime, waits: &W, alloc: Global, words: &[
     }
 }
 
+fn tell_wrong(host: &HostRuntime, text: &str) {
+    let _written = eprint!(host; "{text}");
+}
+
 fn run<W: Wait>(
     host: &HostRuntime,
     waits: &W,
@@ -41,25 +54,38 @@ fn run<W: Wait>(
     command: &ScopeCommand,
 ) -> io::Result<u8> {
     match command.task {
-        Task::Check => put_outcome(host, check(host, alloc, command)),
-        Task::Next => put_outcome(host, next(host, alloc, command)),
-        Task::Why => report(host, alloc, Subject::Why, command),
-        Task::Log => log(host, waits, alloc, command),
-        Task::Runs => report(host, alloc, Subject::Runs, command),
-        Task::Picture if command.is_page => report(host, alloc, Subject::Page, command),
-        Task::Picture => report(host, alloc, Subject::Picture, command),
+        Task::Check | Task::Next => put_outcome(host, by_zone(host, alloc, command)),
         Task::Cron => put_outcome(host, cron(host, alloc, &command.words)),
+        _ => report(host, waits, alloc, command),
     }
+}
+
+// What is told of definitions in the zone that the words name, as of the second that they name, or of now.
+fn by_zone(host: &HostRuntime, alloc: Global, of: &ScopeCommand) -> Result<Outcome, AllocError> {
+    let Some(zone) = zone_of(host, alloc, &of.zone)? else {
+        return Ok(Outcome::failed(alloc, BAD_FILE));
+    };
+    let second = match of.from {
+        Some(second) => Some(second.min(MAX_WALL)),
+        None => now(host),
+    };
+    let made = match (second, of.task) {
+        (Some(second), Task::Check) => check_in(host, alloc, of, &zone, second),
+        (Some(second), _) => next_in(host, alloc, of, &zone, second),
+        (None, _) => Ok(Outcome::failed(alloc, BAD_CLOCK)),
+    };
+    drop(zone);
+    made
 }
 
 // The help goes to the standard output, and what is wrong with the words to the standard error.
 fn explain(host: &HostRuntime, alloc: Global, words: &[String]) -> io::Result<u8> {
-    let explanation = explain_scope(alloc, words)?;
+    let explanation = explain_by(alloc, jobscope_words(alloc), words)?;
     let text = explanation.text.as_str();
     if explanation.is_help {
         put(host, text)?;
         return Ok(0);
     }
-    let _written = eprint!(host; "{text}");
+    tell_wrong(host, text);
     Ok(USAGE)
 }

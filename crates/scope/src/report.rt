@@ -1,128 +1,130 @@
-//! What is told of a journal once it was read to its end: why each job stands as it does, what its runs came to, and their picture.
+//! What is told of a journal: its events, as they are read or as they come, and once it was read to its end why each job stands as it
+//! does, what its runs came to, and their picture.
 
-use crate::charted::{Heard, chart_of};
-use crate::journal::{Feed, journal_path, read_journal};
+use crate::charted::chart_of;
+use crate::journal::feeding::JournalReader;
+use crate::journal::reader::Journal;
+use crate::journal::source::{journal_path, read_journal};
 use crate::listener::Listener;
+use crate::log::follow;
 use crate::page::coming_of;
 use crate::telling::{put_made, tell_of};
-use crate::words::command::ScopeCommand;
+use crate::texts::runs::runs_table;
+use crate::texts::why::why_text;
+use crate::words::command::{ScopeCommand, Task};
 use calendar_due::Zone;
 use exit_status::BAD_FILE;
 use history_model::Text;
-use journal_reading::{Journal, runs_table, why_text};
 use run_times::picture::{Beside, Chart, blocks_text, picture_piece};
 use run_times::utc;
 use std::alloc::Global;
 use std::io::IsTerminal;
+use std::sync::Wait;
 use std::{env, io};
 
 /// How wide a terminal is if `COLUMNS` does not say it.
 const COLUMNS: u16 = 80;
 
-/// What is told.
-#[derive(Clone, Copy)]
-pub(crate) enum Subject {
-    /// Why each job runs or not.
-    Why,
-    /// What the runs of each job came to.
-    Runs,
-    /// A chart of each job's runs: as blocks if the standard output is a terminal, else as SVG.
-    Picture,
-    /// The chart as a page of HTML.
-    Page,
-}
-
-/// Writes what is told of the jobs of the journal, or of those that are named. 65 if the journal can't be read, or if a line is no event.
-pub(crate) fn report(
+/// Writes what is told of the jobs of the journal, or of those that are named; of a log the events from the command's second on, each in a
+/// line. If the command follows, it goes on as the journal's file grows; only this may wait. 65 if the journal can't be read, or if a line
+/// is no event.
+pub(crate) fn report<W: Wait>(
     host: &HostRuntime,
+    waits: &W,
     alloc: Global,
-    wanted: Subject,
     of: &ScopeCommand,
 ) -> io::Result<u8> {
-    let mut feed = Feed::new(alloc);
-    let mut listener = listener_of(alloc, wanted, of.words.as_slice());
-    let status = report_by(host, alloc, wanted, of, &mut feed, &mut listener);
+    let path = journal_path(host, of)?;
+    let mut reader = JournalReader::new(alloc);
+    let mut listener = Listener::new(alloc, of);
+    let status = match &path {
+        Some(path) if of.follows => {
+            follow(
+                host,
+                waits,
+                alloc,
+                path.as_str(),
+                &mut reader,
+                &mut listener,
+            )
+        }
+        Some(path) => report_by(
+            host,
+            alloc,
+            of,
+            Some(path.as_str()),
+            &mut reader,
+            &mut listener,
+        ),
+        None => report_by(host, alloc, of, None, &mut reader, &mut listener),
+    };
     drop(listener);
-    drop(feed);
+    drop(reader);
+    drop(path);
     status
 }
 
 fn report_by(
     host: &HostRuntime,
     alloc: Global,
-    wanted: Subject,
     of: &ScopeCommand,
-    feed: &mut Feed,
+    path: Option<&str>,
+    reader: &mut JournalReader,
     listener: &mut Listener<'_>,
 ) -> io::Result<u8> {
-    let path = journal_path(host, of)?;
-    let read = read_journal(host, alloc, &path, feed, listener);
-    drop(path);
-    let Some(status) = read? else {
+    let Some(status) = read_journal(host, alloc, path, reader, listener)? else {
         return Ok(BAD_FILE);
     };
-    if let Some(journal) = feed.reader.journal() {
-        write_report(host, alloc, wanted, journal, listener, of)?;
+    if let Some(journal) = &reader.journal {
+        write_report(host, alloc, journal, listener, of)?;
     }
     Ok(status)
 }
 
-fn listener_of(alloc: Global, wanted: Subject, labels: &[Text]) -> Listener<'_> {
-    match wanted {
-        Subject::Picture | Subject::Page => Listener::Chart(Heard::new(alloc, labels)),
-        Subject::Why | Subject::Runs => Listener::Nobody,
-    }
-}
-
+// What the journal's end says. A log was written as it was read.
 fn write_report(
     host: &HostRuntime,
     alloc: Global,
-    wanted: Subject,
     journal: &Journal,
     listener: &Listener<'_>,
     of: &ScopeCommand,
 ) -> io::Result<()> {
-    let utc = utc();
-    let zone = if of.is_utc { &utc } else { &journal.zone };
+    let zone = listener.zone_of(journal);
     let labels = of.words.as_slice();
-    let written = match (listener, wanted) {
-        (Listener::Chart(heard), _) => {
-            tell_absent(host, journal, labels);
-            paint(host, alloc, wanted, journal, zone, heard, labels)
+    match of.task {
+        Task::Why => put_made(host, why_text(alloc, journal, zone, labels)),
+        Task::Runs => {
+            let now = journal.table.reading();
+            put_made(host, runs_table(alloc, &journal.past, now, labels))
         }
-        (_, Subject::Why) => put_made(host, why_text(alloc, journal, zone, labels)),
-        _ => put_made(host, runs_table(alloc, journal, labels)),
-    };
-    drop(utc);
-    written
-}
-
-// Tells each named label that the journal has no load of. This is no fault.
-fn tell_absent(host: &HostRuntime, journal: &Journal, labels: &[Text]) {
-    for label in labels {
-        let label = label.as_str();
-        if journal.past.job(label).is_none() {
-            tell_of(host, label, &"the journal has no load of it");
-        }
+        Task::Picture => paint(host, alloc, journal, zone, listener, of),
+        _ => Ok(()),
     }
 }
 
+// A named label that the journal has no load of is told. This is no fault.
 fn paint(
     host: &HostRuntime,
     alloc: Global,
-    wanted: Subject,
     journal: &Journal,
     zone: &Zone,
-    heard: &Heard<'_>,
-    labels: &[Text],
+    listener: &Listener<'_>,
+    of: &ScopeCommand,
 ) -> io::Result<()> {
-    let chart = chart_of(alloc, journal, heard)?;
-    let painted = match wanted {
-        Subject::Page => paint_page(host, alloc, journal, zone, &chart, labels),
-        _ if host.stdout().is_terminal() => {
-            put_made(host, blocks_text(alloc, zone, &chart, columns(host)))
+    let labels = of.words.as_slice();
+    for label in labels {
+        let label = label.as_str();
+        if journal.past.jobs.get(label).is_none() {
+            tell_of(host, label, &"the journal has no load of it");
         }
-        _ => put_pieces(host, alloc, zone, &chart, None),
+    }
+    let chart = chart_of(alloc, &journal.past, &listener.heard)?;
+    let painted = if of.is_page {
+        paint_page(host, alloc, journal, zone, &chart, labels)
+    } else if host.stdout().is_terminal() {
+        put_made(host, blocks_text(alloc, zone, &chart, columns(host)))
+    } else {
+        put_pieces(host, alloc, zone, &chart, None)
     };
     drop(chart);
     painted
@@ -143,7 +145,7 @@ fn paint_page(
     chart: &Chart,
     labels: &[Text],
 ) -> io::Result<()> {
-    let table = runs_table(alloc, journal, labels)?;
+    let table = runs_table(alloc, &journal.past, journal.table.reading(), labels)?;
     let why = why_text(alloc, journal, zone, labels)?;
     let coming = coming_of(alloc, journal, chart)?;
     let beside = Some(Beside {

@@ -5,6 +5,8 @@ use history_model::KeyName;
 use job_defs::Def;
 use json_kinds::key_name;
 use path_files::read_front;
+use run_times::Piece::Text;
+use run_times::{Ink, Piece};
 use std::alloc::{AllocError, Global};
 use std::fs::metadata;
 use std::io::ErrorKind;
@@ -72,27 +74,35 @@ pub(crate) fn add_missing(
     for (key, path, wanted) in keys.iter() {
         let told = told_of(host, alloc, path.unwrap_or(""), *wanted)?;
         if !told.is_empty() {
-            add(alloc, bytes, *key, told.as_str(), remarks)?;
+            let (name, behind) = match key {
+                KeyName::Program => ("the program", " "),
+                key => (key_name(*key), ": "),
+            };
+            let pieces = [Text(name), Text(behind), Text(told.as_str())];
+            add_warning(alloc, bytes, *key, &pieces, remarks)?;
         }
     }
     Ok(())
 }
 
-fn add(
+/// Adds a warning at the key's place, told by the pieces.
+pub(crate) fn add_warning(
     alloc: Global,
     bytes: &[u8],
     key: KeyName,
-    told: &str,
+    told: &[Piece<'_>],
     remarks: &mut Vec<Remark>,
 ) -> Result<(), AllocError> {
-    let (name, behind) = match key {
-        KeyName::Program => ("the program", ""),
-        key => (key_name(key), ":"),
-    };
-    let text = format!(in alloc; "{name}{behind} {told}")?;
     let place = place_of(alloc, bytes, key)?;
-    let grade = Grade::Warning;
-    Ok(remarks.push(Remark { place, grade, text })?)
+    let mut ink = Ink::new(alloc);
+    ink.put_all(told);
+    match ink.into_text() {
+        Ok(text) => {
+            let grade = Grade::Warning;
+            Ok(remarks.push(Remark { place, grade, text })?)
+        }
+        Err(error) => Err(error),
+    }
 }
 
 // What is wrong with the path; empty if nothing is, or if it is no path from the root.

@@ -1,6 +1,6 @@
 //! What the words of `jobscope` mean.
 
 pub(crate) mod command;
-mod forms;
+pub(crate) mod forms;
 mod numbers;
 pub(crate) mod reading;

@@ -6,7 +6,7 @@ use crate::words::numbers::{number_of, wrong_number};
 use clap::ArgMatches;
 use history_model::Text;
 use launchctl_words::arguments::{is_set, value_of, values_of};
-use launchctl_words::parse::{Explanation, explain_by, parse};
+use launchctl_words::parse::parse;
 use launchctl_words::{Paths, WordFault, ZoneWords};
 use std::alloc::{AllocError, Global};
 
@@ -96,40 +96,14 @@ fn meaning_in(alloc: Global, found: &ArgMatches<'_>, task: Task) -> Result<Meani
     Ok(Meaning::Command(command_in(alloc, task, found)?))
 }
 
-fn read_meaning(alloc: Global, words: &[String]) -> Result<Meaning, WordFault> {
+/// What the words mean, the program's own name being the first; a text that says what is wrong if clap takes them and a value is no
+/// number, or both zone options stand. Usage: clap takes them for no command of jobscope.
+pub(crate) fn read_scope_words(alloc: Global, words: &[String]) -> Result<Meaning, WordFault> {
     let Ok(command) = jobscope_words(alloc) else {
         return Err(WordFault::NoMemory);
     };
     match parse(command, words) {
         Ok(matches) => meaning_of(alloc, &matches),
         Err(fault) => Err(fault),
-    }
-}
-
-/// What the words mean, the program's own name being the first. Usage: they are no command of jobscope; `explain_scope` gives
-/// the text to print then.
-pub(crate) fn read_scope_words(alloc: Global, words: &[String]) -> Result<ScopeCommand, WordFault> {
-    match read_meaning(alloc, words) {
-        Ok(Meaning::Command(command)) => Ok(command),
-        Ok(meaning) => {
-            drop(meaning);
-            Err(WordFault::Usage)
-        }
-        Err(fault) => Err(fault),
-    }
-}
-
-/// The text to print if the words are no command of jobscope, or ask for help. If clap takes them, it is one line that says which
-/// value is no number, or that both zone options stand.
-pub(crate) fn explain_scope(alloc: Global, words: &[String]) -> Result<Explanation, AllocError> {
-    match read_meaning(alloc, words) {
-        Ok(Meaning::Wrong(text)) => Ok(Explanation {
-            text,
-            is_help: false,
-        }),
-        other => {
-            drop(other);
-            explain_by(alloc, jobscope_words(alloc), words)
-        }
     }
 }

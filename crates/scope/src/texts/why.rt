@@ -1,49 +1,43 @@
 //! Why each job stands as it does, at the journal's end.
 
-use crate::job::Job;
-use crate::reader::Journal;
-use crate::run::Run;
-use crate::telling::{Cause, causes};
+use crate::journal::job::Record;
+use crate::journal::reader::Journal;
+use crate::journal::telling::{Cause, causes};
 use crate::texts::coming::{FARTHEST, add_not_wanted};
-use crate::texts::page::Hole::{Coming, Now, Number, Span, Text, Time};
-use crate::texts::page::Page;
 use crate::texts::told::Told;
 use crate::texts::wants::add_want;
 use crate::texts::words::{asked_name, end_words};
 use calendar_due::Zone;
 use history_model::{Act, MAX_UP, MAX_WALL, Reading, Reasons, StandingChild};
 use job_defs::Def;
-use run_times::next_run;
+use run_times::Hole::{Coming, Now, Number, Span, Text, Time};
+use run_times::{Page, next_run};
 use std::alloc::{AllocError, Global};
 
 /// For each loaded job, or for those named: its state, a line for each thing that keeps it from a start or wants it, how it ended
 /// last, and when it starts. Moments are shown in the zone.
-pub fn why_text(
+pub(crate) fn why_text(
     alloc: Global,
     journal: &Journal,
     zone: &Zone,
     labels: &[history_model::Text],
 ) -> Result<String, AllocError> {
-    match Page::new(alloc, zone, journal.reading()) {
-        Ok(mut page) => {
-            page.add("As of $:\n", &[Now]);
-            if labels.is_empty() {
-                add_all(&mut page, journal);
-            }
-            for label in labels {
-                add_named(&mut page, journal, label.as_str());
-            }
-            page.into_text()
-        }
-        Err(error) => Err(error),
+    let mut page = Page::new(alloc, zone, journal.table.reading());
+    page.add("As of $:\n", &[Now]);
+    if labels.is_empty() {
+        add_all(&mut page, journal);
     }
+    for label in labels {
+        add_named(&mut page, journal, label.as_str());
+    }
+    page.into_text()
 }
 
 fn add_all(page: &mut Page<'_>, journal: &Journal) {
     let mut is_empty = true;
     for (label, job) in &journal.past.jobs {
         if let Some(def) = &job.def {
-            add_job(page, journal, label.as_str(), job, def);
+            add_job(page, journal, label.as_str(), &job.record, def);
             is_empty = false;
         }
     }
@@ -53,17 +47,20 @@ fn add_all(page: &mut Page<'_>, journal: &Journal) {
 }
 
 fn add_named(page: &mut Page<'_>, journal: &Journal, label: &str) {
-    let (form, gone) = match journal.past.job(label) {
+    let (form, gone) = match journal.past.jobs.get(label) {
         Some(job) => match &job.def {
-            Some(def) => return add_job(page, journal, label, job, def),
-            None => ("\n$ is not loaded: it was removed at $.\n", job.gone.wall),
+            Some(def) => return add_job(page, journal, label, &job.record, def),
+            None => (
+                "\n$ is not loaded: it was removed at $.\n",
+                job.record.gone.wall,
+            ),
         },
         None => ("\n$ is not loaded: the journal has no load of it.\n", 0),
     };
     page.add(form, &[Text(label), Time(gone)]);
 }
 
-fn add_job(page: &mut Page<'_>, journal: &Journal, label: &str, job: &Job, def: &Def) {
+fn add_job(page: &mut Page<'_>, journal: &Journal, label: &str, job: &Record, def: &Def) {
     let Some(reasons) = journal.table.reasons(label) else {
         return;
     };
@@ -173,7 +170,7 @@ fn words_if(holds: bool, words: &'static str) -> &'static str {
     if holds { words } else { "" }
 }
 
-fn add_signals(page: &mut Page<'_>, job: &Job, def: &Def) {
+fn add_signals(page: &mut Page<'_>, job: &Record, def: &Def) {
     let seconds = u64::from(def.exit_time_out());
     let (form, at) = match (job.kill, job.term) {
         (Some(at), _) => (" KILL was ordered at $.", at),
@@ -216,7 +213,7 @@ fn add_throttle(page: &mut Page<'_>, told: &Told<'_>, up: u64) {
 }
 
 // What is told of a throttle up to `up`, and the moment of the start: of the last one that was ordered, or of one that was refused.
-fn throttle_form(job: &Job, length: u64, up: u64) -> (&'static str, u64) {
+fn throttle_form(job: &Record, length: u64, up: u64) -> (&'static str, u64) {
     if let Some(at) = job.ordered {
         if at.up.saturating_add(length) == up {
             let form =
@@ -235,31 +232,27 @@ fn throttle_form(job: &Job, length: u64, up: u64) -> (&'static str, u64) {
 }
 
 // How the last run ended, how many there were, and that the last start was refused.
-fn add_past(page: &mut Page<'_>, job: &Job) {
+fn add_past(page: &mut Page<'_>, job: &Record) {
     if let Some(last) = &job.last {
-        add_last(page, job, last);
+        let (words, number) = end_words(last.end);
+        let starts = if job.starts == 1 { "start" } else { "starts" };
+        let holes = [
+            Text(words),
+            Number(u64::from(number)),
+            Text(words_if(last.is_crash, " (a crash)")),
+            Time(last.ended.wall),
+            Span(last.lived(page.now)),
+            Number(job.starts),
+            Text(starts),
+            Number(job.ends),
+        ];
+        let form = "  It ended last $$$, at $, after $; $ $ since its load, $ ended.\n";
+        page.add(form, &holes);
     }
     if let Some(run) = &job.refused {
         let form = "  Its last start (run $) was refused, at $.\n";
         page.add(form, &[Number(run.run), Time(run.ended.wall)]);
     }
-}
-
-fn add_last(page: &mut Page<'_>, job: &Job, last: &Run) {
-    let (words, number) = end_words(last.end);
-    let starts = if job.starts == 1 { "start" } else { "starts" };
-    let holes = [
-        Text(words),
-        Number(u64::from(number)),
-        Text(words_if(last.is_crash, " (a crash)")),
-        Time(last.ended.wall),
-        Span(last.lived(page.now)),
-        Number(job.starts),
-        Text(starts),
-        Number(job.ends),
-    ];
-    let form = "  It ended last $$$, at $, after $; $ $ since its load, $ ended.\n";
-    page.add(form, &holes);
 }
 
 // When it starts by the clocks alone, if it does.

@@ -1,10 +1,13 @@
 //! What keeps a journal from being read.
 
-use std::{fmt, io};
+use crate::telling::tell_of;
+use exit_status::BAD_FILE;
+use std::io;
+use std::io::ErrorKind;
 
 /// What keeps a journal from being read.
 #[derive(Drop)]
-pub enum JournalFault {
+pub(crate) enum JournalFault {
     NoMemory,
     /// The journal has no line, or none that is whole.
     NoHeader,
@@ -20,28 +23,28 @@ pub enum JournalFault {
     Read(io::Error),
 }
 
-impl fmt::Display for JournalFault {
-    fn fmt<W: fmt::Write>(&self, f: &mut fmt::Formatter<W>) -> fmt::Result {
-        match self {
-            JournalFault::LongLine(line) => write!(f, "line {line}: longer than 262144 bytes"),
-            JournalFault::Read(error) => write!(f, "{error}"),
-            fault => {
-                let words = words_of(fault);
-                write!(f, "{words}")
-            }
+/// Tells what keeps the journal from being read, and answers the exit status. An error for want of memory.
+pub(crate) fn tell_fault(host: &HostRuntime, name: &str, fault: JournalFault) -> io::Result<u8> {
+    let words = match fault {
+        JournalFault::NoMemory => return Err(io::Error::from(ErrorKind::OutOfMemory)),
+        JournalFault::Read(error) => {
+            tell_of(host, name, &error);
+            drop(error);
+            return Ok(BAD_FILE);
         }
-    }
-}
-
-// The fault in words, if it has no value of its own.
-fn words_of(fault: &JournalFault) -> &'static str {
-    match fault {
+        JournalFault::LongLine(line) => {
+            let _written = eprintln!(host;
+                "jobscope: {name}: line {line}: longer than 262144 bytes"
+            );
+            return Ok(BAD_FILE);
+        }
         JournalFault::NoHeader => "line 1: no whole line, where a journal has its header",
         JournalFault::BadHeader => "line 1: no header of a journal",
         JournalFault::BadZone => "line 1: the header's zone is none",
         JournalFault::BadSettings => {
             "line 1: a setting's name is no label, or the reading is past its limit"
         }
-        _ => "no memory",
-    }
+    };
+    tell_of(host, name, &words);
+    Ok(BAD_FILE)
 }

@@ -1,7 +1,7 @@
 //! Names for what a journal tells.
 
-use crate::job::Asked;
-use crate::run::RunEnd;
+use crate::journal::job::Asked;
+use crate::journal::run::RunEnd;
 use history_model::{DemandKind, Refusal};
 
 /// What was asked, as the word of `jobctl`.

@@ -1,27 +1,27 @@
 //! What is kept of all jobs: by their labels, and the runs that are over.
 
-use crate::job::{Asked, Job};
-use crate::run::Run;
+use crate::journal::job::{Asked, Job, Record};
+use crate::journal::run::Run;
 use history_model::Reading;
 use job_defs::Def;
 use std::alloc::{AllocError, Global};
 use std::collections::{BTreeMap, VecDeque};
 
 /// So many labels are kept. Beyond them, one that is not loaded is forgotten for each new one.
-pub const MOST_LABELS: usize = 8_192;
+pub(crate) const MOST_LABELS: usize = 8_192;
 
 /// So many runs that are over are kept, of all jobs together: the last ones.
-pub const MOST_RUNS: usize = 131_072;
+pub(crate) const MOST_RUNS: usize = 131_072;
 
 /// The jobs, and the runs that are over.
 #[derive(Drop)]
-pub struct Past {
+pub(crate) struct Past {
     /// The jobs by their labels, those that are gone too.
-    pub jobs: BTreeMap<String, Job>,
+    pub(crate) jobs: BTreeMap<String, Job>,
     /// The runs that are over, in the order of their ends.
-    pub runs: VecDeque<Run>,
+    pub(crate) runs: VecDeque<Run>,
     /// How many labels were forgotten.
-    pub forgotten: u64,
+    pub(crate) forgotten: u64,
     next: u64,
     /// How many questions were kept, and which of them asked for the last shutdown, and when.
     asks: u64,
@@ -40,46 +40,36 @@ impl Past {
         }
     }
 
-    /// The job of this label, if it is or was loaded.
-    pub fn job(&self, label: &str) -> Option<&Job> {
-        self.jobs.get(label)
-    }
-
     /// A job is loaded.
     pub(crate) fn load(&mut self, alloc: Global, def: Def, at: Reading) -> Result<(), AllocError> {
-        match self.jobs.get_mut(def.label()) {
-            Some(job) => {
-                job.load(def, at);
-                Ok(())
-            }
-            None => self.load_new(alloc, def, at),
-        }
-    }
-
-    // Its label was not loaded before.
-    fn load_new(&mut self, alloc: Global, def: Def, at: Reading) -> Result<(), AllocError> {
         let label = String::from_str(alloc, def.label());
-        let is_room = self.make_room().is_ok();
-        self.next = self.next.saturating_add(1);
-        let job = Job::new(self.next, def, at);
+        let mut is_room = true;
+        let record = match self.jobs.get(def.label()) {
+            Some(job) => job.record.loaded_again(at),
+            None => {
+                is_room = self.make_room().is_ok();
+                self.next = self.next.saturating_add(1);
+                Record::new(self.next, at)
+            }
+        };
+        let job = Job {
+            def: Some(def),
+            record,
+        };
         match label {
-            Ok(label) if is_room => self.add(label, job),
+            Ok(label) if is_room => match self.jobs.insert(label, job) {
+                Ok(old) => {
+                    drop(old);
+                    Ok(())
+                }
+                Err(refused) => {
+                    drop(refused);
+                    Err(AllocError)
+                }
+            },
             label => {
                 drop(label);
                 drop(job);
-                Err(AllocError)
-            }
-        }
-    }
-
-    fn add(&mut self, label: String, job: Job) -> Result<(), AllocError> {
-        match self.jobs.insert(label, job) {
-            Ok(old) => {
-                drop(old);
-                Ok(())
-            }
-            Err(refused) => {
-                drop(refused);
                 Err(AllocError)
             }
         }
@@ -117,15 +107,15 @@ impl Past {
             Asked::Start | Asked::Kickstart | Asked::Enable | Asked::Disable => {}
             Asked::Stop | Asked::Strike | Asked::Unload | Asked::UnloadForGood => {
                 if let Some(job) = self.jobs.get_mut(label) {
-                    job.asked = Some((asked, at));
-                    job.ask = self.asks;
+                    job.record.asked = Some((asked, at));
+                    job.record.ask = self.asks;
                 }
             }
         }
     }
 
     /// What was asked last of the job, or of all.
-    pub(crate) fn asked_of(&self, job: &Job) -> Option<(Asked, Reading)> {
+    pub(crate) fn asked_of(&self, job: &Record) -> Option<(Asked, Reading)> {
         match self.shut_down {
             Some((ask, at)) if ask > job.ask => Some((Asked::Shutdown, at)),
             _ => job.asked,

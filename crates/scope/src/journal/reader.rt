@@ -1,9 +1,9 @@
 //! A journal that is open: the table, the zone of civil time, and what is kept of the past.
 
-use crate::fault::JournalFault;
-use crate::hearing::{News, Wait, What, hear};
-use crate::job::Asked;
-use crate::past::Past;
+use crate::journal::fault::JournalFault;
+use crate::journal::hearing::{News, Wait, What, hear};
+use crate::journal::job::Asked;
+use crate::journal::past::Past;
 use calendar_due::Zone;
 use ctl_protocol::{Header, LineReader, ReadFault, read_header};
 use history_model::{Act, Ask, Event, JobItem, Reading, Refusal};
@@ -14,13 +14,13 @@ use table_opening::{OpeningFault, table_of, zone_of};
 
 /// A journal whose header was read, and what its lines gave so far.
 #[derive(Drop)]
-pub struct Journal {
-    pub table: JobTable,
+pub(crate) struct Journal {
+    pub(crate) table: JobTable,
     /// The zone of the header.
-    pub zone: Zone,
-    pub past: Past,
+    pub(crate) zone: Zone,
+    pub(crate) past: Past,
     /// What the last line gave, in order.
-    pub news: Vec<News>,
+    pub(crate) news: Vec<News>,
     reader: LineReader,
 }
 
@@ -57,51 +57,32 @@ pub(crate) fn open(alloc: Global, line: &[u8]) -> Result<Journal, JournalFault> 
 }
 
 fn opened_by(alloc: Global, header: Header) -> Result<Journal, JournalFault> {
-    match zone_of(alloc, &header.zone) {
-        Ok(Some(zone)) => opened_in(alloc, zone, header),
-        Ok(None) => Err(JournalFault::BadZone),
-        Err(_) => Err(JournalFault::NoMemory),
-    }
-}
-
-fn opened_in(alloc: Global, zone: Zone, header: Header) -> Result<Journal, JournalFault> {
-    match table_of(alloc, header) {
-        Ok(table) => made(alloc, zone, table),
-        Err(fault) => {
-            drop(zone);
-            Err(match fault {
-                OpeningFault::NoMemory => JournalFault::NoMemory,
-                OpeningFault::BadZone => JournalFault::BadZone,
-                _ => JournalFault::BadSettings,
-            })
-        }
-    }
-}
-
-// No line is read but the header.
-fn made(alloc: Global, zone: Zone, table: JobTable) -> Result<Journal, JournalFault> {
-    match LineReader::new(alloc) {
-        Ok(reader) => Ok(Journal {
+    let zone = zone_of(alloc, &header.zone);
+    match (zone, table_of(alloc, header), LineReader::new(alloc)) {
+        (Ok(Some(zone)), Ok(table), Ok(reader)) => Ok(Journal {
             table,
             zone,
             past: Past::new(alloc),
             news: Vec::new(alloc),
             reader,
         }),
-        Err(_) => {
+        (zone, table, reader) => {
+            let fault = match (&zone, &table) {
+                (Ok(None), _) | (_, Err(OpeningFault::BadZone)) => JournalFault::BadZone,
+                (_, Err(OpeningFault::BadLabel | OpeningFault::BadReading)) => {
+                    JournalFault::BadSettings
+                }
+                _ => JournalFault::NoMemory,
+            };
             drop(zone);
             drop(table);
-            Err(JournalFault::NoMemory)
+            drop(reader);
+            Err(fault)
         }
     }
 }
 
 impl Journal {
-    /// The last reading.
-    pub fn reading(&self) -> Reading {
-        self.table.reading()
-    }
-
     /// Takes in a line after the header. It says whether the line is an event; what it gave is `news`.
     pub(crate) fn take(&mut self, alloc: Global, line: &[u8]) -> Result<bool, AllocError> {
         self.news.clear();
@@ -129,7 +110,7 @@ impl Journal {
             }
             Ok(false) => Ok(()),
             Err(Refusal::NoMemory) => Err(AllocError),
-            Err(refusal) => note_refusal(alloc, news, event, refusal),
+            Err(refusal) => note_refusal(alloc, &mut self.past, news, event, refusal),
         }
     }
 }
@@ -150,33 +131,17 @@ fn add_news(
 // What a load, a question to a job or an answer was refused. Answers out of turn are left aside.
 fn note_refusal(
     alloc: Global,
+    past: &mut Past,
     news: &mut Vec<News>,
     event: &Event,
     refusal: Refusal,
 ) -> Result<(), AllocError> {
     match event {
-        Event::Load { def, .. } => note_bad_load(alloc, news, def.as_str(), refusal),
+        Event::Load { def, .. } => note_load(alloc, past, news, def.as_str(), Err(refusal)),
         event => match asked_in(event) {
             Some((label, asked)) => { add_news(alloc, news, label, What::Declined(asked, refusal)) }
             None => Ok(()),
         },
-    }
-}
-
-fn note_bad_load(
-    alloc: Global,
-    news: &mut Vec<News>,
-    def: &str,
-    refusal: Refusal,
-) -> Result<(), AllocError> {
-    let what = What::LoadRefused(refusal);
-    match read_def(alloc, def.as_bytes()) {
-        Ok(def) => {
-            let told = add_news(alloc, news, def.label(), what);
-            drop(def);
-            told
-        }
-        Err(_) => add_news(alloc, news, "", what),
     }
 }
 
@@ -194,7 +159,7 @@ fn note(
         return add_news(alloc, news, label, What::Asked(asked));
     }
     match event {
-        Event::Load { def, .. } => note_load(alloc, past, news, def.as_str(), at),
+        Event::Load { def, .. } => note_load(alloc, past, news, def.as_str(), Ok(at)),
         Event::OfJob { job, item } => {
             let label = job.as_str();
             let wait = wait_of(table, label);
@@ -204,23 +169,37 @@ fn note(
     }
 }
 
+// A load that was made at this reading, or refused. The label of what is no definition is not known.
 fn note_load(
     alloc: Global,
     past: &mut Past,
     news: &mut Vec<News>,
     def: &str,
-    at: Reading,
+    loaded: Result<Reading, Refusal>,
 ) -> Result<(), AllocError> {
+    let what = match loaded {
+        Ok(_) => What::Loaded,
+        Err(refusal) => What::LoadRefused(refusal),
+    };
     match read_def(alloc, def.as_bytes()) {
         Ok(def) => {
-            let told = add_news(alloc, news, def.label(), What::Loaded);
-            let kept = past.load(alloc, def, at);
+            let told = add_news(alloc, news, def.label(), what);
+            let kept = match loaded {
+                Ok(at) => past.load(alloc, def, at),
+                Err(_) => {
+                    drop(def);
+                    Ok(())
+                }
+            };
             match told {
                 Ok(()) => kept,
                 Err(error) => Err(error),
             }
         }
-        Err(_) => Ok(()),
+        Err(_) => match loaded {
+            Ok(_) => Ok(()),
+            Err(_) => add_news(alloc, news, "", what),
+        },
     }
 }
 
@@ -235,7 +214,7 @@ fn note_item(
     at: Reading,
 ) -> Result<(), AllocError> {
     let (what, over) = match past.jobs.get_mut(label) {
-        Some(job) => job.note(item, wait, at),
+        Some(job) => job.record.note(item, wait, at),
         None => (None, None),
     };
     let kept = match over {
@@ -274,7 +253,7 @@ fn ordered(table: &JobTable, past: &mut Past, label: &str, act: Act, at: Reading
     match act {
         Act::Spawn { run, conn } => {
             let demand = table.latest_demand(label);
-            job.order(run, demand, at);
+            job.record.order(run, demand, at);
             match table.reasons(label) {
                 Some(reasons) => Some(What::Ordered {
                     run,
@@ -286,16 +265,17 @@ fn ordered(table: &JobTable, past: &mut Past, label: &str, act: Act, at: Reading
             }
         }
         Act::Term { run } => {
-            job.tell(false, at);
+            job.record.tell(false, at);
             Some(What::Told { run, kills: false })
         }
         Act::Kill { run } => {
-            job.tell(true, at);
+            job.record.tell(true, at);
             Some(What::Told { run, kills: true })
         }
         Act::Close { .. } => None,
         Act::Gone => {
-            job.leave(at);
+            job.record.leave(at);
+            drop(job.def.take());
             Some(What::Gone)
         }
     }

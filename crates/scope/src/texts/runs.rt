@@ -1,9 +1,9 @@
 //! What the runs of each job came to, in columns with a tab between them.
 
-use crate::job::{Job, Totals};
-use crate::reader::Journal;
-use crate::run::RunEnd;
-use history_model::Text;
+use crate::journal::job::{Job, Totals};
+use crate::journal::past::Past;
+use crate::journal::run::RunEnd;
+use history_model::{Reading, Text};
 use run_times::{Ink, Piece};
 use std::alloc::{AllocError, Global};
 
@@ -14,19 +14,24 @@ const HEAD: &str =
 /// a signal, crashes; the shortest, median and longest run in seconds (of the runs that are over and kept; of an even number the
 /// lower of the two in the middle), the share of the time that it was up while it was loaded, and the longest time without a
 /// run in seconds. `-` stands where there is none.
-pub fn runs_table(alloc: Global, journal: &Journal, labels: &[Text]) -> Result<String, AllocError> {
-    let lengths = lengths(alloc, journal)?;
+pub(crate) fn runs_table(
+    alloc: Global,
+    past: &Past,
+    now: Reading,
+    labels: &[Text],
+) -> Result<String, AllocError> {
+    let lengths = lengths(alloc, past, now)?;
     let mut ink = Ink::new(alloc);
     ink.put(HEAD);
     if labels.is_empty() {
-        for (label, job) in &journal.past.jobs {
-            add_row(&mut ink, journal, lengths.as_slice(), label.as_str(), job);
+        for (label, job) in &past.jobs {
+            add_row(&mut ink, now, lengths.as_slice(), label.as_str(), job);
         }
     }
     for label in labels {
         let label = label.as_str();
-        if let Some(job) = journal.past.job(label) {
-            add_row(&mut ink, journal, lengths.as_slice(), label, job);
+        if let Some(job) = past.jobs.get(label) {
+            add_row(&mut ink, now, lengths.as_slice(), label, job);
         }
     }
     drop(lengths);
@@ -34,10 +39,9 @@ pub fn runs_table(alloc: Global, journal: &Journal, labels: &[Text]) -> Result<S
 }
 
 // The job of each run that is kept, and how long it lived, in rising order.
-fn lengths(alloc: Global, journal: &Journal) -> Result<Vec<(u64, u64)>, AllocError> {
-    let now = journal.reading();
+fn lengths(alloc: Global, past: &Past, now: Reading) -> Result<Vec<(u64, u64)>, AllocError> {
     let mut lengths = Vec::new(alloc);
-    for run in &journal.past.runs {
+    for run in &past.runs {
         match run.end {
             RunEnd::Refused => {}
             _ => lengths.push((run.job, run.lived(now)))?,
@@ -47,11 +51,11 @@ fn lengths(alloc: Global, journal: &Journal) -> Result<Vec<(u64, u64)>, AllocErr
     Ok(lengths)
 }
 
-fn add_row(ink: &mut Ink, journal: &Journal, lengths: &[(u64, u64)], label: &str, job: &Job) {
-    let totals = job.totals_at(journal.reading());
+fn add_row(ink: &mut Ink, now: Reading, lengths: &[(u64, u64)], label: &str, job: &Job) {
+    let totals = job.record.totals_at(job.def.is_some(), now);
     ink.put(label);
     add_counts(ink, &totals);
-    add_lengths(ink, lengths, job.serial);
+    add_lengths(ink, lengths, job.record.serial);
     add_share(ink, totals.lived, totals.loaded);
     add_seconds(ink, totals.gap);
     ink.put("\n");

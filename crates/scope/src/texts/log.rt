@@ -1,60 +1,40 @@
 //! The journal for people: a line for each event that matters.
 
-use crate::hearing::{News, Wait, What};
-use crate::reader::Journal;
-use crate::run::Run;
-use crate::texts::page::Hole::{Coming, Now, Number, Span, Text};
-use crate::texts::page::{Hole, Page};
+use crate::journal::hearing::{News, Wait, What};
+use crate::journal::reader::Journal;
+use crate::journal::run::Run;
 use crate::texts::words::{asked_name, demand_words, end_words, refusal_name};
-use calendar_due::Zone;
 use history_model::{DemandKind, Wants};
-use std::alloc::{AllocError, Global};
+use run_times::Hole::{Coming, Now, Number, Span, Text};
+use run_times::{Hole, Page};
 
-/// What the last line of the journal gave, a line each, of the labels that are named, or of all if none is. Moments are shown in
-/// the zone.
-pub fn log_lines(
-    alloc: Global,
-    journal: &Journal,
-    zone: &Zone,
-    labels: &[history_model::Text],
-) -> Result<String, AllocError> {
-    if journal.news.is_empty() {
-        return Ok(String::new(alloc));
-    }
-    match Page::new(alloc, zone, journal.reading()) {
-        Ok(mut page) => {
-            for news in &journal.news {
-                if is_asked_for(labels, news.label.as_str()) {
-                    add_news(&mut page, journal, news);
-                }
-            }
-            page.into_text()
-        }
-        Err(error) => Err(error),
-    }
-}
-
-/// That a launcher began, behind the journal's header. The moment is shown in the zone.
-pub fn begin_line(alloc: Global, journal: &Journal, zone: &Zone) -> Result<String, AllocError> {
-    match Page::new(alloc, zone, journal.reading()) {
-        Ok(mut page) => {
-            page.add("$  the launcher began\n", &[Now]);
-            page.into_text()
-        }
-        Err(error) => Err(error),
-    }
-}
-
-fn is_asked_for(labels: &[history_model::Text], label: &str) -> bool {
+/// Whether the label is among those; each is if there is none.
+pub(crate) fn is_named(labels: &[history_model::Text], label: &str) -> bool {
     for named in labels {
         if named.as_str() == label {
             return true;
         }
     }
-    labels.is_empty() || label.is_empty()
+    labels.is_empty()
 }
 
-fn add_news(page: &mut Page<'_>, journal: &Journal, news: &News) {
+/// Adds what the last line of the journal gave, a line each, of the labels that are named, or of all if none is. What has no label is of
+/// each.
+pub(crate) fn add_lines(page: &mut Page<'_>, journal: &Journal, labels: &[history_model::Text]) {
+    for news in &journal.news {
+        let label = news.label.as_str();
+        if label.is_empty() || is_named(labels, label) {
+            let path = match &news.what {
+                What::Ordered { .. } => journal.table.path_that_holds(label),
+                _ => None,
+            };
+            add_news(page, news, path);
+        }
+    }
+}
+
+// The path is that which holds its job wanted, if what is told is an order of a start.
+fn add_news(page: &mut Page<'_>, news: &News, path: Option<&str>) {
     let label = news.label.as_str();
     let front = if label.is_empty() { "$  " } else { "$  $: " };
     page.add(front, &[Now, Text(label)]);
@@ -65,7 +45,6 @@ fn add_news(page: &mut Page<'_>, journal: &Journal, news: &News) {
             demand,
             wants,
         } => {
-            let path = journal.table.path_that_holds(label);
             let (form, cause) = order_words(*demand, path, wants);
             match connection {
                 Some(number) => {

@@ -1,6 +1,6 @@
 //! What keeps a job from a start, and what wants it, as a list in the order in which it is told.
 ghost use Rattle.std.specs.Prelude.{◌≡◌, ◌++◌, OnOk, IfOk};
-ghost use Rattle.journal_reading.specs.Causes.{causes_of, when, causes_holding, causes_wanting};
+ghost use Rattle.scope.specs.Causes.{causes_of, when, causes_holding, causes_wanting};
 
 use history_model::{Act, Reasons, StandingChild, Wants};
 use std::alloc::{AllocError, Global};

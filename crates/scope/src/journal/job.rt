@@ -1,14 +1,13 @@
 //! What is kept of one job: of its present load, and over all its loads.
 
-use crate::hearing::{Wait, What};
-use crate::run::{Run, RunEnd, is_crash};
+use crate::journal::hearing::{Wait, What};
+use crate::journal::run::{Run, RunEnd, is_crash};
 use history_model::{Answer, DemandKind, Ended, JobItem, Reading};
 use job_defs::Def;
-use std::mem;
 
 /// What was asked of a job, by a control client.
 #[derive(Clone, Copy)]
-pub enum Asked {
+pub(crate) enum Asked {
     Start,
     Stop,
     Kickstart,
@@ -24,64 +23,81 @@ pub enum Asked {
 
 /// Counts over all loads of a label. Times are milliseconds of `up`.
 #[derive(Clone, Copy)]
-pub struct Totals {
+pub(crate) struct Totals {
     /// Starts that were ordered, refused ones too.
-    pub starts: u64,
-    pub refused: u64,
+    pub(crate) starts: u64,
+    pub(crate) refused: u64,
     /// Runs that ended with a code, and by a signal.
-    pub codes: u64,
-    pub signals: u64,
+    pub(crate) codes: u64,
+    pub(crate) signals: u64,
     /// Runs that ended by a crash; each is among the signals.
-    pub crashes: u64,
+    pub(crate) crashes: u64,
     /// The time that runs which are over lived.
-    pub lived: u64,
+    pub(crate) lived: u64,
     /// The time that loads which are over lasted.
-    pub loaded: u64,
+    pub(crate) loaded: u64,
     /// The longest time without a run while it was loaded.
-    pub gap: u64,
+    pub(crate) gap: u64,
+}
+
+/// What is counted of a label that was never loaded.
+const NOTHING: Totals = Totals {
+    starts: 0,
+    refused: 0,
+    codes: 0,
+    signals: 0,
+    crashes: 0,
+    lived: 0,
+    loaded: 0,
+    gap: 0,
+};
+
+/// A job that is or was loaded.
+#[derive(Drop)]
+pub(crate) struct Job {
+    /// Its definition, while it is loaded.
+    pub(crate) def: Option<Def>,
+    pub(crate) record: Record,
 }
 
 /// What is kept of a job.
-#[derive(Drop)]
-pub struct Job {
+#[derive(Clone, Copy)]
+pub(crate) struct Record {
     /// The number by which runs name it.
-    pub serial: u64,
-    /// Its definition, while it is loaded.
-    pub def: Option<Def>,
+    pub(crate) serial: u64,
     /// When it was loaded last.
-    pub loaded: Reading,
+    pub(crate) loaded: Reading,
     /// Starts that were ordered since it was loaded, and how many of them ended.
-    pub starts: u64,
-    pub ends: u64,
+    pub(crate) starts: u64,
+    pub(crate) ends: u64,
     /// The run whose order is not answered, or that lives.
-    pub current: Option<Run>,
+    pub(crate) current: Option<Run>,
     /// The run of this load that ended last; a refused one does not count.
-    pub last: Option<Run>,
+    pub(crate) last: Option<Run>,
     /// The last start of this load that was refused, if none went well after it.
-    pub refused: Option<Run>,
+    pub(crate) refused: Option<Run>,
     /// When the last start of this load was ordered.
-    pub ordered: Option<Reading>,
+    pub(crate) ordered: Option<Reading>,
     /// The last stop, strike or unload since the last start was ordered, and which of the questions to all jobs it was.
-    pub asked: Option<(Asked, Reading)>,
+    pub(crate) asked: Option<(Asked, Reading)>,
     pub(crate) ask: u64,
     /// Whether the system refused to wait for the present run.
-    pub is_lost: bool,
+    pub(crate) is_lost: bool,
     /// When TERM, and when KILL, was ordered for the present run.
-    pub term: Option<Reading>,
-    pub kill: Option<Reading>,
+    pub(crate) term: Option<Reading>,
+    pub(crate) kill: Option<Reading>,
     /// From when on it has no run.
-    pub idle: Reading,
+    idle: Reading,
     /// When the last of it was gone.
-    pub gone: Reading,
-    pub totals: Totals,
+    pub(crate) gone: Reading,
+    totals: Totals,
 }
 
-impl Job {
-    /// A job that is just loaded for the first time.
-    pub(crate) fn new(serial: u64, def: Def, at: Reading) -> Job {
-        Job {
+impl Record {
+    /// Of a job that is just loaded for the first time.
+    pub(crate) fn new(serial: u64, at: Reading) -> Record {
+        Record {
             serial,
-            def: Some(def),
             loaded: at,
             starts: 0,
             ends: 0,
@@ -96,27 +112,16 @@ impl Job {
             kill: None,
             idle: at,
             gone: at,
-            totals: Totals {
-                starts: 0,
-                refused: 0,
-                codes: 0,
-                signals: 0,
-                crashes: 0,
-                lived: 0,
-                loaded: 0,
-                gap: 0,
-            },
+            totals: NOTHING,
         }
     }
 
-    /// It is loaded again: what is kept of its earlier load goes, the totals stay.
-    pub(crate) fn load(&mut self, def: Def, at: Reading) {
-        let gone = self.gone;
-        let totals = self.totals;
-        let job = Job::new(self.serial, def, at);
-        drop(mem::replace(self, job));
-        self.gone = gone;
-        self.totals = totals;
+    /// Of the job that is loaded again: what is kept of its earlier load goes, the totals stay.
+    pub(crate) fn loaded_again(&self, at: Reading) -> Record {
+        let mut record = Record::new(self.serial, at);
+        record.gone = self.gone;
+        record.totals = self.totals;
+        record
     }
 
     /// A start was ordered.
@@ -186,9 +191,9 @@ impl Job {
         }
     }
 
-    /// The start that was ordered went well.
-    pub(crate) fn begin(&mut self, at: Reading) {
-        self.end_gap(at);
+    // The start that was ordered went well.
+    fn begin(&mut self, at: Reading) {
+        self.totals.gap = self.gap_at(at);
         self.refused = None;
         if let Some(run) = &mut self.current {
             run.begun = at;
@@ -197,8 +202,8 @@ impl Job {
         }
     }
 
-    /// The start that was ordered was refused. It gives the run.
-    pub(crate) fn refuse(&mut self, at: Reading) -> Option<Run> {
+    // The start that was ordered was refused. It gives the run.
+    fn refuse(&mut self, at: Reading) -> Option<Run> {
         self.totals.refused = self.totals.refused.saturating_add(1);
         let mut run = self.current?;
         run.ended = at;
@@ -208,53 +213,50 @@ impl Job {
         Some(run)
     }
 
-    /// The present run ended. It gives the run.
-    pub(crate) fn end(&mut self, how: Ended, at: Reading) -> Option<Run> {
+    // The present run ended. It gives the run.
+    fn end(&mut self, how: Ended, at: Reading) -> Option<Run> {
         let mut run = self.current?;
         run.ended = at;
         run.is_crash = is_crash(how, run.is_ordered_to_end);
-        run.end = match how {
-            Ended::Code(code) => RunEnd::Code(code),
-            Ended::Signal(signal) => RunEnd::Signal(signal),
-        };
-        self.ends = self.ends.saturating_add(1);
-        self.idle = at;
-        self.current = None;
-        self.last = Some(run);
-        self.count(&run, at);
-        Some(run)
-    }
-
-    fn count(&mut self, run: &Run, at: Reading) {
         let totals = &mut self.totals;
-        match run.end {
-            RunEnd::Signal(_) => totals.signals = totals.signals.saturating_add(1),
-            _ => totals.codes = totals.codes.saturating_add(1),
+        match how {
+            Ended::Code(code) => {
+                run.end = RunEnd::Code(code);
+                totals.codes = totals.codes.saturating_add(1);
+            }
+            Ended::Signal(signal) => {
+                run.end = RunEnd::Signal(signal);
+                totals.signals = totals.signals.saturating_add(1);
+            }
         }
         if run.is_crash {
             totals.crashes = totals.crashes.saturating_add(1);
         }
         totals.lived = totals.lived.saturating_add(run.lived(at));
+        self.ends = self.ends.saturating_add(1);
+        self.idle = at;
+        self.current = None;
+        self.last = Some(run);
+        Some(run)
     }
 
     /// It is gone.
     pub(crate) fn leave(&mut self, at: Reading) {
-        self.end_gap(at);
         let loaded = at.up.saturating_sub(self.loaded.up);
+        self.totals.gap = self.gap_at(at);
         self.totals.loaded = self.totals.loaded.saturating_add(loaded);
-        drop(self.def.take());
         self.gone = at;
     }
 
-    // A time without a run ends.
-    fn end_gap(&mut self, at: Reading) {
-        self.totals.gap = self.totals.gap.max(at.up.saturating_sub(self.idle.up));
+    // The longest time without a run, if the present one ends.
+    fn gap_at(&self, at: Reading) -> u64 {
+        self.totals.gap.max(at.up.saturating_sub(self.idle.up))
     }
 
     /// The counts as they are at this reading, a load and a run that last counted too.
-    pub fn totals_at(&self, at: Reading) -> Totals {
+    pub(crate) fn totals_at(&self, is_loaded: bool, at: Reading) -> Totals {
         let mut totals = self.totals;
-        if self.def.is_some() {
+        if is_loaded {
             let loaded = at.up.saturating_sub(self.loaded.up);
             totals.loaded = totals.loaded.saturating_add(loaded);
         }
@@ -267,8 +269,8 @@ impl Job {
         ) = &self.current
         {
             totals.lived = totals.lived.saturating_add(at.up.saturating_sub(begun.up));
-        } else if self.def.is_some() {
-            totals.gap = totals.gap.max(at.up.saturating_sub(self.idle.up));
+        } else if is_loaded {
+            totals.gap = self.gap_at(at);
         }
         totals
     }

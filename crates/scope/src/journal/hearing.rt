@@ -1,23 +1,23 @@
 //! An event of a journal goes to the table, and what it says.
 
-use crate::job::Asked;
-use crate::run::Run;
+use crate::journal::job::Asked;
+use crate::journal::run::Run;
 use history_model::{DemandKind, Event, Refusal, Wants};
 use job_table::{JobTable, Ready, Step};
 use std::alloc::Global;
 
 /// When a job that has no run starts again.
 #[derive(Clone, Copy)]
-pub struct Wait {
+pub(crate) struct Wait {
     /// Whether something wants it.
-    pub is_wanted: bool,
+    pub(crate) is_wanted: bool,
     /// The `up` until which it is throttled, if it is.
-    pub throttled_until: Option<u64>,
+    pub(crate) throttled_until: Option<u64>,
 }
 
 /// What an event of a journal was, or gave.
 #[derive(Clone, Copy)]
-pub enum What {
+pub(crate) enum What {
     Loaded,
     LoadRefused(Refusal),
     Asked(Asked),
@@ -65,9 +65,9 @@ pub enum What {
 
 /// What a line gave, and the label of the job; the label is empty if it is not known, or if it is every job's.
 #[derive(Drop)]
-pub struct News {
-    pub label: String,
-    pub what: What,
+pub(crate) struct News {
+    pub(crate) label: String,
+    pub(crate) what: What,
 }
 
 // Whether the call answered a step.

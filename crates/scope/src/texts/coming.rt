@@ -1,13 +1,13 @@
 //! What will want a job that nothing wants, in words.
 
-use crate::job::Job;
-use crate::run::RunEnd;
-use crate::texts::page::Hole::{Coming, Minute, Number};
-use crate::texts::page::Page;
+use crate::journal::job::Record;
+use crate::journal::run::RunEnd;
 use crate::texts::told::Told;
 use calendar_due::{Calendar, Zone};
 use history_model::{MAX_WALL, Reasons};
 use job_defs::Def;
+use run_times::Hole::{Coming, Minute, Number};
+use run_times::Page;
 
 /// How far is looked ahead, in seconds: 400 days.
 pub(crate) const FARTHEST: u64 = 34_560_000;
@@ -63,7 +63,7 @@ fn asking_words(reasons: &Reasons) -> &'static str {
 }
 
 // Why the conditions of its last end do not want it.
-fn add_conditions(page: &mut Page<'_>, job: &Job, def: &Def) {
+fn add_conditions(page: &mut Page<'_>, job: &Record, def: &Def) {
     let Some(last) = &job.last else {
         return;
     };
@@ -102,7 +102,7 @@ fn add_calendar(page: &mut Page<'_>, zone: &Zone, def: &Def) {
 }
 
 // An interval is counted from the load.
-fn add_interval(page: &mut Page<'_>, job: &Job, def: &Def) {
+fn add_interval(page: &mut Page<'_>, job: &Record, def: &Def) {
     let Some(seconds) = def.start_interval() else {
         return;
     };

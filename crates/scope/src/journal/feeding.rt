@@ -1,33 +1,34 @@
 //! A journal that comes in pieces.
 
-use crate::fault::JournalFault;
-use crate::reader::{Journal, open};
+use crate::journal::fault::JournalFault;
+use crate::journal::reader::{Journal, open};
 use ctl_protocol::{LINE_LIMIT, LineFault, LineFeed};
-use std::alloc::{AllocError, Global};
+use std::alloc::Global;
 use std::mem;
+
+/// How many bytes of a journal's beginning are kept, to know it by.
+const HEAD: usize = 256;
 
 /// The lines of a journal that comes in pieces, and the journal as far as it was read.
 #[derive(Drop)]
-pub struct JournalReader {
+pub(crate) struct JournalReader {
     feed: LineFeed,
-    journal: Option<Journal>,
+    /// The journal, if its header was read.
+    pub(crate) journal: Option<Journal>,
     is_long: bool,
     /// How many lines were read, the header too.
-    pub lines: u64,
+    pub(crate) lines: u64,
     /// How many of them are no event, and the number of the first of these.
-    pub bad: u64,
-    pub first_bad: u64,
-}
-
-impl From<AllocError> for JournalFault {
-    fn from(_error: AllocError) -> JournalFault {
-        JournalFault::NoMemory
-    }
+    pub(crate) bad: u64,
+    pub(crate) first_bad: u64,
+    /// How many bytes came, and the first of them.
+    pub(crate) offset: u64,
+    pub(crate) head: Vec<u8>,
 }
 
 impl JournalReader {
     /// No line was read.
-    pub fn new(alloc: Global) -> JournalReader {
+    pub(crate) fn new(alloc: Global) -> JournalReader {
         JournalReader {
             feed: LineFeed::new(alloc, LINE_LIMIT),
             journal: None,
@@ -35,23 +36,29 @@ impl JournalReader {
             lines: 0,
             bad: 0,
             first_bad: 0,
+            offset: 0,
+            head: Vec::new(alloc),
         }
     }
 
     /// Takes the next piece.
-    pub fn take(&mut self, piece: &[u8]) -> Result<(), JournalFault> {
+    pub(crate) fn take(&mut self, piece: &[u8]) -> Result<(), JournalFault> {
+        let room = HEAD.saturating_sub(self.head.len()).min(piece.len());
+        let front = piece.get(..room).unwrap_or(&[]);
+        let is_kept = self.head.extend_from_slice(front).is_ok();
+        self.offset = self.offset.saturating_add(piece.len() as u64);
         match self.feed.feed(piece) {
-            Ok(()) => Ok(()),
-            Err(LineFault::TooLong) => {
+            Ok(()) if is_kept => Ok(()),
+            Err(LineFault::TooLong) if is_kept => {
                 self.is_long = true;
                 Ok(())
             }
-            Err(LineFault::NoMemory) => Err(JournalFault::NoMemory),
+            _ => Err(JournalFault::NoMemory),
         }
     }
 
     /// Reads the next whole line, and says whether there was one. A line that is no event is counted, and left out.
-    pub fn next(&mut self, alloc: Global) -> Result<bool, JournalFault> {
+    pub(crate) fn next(&mut self, alloc: Global) -> Result<bool, JournalFault> {
         match self.feed.next_line() {
             Ok(Some(line)) => self.take_line(alloc, line.as_slice()),
             Ok(None) if self.is_long => Err(JournalFault::LongLine(self.lines.saturating_add(1))),
@@ -83,10 +90,5 @@ impl JournalReader {
                 Err(fault) => Err(fault),
             },
         }
-    }
-
-    /// The journal, if its header was read.
-    pub fn journal(&self) -> Option<&Journal> {
-        self.journal.as_ref()
     }
 }

@@ -6,7 +6,7 @@ use history_model::{DemandKind, Ended, Reading};
 
 /// How a run stands, or how it ended.
 #[derive(Clone, Copy)]
-pub enum RunEnd {
+pub(crate) enum RunEnd {
     /// The answer to its order is awaited.
     Awaited,
     /// Its child lives.
@@ -21,23 +21,23 @@ pub enum RunEnd {
 
 /// A run, and the readings at which it was ordered, began and ended.
 #[derive(Clone, Copy)]
-pub struct Run {
+pub(crate) struct Run {
     /// The serial number of its job.
-    pub job: u64,
+    pub(crate) job: u64,
     /// Its number among the runs of its job's load, from 1.
-    pub run: u64,
+    pub(crate) run: u64,
     /// What made the demand that was pending when it was ordered, if one was.
-    pub demand: Option<DemandKind>,
-    pub ordered: Reading,
+    pub(crate) demand: Option<DemandKind>,
+    pub(crate) ordered: Reading,
     /// When the order was answered; until then as `ordered`.
-    pub begun: Reading,
+    pub(crate) begun: Reading,
     /// When it ended, or was refused; until then as `begun`.
-    pub ended: Reading,
-    pub end: RunEnd,
+    pub(crate) ended: Reading,
+    pub(crate) end: RunEnd,
     /// Whether TERM or KILL was ordered for it.
-    pub is_ordered_to_end: bool,
+    pub(crate) is_ordered_to_end: bool,
     /// Whether its end was a crash.
-    pub is_crash: bool,
+    pub(crate) is_crash: bool,
 }
 
 /// Whether an end is a crash: by one of the signals 3 to 8, 11 and 31, or by an unknown one if neither TERM nor KILL was ordered.
@@ -69,7 +69,7 @@ impl Run {
     }
 
     /// How many milliseconds it lived, or has lived up to this reading.
-    pub fn lived(&self, at: Reading) -> u64 {
+    pub(crate) fn lived(&self, at: Reading) -> u64 {
         match self.end {
             RunEnd::Awaited | RunEnd::Refused => 0,
             RunEnd::Lives => at.up.saturating_sub(self.begun.up),

@@ -1,6 +1,6 @@
 //! What is told of one job.
 
-use crate::job::{Asked, Job};
+use crate::journal::job::{Asked, Record};
 use calendar_due::Zone;
 use history_model::{DemandKind, Reading, Reasons};
 use job_defs::Def;
@@ -17,6 +17,6 @@ pub(crate) struct Told<'a> {
     pub(crate) asked: Option<(Asked, Reading)>,
     /// The zone of the journal's header, in which calendar entries are matched.
     pub(crate) zone: &'a Zone,
-    pub(crate) job: &'a Job,
+    pub(crate) job: &'a Record,
     pub(crate) def: &'a Def,
 }

@@ -1,11 +1,11 @@
 //! What keeps a job from a start for good or wants it, in words.
 
-use crate::telling::Cause;
-use crate::texts::page::Hole::{Number, Text};
-use crate::texts::page::Page;
+use crate::journal::telling::Cause;
 use crate::texts::told::Told;
 use crate::texts::words::demand_words;
 use history_model::DemandKind;
+use run_times::Hole::{Number, Text};
+use run_times::Page;
 
 /// A cause that is told by one sentence.
 pub(crate) fn add_want(page: &mut Page<'_>, told: &Told<'_>, cause: Cause) {

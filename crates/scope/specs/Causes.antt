@@ -4,8 +4,8 @@ use Rattle.history_model.specs.declared.Act.{Act}
 use Rattle.history_model.specs.declared.reasons.Wants.{Wants}
 use Rattle.history_model.specs.declared.reasons.StandingChild.{StandingChild}
 use Rattle.history_model.specs.declared.reasons.Reasons.{Reasons}
-use Rattle.journal_reading.specs.declared.telling.Cause.{Cause}
-use Rattle.journal_reading.specs.declared.telling.Cause.TheVariants.{Removing, Child, Awaited, LaunchSpent, RunsSpent, Throttled, NotWanted, Demand, Connections, KeepAlive, SuccessfulExit, Crashed, PathState, QueueDirectories}
+use Rattle.scope.specs.declared.journal.telling.Cause.{Cause}
+use Rattle.scope.specs.declared.journal.telling.Cause.TheVariants.{Removing, Child, Awaited, LaunchSpent, RunsSpent, Throttled, NotWanted, Demand, Connections, KeepAlive, SuccessfulExit, Crashed, PathState, QueueDirectories}
 
 -- the cause, if it holds
 abbrev pub when : Bool → Cause → List Cause
