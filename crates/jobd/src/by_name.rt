@@ -3,7 +3,7 @@
 use crate::jobd;
 use control_client::jobctl;
 use exit_status::{NO_MEMORY, USAGE};
-use own_process::{Program, own_program, own_words, program_of};
+use files_and_process::own_process::{Program, own_program, own_words, program_of};
 use scope::jobscope;
 use std::io;
 use std::sync::Wait;

@@ -7,10 +7,10 @@ use crate::words::command::ScopeCommand;
 use crate::zone::zone_of;
 use calendar_due::Zone;
 use exit_status::{BAD_CLOCK, BAD_FILE, REFUSED};
+use files_and_process::path_files::{Found, files_at};
 use history_model::KeyName;
 use job_defs::Def;
 use launchctl_words::Paths;
-use path_files::{Found, files_at};
 use run_times::Ink;
 use scope_check::{
     Change, Checked, Grade, Remark, changes_in_year, check_def, finding_line, place_of, summary_of,

@@ -1,9 +1,9 @@
 //! Whether what a definition names is there.
 
+use files_and_process::path_files::read_front;
 use history_model::KeyName;
 use job_defs::Def;
 use json_kinds::key_name;
-use path_files::read_front;
 use scope_check::{Grade, Remark, place_of};
 use std::alloc::{AllocError, Global};
 use std::fs::metadata;
