@@ -7,10 +7,25 @@ use std::{fs, io};
 /// `JOB-CONN.reply`, both numbers in plain decimals. Nothing else in the folder is touched. An `Err` if the folder can't
 /// be read or such a file can't be removed; those before it are gone.
 pub fn clear_spool<R: AllocGlobal + Clone + Drop + Files>(rt: &R, folder: &str) -> io::Result<()> {
-    for entry in fs::read_dir(rt, folder)? {
-        clear(rt, &entry?)?;
+    let listing = match fs::read_dir(rt, folder) {
+        Ok(listing) => listing,
+        Err(error) => return Err(error),
+    };
+    let mut answer = Ok(());
+    for entry in listing {
+        answer = match entry {
+            Ok(entry) => {
+                let cleared = clear(rt, &entry);
+                drop(entry);
+                cleared
+            }
+            Err(error) => Err(error),
+        };
+        if answer.is_err() {
+            break;
+        }
     }
-    Ok(())
+    answer
 }
 
 fn clear<R: Files>(rt: &R, entry: &DirEntry<R>) -> io::Result<()> {
@@ -34,11 +49,11 @@ fn are_numbers(text: &str) -> bool {
     }
 }
 
+// One that begins with a digit is a number if it can be read as one: the library takes a sign at the beginning alone.
 fn is_number(text: &str) -> bool {
-    for byte in text.as_bytes() {
-        if !byte.is_ascii_digit() {
-            return false;
-        }
-    }
-    (text == "0" || !text.starts_with('0')) && text.parse::<u64>().is_ok()
+    let is_plain = match text.as_bytes().first() {
+        Some(b'1'..=b'9') => true,
+        _ => text == "0",
+    };
+    is_plain && text.parse::<u64>().is_ok()
 }

@@ -8,19 +8,11 @@ use history_model::Text;
 use job_defs::{Def, Variable};
 use std::alloc::{AllocError, Global};
 use std::os::unix::process::CommandExt;
-use std::process::{Command, Stdio};
-
-/// A child's standard input, output and errors.
-#[derive(Drop)]
-pub(crate) struct Streams {
-    pub(crate) input: Stdio,
-    pub(crate) output: Stdio,
-    pub(crate) errors: Stdio,
-}
+use std::process::Command;
 
 /// The command that the definition says: its program, which is also the child's own name for itself, its arguments, its
-/// directory, and its variables beside the launcher's; with these streams.
-pub(crate) fn command_of(alloc: Global, def: &Def, streams: Streams) -> Result<Command, AllocError>
+/// directory, and its variables beside the launcher's. It has no streams yet.
+pub(crate) fn command_of(alloc: Global, def: &Def) -> Result<Command, AllocError>
     ensures program { IfOk result (λ c. command_program c ≡ def.now.program) }
     ensures name { IfOk result (λ c. command_arg0 c ≡ Some def.now.program) }
     ensures arguments { IfOk result (λ c. command_args c ≡ def.now.arguments) }
@@ -28,15 +20,7 @@ pub(crate) fn command_of(alloc: Global, def: &Def, streams: Streams) -> Result<C
     ensures variables { IfOk result (λ c. (name : List ℕ) →
         command_var c name ≡ said_after name None def.now.environment) }
 {
-    let Streams {
-        input,
-        output,
-        errors,
-    } = streams;
     let mut command = Command::new(alloc, def.program())?;
-    command.stdin(input);
-    command.stdout(output);
-    command.stderr(errors);
     match set_up(&mut command, def) {
         Ok(()) => Ok(command),
         Err(error) => {

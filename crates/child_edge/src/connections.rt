@@ -8,21 +8,22 @@
 //! two kinds than its share: fewer than there is room left beside those of all jobs. A job alone has half the room, two have a
 //! third each.
 
-use crate::command::Streams;
+use crate::Client;
 use crate::connection::{Connection, Progress};
 use crate::failure::Failure;
 use crate::notices::{Asked, LetGo, Notices};
 use crate::spool::Spooled;
 use crate::streams::{own_streams, served_streams};
-use crate::{Client, words};
+use crate::words::Hole::{Error, Text as Words};
 use history_model::{JobNo, Text};
 use job_defs::Def;
 use socket_demand::Exchange;
-use std::alloc::{AllocError, Global};
+use std::alloc::Global;
 use std::collections::BTreeMap;
 use std::fs::{File, Files};
 use std::io;
 use std::io::ErrorKind;
+use std::process::Command;
 use std::rt::Clock;
 use std::time::{Duration, Instant};
 
@@ -37,6 +38,17 @@ const ROOM: usize = 256;
 
 /// As many milliseconds replies are forwarded at a time. Then those of the other connections are left for the next time.
 const LONGEST: u64 = 5;
+
+/// How many are held.
+#[derive(Clone, Copy)]
+struct Tally {
+    // Of one job, those whose run is still to come or goes on.
+    served: usize,
+    // Of that job, those whose run is over.
+    over: usize,
+    // Of all jobs, those whose run is still to come or goes on.
+    of_all: usize,
+}
 
 #[derive(Drop)]
 pub(crate) struct Connections {
@@ -105,8 +117,9 @@ impl Connections {
             }
             Err(error) => {
                 if let Some(label) = label {
-                    let what = words::cannot_spool(self.alloc, self.folder.as_str(), error);
-                    notices.refused(key.0, Asked::Spool, label, None, what);
+                    let form = "a client was let go: cannot spool its request in $: $";
+                    let holes = [Words(self.folder.as_str()), Error(error)];
+                    notices.refused(key.0, Asked::Spool, label, None, form, &holes);
                 }
                 Err(error)
             }
@@ -122,10 +135,7 @@ impl Connections {
         client: Client,
         exchange: Exchange,
     ) -> io::Result<()> {
-        let Ok(label) = copy_of(self.alloc, label) else {
-            drop((client, exchange));
-            return Err(io::Error::from(ErrorKind::OutOfMemory));
-        };
+        let label = copy_of(self.alloc, label);
         let folder = self.folder.as_str();
         match Spooled::make(rt, self.alloc, folder, key, exchange.request_bytes()) {
             Ok((files, reply)) => {
@@ -169,17 +179,17 @@ impl Connections {
         notices: &mut Notices,
         job: JobNo,
     ) -> Option<LetGo> {
-        let (own, all) = self.served(job);
-        if own >= self.room.saturating_sub(all) && own > 0 {
+        let held = self.tally(job);
+        if held.served >= self.room.saturating_sub(held.of_all) && held.served > 0 {
             return Some(LetGo::Share);
         }
         if self.held.len() < self.room {
-            if self.held.range((job, 0)..=(job, u64::MAX)).next().is_none() {
+            if held.served == 0 && held.over == 0 {
                 notices.has_room(job);
             }
             return None;
         }
-        match self.stillest(None) {
+        match self.stillest(0, JobNo::MAX) {
             Some(key) => {
                 self.let_go(rt, notices, key, LetGo::Room(self.room));
                 None
@@ -188,47 +198,43 @@ impl Connections {
         }
     }
 
-    // How many are held whose run is still to come or goes on: of the job, and of all jobs.
-    fn served(&self, job: JobNo) -> (usize, usize) {
-        let mut own = 0usize;
-        let mut all = 0usize;
+    fn tally(&self, job: JobNo) -> Tally {
+        let mut tally = Tally {
+            served: 0,
+            over: 0,
+            of_all: 0,
+        };
         for (key, connection) in self.held.iter() {
-            if !connection.is_over {
-                all = all.saturating_add(1);
-                if key.0 == job {
-                    own = own.saturating_add(1);
-                }
+            let is_own = key.0 == job;
+            if connection.is_over {
+                tally.over = tally.over.saturating_add(usize::from(is_own));
+            } else {
+                tally.of_all = tally.of_all.saturating_add(1);
+                tally.served = tally.served.saturating_add(usize::from(is_own));
             }
         }
-        (own, all)
+        tally
     }
 
-    // Of those of the job, or of all jobs, whose run is over: the one whose client has been still for longest.
-    fn stillest(&self, of: Option<JobNo>) -> Option<Key> {
-        let mut found: Option<(Key, Instant)> = None;
+    // Of those whose run is over, of the jobs from this one to that one: the one whose client has been still for longest.
+    fn stillest(&self, first: JobNo, last: JobNo) -> Option<Key> {
+        let mut found = None;
+        let mut least = self.now;
         for (key, connection) in self.held.iter() {
-            let is_of = match of {
-                Some(job) => key.0 == job,
-                None => true,
-            };
-            let is_stiller = match &found {
-                Some((_, moved)) => connection.moved < *moved,
-                None => true,
-            };
-            if is_of && connection.is_over && is_stiller {
-                found = Some((*key, connection.moved));
+            let is_of = connection.is_over && first <= key.0 && key.0 <= last;
+            if is_of && (found.is_none() || connection.moved < least) {
+                found = Some(*key);
+                least = connection.moved;
             }
         }
-        let (key, _) = found?;
-        Some(key)
+        found
     }
 
     fn let_go<R: Files>(&mut self, rt: &R, notices: &mut Notices, key: Key, why: LetGo) {
-        if let Some(connection) = self.held.remove(&key) {
+        if let Some(connection) = self.held.get(&key) {
             notices.let_go(key.0, connection.label(), why);
-            connection.files.remove(rt);
-            drop(connection);
         }
+        self.close(rt, key.0, key.1);
     }
 
     // The connection's files, if it is held.
@@ -237,10 +243,10 @@ impl Connections {
         Some(&connection.files)
     }
 
-    /// The streams of a run. One that serves a connection reads its request and writes its reply. If one of these files is lost,
-    /// the client is let go and the run is started without it, as one whose client said nothing and takes nothing: what waits
-    /// behind it is served.
-    pub(crate) fn streams<R: Files<File = File>>(
+    /// Gives the command the streams of a run. One that serves a connection reads its request and writes its reply. If one of these
+    /// files is lost, the client is let go and the run is started without it, as one whose client said nothing and takes nothing:
+    /// what waits behind it is served.
+    pub(crate) fn give_streams<R: Files<File = File>>(
         &mut self,
         rt: &R,
         notices: &mut Notices,
@@ -248,21 +254,22 @@ impl Connections {
         run: u64,
         def: &Def,
         conn: Option<u64>,
-    ) -> Result<Streams, Failure> {
+        command: &mut Command,
+    ) -> Result<(), Failure> {
         let Some(conn) = conn else {
-            return own_streams(rt, def);
+            return own_streams(rt, def, command);
         };
-        let failure = match served_streams(rt, def, self.files(job, conn)) {
-            Ok(streams) => return Ok(streams),
-            Err(failure) => failure,
-        };
-        if !failure.is_lost() {
-            return Err(failure);
+        match served_streams(rt, def, self.files(job, conn), command) {
+            Err(failure) if failure.is_lost() => {
+                let (_, file) = failure.said(def);
+                let form = "a client was let go: cannot open $: $";
+                let holes = [Words(file), Error(failure.error)];
+                notices.refused(job, Asked::Spool, def.label(), Some(run), form, &holes);
+                self.close(rt, job, conn);
+                served_streams(rt, def, None, command)
+            }
+            answer => answer,
         }
-        let what = failure.given_up(self.alloc, def);
-        notices.refused(job, Asked::Spool, def.label(), Some(run), what);
-        self.close(rt, job, conn);
-        served_streams(rt, def, None)
     }
 
     /// The run that served the connection has ended. If the job then has more of these than it may, one is let go.
@@ -270,22 +277,11 @@ impl Connections {
         if let Some(connection) = self.held.get_mut(&(job, conn)) {
             connection.is_over = true;
         }
-        if self.over_of(job) > OVER {
-            if let Some(key) = self.stillest(Some(job)) {
+        if self.tally(job).over > OVER {
+            if let Some(key) = self.stillest(job, job) {
                 self.let_go(rt, notices, key, LetGo::Job(OVER));
             }
         }
-    }
-
-    // How many of the job are held whose run is over.
-    fn over_of(&self, job: JobNo) -> usize {
-        let mut count = 0usize;
-        for (_, connection) in self.held.range((job, 0)..=(job, u64::MAX)) {
-            if connection.is_over {
-                count = count.saturating_add(1);
-            }
-        }
-        count
     }
 
     /// Lets the connection go, if it is held, and removes its files.
@@ -298,10 +294,11 @@ impl Connections {
 
     /// Lets each connection go, and removes its files.
     pub(crate) fn close_all<R: Files>(&mut self, rt: &R) {
-        for connection in self.held.values() {
-            connection.files.remove(rt);
+        for _ in 0..self.held.len() {
+            if let Some((job, conn)) = self.next_from((0, 0)) {
+                self.close(rt, job, conn);
+            }
         }
-        self.held.clear();
     }
 
     /// Sends each client what its run has written since, and lets those go that have it all, and those that can't be sent it.
@@ -317,17 +314,16 @@ impl Connections {
         let mut next = self.first;
         for _ in 0..self.held.len() {
             let Some(key) = self.next_from(next) else {
-                return is_busy;
+                break;
             };
             next = (key.0, key.1.saturating_add(1));
-            if !self.forward_one(rt, notices, key) {
-                continue;
-            }
-            is_busy = true;
-            self.read_clock(rt);
-            if self.now.saturating_duration_since(begun) >= Duration::from_millis(LONGEST) {
-                self.first = next;
-                return true;
+            if self.forward_one(rt, notices, key) {
+                is_busy = true;
+                self.read_clock(rt);
+                if self.now.saturating_duration_since(begun) >= Duration::from_millis(LONGEST) {
+                    self.first = next;
+                    break;
+                }
             }
         }
         is_busy
@@ -345,37 +341,29 @@ impl Connections {
     // It says whether this connection may go on at once.
     fn forward_one<R: Files>(&mut self, rt: &R, notices: &mut Notices, key: Key) -> bool {
         let now = self.now;
-        let Some(connection) = self.held.get_mut(&key) else {
-            return false;
+        let progress = match self.held.get_mut(&key) {
+            Some(connection) => connection.forward(now),
+            None => return false,
         };
-        let progress = connection.forward(now);
-        if !stays(rt, notices, key.0, connection, progress) {
-            drop(self.held.remove(&key));
+        match progress {
+            Progress::Waits => false,
+            Progress::MayGoOn => true,
+            Progress::Ended => {
+                notices.done(key.0, Asked::Client);
+                self.close(rt, key.0, key.1);
+                false
+            }
+            Progress::Lost(why) => {
+                self.let_go(rt, notices, key, why);
+                false
+            }
         }
-        matches!(progress, Progress::MayGoOn)
     }
 }
 
-fn copy_of(alloc: Global, label: Option<&str>) -> Result<Option<Text>, AllocError> {
+fn copy_of(alloc: Global, label: Option<&str>) -> Option<Text> {
     match label {
-        Some(label) => Ok(Some(Text::copy_of(alloc, label)?)),
-        None => Ok(None),
+        Some(label) => Text::copy_of(alloc, label).ok(),
+        None => None,
     }
-}
-
-// Whether the connection is held on. If not, its files are removed.
-fn stays<R: Files>(
-    rt: &R,
-    notices: &mut Notices,
-    job: JobNo,
-    connection: &Connection,
-    progress: Progress,
-) -> bool {
-    match progress {
-        Progress::Waits | Progress::MayGoOn => return true,
-        Progress::Ended => notices.done(job, Asked::Client),
-        Progress::Lost(why) => notices.let_go(job, connection.label(), why),
-    }
-    connection.files.remove(rt);
-    false
 }

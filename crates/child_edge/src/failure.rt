@@ -1,9 +1,6 @@
 //! Why a start was refused: which part of it, and what the system said.
 
-use crate::words;
-use crate::words::Hole::{Error, Text};
 use job_defs::Def;
-use std::alloc::Global;
 use std::io;
 use std::io::ErrorKind;
 
@@ -38,14 +35,9 @@ impl Failure {
             )
     }
 
-    /// That its client was let go for it.
-    pub(crate) fn given_up(&self, alloc: Global, def: &Def) -> Option<String> {
-        let why = self.words(alloc, def)?;
-        words::filled(alloc, "a client was let go: $", &[Text(why.as_str())])
-    }
-
-    /// What could not be done, with the path that the definition gives the part. A part without a path has the null device.
-    pub(crate) fn words(&self, alloc: Global, def: &Def) -> Option<String> {
+    /// What could not be done, as a form, with the path that the definition gives the part. A part without a path has the null
+    /// device.
+    pub(crate) fn said<'a>(&self, def: &'a Def) -> (&'static str, &'a str) {
         let (form, path) = match self.part {
             Part::Program => ("cannot start $: $", Some(def.program())),
             Part::Folder => ("cannot enter the folder $: $", def.working_directory()),
@@ -55,7 +47,6 @@ impl Failure {
             Part::Request => ("cannot open $: $", Some("the spooled request")),
             Part::Reply => ("cannot open $: $", Some("the spooled reply")),
         };
-        let path = path.unwrap_or("/dev/null");
-        words::filled(alloc, form, &[Text(path), Error(self.error)])
+        (form, path.unwrap_or("/dev/null"))
     }
 }

@@ -1,11 +1,12 @@
 //! One listening socket: a Unix socket at a path, or TCP on IPv4. None of them blocks.
 
 use crate::Client;
+use files_and_process::socket_file;
+use files_and_process::socket_file::SocketMark;
 use history_model::Text;
 use job_defs::{Address, Socket};
 use mio::net::{TcpListener, UnixListener};
 use mio::{Interest, Registry, Token};
-use socket_file::SocketMark;
 use std::alloc::Global;
 use std::fs::Files;
 use std::io;
@@ -31,16 +32,19 @@ impl Listener {
         R: Files + Net<Listener = std::net::TcpListener, Stream = std::net::TcpStream>,
     >(rt: &R, alloc: Global, wanted: &Socket) -> io::Result<Listener> {
         match &wanted.address {
-            Address::Unix(path) => {
-                let path = Text::copy_of(alloc, path.as_str())?;
-                let (socket, mark) = socket_file::bind(rt, path.as_str())?;
-                Ok(Listener::Unix { socket, path, mark })
-            }
+            Address::Unix(path) => bind_unix(rt, alloc, path.as_str()),
             Address::Inet { host, port } => {
                 let place = SocketAddr::from((Ipv4Addr::from_octets(*host), *port));
-                let socket = rt.bind(place)?;
-                socket.set_nonblocking(true)?;
-                Ok(Listener::Inet(TcpListener::from_std(socket)))
+                match rt.bind(place) {
+                    Ok(socket) => match socket.set_nonblocking(true) {
+                        Ok(()) => Ok(Listener::Inet(TcpListener::from_std(socket))),
+                        Err(error) => {
+                            drop(socket);
+                            Err(error)
+                        }
+                    },
+                    Err(error) => Err(error),
+                }
             }
         }
     }
@@ -87,6 +91,20 @@ impl Listener {
         match self {
             Listener::Unix { socket, .. } => registry.register(socket, token, Interest::READABLE),
             Listener::Inet(socket) => registry.register(socket, token, Interest::READABLE),
+        }
+    }
+}
+
+fn bind_unix<R: Files + Net>(rt: &R, alloc: Global, path: &str) -> io::Result<Listener> {
+    let path = match Text::copy_of(alloc, path) {
+        Ok(path) => path,
+        Err(error) => return Err(io::Error::from(error)),
+    };
+    match socket_file::bind(rt, path.as_str()) {
+        Ok((socket, mark)) => Ok(Listener::Unix { socket, path, mark }),
+        Err(error) => {
+            drop(path);
+            Err(error)
         }
     }
 }

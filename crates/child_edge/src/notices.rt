@@ -2,15 +2,16 @@
 
 ghost use Rattle.std.specs.Prelude.{◌≡◌};
 
-use crate::words;
-use crate::words::Hole::{Number, Text as Words};
-use history_model::{JobNo, Text};
+use crate::words::Hole::{Error, Number, Text as Words};
+use crate::words::{Hole, filled};
+use history_model::{Ended, JobNo, Text};
 use std::alloc::Global;
 use std::collections::{BTreeMap, VecDeque};
 use std::io;
+use std::time::Duration;
 
 /// What a notice is about.
-#[derive(Clone, Copy, PartialEq, Eq)]
+#[derive(Clone, Copy)]
 pub enum NoticeKind {
     /// The system refused something, or a client was let go.
     Refusal,
@@ -69,14 +70,40 @@ pub(crate) enum LetGo {
 }
 
 impl LetGo {
-    // Whose last reason it is.
-    fn asked(self) -> Asked {
+    // Whose last reason it is, and what is told.
+    fn said(self) -> (Asked, &'static str, Hole<'static>) {
         match self {
-            LetGo::Still | LetGo::Write(_) | LetGo::Read(_) => Asked::Client,
-            LetGo::Job(_) => Asked::Over,
-            LetGo::Room(_) => Asked::Room,
-            LetGo::NoRoom(_) => Asked::NoRoom,
-            LetGo::Share => Asked::Share,
+            LetGo::Still => (
+                Asked::Client,
+                "a client was let go: it took nothing of its reply for a minute",
+                Number(0),
+            ),
+            LetGo::Write(error) => (Asked::Client, "a client was let go: $", Error(error)),
+            LetGo::Read(error) => (
+                Asked::Client,
+                "a client was let go: cannot read its reply: $",
+                Error(error),
+            ),
+            LetGo::Job(count) => (
+                Asked::Over,
+                "a client was let go: it takes nothing, and so do $ others of the job",
+                Number(count as u64),
+            ),
+            LetGo::Room(count) => (
+                Asked::Room,
+                "a client was let go: it takes nothing, and $ connections are held",
+                Number(count as u64),
+            ),
+            LetGo::NoRoom(count) => (
+                Asked::NoRoom,
+                "a client was let go: $ connections are held",
+                Number(count as u64),
+            ),
+            LetGo::Share => (
+                Asked::Share,
+                "a client was let go: the job has its share of the connections",
+                Number(0),
+            ),
         }
     }
 }
@@ -94,6 +121,8 @@ type Call = (JobNo, u8);
 #[derive(Drop)]
 pub(crate) struct Notices {
     alloc: Global,
+    /// What becomes of runs is told too.
+    pub(crate) tells_runs: bool,
     waiting: VecDeque<Notice>,
     dropped: u64,
     told: BTreeMap<Call, String>,
@@ -104,6 +133,7 @@ impl Notices {
     pub(crate) fn new(alloc: Global) -> Notices {
         Notices {
             alloc,
+            tells_runs: false,
             waiting: VecDeque::new(alloc),
             dropped: 0,
             told: BTreeMap::new(alloc),
@@ -121,48 +151,82 @@ impl Notices {
         }
         let dropped = self.dropped;
         self.dropped = 0;
-        let text = words::filled(self.alloc, "$ more lines were dropped", &[Number(dropped)])?;
+        let text = filled(self.alloc, "$ more lines were dropped", &[Number(dropped)])?;
         Some(Notice {
             kind: NoticeKind::Refusal,
             text: Text::new(text),
         })
     }
 
-    /// Tells what became of a run.
-    pub(crate) fn run(&mut self, line: Option<String>) {
-        self.push(NoticeKind::Run, line);
+    /// Tells what became of a run, if runs are told.
+    pub(crate) fn run(&mut self, form: &str, holes: &[Hole<'_>]) {
+        if self.tells_runs {
+            self.push(NoticeKind::Run, form, holes);
+        }
     }
 
-    /// The call for the job was refused, as `what` says: that is told if it was not told last of this call.
+    /// A run has ended, after this time if it is known: seconds with one place. Nothing is told without its job's label.
+    pub(crate) fn ended(
+        &mut self,
+        label: Option<&Text>,
+        run: u64,
+        ended: Ended,
+        took: Option<Duration>,
+    ) {
+        let Some(label) = label else {
+            return;
+        };
+        let (how, number) = match ended {
+            Ended::Code(code) => ("ended with code", code),
+            Ended::Signal(signal) => ("ended by signal", signal),
+        };
+        let (form, took) = match took {
+            Some(took) => ("$: run $ $ $ after $.$ s", took),
+            None => ("$: run $ $ $", Duration::ZERO),
+        };
+        let holes = [
+            Words(label.as_str()),
+            Number(run),
+            Words(how),
+            Number(u64::from(number)),
+            Number(took.as_secs()),
+            Number(u64::from(took.subsec_millis() / 100)),
+        ];
+        self.run(form, &holes);
+    }
+
+    /// The call for the job was refused, as the form says: that is told if it was not told last of this call.
     pub(crate) fn refused(
         &mut self,
         job: JobNo,
         asked: Asked,
         label: &str,
         run: Option<u64>,
-        what: Option<String>,
+        form: &str,
+        holes: &[Hole<'_>],
     ) {
-        let Some(what) = what else {
+        let Some(what) = filled(self.alloc, form, holes) else {
             return;
         };
-        let reason = words::filled(self.alloc, "$: $", &[Words(label), Words(what.as_str())]);
-        let line = match run {
-            Some(run) => words::refused_run(self.alloc, label, run, what.as_str()),
-            None => words::filled(self.alloc, "$: $", &[Words(label), Words(what.as_str())]),
-        };
-        drop(what);
-        if let Some(reason) = reason {
-            self.tell((job, asked as u8), reason, line);
+        let words = [Words(label), Words(what.as_str())];
+        if let Some(reason) = filled(self.alloc, "$: $", &words) {
+            self.tell((job, asked as u8), reason, label, run, what.as_str());
         }
+        drop(what);
     }
 
     // The line is told, if its reason was not told last of this call.
-    fn tell(&mut self, call: Call, reason: String, line: Option<String>) {
+    fn tell(&mut self, call: Call, reason: String, label: &str, run: Option<u64>, what: &str) {
         let is_known = match self.told.get(&call) {
             Some(last) => last.as_str() == reason.as_str(),
             None => false,
         };
-        if is_known || !self.push(NoticeKind::Refusal, line) {
+        let (form, run) = match run {
+            Some(run) => ("$: run $: $", Number(run)),
+            None => ("$$: $", Words("")),
+        };
+        let holes = [Words(label), run, Words(what)];
+        if is_known || !self.push(NoticeKind::Refusal, form, &holes) {
             drop(reason);
             return;
         }
@@ -172,33 +236,8 @@ impl Notices {
     /// A client of the job was let go. Nothing is told without the job's label.
     pub(crate) fn let_go(&mut self, job: JobNo, label: Option<&str>, why: LetGo) {
         if let Some(label) = label {
-            let what = words::let_go(self.alloc, why);
-            self.refused(job, why.asked(), label, None, what);
-        }
-    }
-
-    /// The run of the job of this label got the signal, which is told if `is_told` says so, or the system refused that.
-    pub(crate) fn signal(
-        &mut self,
-        job: JobNo,
-        run: u64,
-        label: &str,
-        asked: Asked,
-        signal: &str,
-        answer: io::Result<()>,
-        is_told: bool,
-    ) {
-        match answer {
-            Ok(()) => {
-                self.done(job, asked);
-                if is_told {
-                    self.run(words::signalled(self.alloc, label, run, signal));
-                }
-            }
-            Err(error) => {
-                let what = words::cannot(self.alloc, signal, error);
-                self.refused(job, asked, label, Some(run), what);
-            }
+            let (asked, form, hole) = why.said();
+            self.refused(job, asked, label, None, form, &[hole]);
         }
     }
 
@@ -224,15 +263,16 @@ impl Notices {
     }
 
     /// A look at the path was refused, for this reason.
-    pub(crate) fn unseen(&mut self, path: &str, reason: Option<String>) {
-        let Some(reason) = reason else {
+    pub(crate) fn unseen(&mut self, path: &str, error: io::Error) {
+        let holes = [Words(path), Error(error)];
+        let Some(reason) = filled(self.alloc, "cannot look at $: $", &holes) else {
             return;
         };
         let is_told = match self.paths.get(path) {
             Some(last) => last.as_str() == reason.as_str(),
             None => self.paths.len() >= PATHS,
         };
-        if is_told || !self.push_line(NoticeKind::Refusal, reason.as_str()) {
+        if is_told || !self.push(NoticeKind::Refusal, "cannot look at $: $", &holes) {
             drop(reason);
             return;
         }
@@ -250,23 +290,12 @@ impl Notices {
     }
 
     // Whether the line has room. Want of memory drops it.
-    fn push(&mut self, kind: NoticeKind, line: Option<String>) -> bool {
-        match line {
-            Some(line) => {
-                let is_told = self.push_line(kind, line.as_str());
-                drop(line);
-                is_told
-            }
-            None => false,
-        }
-    }
-
-    fn push_line(&mut self, kind: NoticeKind, line: &str) -> bool {
+    fn push(&mut self, kind: NoticeKind, form: &str, holes: &[Hole<'_>]) -> bool {
         if self.dropped > 0 || self.waiting.len() >= ROOM {
             self.dropped = self.dropped.saturating_add(1);
             return false;
         }
-        match one_line(self.alloc, line) {
+        match filled(self.alloc, form, holes) {
             Some(line) => {
                 let text = Text::new(line);
                 self.waiting.push_back(Notice { kind, text }).is_ok()
@@ -274,20 +303,4 @@ impl Notices {
             None => false,
         }
     }
-}
-
-// The text with `?` for each control character: a path may hold a newline, and what stands behind it would pass for a line
-// of the launcher's own.
-fn one_line(alloc: Global, line: &str) -> Option<String> {
-    let mut plain = String::new(alloc);
-    for letter in line.chars() {
-        if plain
-            .push(if letter.is_control() { '?' } else { letter })
-            .is_err()
-        {
-            drop(plain);
-            return None;
-        }
-    }
-    Some(plain)
 }

@@ -4,11 +4,13 @@ ghost use Rattle.std.specs.Prelude.{◌≡◌, ◌<◌, None, IfOk, OnOk, OnErr}
 ghost use Rattle.child_edge.specs.Calls.{one_more};
 
 use crate::children::{Children, End, Kept};
+use crate::command::command_of;
 use crate::connections::Connections;
 use crate::failure::{Failure, Part};
 use crate::fault::fault_of;
 use crate::notices::{Asked, Notices};
 use crate::sockets::Sockets;
+use crate::words::Hole::{Error, Number, Text as Words};
 use crate::{
     ChildEdge, Client, ClockEdge, Edge, EdgeFault, Notice, PathEdge, SocketEdge, clock, paths,
     words,
@@ -21,7 +23,7 @@ use std::alloc::Global;
 use std::fs::{File, Files};
 use std::marker::Model;
 use std::net::Net;
-use std::process::Processes;
+use std::process::{Command, Processes};
 use std::rt::Clock;
 use std::time::Instant;
 use std::{fs, io};
@@ -35,7 +37,6 @@ pub struct OsEdge<R: Processes> {
     sockets: Sockets,
     connections: Connections,
     notices: Notices,
-    logs_runs: bool,
     failures: u64,
 }
 
@@ -50,7 +51,6 @@ impl<R: Drop + Processes> Drop for OsEdge<R> {
             sockets: _,
             connections: _,
             notices: _,
-            logs_runs: _,
             failures: _,
         } = self;
     }
@@ -79,7 +79,6 @@ impl<R: Clock + Drop + Processes> OsEdge<R> {
             sockets: Sockets::new(alloc),
             connections: Connections::new(alloc, spool, made),
             notices: Notices::new(alloc),
-            logs_runs: false,
             failures: 0,
         })
     }
@@ -106,7 +105,7 @@ impl<R: Processes> OsEdge<R> {
     pub fn log_runs(&mut self)
         ensures { self.new ≡ self.old }
     {
-        self.logs_runs = true;
+        self.notices.tells_runs = true;
     }
 
     /// From now on as many connections of jobs' sockets are held at a time by the whole launcher, each with two descriptors:
@@ -161,6 +160,37 @@ impl<R: Processes> OsEdge<R> {
         self.failures = self.failures.wrapping_add(1);
         fault_of(error)
     }
+
+    // The answer to who asked: an error is counted.
+    fn answered(&mut self, answer: io::Result<()>) -> Result<(), EdgeFault>
+        ensures fault { OnErr result (self.new ≡ one_more self.old) }
+        ensures success { OnOk result (self.new ≡ self.old) }
+    {
+        match answer {
+            Ok(()) => Ok(()),
+            Err(error) => Err(self.fail(error)),
+        }
+    }
+
+    // What was asked for the run was refused, as the form says, whose hole is the error.
+    fn tell_refusal(&mut self, job: JobNo, run: u64, asked: Asked, form: &str, error: io::Error)
+        ensures { self.new ≡ self.old }
+    {
+        if let Some(label) = self.children.label(job, run) {
+            self.notices
+                .refused(job, asked, label, Some(run), form, &[Error(error)]);
+        }
+    }
+
+    // The run's child was given the signal.
+    fn tell_signal(&mut self, job: JobNo, run: u64, asked: Asked, form: &str)
+        ensures { self.new ≡ self.old }
+    {
+        self.notices.done(job, asked);
+        if let Some(label) = self.children.label(job, run) {
+            self.notices.run(form, &[Words(label), Number(run)]);
+        }
+    }
 }
 
 impl<R: Clock + Files<File = File> + Processes> OsEdge<R> {
@@ -182,13 +212,10 @@ impl<R: Clock + Files<File = File> + Processes> OsEdge<R> {
         let label = self.sockets.label(job);
         let notices = &mut self.notices;
         let key = (job, conn);
-        match self
+        let answer = self
             .connections
-            .take(&self.rt, notices, key, label, client, exchange)
-        {
-            Ok(()) => Ok(()),
-            Err(error) => Err(self.fail(error)),
-        }
+            .take(&self.rt, notices, key, label, client, exchange);
+        self.answered(answer)
     }
 
     /// Sends the client of each connection what its run has written since, as much as it takes at once. Lets those go that
@@ -213,21 +240,42 @@ impl<R: Clock + Files<File = File> + Processes> OsEdge<R> {
         ensures pid { IfOk result (λ pid. 0 < pid) }
         ensures failures { self.new ≡ self.old }
     {
-        let streams = self
-            .connections
-            .streams(&self.rt, &mut self.notices, job, run, def, conn)?;
-        let kept = self.kept(def, conn);
+        let mut command = match command_of(self.alloc, def) {
+            Ok(command) => command,
+            Err(error) => return Err(culprit(&self.rt, self.alloc, def, io::Error::from(error))),
+        };
+        let answer = self.start_with(job, run, def, conn, &mut command);
+        drop(command);
+        answer
+    }
+
+    fn start_with(
+        &mut self,
+        job: JobNo,
+        run: u64,
+        def: &Def,
+        conn: Option<u64>,
+        command: &mut Command,
+    ) -> Result<u32, Failure>
+        ensures pid { IfOk result (λ pid. 0 < pid) }
+        ensures failures { self.new ≡ self.old }
+    {
         match self
-            .children
-            .launch(&self.rt, self.alloc, job, run, def, kept, streams)
+            .connections
+            .give_streams(&self.rt, &mut self.notices, job, run, def, conn, command)
         {
+            Ok(()) => {}
+            Err(failure) => return Err(failure),
+        }
+        let kept = self.kept(def, conn);
+        match self.children.start(&self.rt, job, run, kept, command) {
             Ok(pid) => Ok(pid),
             Err(error) => Err(culprit(&self.rt, self.alloc, def, error)),
         }
     }
 
     fn kept(&self, def: &Def, conn: Option<u64>) -> Kept {
-        let since = if self.logs_runs {
+        let since = if self.notices.tells_runs {
             Instant::now(&self.rt).ok()
         } else {
             None
@@ -243,20 +291,16 @@ impl<R: Clock + Files<File = File> + Processes> OsEdge<R> {
     fn end(&mut self, job: JobNo, run: u64, end: End) -> Ended
         ensures { self.new ≡ self.old }
     {
+        self.notices.done(job, Asked::Wait);
         let End { ended, kept } = end;
         if let Some(conn) = kept.conn {
             self.connections.end(&self.rt, &mut self.notices, job, conn);
         }
-        if self.logs_runs {
-            let took = match kept.since {
-                Some(since) => since.elapsed(&self.rt).ok(),
-                None => None,
-            };
-            if let Some(label) = &kept.label {
-                let line = words::ended(self.alloc, label.as_str(), run, ended, took);
-                self.notices.run(line);
-            }
-        }
+        let took = match kept.since {
+            Some(since) => since.elapsed(&self.rt).ok(),
+            None => None,
+        };
+        self.notices.ended(kept.label.as_ref(), run, ended, took);
         drop(kept);
         ended
     }
@@ -282,16 +326,15 @@ impl<R: Clock + Files<File = File> + Net + Processes> ChildEdge for OsEdge<R> {
         match self.launch(job, run, def, conn) {
             Ok(pid) => {
                 self.notices.done(job, Asked::Start);
-                if self.logs_runs {
-                    let line = words::started(self.alloc, def.label(), run, pid);
-                    self.notices.run(line);
-                }
+                let holes = [Words(def.label()), Number(run), Number(u64::from(pid))];
+                self.notices.run("$: run $ started as $", &holes);
                 Ok(pid)
             }
             Err(failure) => {
-                let what = failure.words(self.alloc, def);
+                let (form, path) = failure.said(def);
+                let holes = [Words(path), Error(failure.error)];
                 self.notices
-                    .refused(job, Asked::Start, def.label(), Some(run), what);
+                    .refused(job, Asked::Start, def.label(), Some(run), form, &holes);
                 Err(self.fail(failure.error))
             }
         }
@@ -299,39 +342,28 @@ impl<R: Clock + Files<File = File> + Net + Processes> ChildEdge for OsEdge<R> {
 
     fn term(&mut self, job: JobNo, run: u64) -> Result<(), EdgeFault> {
         let answer = self.children.term(&self.rt, job, run);
-        if let Some(label) = self.children.label(job, run) {
-            self.notices.signal(job, run, label, Asked::Term, "TERM", answer, self.logs_runs);
-        }
         match answer {
-            Ok(()) => Ok(()),
-            Err(error) => Err(self.fail(error)),
+            Ok(()) => self.tell_signal(job, run, Asked::Term, "$: TERM to run $"),
+            Err(error) => self.tell_refusal(job, run, Asked::Term, "cannot TERM: $", error),
         }
+        self.answered(answer)
     }
 
     fn kill(&mut self, job: JobNo, run: u64) -> Result<(), EdgeFault> {
         let answer = self.children.kill(job, run);
-        if let Some(label) = self.children.label(job, run) {
-            self.notices.signal(job, run, label, Asked::Kill, "KILL", answer, self.logs_runs);
-        }
         match answer {
-            Ok(()) => Ok(()),
-            Err(error) => Err(self.fail(error)),
+            Ok(()) => self.tell_signal(job, run, Asked::Kill, "$: KILL to run $"),
+            Err(error) => self.tell_refusal(job, run, Asked::Kill, "cannot KILL: $", error),
         }
+        self.answered(answer)
     }
 
     fn poll(&mut self, job: JobNo, run: u64) -> Result<Option<Ended>, EdgeFault> {
         match self.children.poll(job, run) {
             Ok(None) => Ok(None),
-            Ok(Some(end)) => {
-                self.notices.done(job, Asked::Wait);
-                Ok(Some(self.end(job, run, end)))
-            }
+            Ok(Some(end)) => Ok(Some(self.end(job, run, end))),
             Err(error) => {
-                if let Some(label) = self.children.label(job, run) {
-                    let what = words::cannot(self.alloc, "wait for its end", error);
-                    self.notices
-                        .refused(job, Asked::Wait, label, Some(run), what);
-                }
+                self.tell_refusal(job, run, Asked::Wait, "cannot wait for its end: $", error);
                 Err(self.fail(error))
             }
         }
@@ -365,8 +397,7 @@ impl<R: AllocGlobal + Clone + Drop + Files + Processes> PathEdge for OsEdge<R> {
                 Ok(seen)
             }
             Err(error) => {
-                let reason = words::cannot_look(self.alloc, path, error);
-                self.notices.unseen(path, reason);
+                self.notices.unseen(path, error);
                 Err(self.fail(error))
             }
         }
@@ -393,9 +424,9 @@ impl<
             }
             Err(fault) => {
                 let socket = def.sockets().get(fault.socket);
-                let what = words::cannot_bind(self.alloc, socket, fault.error);
+                let (form, holes) = words::cannot_bind(socket, fault.error);
                 self.notices
-                    .refused(job, Asked::Bind, def.label(), None, what);
+                    .refused(job, Asked::Bind, def.label(), None, form, &holes);
                 Err(self.fail(fault.error))
             }
         }

@@ -37,9 +37,18 @@ fn is_absence(error: &io::Error) -> bool {
 }
 
 fn has_entry<R: Files + AllocGlobal + Clone + Drop>(rt: &R, path: &str) -> io::Result<bool> {
-    match fs::read_dir(rt, path)?.next() {
+    let mut listing = match fs::read_dir(rt, path) {
+        Ok(listing) => listing,
+        Err(error) => return Err(error),
+    };
+    let first = listing.next();
+    drop(listing);
+    match first {
         None => Ok(false),
-        Some(Ok(_)) => Ok(true),
+        Some(Ok(entry)) => {
+            drop(entry);
+            Ok(true)
+        }
         Some(Err(error)) => Err(error),
     }
 }

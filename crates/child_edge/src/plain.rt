@@ -1,16 +1,13 @@
 //! The calls that are made of the outside, and what it answers, as plain data.
 
 use history_model::{Ended, JobNo, Obs, Reading};
-use thiserror::Error;
 
 /// Why the outside did not do what a call asked.
-#[derive(Clone, Copy, Debug, PartialEq, Eq, Error)]
+#[derive(Clone, Copy)]
 pub enum EdgeFault {
     /// No memory was to be had for the call.
-    #[error("no memory")]
     NoMemory,
     /// The system, or the script of a [`MemoryEdge`](crate::MemoryEdge), refused the call.
-    #[error("refused")]
     Refused,
 }
 

@@ -5,7 +5,7 @@
 //! is asked has its answer before anything else is done: no number waits in it whose process may be gone.
 
 use std::alloc::{AllocError, Global};
-use std::io::{ErrorKind, Read, Write};
+use std::io::{Read, Write};
 use std::net::Net;
 use std::os::fd::OwnedFd;
 use std::os::unix::net::UnixStream;
@@ -50,12 +50,16 @@ impl<P: OpenProcess + Drop> KeptShell<P> {
         pid: u32,
     ) -> io::Result<()> {
         let is_done = match self.ask(rt, pid) {
-            Ok(is_done) => is_done,
-            Err(_) => {
+            Some(is_done) => is_done,
+            None => {
                 self.end();
-                let is_done = run_shell(rt, self.alloc, pid)?;
-                self.is_gone();
-                is_done
+                match run_shell(rt, self.alloc, pid) {
+                    Ok(is_done) => {
+                        self.is_gone();
+                        is_done
+                    }
+                    Err(error) => return Err(error),
+                }
             }
         };
         if is_done {
@@ -65,28 +69,31 @@ impl<P: OpenProcess + Drop> KeptShell<P> {
         }
     }
 
-    // Whether `kill` of the shell that is kept ended with 0.
-    fn ask<R: Net + Processes<Started = P>>(&mut self, rt: &R, pid: u32) -> io::Result<bool> {
-        let line = format!(in self.alloc; "{pid}\n")?;
-        let socket = self.socket(rt)?;
-        socket.write_all(line.as_bytes())?;
-        read_answer(socket)
+    // Whether `kill` of the shell that is kept ended with 0. None: no shell can be kept, or it gives no answer.
+    fn ask<R: Net + Processes<Started = P>>(&mut self, rt: &R, pid: u32) -> Option<bool> {
+        if !self.is_running() && !self.begin(rt) {
+            return None;
+        }
+        let Some(shell) = &mut self.shell else {
+            return None;
+        };
+        let Ok(line) = format!(in self.alloc; "{pid}\n") else {
+            return None;
+        };
+        let answer = answer_to(&mut shell.socket, line.as_str());
+        drop(line);
+        answer
     }
 
-    // The socket of the shell, which is started if there is none or it has ended.
-    fn socket<R: Net + Processes<Started = P>>(&mut self, rt: &R) -> io::Result<&mut UnixStream> {
-        if !self.is_running() {
-            self.end();
-            if !self.is_gone() {
-                return Err(io::Error::from(ErrorKind::WouldBlock));
-            }
-            let shell = start(rt, self.alloc)?;
-            drop(mem::replace(&mut self.shell, Some(shell)));
+    // Starts a shell, once the one before it is gone. False: there is none.
+    fn begin<R: Net + Processes<Started = P>>(&mut self, rt: &R) -> bool {
+        self.end();
+        if !self.is_gone() {
+            return false;
         }
-        match &mut self.shell {
-            Some(shell) => Ok(&mut shell.socket),
-            None => Err(io::Error::from(ErrorKind::NotFound)),
-        }
+        let shell = start(rt, self.alloc);
+        drop(mem::replace(&mut self.shell, shell));
+        true
     }
 
     fn is_running(&mut self) -> bool {
@@ -119,55 +126,86 @@ impl<P: OpenProcess + Drop> KeptShell<P> {
 }
 
 // What the shell writes of a number is a line, and comes whole. Its end, and anything else, is no answer.
-fn read_answer(socket: &mut UnixStream) -> io::Result<bool> {
+fn answer_to(socket: &mut UnixStream, line: &str) -> Option<bool> {
+    if socket.write_all(line.as_bytes()).is_err() {
+        return None;
+    }
     let mut text = [0u8; 8];
-    let count = socket.read(&mut text)?;
+    let Ok(count) = socket.read(&mut text) else {
+        return None;
+    };
     let line = text.get(..count).unwrap_or(b"");
     if line.ends_with(b"\n") {
-        Ok(line == b"0\n".as_slice())
+        Some(line == b"0\n".as_slice())
     } else {
-        Err(io::Error::from(ErrorKind::UnexpectedEof))
+        None
     }
 }
 
 // A shell with nothing of the launcher but its own end of a socket. No other child gets the launcher's end.
-fn start<R: Net + Processes>(rt: &R, alloc: Global) -> io::Result<Shell<R::Started>> {
-    let (socket, far) = UnixStream::pair(rt)?;
-    match start_at(rt, alloc, &socket, far) {
-        Ok(child) => Ok(Shell { child, socket }),
-        Err(error) => {
+fn start<R: Net + Processes>(rt: &R, alloc: Global) -> Option<Shell<R::Started>> {
+    let Ok((socket, far)) = UnixStream::pair(rt) else {
+        return None;
+    };
+    let patience = Duration::from_millis(PATIENCE);
+    let is_patient = socket.set_read_timeout(Some(patience)).is_ok();
+    match start_at(rt, alloc, far, is_patient) {
+        Some(child) => Some(Shell { child, socket }),
+        None => {
             drop(socket);
-            Err(error)
+            None
         }
     }
 }
 
-// The shell at the far end of the socket.
+// Its far end is the shell's input and output. None is started where the near end would wait for ever.
 fn start_at<R: Processes>(
     rt: &R,
     alloc: Global,
-    socket: &UnixStream,
     far: UnixStream,
-) -> io::Result<Child<R::Started>> {
-    socket.set_read_timeout(Some(Duration::from_millis(PATIENCE)))?;
-    let input = Stdio::from(OwnedFd::from(far.try_clone()?));
+    is_patient: bool,
+) -> Option<Child<R::Started>> {
+    let input = match far.try_clone() {
+        Ok(input) if is_patient => Stdio::from(OwnedFd::from(input)),
+        other => {
+            drop(other);
+            drop(far);
+            return None;
+        }
+    };
     let output = Stdio::from(OwnedFd::from(far));
-    let mut command = shell_of(alloc, SCRIPT, input, output)?;
-    command.env_clear();
-    let child = command.spawn(rt);
-    drop(command);
-    child
+    match shell_of(alloc, SCRIPT, input, output) {
+        Ok(command) => {
+            let mut command = command;
+            command.env_clear();
+            let child = command.spawn(rt);
+            drop(command);
+            child.ok()
+        }
+        Err(_) => None,
+    }
 }
 
 // Whether `kill` of a shell for this TERM alone ended with 0.
 fn run_shell<R: Processes>(rt: &R, alloc: Global, pid: u32) -> io::Result<bool> {
-    let text = format!(in alloc; "kill -s TERM {pid}")?;
+    let text = match format!(in alloc; "kill -s TERM {pid}") {
+        Ok(text) => text,
+        Err(error) => return Err(io::Error::from(error)),
+    };
     let shell = shell_of(alloc, text.as_str(), Stdio::null(), Stdio::null());
     drop(text);
-    let mut command = shell?;
-    let status = command.status(rt);
-    drop(command);
-    Ok(status?.success())
+    match shell {
+        Ok(command) => {
+            let mut command = command;
+            let status = command.status(rt);
+            drop(command);
+            match status {
+                Ok(status) => Ok(status.success()),
+                Err(error) => Err(error),
+            }
+        }
+        Err(error) => Err(io::Error::from(error)),
+    }
 }
 
 fn shell_of(

@@ -1,8 +1,9 @@
 //! The listening sockets that are bound, by job.
 
+use crate::Client;
 use crate::listener::Listener;
 use crate::notices::{Asked, Notices};
-use crate::{Client, words};
+use crate::words::Hole::Error;
 use history_model::{JobNo, MAX_JOBS, Text};
 use job_defs::{Address, Def, Socket};
 use mio::{Registry, Token};
@@ -145,8 +146,9 @@ impl Sockets {
                     return Some(client);
                 }
                 Err(error) => {
-                    let what = words::cannot(self.alloc, "let a client in", error);
-                    notices.refused(job, Asked::Accept, bound.label.as_str(), None, what);
+                    let form = "cannot let a client in: $";
+                    let label = bound.label.as_str();
+                    notices.refused(job, Asked::Accept, label, None, form, &[Error(error)]);
                 }
             }
         }
@@ -208,8 +210,9 @@ impl Sockets {
         match answer {
             Ok(()) => notices.done(job, Asked::Watch),
             Err(error) => {
-                let what = words::cannot(self.alloc, "wait for clients", error);
-                notices.refused(job, Asked::Watch, bound.label.as_str(), None, what);
+                let form = "cannot wait for clients: $";
+                let label = bound.label.as_str();
+                notices.refused(job, Asked::Watch, label, None, form, &[Error(error)]);
             }
         }
         answer
@@ -219,9 +222,11 @@ impl Sockets {
 impl Bound {
     // Registers each socket that is not yet, up to the first that is refused.
     fn register(&mut self, registry: &Registry, token: Token) -> io::Result<()> {
-        for listener in self.listeners.iter_mut().skip(self.registered) {
-            listener.register(registry, token)?;
-            self.registered = self.registered.saturating_add(1);
+        for _ in self.registered..self.listeners.len() {
+            if let Some(listener) = self.listeners.get_mut(self.registered) {
+                listener.register(registry, token)?;
+                self.registered = self.registered.saturating_add(1);
+            }
         }
         Ok(())
     }
@@ -239,7 +244,14 @@ fn bind_all<R: Files + Net<Listener = std::net::TcpListener, Stream = std::net::
     wanted: &[Socket],
 ) -> Result<Vec<Listener>, BindFault> {
     let mut listeners = Vec::new(alloc);
-    match bind_each(rt, alloc, wanted, &mut listeners) {
+    let mut answer = Ok(());
+    for socket in wanted {
+        answer = bind_next(rt, alloc, socket, &mut listeners);
+        if answer.is_err() {
+            break;
+        }
+    }
+    match answer {
         Ok(()) => Ok(listeners),
         Err(error) => {
             give_up(rt, &listeners);
@@ -250,16 +262,21 @@ fn bind_all<R: Files + Net<Listener = std::net::TcpListener, Stream = std::net::
     }
 }
 
-// Binds one after the other, up to the first that is refused.
-fn bind_each<R: Files + Net<Listener = std::net::TcpListener, Stream = std::net::TcpStream>>(
+// Binds one more.
+fn bind_next<R: Files + Net<Listener = std::net::TcpListener, Stream = std::net::TcpStream>>(
     rt: &R,
     alloc: Global,
-    wanted: &[Socket],
+    wanted: &Socket,
     listeners: &mut Vec<Listener>,
 ) -> io::Result<()> {
-    for socket in wanted {
-        listeners.reserve(1)?;
-        listeners.push_reserved(Listener::bind(rt, alloc, socket)?);
+    if listeners.reserve(1).is_err() {
+        return Err(io::Error::from(ErrorKind::OutOfMemory));
     }
-    Ok(())
+    match Listener::bind(rt, alloc, wanted) {
+        Ok(listener) => {
+            listeners.push_reserved(listener);
+            Ok(())
+        }
+        Err(error) => Err(error),
+    }
 }

@@ -38,12 +38,15 @@ impl Spooled {
         key: (JobNo, u64),
         bytes: &[u8],
     ) -> io::Result<(Spooled, File)> {
-        let reply = name_of(alloc, folder, key, "reply")?;
-        let request = written(rt, name_of(alloc, folder, key, "request")?, bytes)?;
-        match make(rt, reply) {
+        let request = match written(rt, name_of(alloc, folder, key, "request"), bytes) {
+            Ok(request) => request,
+            Err(error) => return Err(error),
+        };
+        match make(rt, name_of(alloc, folder, key, "reply")) {
             Ok((reply, file)) => Ok((Spooled { request, reply }, file)),
             Err(error) => {
                 request.remove(rt);
+                drop(request);
                 Err(error)
             }
         }
@@ -72,18 +75,30 @@ impl Spooled {
 
 impl SpoolFile {
     fn open<R: Files<File = File>>(&self, rt: &R, how: &OpenOptions) -> io::Result<File> {
-        self.allow(&fs::symlink_metadata(rt, self.path.as_str())?)?;
-        let file = how.open(rt, self.path.as_str())?;
-        self.allow(&file.metadata()?)?;
-        Ok(file)
+        match self.allow(fs::symlink_metadata(rt, self.path.as_str())) {
+            Ok(()) => {}
+            Err(error) => return Err(error),
+        }
+        match how.open(rt, self.path.as_str()) {
+            Ok(file) => match self.allow(file.metadata()) {
+                Ok(()) => Ok(file),
+                Err(error) => {
+                    drop(file);
+                    Err(error)
+                }
+            },
+            Err(error) => Err(error),
+        }
     }
 
     // An error if this is another file than the one that was made.
-    fn allow(&self, data: &Metadata) -> io::Result<()> {
-        if data.is_file() && data.dev() == self.device && data.ino() == self.inode {
-            Ok(())
-        } else {
-            Err(io::Error::new(ErrorKind::NotFound, "another file is at its name"))
+    fn allow(&self, data: io::Result<Metadata>) -> io::Result<()> {
+        match data {
+            Ok(data) if data.is_file() && data.dev() == self.device && data.ino() == self.inode => {
+                Ok(())
+            }
+            Ok(_) => Err(io::Error::new(ErrorKind::NotFound, "another file is at its name")),
+            Err(error) => Err(error),
         }
     }
 
@@ -103,34 +118,60 @@ fn name_of(
 }
 
 // A file with these bytes. After an `Err` it is not left.
-fn written<R: Files<File = File>>(rt: &R, path: String, bytes: &[u8]) -> io::Result<SpoolFile> {
-    let (spooled, mut file) = make(rt, path)?;
-    match file.write_all(bytes) {
-        Ok(()) => Ok(spooled),
-        Err(error) => {
-            spooled.remove(rt);
-            Err(error)
+fn written<R: Files<File = File>>(
+    rt: &R,
+    path: Result<String, AllocError>,
+    bytes: &[u8],
+) -> io::Result<SpoolFile> {
+    match make(rt, path) {
+        Ok((spooled, file)) => {
+            let mut file = file;
+            let written = file.write_all(bytes);
+            drop(file);
+            match written {
+                Ok(()) => Ok(spooled),
+                Err(error) => {
+                    spooled.remove(rt);
+                    drop(spooled);
+                    Err(error)
+                }
+            }
         }
+        Err(error) => Err(error),
     }
 }
 
 // An empty file, which this user alone may read. Where something is at the path already, it is refused and left as it is.
-fn make<R: Files<File = File>>(rt: &R, path: String) -> io::Result<(SpoolFile, File)> {
+fn make<R: Files<File = File>>(
+    rt: &R,
+    path: Result<String, AllocError>,
+) -> io::Result<(SpoolFile, File)> {
+    let path = match path {
+        Ok(path) => path,
+        Err(error) => return Err(io::Error::from(error)),
+    };
     let mut how = OpenOptions::new();
     how.read(true).write(true).create_new(true).mode(0o600);
-    let file = how.open(rt, path.as_str())?;
-    match file.metadata() {
-        Ok(data) => {
-            let (device, inode) = (data.dev(), data.ino());
-            let spooled = SpoolFile {
-                path,
-                device,
-                inode,
-            };
-            Ok((spooled, file))
-        }
+    match how.open(rt, path.as_str()) {
+        Ok(file) => match file.metadata() {
+            Ok(data) => {
+                let (device, inode) = (data.dev(), data.ino());
+                let spooled = SpoolFile {
+                    path,
+                    device,
+                    inode,
+                };
+                Ok((spooled, file))
+            }
+            Err(error) => {
+                let _ = fs::remove_file(rt, path.as_str());
+                drop(path);
+                drop(file);
+                Err(error)
+            }
+        },
         Err(error) => {
-            let _ = fs::remove_file(rt, path.as_str());
+            drop(path);
             Err(error)
         }
     }

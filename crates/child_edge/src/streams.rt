@@ -6,94 +6,116 @@
 //! gives up a lease of the file (fcntl(2), F_SETLEASE; at most /proc/sys/fs/lease-break-time seconds), and as long as a file
 //! system of the network does.
 
-use crate::command::Streams;
 use crate::failure::{Failure, Part};
 use crate::spool::Spooled;
 use job_defs::Def;
 use std::fs::{File, FileType, Files, Metadata, OpenOptions};
 use std::io::ErrorKind;
 use std::os::unix::fs::{FileTypeExt, MetadataExt};
-use std::process::Stdio;
+use std::process::{Command, Stdio};
 use std::{fs, io};
 
-/// The streams that the definition says.
-pub(crate) fn own_streams<R: Files<File = File>>(rt: &R, def: &Def) -> Result<Streams, Failure> {
-    let input = tried(Part::Input, read_from(rt, def.standard_in_path()))?;
-    let output = tried(Part::Output, write_to(rt, def.standard_out_path()))?;
-    let errors = tried(Part::Errors, write_to(rt, def.standard_error_path()))?;
-    Ok(Streams {
-        input,
-        output,
-        errors,
-    })
+/// Gives the command the streams that the definition says.
+pub(crate) fn own_streams<R: Files<File = File>>(
+    rt: &R,
+    def: &Def,
+    command: &mut Command,
+) -> Result<(), Failure> {
+    give(rt, Part::Input, def.standard_in_path(), command)?;
+    give(rt, Part::Output, def.standard_out_path(), command)?;
+    give(rt, Part::Errors, def.standard_error_path(), command)
 }
 
-/// The streams of a run that serves a connection: it reads the request and writes the reply. Without a connection, which its
-/// client has given up or which was lost, both are the null device.
+/// Gives the command the streams of a run that serves a connection: it reads the request and writes the reply. Without a
+/// connection, which its client has given up or which was lost, both are the null device.
 pub(crate) fn served_streams<R: Files<File = File>>(
     rt: &R,
     def: &Def,
     files: Option<&Spooled>,
-) -> Result<Streams, Failure> {
-    let (input, output) = match files {
-        Some(files) => (
-            tried(Part::Request, stream_of(files.read_request(rt)))?,
-            tried(Part::Reply, stream_of(files.write_reply(rt)))?,
-        ),
-        None => (Stdio::null(), Stdio::null()),
-    };
-    let errors = tried(Part::Errors, write_to(rt, def.standard_error_path()))?;
-    Ok(Streams {
-        input,
-        output,
-        errors,
-    })
+    command: &mut Command,
+) -> Result<(), Failure> {
+    match files {
+        Some(files) => {
+            give_file(Part::Request, files.read_request(rt), command)?;
+            give_file(Part::Reply, files.write_reply(rt), command)?;
+        }
+        None => {
+            command.stdin(Stdio::null());
+            command.stdout(Stdio::null());
+        }
+    }
+    give(rt, Part::Errors, def.standard_error_path(), command)
 }
 
-fn tried(part: Part, stream: io::Result<Stdio>) -> Result<Stdio, Failure> {
-    match stream {
-        Ok(stream) => Ok(stream),
+// The command's part is the file at the path, or the null device.
+fn give<R: Files<File = File>>(
+    rt: &R,
+    part: Part,
+    path: Option<&str>,
+    command: &mut Command,
+) -> Result<(), Failure> {
+    match path {
+        Some(path) => give_file(part, opened(rt, part, path), command),
+        None => {
+            set(part, Stdio::null(), command);
+            Ok(())
+        }
+    }
+}
+
+fn give_file(part: Part, file: io::Result<File>, command: &mut Command) -> Result<(), Failure> {
+    match file {
+        Ok(file) => {
+            set(part, Stdio::from(file), command);
+            Ok(())
+        }
         Err(error) => Err(Failure { part, error }),
     }
 }
 
-fn stream_of(file: io::Result<File>) -> io::Result<Stdio> {
-    Ok(Stdio::from(file?))
+fn set(part: Part, stream: Stdio, command: &mut Command) {
+    match part {
+        Part::Input | Part::Request => command.stdin(stream),
+        Part::Output | Part::Reply => command.stdout(stream),
+        _ => command.stderr(stream),
+    };
 }
 
-// The file at the path is read, from its beginning.
-fn read_from<R: Files<File = File>>(rt: &R, path: Option<&str>) -> io::Result<Stdio> {
-    let Some(path) = path else {
-        return Ok(Stdio::null());
-    };
-    allow(&fs::metadata(rt, path)?)?;
-    let file = File::open(rt, path)?;
-    allow(&file.metadata()?)?;
-    Ok(Stdio::from(file))
-}
-
-// The file at the path is appended to. It is made if it is not there.
-fn write_to<R: Files<File = File>>(rt: &R, path: Option<&str>) -> io::Result<Stdio> {
-    let Some(path) = path else {
-        return Ok(Stdio::null());
-    };
-    match fs::metadata(rt, path) {
-        Ok(data) => allow(&data)?,
-        Err(error) if error.kind() == ErrorKind::NotFound => {}
-        Err(error) => return Err(error),
+// The file at the path: the input is read from its beginning, and the others are appended to, and made if they are not there.
+fn opened<R: Files<File = File>>(rt: &R, part: Part, path: &str) -> io::Result<File> {
+    let is_read = matches!(part, Part::Input);
+    let mut how = OpenOptions::new();
+    how.read(is_read);
+    how.append(!is_read);
+    how.create(!is_read);
+    match allow(fs::metadata(rt, path)) {
+        Err(error) if is_read || error.kind() != ErrorKind::NotFound => return Err(error),
+        _ => {}
     }
-    let file = OpenOptions::new().append(true).create(true).open(rt, path)?;
-    allow(&file.metadata()?)?;
-    Ok(Stdio::from(file))
+    match how.open(rt, path) {
+        Ok(file) => match allow(file.metadata()) {
+            Ok(()) => Ok(file),
+            Err(error) => {
+                drop(file);
+                Err(error)
+            }
+        },
+        Err(error) => Err(error),
+    }
 }
 
 // An error if the file is of a kind whose open may wait.
-fn allow(data: &Metadata) -> io::Result<()> {
-    let kind = data.file_type();
-    if data.is_file() || (kind.is_char_device() && opens_at_once(data.rdev())) {
-        return Ok(());
+fn allow(data: io::Result<Metadata>) -> io::Result<()> {
+    match data {
+        Ok(data) => {
+            let kind = data.file_type();
+            if data.is_file() || (kind.is_char_device() && opens_at_once(data.rdev())) {
+                return Ok(());
+            }
+            Err(io::Error::new(ErrorKind::InvalidInput, words_of(kind)))
+        }
+        Err(error) => Err(error),
     }
-    Err(io::Error::new(ErrorKind::InvalidInput, words_of(kind)))
 }
 
 fn words_of(kind: FileType) -> &'static str {

@@ -2,9 +2,9 @@
 
 use crate::fault::Fault;
 use ctl_protocol::{LINE_LIMIT, event_line, request_line};
+use files_and_process::path_files::read_front;
 use history_model::{Event, Text};
 use job_defs::{DefFault, read_def};
-use path_files::read_front;
 use std::alloc::Global;
 use std::fs::Files;
 

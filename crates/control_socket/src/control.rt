@@ -3,12 +3,13 @@
 use crate::client::{Client, PIECES, Progress};
 use crate::notices::Notices;
 use crate::turn::{Answers, LINES, Limit, Turn};
+use files_and_process::own_files::LockFile;
+use files_and_process::socket_file;
+use files_and_process::socket_file::SocketMark;
 use history_model::Text;
 use mio::net::{UnixListener, UnixStream};
 use mio::{Interest, Registry, Token};
-use own_files::LockFile;
 use slab::Slab;
-use socket_file::SocketMark;
 use std::alloc::Global;
 use std::fs::{File, Files};
 use std::io;

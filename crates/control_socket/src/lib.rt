@@ -10,5 +10,5 @@ mod turn;
 
 pub use control::{CLIENTS, ControlSocket};
 pub use dialogue::UNSENT;
-pub use socket_file::SocketMark;
+pub use files_and_process::socket_file::SocketMark;
 pub use turn::{Answers, LINES, Limit};

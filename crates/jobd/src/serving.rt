@@ -4,13 +4,14 @@ use child_edge::OsEdge;
 use control_socket::ControlSocket;
 use ctl_protocol::{Header, Settings, ZoneText};
 use exit_status::{CLOCK_OR_WAITING, NO_MEMORY, STORE};
+use files_and_process::own_files::LockFile;
+use files_and_process::own_process::{Standing, open_null_streams};
+use files_and_process::socket_file;
 use history_model::{Reading, Setting};
 use launchctl_words::ZoneWords;
 use launcher::{Host, HostFault};
 use live_loop::{Live, ServeFault, System, serve};
 use outside::SettingStore;
-use own_files::LockFile;
-use own_process::{Standing, open_null_streams};
 use round_launcher::RoundLauncher;
 use startup::{
     Places, Plan, begun, bound, hold_spool, journal_at, no_clock, open_store, read_wishes, refuse,

@@ -2,8 +2,8 @@
 #![tactic(auto)]
 
 use control_client::jobctl;
+use files_and_process::own_process::{Programs, run_by_name};
 use jobd::jobd;
-use own_process::{Programs, run_by_name};
 use scope::jobscope;
 use std::process::ExitCode;
 use std::sync::Wait;

@@ -9,10 +9,10 @@ use definition_files::check::{
     Change, Checked, Grade, Remark, changes_in_year, check_def, finding_line, summary_of,
 };
 use exit_status::{BAD_FILE, REFUSED};
+use files_and_process::path_files::{Found, files_at};
 use history_model::KeyName;
 use job_defs::Def;
 use launchctl_words::Paths;
-use path_files::{Found, files_at};
 use run_times::Ink;
 use run_times::Piece::Text;
 use std::alloc::{AllocError, Global};

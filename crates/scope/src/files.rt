@@ -2,8 +2,8 @@
 
 use crate::telling::{tell_error, tell_of};
 use ctl_protocol::LINE_LIMIT;
+use files_and_process::path_files::{Found, Kind, read_file};
 use history_model::MAX_WALL;
-use path_files::{Found, Kind, read_file};
 use std::alloc::{AllocError, Global};
 use std::io;
 use std::time::SystemTime;

@@ -1,10 +1,10 @@
 //! Whether what a definition names is there.
 
 use definition_files::check::{Grade, Remark, place_of};
+use files_and_process::path_files::read_front;
 use history_model::KeyName;
 use job_defs::Def;
 use json_kinds::key_name;
-use path_files::read_front;
 use run_times::Piece::Text;
 use run_times::{Ink, Piece};
 use std::alloc::{AllocError, Global};

@@ -2,8 +2,8 @@
 
 use crate::telling::{tell_error, tell_of};
 use calendar_due::{LONGEST_FILE, Zone, ZoneFault};
+use files_and_process::path_files::read_file;
 use launchctl_words::ZoneWords;
-use path_files::read_file;
 use run_times::utc;
 use std::alloc::{AllocError, Global};
 

@@ -2,8 +2,8 @@
 //! process.
 
 use crate::reporting::{Level, report};
+use files_and_process::own_process::Standing;
 use history_model::Text;
-use own_process::Standing;
 use std::alloc::AllocError;
 use std::env;
 use std::env::VarError;

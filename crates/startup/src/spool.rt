@@ -4,7 +4,7 @@ use crate::plan::Plan;
 use crate::reporting::{Level, refuse, report};
 use child_edge::{System, clear_spool};
 use exit_status::SPOOL;
-use own_files::{LockFile, check_folder};
+use files_and_process::own_files::{LockFile, check_folder};
 use std::alloc::Global;
 use std::io;
 

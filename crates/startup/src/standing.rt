@@ -4,7 +4,7 @@ use crate::plan::Plan;
 use crate::reporting::{Level, report, tell};
 use child_edge::System;
 use exit_status::{CLOCK_OR_WAITING, NO_MEMORY};
-use own_process::{Signal, Standing, sees_children};
+use files_and_process::own_process::{Signal, Standing, sees_children};
 use std::alloc::Global;
 use std::io;
 

@@ -3,9 +3,9 @@
 use crate::looking::{Found, LookFault, look};
 use crate::reporting::{Level, refuse, report};
 use exit_status::{NO_MEMORY, STORE};
+use files_and_process::own_files::make_private;
 use history_model::Setting;
 use override_store::{StoreFault, StoredSettings, opened};
-use own_files::make_private;
 use sqlite::{Alter, Connection, Error, ErrorCode, File, FileStore, Options, Unknown};
 use sqlite_std_file::OpenError;
 use std::alloc::Global;

@@ -1,7 +1,7 @@
 //! Which of the three programs runs: they are one file, which acts by the name that it was started under.
 
-use crate::program::{Program, program_of};
-use crate::words::{own_program, own_words};
+use super::program::{Program, program_of};
+use super::words::{own_program, own_words};
 use exit_status::{NO_MEMORY, USAGE};
 use std::io;
 use std::sync::Wait;

@@ -1,6 +1,6 @@
 //! The words that a program was started with.
 
-use crate::program::{Program, program_meant};
+use super::program::{Program, program_meant};
 use std::alloc::AllocError;
 use std::rt::Env;
 use std::{env, io};

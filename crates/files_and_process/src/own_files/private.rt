@@ -1,6 +1,6 @@
 //! A file that is made for one user alone.
 
-use crate::lock::no_plain_file;
+use super::lock::no_plain_file;
 use std::fs::{Files, OpenOptions};
 use std::io::ErrorKind;
 use std::os::unix::fs::OpenOptionsExt;

@@ -1,6 +1,6 @@
 //! Which of its three programs a file is, by the name that it was started under.
 ghost use Rattle.std.specs.Prelude.{◌≡◌, map, string_bytes};
-ghost use Rattle.own_process.specs.Programs as spec;
+ghost use Rattle.files_and_process.specs.Programs as spec;
 
 /// The programs that are one file.
 pub enum Program {

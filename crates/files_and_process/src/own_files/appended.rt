@@ -1,6 +1,6 @@
 //! A file that is written at its end, by its holder alone.
 
-use crate::lock::{lock, no_plain_file};
+use super::lock::{lock, no_plain_file};
 use std::fs::{File, Files, OpenOptions};
 use std::io::ErrorKind;
 use std::os::unix::fs::OpenOptionsExt;

@@ -1,5 +1,4 @@
 //! Files and folders that are this process's own: for its user alone, or held by a lock that the system lets go with the process.
-#![tactic(auto)]
 
 mod appended;
 mod folder;

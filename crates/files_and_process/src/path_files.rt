@@ -1,5 +1,4 @@
 //! The files that the paths of a command line stand for, and the reading of one within a bound.
-#![tactic(auto)]
 
 mod files;
 mod reading;

@@ -3,8 +3,8 @@ use Rattle.std.specs.Prelude.{ℕ, List, [], ◌∷◌, Bool, ◌||◌, if◌the
 use Rattle.std.specs.Prelude.{codes, nat_eq}
 use Rattle.std.specs.Cmp.Lexicographic.{pointwise}
 use Rattle.std.specs.List.{ends_with}
-use Rattle.own_process.specs.declared.program.Program.{Program}
-use Rattle.own_process.specs.declared.program.Program.TheVariants.{Jobd, Jobctl, Jobscope}
+use Rattle.files_and_process.specs.declared.own_process.program.Program.{Program}
+use Rattle.files_and_process.specs.declared.own_process.program.Program.TheVariants.{Jobd, Jobctl, Jobscope}
 
 -- the path is this name, or its last part is, which is the name behind a slash at the end
 abbrev pub is_named : List ℕ → List ℕ → Bool
