@@ -1,6 +1,6 @@
 //! `jobd serve`: what the launcher stands on is opened step by step, and then it serves.
 
-use child_edge::OsEdge;
+use child_edge::{ChildEdge, OsEdge, SocketEdge};
 use control_socket::ControlSocket;
 use ctl_protocol::{Header, Settings, ZoneText};
 use exit_status::{CLOCK_OR_WAITING, NO_MEMORY, STORE};
@@ -25,10 +25,10 @@ use std::sync::Wait;
 
 /// What a launcher has before its store is opened.
 #[derive(Drop)]
-struct Parts<R: System> {
+struct Parts<E> {
     reading: Reading,
     zone: ZoneText,
-    edge: OsEdge<R>,
+    edge: E,
     journal: Option<File>,
 }
 
@@ -56,7 +56,10 @@ pub(crate) fn serve_at<L: Wait>(
             drop(prepared);
             status
         }
-        Err(status) => status,
+        Err(status) => {
+            drop(zone);
+            status
+        }
     }
 }
 
@@ -66,6 +69,7 @@ fn prepare<R: AllocGlobal + Env + Eprint + Files<File = File>>(
     places: Places,
 ) -> Result<Prepared, u8> {
     let Ok(wishes) = read_wishes(rt) else {
+        drop(places);
         return Err(NO_MEMORY);
     };
     match open_null_streams(rt, alloc) {
@@ -78,10 +82,10 @@ fn prepare<R: AllocGlobal + Env + Eprint + Files<File = File>>(
             _null_streams: held,
         }),
         Err(error) => {
-            let level = wishes.level;
+            drop(places);
             Err(refuse(
                 rt,
-                level,
+                wishes.level,
                 CLOCK_OR_WAITING,
                 "null device",
                 "/dev/null",
@@ -127,7 +131,7 @@ fn parts_of<R: System>(
     alloc: Global,
     plan: &Plan,
     zone: ZoneWords,
-) -> Result<(Parts<R>, ControlSocket), u8> {
+) -> Result<(Parts<OsEdge<R>>, ControlSocket), u8> {
     let zone = zone_of(rt, alloc, plan.wishes.level, zone)?;
     match system_of(rt, alloc, plan) {
         Ok((edge, reading)) => parts_over(rt, alloc, plan, zone, edge, reading),
@@ -138,14 +142,14 @@ fn parts_of<R: System>(
     }
 }
 
-fn parts_over<R: System>(
+fn parts_over<R: System, E: Drop>(
     rt: &R,
     alloc: Global,
     plan: &Plan,
     zone: ZoneText,
-    edge: OsEdge<R>,
+    edge: E,
     reading: Reading,
-) -> Result<(Parts<R>, ControlSocket), u8> {
+) -> Result<(Parts<E>, ControlSocket), u8> {
     let control = match bound(rt, alloc, plan) {
         Ok(control) => control,
         Err(status) => {
@@ -177,7 +181,7 @@ fn serve_on<L: Wait, R: System + Print, T: SettingStore + Drop>(
     waits: &L,
     alloc: Global,
     plan: &Plan,
-    parts: Parts<R>,
+    parts: Parts<OsEdge<R>>,
     control: ControlSocket,
     kept: (T, Vec<Setting>),
 ) -> Result<u8, u8> {
@@ -229,14 +233,14 @@ fn serve_with<L: Wait, R: System + Print, T: SettingStore + Drop>(
     }
 }
 
-fn launcher_of<R: System, T: SettingStore + Drop>(
-    rt: &R,
+fn launcher_of<T: SettingStore + Drop, E: ChildEdge + SocketEdge + Drop>(
+    rt: &impl Eprint,
     alloc: Global,
     plan: &Plan,
-    parts: Parts<R>,
+    parts: Parts<E>,
     store: T,
     settings: Vec<Setting>,
-) -> Result<Host<T, OsEdge<R>, BufWriter<File>>, u8> {
+) -> Result<Host<T, E, BufWriter<File>>, u8> {
     let Parts {
         reading,
         zone,
@@ -261,8 +265,8 @@ fn launcher_of<R: System, T: SettingStore + Drop>(
 }
 
 // The journal, emptied. A header that is too long for it is told.
-fn writer_of<R: System>(
-    rt: &R,
+fn writer_of(
+    rt: &impl Eprint,
     alloc: Global,
     plan: &Plan,
     header: &Header,
@@ -305,7 +309,13 @@ fn report_loop(rt: &impl Eprint, plan: &Plan, fault: ServeFault) -> u8 {
         ServeFault::NoMemory => NO_MEMORY,
         ServeFault::Poll => {
             let path = plan.places.socket.as_str();
-            report(rt, plan.wishes.level, "control socket", path, &fault);
+            report(
+                rt,
+                plan.wishes.level,
+                "control socket",
+                path,
+                &"the poll failed",
+            );
             CLOCK_OR_WAITING
         }
     }

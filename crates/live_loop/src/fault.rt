@@ -1,14 +1,10 @@
 //! Why the live loop can't go on.
 
-use thiserror::Error;
-
 /// Why the loop was not made, or ended early. The children live on.
-#[derive(Clone, Copy, Debug, PartialEq, Eq, Error)]
+#[derive(Clone, Copy)]
 pub enum ServeFault {
     /// Memory for the loop's own rooms was refused. Only to [`Live::new`](crate::Live::new).
-    #[error("no memory")]
     NoMemory,
     /// The system refused to make the poll, to register the control socket with it, or to wait.
-    #[error("the poll failed")]
     Poll,
 }

@@ -1,11 +1,11 @@
 //! The clients of jobs' sockets, from their coming to the end of their request. Then the edge of the system has them.
 
 use crate::label_room::LabelRoom;
-use crate::loop_host::{Connection, HandedIn, LoopHost};
+use crate::loop_host::{HandedIn, LoopHost};
 use child_edge::Client;
 use control_socket::Limit;
-use history_model::{JobNo, MAX_JOBS, Text};
-use job_clients::{CALLERS, Caller, Callers, Gathered, Loss, Losses, Origin, Place};
+use history_model::{JobNo, MAX_JOBS};
+use job_clients::{CALLERS, Callers, Gathered, Loss, Losses, Origin, Place};
 use mio::{Registry, Token};
 use std::alloc::{AllocError, Global};
 
@@ -19,17 +19,19 @@ const TAKEN: usize = 128;
 /// jobs, so none is used twice.
 #[derive(Drop)]
 pub(crate) struct JobSockets {
-    callers: Callers,
-    losses: Losses,
+    pub(crate) callers: Callers,
+    pub(crate) losses: Losses,
     conn: u64,
-    // Clients may have come since all sockets were tried.
-    may_have_come: bool,
+    // Clients may have come since all sockets were tried: the next round tries them.
+    pub(crate) may_have_come: bool,
     // The next round tries the sockets of this job first, or of the next above it.
     first_job: JobNo,
     // The next round hears the client of this key first, or the next above it.
     first_key: usize,
-    // A request came whole since this was asked last.
-    is_whole: bool,
+    // A client or some bytes came in this round.
+    pub(crate) is_stirred: bool,
+    // A request came whole in this round.
+    pub(crate) is_whole: bool,
 }
 
 impl JobSockets {
@@ -42,30 +44,9 @@ impl JobSockets {
             may_have_come: true,
             first_job: 0,
             first_key: 0,
+            is_stirred: false,
             is_whole: false,
         })
-    }
-
-    /// From now on as many clients are heard at a time, and a third of them, at most 64, of one job.
-    pub(crate) fn set_room(&mut self, callers: usize) {
-        self.callers.set_room(callers);
-    }
-
-    /// The next line on a client that was let go, without a newline.
-    pub(crate) fn next_notice(&mut self) -> Option<Text> {
-        self.losses.next()
-    }
-
-    /// Whether a request came whole since this was asked last.
-    pub(crate) fn take_whole(&mut self) -> bool {
-        let is_whole = self.is_whole;
-        self.is_whole = false;
-        is_whole
-    }
-
-    /// The sockets are to be tried in this round.
-    pub(crate) fn wake(&mut self) {
-        self.may_have_come = true;
     }
 
     /// The poll was woken under this token.
@@ -97,11 +78,11 @@ impl JobSockets {
         let mut next = self.first_job;
         self.first_job = 0;
         for _ in 0..MAX_JOBS {
-            let Some(job) = host.listener_from(next) else {
+            let Some(origin) = host.listener_from(next) else {
                 return;
             };
-            next = job.saturating_add(1);
-            if self.accept_for(registry, host, job) && !time.has_time() {
+            next = origin.job.saturating_add(1);
+            if self.accept_for(registry, host, origin) && !time.has_time() {
                 self.first_job = next;
                 self.may_have_come = true;
                 return;
@@ -111,20 +92,21 @@ impl JobSockets {
 
     // Takes the clients of one job. If they are many, or there is no room for all before the first are read, the others are left
     // for the next round. It says whether one came.
-    fn accept_for<H: LoopHost>(&mut self, registry: &Registry, host: &mut H, job: JobNo) -> bool {
-        let Some(bind) = host.bind_of(job) else {
-            return false;
-        };
-        let origin = Origin { job, bind };
+    fn accept_for<H: LoopHost>(
+        &mut self,
+        registry: &Registry,
+        host: &mut H,
+        origin: Origin,
+    ) -> bool {
         for count in 0..TAKEN {
-            let place = self.callers.place(bind, host.up());
-            if !matches!(place, Place::Free) && self.callers.has_new(bind) {
+            let place = self.callers.place(origin.bind, host.up());
+            if !matches!(place, Place::Free) && self.callers.has_new(origin.bind) {
                 break;
             }
-            let Some(client) = host.accept(job) else {
+            let Some(client) = host.accept(origin.job) else {
                 return count > 0;
             };
-            host.stir();
+            self.is_stirred = true;
             self.welcome(registry, host, origin, client, place);
         }
         self.may_have_come = true;
@@ -143,6 +125,7 @@ impl JobSockets {
             Place::Free => {}
             Place::Of(key) => self.let_go(host, key, Some(Loss::Displaced)),
             Place::Nowhere => {
+                drop(client);
                 self.tell(host, origin, Loss::Crowded);
                 return;
             }
@@ -157,16 +140,18 @@ impl JobSockets {
         let Some(caller) = self.callers.remove(key) else {
             return;
         };
+        let origin = caller.origin;
+        drop(caller);
         if let Some(loss) = loss {
-            self.tell(host, caller.origin, loss);
+            self.tell(host, origin, loss);
         }
     }
 
     // A loss is told of a job that has its sockets still.
     fn tell<H: LoopHost>(&mut self, host: &mut H, origin: Origin, loss: Loss) {
-        if has_sockets(host, origin) {
-            let up = host.up();
-            self.losses.note(origin, host.label(origin.job), loss, up);
+        let up = host.up();
+        if let Some(label) = host.label_at(origin) {
+            self.losses.note(origin, label, loss, up);
         }
     }
 
@@ -206,18 +191,18 @@ impl JobSockets {
         let Some(caller) = self.callers.get_mut(key) else {
             return Gathered::Waits;
         };
-        if !has_sockets(host, caller.origin) {
+        if host.label_at(caller.origin).is_none() {
             return Gathered::Lost(None);
         }
         let up = host.up();
         let gathered = caller.gather(up);
         if caller.heard_at == up {
-            host.stir();
+            self.is_stirred = true;
         }
         gathered
     }
 
-    // Hands in a connection, under its number. Why one is closed that the launcher refused is told.
+    // Hands in a client, under its number. Why one is closed that the launcher refused is told.
     fn hand_in<H: LoopHost>(
         &mut self,
         alloc: Global,
@@ -228,22 +213,11 @@ impl JobSockets {
         let Some(caller) = self.callers.remove(key) else {
             return;
         };
-        let Caller {
-            origin,
-            client,
-            exchange,
-            ..
-        } = caller;
+        let origin = caller.origin;
         self.is_whole = true;
         let conn = self.conn;
         self.conn = conn.saturating_add(1);
-        let connection = Connection {
-            job: origin.job,
-            conn,
-            client,
-            exchange,
-        };
-        match host.hand_in(alloc, label, connection) {
+        match host.hand_in(alloc, label, conn, caller) {
             HandedIn::Dropped => {}
             HandedIn::Heard => self.losses.came_through(origin.job, host.up()),
             HandedIn::Refused(refusal) => {
@@ -253,9 +227,4 @@ impl JobSockets {
             }
         }
     }
-}
-
-// Whether the job has the same sockets still.
-fn has_sockets<H: LoopHost>(host: &mut H, origin: Origin) -> bool {
-    host.bind_of(origin.job) == Some(origin.bind)
 }

@@ -18,9 +18,10 @@ mod waiting;
 
 pub use child_edge::System;
 pub use fault::ServeFault;
+pub use job_clients::{Caller, Origin};
 pub use label_room::LabelRoom;
 pub use live::Live;
-pub use loop_host::{Connection, HandedIn, LoopHost, PathHost};
+pub use loop_host::{HandedIn, LoopHost, PathHost, Standing};
 pub use paths::Sights;
 pub use rounds::{round, serve};
 pub use waiting::{next_pause, quick_rounds, round_wait};

@@ -28,11 +28,7 @@ pub struct Live<H> {
     pub(crate) host: H,
     pub(crate) control: ControlSocket,
     pub(crate) poll: Poll,
-    pub(crate) events: Events,
-    pub(crate) sights: Sights,
-    pub(crate) sockets: JobSockets,
-    pub(crate) label: LabelRoom,
-    pub(crate) voice: Voice,
+    pub(crate) rooms: Rooms,
     // What standard error would have had to wait for.
     pub(crate) untold: Option<Notice>,
     // The journal was closed, and this was not told.
@@ -51,18 +47,30 @@ pub struct Live<H> {
 
 /// What the rounds keep.
 #[derive(Drop)]
-struct Rooms {
-    events: Events,
-    sights: Sights,
-    sockets: JobSockets,
-    label: LabelRoom,
-    voice: Voice,
+pub(crate) struct Rooms {
+    pub(crate) events: Events,
+    pub(crate) sights: Sights,
+    pub(crate) sockets: JobSockets,
+    pub(crate) label: LabelRoom,
+    pub(crate) voice: Voice,
 }
 
 fn make_rooms(net: &impl Net, alloc: Global) -> Result<Rooms, AllocError> {
     let label = LabelRoom::new(alloc)?;
-    let events = Events::with_capacity(alloc, EVENTS)?;
-    let voice = Voice::new(net, alloc)?;
+    let events = match Events::with_capacity(alloc, EVENTS) {
+        Ok(events) => events,
+        Err(fault) => {
+            drop(label);
+            return Err(fault);
+        }
+    };
+    let voice = match Voice::new(net, alloc) {
+        Ok(voice) => voice,
+        Err(fault) => {
+            drop((label, events));
+            return Err(fault);
+        }
+    };
     match senses(alloc) {
         Ok((sights, sockets)) => Ok(Rooms {
             events,
@@ -101,22 +109,6 @@ fn poll_with<R: System>(rt: &R, control: &mut ControlSocket) -> Result<Poll, Ser
     Ok(poll)
 }
 
-// The poll first: nothing is made if the system refuses it.
-fn poll_and_rooms<R: System>(
-    rt: &R,
-    alloc: Global,
-    control: &mut ControlSocket,
-) -> Result<(Poll, Rooms), ServeFault> {
-    let poll = poll_with(rt, control)?;
-    match make_rooms(rt, alloc) {
-        Ok(rooms) => Ok((poll, rooms)),
-        Err(_) => {
-            drop(poll);
-            Err(ServeFault::NoMemory)
-        }
-    }
-}
-
 impl<H: LoopHost + Drop> Live<H> {
     /// A launcher that waits for its first round. NoMemory, or Poll, if the system refuses the poll or the control socket's
     /// registration. After an `Err` what was handed in is dropped: the control socket's lock is let go, and its file and the
@@ -128,41 +120,33 @@ impl<H: LoopHost + Drop> Live<H> {
         control: ControlSocket,
     ) -> Result<Live<H>, ServeFault> {
         let mut control = control;
-        match poll_and_rooms(rt, alloc, &mut control) {
-            Ok((poll, rooms)) => Ok(live_in(host, control, poll, rooms)),
+        // The poll first: no room is made if the system refuses it.
+        let poll = match poll_with(rt, &mut control) {
+            Ok(poll) => poll,
             Err(fault) => {
-                drop(host);
-                drop(control);
-                Err(fault)
+                drop((host, control));
+                return Err(fault);
+            }
+        };
+        match make_rooms(rt, alloc) {
+            Ok(rooms) => Ok(Live {
+                host,
+                control,
+                poll,
+                rooms,
+                untold: None,
+                has_journal_closed: false,
+                pause: SHORTEST,
+                quick: 0,
+                next_child: 0,
+                is_busy: false,
+                ended_at: None,
+            }),
+            Err(_) => {
+                drop((host, control, poll));
+                Err(ServeFault::NoMemory)
             }
         }
-    }
-}
-
-fn live_in<H>(host: H, control: ControlSocket, poll: Poll, rooms: Rooms) -> Live<H> {
-    let Rooms {
-        events,
-        sights,
-        sockets,
-        label,
-        voice,
-    } = rooms;
-    Live {
-        host,
-        control,
-        poll,
-        events,
-        sights,
-        sockets,
-        label,
-        voice,
-        untold: None,
-        has_journal_closed: false,
-        pause: SHORTEST,
-        quick: 0,
-        next_child: 0,
-        is_busy: false,
-        ended_at: None,
     }
 }
 
@@ -183,28 +167,23 @@ impl<H> Live<H> {
             host,
             control,
             poll,
-            events,
-            sights,
-            sockets,
-            label,
-            voice,
+            rooms,
             untold,
             ..
         } = self;
-        drop((control, poll, events, untold));
-        drop((sights, sockets, label, voice));
+        drop((control, poll, rooms, untold));
         host
     }
 
     /// From now on each line on standard error begins with its level, as the journal of systemd takes it: `<4>` for what was
     /// refused, `<6>` for what became of a run. Takes no memory.
     pub fn set_leveled(&mut self) {
-        self.voice.set_leveled();
+        self.rooms.voice.is_leveled = true;
     }
 
     /// From now on as many clients of jobs' sockets are heard at a time, at most 256 (which is the number if this was never
     /// called), and a third of them, at most 64, of one job. Takes no memory.
     pub fn set_room(&mut self, callers: usize) {
-        self.sockets.set_room(callers);
+        self.rooms.sockets.callers.set_room(callers);
     }
 }

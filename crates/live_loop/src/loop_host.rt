@@ -5,8 +5,8 @@ use crate::label_room::LabelRoom;
 use child_edge::{Client, Notice};
 use control_socket::Answers;
 use history_model::{JobNo, Obs, Refusal};
+use job_clients::{Caller, Origin};
 use mio::{Registry, Token};
-use socket_demand::Exchange;
 use std::alloc::Global;
 
 /// A launcher as the looks at paths see it.
@@ -27,7 +27,7 @@ pub trait PathHost {
     fn saw(&mut self, alloc: Global, path: &str, obs: Obs);
 }
 
-/// What became of a connection that was handed in.
+/// What became of a client that was handed in.
 pub enum HandedIn {
     /// The edge could not hold it, so it is no event. It was let go, and that was told.
     Dropped,
@@ -35,6 +35,18 @@ pub enum HandedIn {
     Heard,
     /// The launcher refused it, and it was closed.
     Refused(Refusal),
+}
+
+/// How a launcher stands.
+#[derive(Clone, Copy)]
+pub struct Standing {
+    /// Whether something happened in this round that is an input.
+    pub is_active: bool,
+    /// Whether a shutdown was accepted, and no job is left.
+    pub has_ended: bool,
+    /// The next moment of `up` at which time alone may make an order due. None also while readings are refused, so that a
+    /// moment that was reached does not keep the loop from waiting.
+    pub next_moment: Option<u64>,
 }
 
 /// A launcher as the rounds of a live loop see it. Its answers to the lines of control clients are those of `Answers`.
@@ -46,18 +58,8 @@ pub trait LoopHost: PathHost + Answers {
     /// The `up` of now, or of the round if the clock can't be read.
     fn up_now(&mut self) -> u64;
 
-    /// Whether something happened in this round.
-    fn is_active(&self) -> bool;
-
-    /// Something happened that is no input, as bytes that came.
-    fn stir(&mut self);
-
-    /// Whether a shutdown was accepted, and no job is left.
-    fn has_ended(&self) -> bool;
-
-    /// The next moment of `up` at which time alone may make an order due. None also while readings are refused, so that a
-    /// moment that was reached does not keep the loop from waiting.
-    fn next_moment(&self) -> Option<u64>;
+    /// How it stands now.
+    fn standing(&self) -> Standing;
 
     /// Asks about the child of this job, or of the next above it, whose run is over, and hands in how it ended, or that the wait was
     /// refused. It gives the number of that job; none if no run is over.
@@ -66,20 +68,24 @@ pub trait LoopHost: PathHost + Answers {
     /// From now on clients that come to sockets of jobs wake the poll under this token. False if the system refuses that for a socket.
     fn register(&mut self, registry: &Registry, token: Token) -> bool;
 
-    /// The job of this number, or the next above it, that listens at sockets.
-    fn listener_from(&mut self, job: JobNo) -> Option<JobNo>;
+    /// The job of this number, or the next above it, that listens at sockets, with the number of these sockets, which no other
+    /// sockets had or have.
+    fn listener_from(&mut self, job: JobNo) -> Option<Origin>;
 
-    /// The number of the job's present sockets, which no other sockets had or have.
-    fn bind_of(&mut self, job: JobNo) -> Option<u64>;
+    /// The label of the job, if it has these sockets still.
+    fn label_at(&mut self, origin: Origin) -> Option<&str>;
 
     /// A client that waits at the job's sockets.
     fn accept(&mut self, job: JobNo) -> Option<Client>;
 
-    /// The label of the job, also of one that is just gone; the empty text for a number that no job has.
-    fn label(&self, job: JobNo) -> &str;
-
-    /// Hands in a connection whose request came whole, under a number that it has had for no other.
-    fn hand_in(&mut self, alloc: Global, room: &mut LabelRoom, connection: Connection) -> HandedIn;
+    /// Hands in a client whose request came whole, under a number that it has had for no other.
+    fn hand_in(
+        &mut self,
+        alloc: Global,
+        room: &mut LabelRoom,
+        conn: u64,
+        caller: Caller,
+    ) -> HandedIn;
 
     /// Sends clients what their runs have written. It says whether one may go on at once.
     fn forward(&mut self) -> bool;
@@ -92,13 +98,4 @@ pub trait LoopHost: PathHost + Answers {
 
     /// Whether the journal was closed since this was asked last.
     fn report_journal_closing(&mut self) -> bool;
-}
-
-/// A connection of a job, whose request came whole.
-#[derive(Drop)]
-pub struct Connection {
-    pub job: JobNo,
-    pub conn: u64,
-    pub client: Client,
-    pub exchange: Exchange,
 }

@@ -80,14 +80,10 @@ impl Sights {
         };
         if self.seen.get(path).copied() != Some(obs) {
             host.saw(alloc, path, obs);
-            self.remember(obs);
-        }
-    }
-
-    // Without memory for it the sight is forgotten, and handed in again at the next look.
-    fn remember(&mut self, obs: Obs) {
-        if let Ok(path) = String::from_str(self.alloc, self.path.as_str()) {
-            let _ = self.seen.insert(path, obs);
+            // Without memory for it the sight is forgotten, and handed in again at the next look.
+            if let Ok(path) = String::from_str(self.alloc, path) {
+                let _ = self.seen.insert(path, obs);
+            }
         }
     }
 }

@@ -45,17 +45,16 @@ pub fn round<R: System, H: LoopHost>(
     live.next_child = poll_children(
         alloc,
         &mut live.host,
-        &mut live.label,
+        &mut live.rooms.label,
         live.next_child,
         &mut time,
     );
-    if live.sights.look(alloc, &mut live.host) {
-        live.sockets.wake();
+    if live.rooms.sights.look(alloc, &mut live.host) {
+        live.rooms.sockets.may_have_come = true;
     }
     serve_clients(rt, alloc, live);
     tell(rt, alloc, live);
-    pace(live);
-    Ok(is_over(live))
+    Ok(ends(live))
 }
 
 /// Rounds, until one says that it was the last, or the system refuses to wait. In each case the control socket's file is then
@@ -75,25 +74,14 @@ pub fn serve<L: Wait, R: System, H: LoopHost + Drop>(
             Err(fault) => Some(Err(fault)),
         };
         if let Some(answer) = end {
-            close(rt, alloc, &mut live);
+            live.control.remove(rt);
+            live.host.let_all_go();
+            tell(rt, alloc, &mut live);
             drop(live);
             return answer;
         }
     }
     unreachable!()
-}
-
-fn close<R: System, H: LoopHost>(rt: &R, alloc: Global, live: &mut Live<H>) {
-    live.control.remove(rt);
-    live.host.let_all_go();
-    tell(rt, alloc, live);
-}
-
-// How the next rounds wait. A quick round is none that is quiet: the pauses begin behind it.
-fn pace<H: LoopHost>(live: &mut Live<H>) {
-    let is_active = live.host.is_active() || live.quick > 0;
-    live.pause = next_pause(is_active, live.pause);
-    live.quick = quick_rounds(live.sockets.take_whole(), live.quick);
 }
 
 // Waits for readiness, no longer than until the next moment of the table and the next look. The poll knows whole milliseconds alone,
@@ -106,13 +94,13 @@ fn wait<R: System, H: LoopHost>(rt: &R, live: &mut Live<H>) -> Result<(), ServeF
     }
     match live
         .poll
-        .poll(&mut live.events, Some(Duration::from_millis(wait)))
+        .poll(&mut live.rooms.events, Some(Duration::from_millis(wait)))
     {
         Ok(()) => {}
         Err(_) => return Err(ServeFault::Poll),
     }
-    for event in live.events.iter() {
-        live.sockets.wake_by(event.token());
+    for event in live.rooms.events.iter() {
+        live.rooms.sockets.wake_by(event.token());
     }
     Ok(())
 }
@@ -122,18 +110,20 @@ fn next_wait<H: LoopHost>(live: &mut Live<H>) -> u64 {
         return 0;
     }
     let up = live.host.up_now();
-    let look = live.sights.next_look(&live.host);
-    round_wait(live.pause, up, live.host.next_moment(), look)
+    let look = live.rooms.sights.next_look(&live.host);
+    round_wait(live.pause, up, live.host.standing().next_moment, look)
 }
 
 fn serve_clients<R: System, H: LoopHost>(rt: &R, alloc: Global, live: &mut Live<H>) {
     let mut is_asking = serve_control(rt, alloc, live);
     let mut time = RoundTime::begin(rt, live.host.up());
-    live.sockets
+    live.rooms
+        .sockets
         .accept(live.poll.registry(), &mut live.host, &mut time);
     let is_sending = live
+        .rooms
         .sockets
-        .gather(alloc, &mut live.host, &mut live.label, &mut time);
+        .gather(alloc, &mut live.host, &mut live.rooms.label, &mut time);
     if !time.has_time() {
         is_asking = serve_control(rt, alloc, live);
     }
@@ -148,8 +138,15 @@ fn serve_control<R: System, H: LoopHost>(rt: &R, alloc: Global, live: &mut Live<
     live.control.serve(alloc, &mut live.host, &mut time)
 }
 
-fn is_over<H: LoopHost>(live: &mut Live<H>) -> bool {
-    if !live.host.has_ended() {
+// Says how the next rounds wait, and whether this was the last. A quick round is none that is quiet: the pauses begin behind it.
+fn ends<H: LoopHost>(live: &mut Live<H>) -> bool {
+    let standing = live.host.standing();
+    let is_active = standing.is_active || live.rooms.sockets.is_stirred || live.quick > 0;
+    live.pause = next_pause(is_active, live.pause);
+    live.quick = quick_rounds(live.rooms.sockets.is_whole, live.quick);
+    live.rooms.sockets.is_stirred = false;
+    live.rooms.sockets.is_whole = false;
+    if !standing.has_ended {
         return false;
     }
     let up = live.host.up();

@@ -6,6 +6,7 @@ use crate::loop_host::LoopHost;
 use child_edge::{Notice, NoticeKind};
 use history_model::Text;
 use std::alloc::Global;
+use std::mem;
 
 /// As many lines a round tells at most.
 const LINES: usize = 256;
@@ -16,10 +17,11 @@ pub(crate) fn tell<R: Eprint, H: LoopHost>(rt: &R, alloc: Global, live: &mut Liv
         let Some(notice) = next_notice(alloc, live) else {
             return;
         };
-        if !live.voice.tell(rt, &notice) {
-            live.untold = Some(notice);
+        if !live.rooms.voice.tell(rt, &notice) {
+            drop(mem::replace(&mut live.untold, Some(notice)));
             return;
         }
+        drop(notice);
     }
 }
 
@@ -30,24 +32,21 @@ fn next_notice<H: LoopHost>(alloc: Global, live: &mut Live<H>) -> Option<Notice>
     if let Some(notice) = live.host.next_notice() {
         return Some(notice);
     }
-    let text = next_refusal(alloc, live)?;
+    if live.host.report_journal_closing() {
+        live.has_journal_closed = true;
+    }
+    let text = if live.has_journal_closed {
+        let text = Text::copy_of(alloc, "journal refused").ok()?;
+        live.has_journal_closed = false;
+        text
+    } else {
+        match live.control.next_notice() {
+            Some(text) => text,
+            None => live.rooms.sockets.losses.next()?,
+        }
+    };
     Some(Notice {
         kind: NoticeKind::Refusal,
         text,
     })
-}
-
-fn next_refusal<H: LoopHost>(alloc: Global, live: &mut Live<H>) -> Option<Text> {
-    if live.host.report_journal_closing() {
-        live.has_journal_closed = true;
-    }
-    if live.has_journal_closed {
-        let text = Text::copy_of(alloc, "journal refused").ok()?;
-        live.has_journal_closed = false;
-        return Some(text);
-    }
-    match live.control.next_notice() {
-        Some(text) => Some(text),
-        None => live.sockets.next_notice(),
-    }
 }

@@ -23,21 +23,28 @@ struct Watch {
 
 #[derive(Drop)]
 pub(crate) struct Voice {
-    is_leveled: bool,
+    // Each line begins with its level, as the journal of systemd takes it: 4 for a refusal, 6 for a run.
+    pub(crate) is_leveled: bool,
     // Absent if standard error is a file, or what else no poll waits for.
     watch: Option<Watch>,
 }
 
 impl Watch {
     fn new(net: &impl Net, events: Events) -> Option<Watch> {
-        let poll = Poll::new(net).ok()?;
+        let Ok(poll) = Poll::new(net) else {
+            drop(events);
+            return None;
+        };
         let mut source = SourceFd(&STANDARD_ERROR);
         match poll
             .registry()
             .register(&mut source, TAKING, Interest::WRITABLE)
         {
             Ok(()) => Some(Watch { poll, events }),
-            Err(_) => None,
+            Err(_) => {
+                drop((poll, events));
+                None
+            }
         }
     }
 
@@ -67,11 +74,6 @@ impl Voice {
         })
     }
 
-    /// From now on each line begins with its level, as the journal of systemd takes it: 4 for a refusal, 6 for a run.
-    pub(crate) fn set_leveled(&mut self) {
-        self.is_leveled = true;
-    }
-
     /// Tells the notice in a line. False: that would have to wait, and nothing was told.
     pub(crate) fn tell<R: Eprint>(&mut self, rt: &R, notice: &Notice) -> bool {
         let is_taking = match &mut self.watch {
@@ -79,19 +81,13 @@ impl Voice {
             Some(watch) => watch.is_taking(),
         };
         if is_taking {
-            let level = self.level(notice.kind);
+            let level = match notice.kind {
+                _ if !self.is_leveled => "",
+                NoticeKind::Refusal => "<4>",
+                NoticeKind::Run => "<6>",
+            };
             let _written = eprintln!(rt; "{level}jobd: {}", notice.text.as_str());
         }
         is_taking
-    }
-
-    fn level(&self, kind: NoticeKind) -> &'static str {
-        if !self.is_leveled {
-            return "";
-        }
-        match kind {
-            NoticeKind::Refusal => "<4>",
-            NoticeKind::Run => "<6>",
-        }
     }
 }

@@ -5,7 +5,7 @@ use child_edge::{ChildEdge, Client, ClockEdge, Notice, OsEdge, PathEdge, SocketE
 use control_socket::Answers;
 use history_model::{JobNo, Obs, Reading, Reply};
 use launcher::{Host, Input};
-use live_loop::{Connection, HandedIn, LabelRoom, LoopHost, PathHost};
+use live_loop::{Caller, HandedIn, LabelRoom, LoopHost, Origin, PathHost, Standing};
 use mio::{Registry, Token};
 use outside::SettingStore;
 use std::alloc::Global;
@@ -19,7 +19,7 @@ pub struct RoundLauncher<T: SettingStore, E: ChildEdge + SocketEdge, W: Write> {
     at: Reading,
     // The launcher did not take the reading.
     is_refused: bool,
-    // Something happened in this round.
+    // Something happened in this round that is an input.
     is_active: bool,
     // A load was accepted since the paths were looked at.
     has_loaded: bool,
@@ -58,6 +58,7 @@ impl<T: SettingStore, E: ChildEdge + SocketEdge, W: Write> RoundLauncher<T, E, W
         if self.host.table().reading() != self.at {
             let reply = self.host.turn(alloc, Input::Clock(self.at));
             self.is_refused = reply.refusal.is_some();
+            drop(reply);
             if !self.is_refused {
                 self.is_active = true;
             }
@@ -108,7 +109,7 @@ impl<T: SettingStore, E: ChildEdge + SocketEdge + PathEdge, W: Write> PathHost
     }
 
     fn saw(&mut self, alloc: Global, path: &str, obs: Obs) {
-        self.give(alloc, Input::Saw(path, obs));
+        drop(self.give(alloc, Input::Saw(path, obs)));
     }
 }
 
@@ -124,24 +125,15 @@ impl<T: SettingStore, R: System, W: Write> LoopHost for RoundLauncher<T, OsEdge<
         }
     }
 
-    fn is_active(&self) -> bool {
-        self.is_active
-    }
-
-    fn stir(&mut self) {
-        self.is_active = true;
-    }
-
-    fn has_ended(&self) -> bool {
+    fn standing(&self) -> Standing {
         let table = self.host.table();
-        table.is_shutting_down() && table.is_empty()
-    }
-
-    fn next_moment(&self) -> Option<u64> {
-        if self.is_refused {
-            None
-        } else {
-            self.host.table().next_up()
+        let is_ending = table.is_shutting_down();
+        let is_empty = table.is_empty();
+        let next = table.next_up();
+        Standing {
+            is_active: self.is_active,
+            has_ended: is_ending && is_empty,
+            next_moment: if self.is_refused { None } else { next },
         }
     }
 
@@ -155,7 +147,7 @@ impl<T: SettingStore, R: System, W: Write> LoopHost for RoundLauncher<T, OsEdge<
             Ok(Some(how)) => Input::Ended(label, run, how),
             Err(_) => Input::WaitRefused(label, run),
         };
-        self.give(alloc, input);
+        drop(self.give(alloc, input));
         Some(job)
     }
 
@@ -163,35 +155,49 @@ impl<T: SettingStore, R: System, W: Write> LoopHost for RoundLauncher<T, OsEdge<
         self.host.edge().register(registry, token).is_ok()
     }
 
-    fn listener_from(&mut self, job: JobNo) -> Option<JobNo> {
-        self.host.edge().listener_from(job)
+    fn listener_from(&mut self, job: JobNo) -> Option<Origin> {
+        let edge = self.host.edge();
+        let job = edge.listener_from(job)?;
+        let bind = edge.bind_of(job)?;
+        Some(Origin { job, bind })
     }
 
-    fn bind_of(&mut self, job: JobNo) -> Option<u64> {
-        self.host.edge().bind_of(job)
+    fn label_at(&mut self, origin: Origin) -> Option<&str> {
+        let bind = self.host.edge().bind_of(origin.job);
+        if bind == Some(origin.bind) {
+            Some(self.host.table().last_step().label(origin.job))
+        } else {
+            None
+        }
     }
 
     fn accept(&mut self, job: JobNo) -> Option<Client> {
         self.host.edge().accept(job)
     }
 
-    fn label(&self, job: JobNo) -> &str {
-        self.host.table().last_step().label(job)
-    }
-
-    fn hand_in(&mut self, alloc: Global, room: &mut LabelRoom, connection: Connection) -> HandedIn {
-        let Connection {
-            job,
-            conn,
+    fn hand_in(
+        &mut self,
+        alloc: Global,
+        room: &mut LabelRoom,
+        conn: u64,
+        caller: Caller,
+    ) -> HandedIn {
+        let Caller {
+            origin,
             client,
             exchange,
-        } = connection;
+            ..
+        } = caller;
+        let job = origin.job;
         let taken = self.host.edge().take(job, conn, client, exchange);
         if taken.is_err() {
             return HandedIn::Dropped;
         }
         room.copy(self.host.table().last_step().label(job));
-        match self.give(alloc, Input::Came(room.as_str(), conn)).refusal {
+        let reply = self.give(alloc, Input::Came(room.as_str(), conn));
+        let refusal = reply.refusal;
+        drop(reply);
+        match refusal {
             None => HandedIn::Heard,
             Some(refusal) => {
                 self.host.edge().close(job, conn);
