@@ -1,10 +1,12 @@
-//! Rounds over a system that refuses, with one job.
+//! Rounds over a system that refuses, with one job. The launcher's store and its journal are in memory.
 
-use crate::edges::places::new_folder;
+use crate::edges::places::{edge_over, new_folder};
 use crate::edges::refusing::{Found, Grants, Refusing, new_refusing};
-use crate::memory_stage::{MemoryStore, Sink};
-use crate::rounds::scene::{control_in, goes_on, journal_of, launcher_over};
-use launcher::Input;
+use crate::memory_stage::{LINES, MemoryStore, Sink, header, sink};
+use child_edge::OsEdge;
+use control_socket::ControlSocket;
+use launcher::{Host, Input};
+use live_loop::{System, round};
 use round_launcher::{Live, RoundLauncher};
 use std::fs;
 use std::io::ErrorKind;
@@ -31,31 +33,59 @@ const FOUND: Option<Found> = Some(Found {
     refusals: 2,
 });
 
-/// Makes two rounds, and says whether both go on and the journal then is as wanted.
-fn is_journaled(rt: &Refusing, live: Live<Refusing, MemoryStore, Sink>) -> bool {
-    let mut live = live;
-    let first = goes_on(rt, &mut live);
-    let second = goes_on(rt, &mut live);
-    match journal_of(live) {
-        Some(journal) => first && second && journal.as_slice() == JOURNAL,
-        None => false,
-    }
+/// A launcher with no job over the runtime's system, which spools in the folder.
+fn launcher_over<R: System>(own: R, folder: &str) -> Option<Host<MemoryStore, OsEdge<R>, Sink>> {
+    let alloc = own.alloc();
+    let edge = edge_over(own, folder)?;
+    let Some(header) = header(alloc, "UTC0", 0) else {
+        drop(edge);
+        return None;
+    };
+    let store = MemoryStore {
+        alloc,
+        held: Vec::new(alloc),
+        answer: true,
+        fault: None,
+        asked: 0,
+    };
+    Host::new(alloc, header, store, edge, Some(sink(alloc, LINES))).ok()
 }
 
-/// The rounds of a launcher that has the job.
+/// The rounds of a launcher that has the job, with a control socket in the folder.
 fn live_over(
     host_rt: &HostRuntime,
     rt: &Refusing,
     folder: &str,
 ) -> Option<Live<Refusing, MemoryStore, Sink>> {
-    let mut host = launcher_over(rt, rt.clone().ok()?, folder)?;
-    drop(host.turn(rt.alloc(), Input::Line(LOAD)));
-    match control_in(host_rt, folder) {
-        Some(control) => Live::new(rt, rt.alloc(), RoundLauncher::new(host), control).ok(),
+    let own = rt.clone().ok()?;
+    let path = format!(in rt.alloc(); "{folder}/socket").ok()?;
+    let control = ControlSocket::open(host_rt, rt.alloc(), path.as_str()).ok()?;
+    match launcher_over(own, folder) {
+        Some(host) => {
+            let mut host = host;
+            drop(host.turn(rt.alloc(), Input::Line(LOAD)));
+            Live::new(rt, rt.alloc(), RoundLauncher::new(host), control).ok()
+        }
         None => {
-            drop(host);
+            drop(control);
             None
         }
+    }
+}
+
+/// Makes two rounds, and says whether both go on and the journal then is as wanted.
+fn is_journaled<R: System>(rt: &R, live: Live<R, MemoryStore, Sink>) -> bool {
+    let mut live = live;
+    let first = matches!(round(rt, rt.alloc(), &mut live), Ok(false));
+    let second = matches!(round(rt, rt.alloc(), &mut live), Ok(false));
+    let RoundLauncher { host, .. } = live.into_host();
+    let (table, store, edge, journal) = host.into_parts();
+    drop(table);
+    drop(store);
+    drop(edge);
+    match journal {
+        Some(sink) => first && second && sink.taken.as_slice() == JOURNAL,
+        None => false,
     }
 }
 

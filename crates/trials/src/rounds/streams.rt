@@ -1,12 +1,11 @@
 //! The streams. Each ends with a list, whose text both launchers have to answer alike.
 
-use crate::rounds::edge::ABSENT;
-use crate::rounds::pair::is_spared;
-use crate::rounds::step::Step::{Ask, End, First, Round, Second};
+use crate::cases::Case;
+use crate::memory_stage::ABSENT;
+use crate::rounds::step::Step::{Ask, End, Round, Sees};
 use crate::rounds::step::Stream;
 use child_edge::{EdgeCall, Scripted};
 use history_model::{Ended, Obs};
-use std::alloc::Global;
 
 const LIST: &str = r#"{"req":"list"}"#;
 
@@ -170,12 +169,12 @@ const PATH_STATE: Stream = Stream {
         Ask(WHILE_THERE),
         Round(1_000, 1),
         Round(2_000, 2),
-        First(FILE),
+        Sees(0, FILE),
         Round(2_500, 2),
         Round(3_000, 3),
         End("there", 1, DONE),
         Round(4_000, 4),
-        First(ABSENT),
+        Sees(0, ABSENT),
         Round(5_000, 5),
         End("there", 2, DONE),
         Round(6_000, 6),
@@ -195,17 +194,17 @@ const WATCH: &str =
 /// The first sight of a path starts nothing, nor does an equal one; a change does, and so does an end of the file.
 const WATCHED: Stream = Stream {
     steps: &[
-        First(FILE),
+        Sees(0, FILE),
         Ask(WATCH),
         Round(1_000, 1),
         Round(2_000, 2),
-        First(CHANGED),
+        Sees(0, CHANGED),
         Round(3_000, 3),
         End("watch", 1, DONE),
         Round(4_000, 4),
-        Second(FILE),
+        Sees(1, FILE),
         Round(5_000, 5),
-        First(ABSENT),
+        Sees(0, ABSENT),
         Round(6_000, 6),
         End("watch", 2, DONE),
         Round(7_000, 7),
@@ -222,15 +221,15 @@ const QUEUE: &str =
 /// A job is kept while something is in its queue directory.
 const QUEUED: Stream = Stream {
     steps: &[
-        Second(FILE),
+        Sees(1, FILE),
         Ask(QUEUE),
         Round(1_000, 1),
         Round(2_000, 2),
-        Second(FULL),
+        Sees(1, FULL),
         Round(3_000, 3),
         Round(4_000, 4),
         End("queue", 1, DONE),
-        Second(FILE),
+        Sees(1, FILE),
         Round(5_000, 5),
         End("queue", 2, DONE),
         Round(6_000, 6),
@@ -241,22 +240,13 @@ const QUEUED: Stream = Stream {
     left_out: 10,
 };
 
-/// Each stream by what it shows.
-static STREAMS: &[(&str, Stream)] = &[
-    ("an_interval_needs_no_reading_before_its_moment", INTERVAL),
-    ("a_calendar_minute_comes_by_the_clock", CALENDAR),
-    ("a_throttle_and_a_timeout_come_by_the_clock", THROTTLE),
-    ("a_job_is_kept_while_a_file_is_there", PATH_STATE),
-    ("a_watched_path_needs_no_equal_sight", WATCHED),
-    ("a_queue_directory_needs_no_equal_sight", QUEUED),
+/// An interval needs no reading before its moment; a calendar minute, a throttle and a timeout come by the clock; a job is kept while a file
+/// is there; a watched path and a queue directory need no equal sight.
+pub const CASES: &[Case] = &[
+    Case::Spared(&INTERVAL),
+    Case::Spared(&CALENDAR),
+    Case::Spared(&THROTTLE),
+    Case::Spared(&PATH_STATE),
+    Case::Spared(&WATCHED),
+    Case::Spared(&QUEUED),
 ];
-
-/// The first stream in which something changes if what may be left out is left out.
-pub fn first_other(alloc: Global) -> Option<&'static str> {
-    for (name, stream) in STREAMS {
-        if is_spared(alloc, stream) != Ok(true) {
-            return Some(name);
-        }
-    }
-    None
-}
