@@ -10,7 +10,7 @@ mod trial;
 pub mod turning;
 
 use crate::little_memory::hoard::Hoard;
-use crate::little_memory::storing::OwnFile;
+use crate::little_memory::storing::{InMemory, OwnFile};
 use crate::memory_stage::Stage;
 use anyhow::Result;
 
@@ -18,10 +18,12 @@ use anyhow::Result;
 pub fn try_all(rt: &HostRuntime) -> Result<()> {
     let mut hoard = Hoard::new(rt.alloc())?;
     let plain = plain_calls::try_all(rt, &mut hoard);
-    let storing = storing::try_all(rt, &mut hoard, OwnFile { rt });
+    let opening = storing::try_all(rt, &mut hoard, OwnFile { rt }, storing::OPENING);
+    let storing = storing::try_all(rt, &mut hoard, InMemory {}, storing::CALLS);
     let turning = turning::try_all::<Stage>(rt, &mut hoard);
     drop(hoard);
     plain?;
+    opening?;
     storing?;
     turning
 }

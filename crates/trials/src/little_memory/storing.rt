@@ -1,12 +1,12 @@
-//! The calls on a store that take memory: its opening, over a file of the first version, and those on an open one. What lets a store go is
-//! proved for its whole type, so all but the connections is generic over what the store stands on.
+//! The calls on a store that take memory: its opening, over a file of the first version, and those on an open one, over a database
+//! in memory. What lets a store go is proved for its whole type, so all but the connections is generic over what the store stands on.
 
 use crate::little_memory::hoard::Hoard;
 use crate::little_memory::trial::{Answer, Trial, tried};
 use crate::stores::calls::{FIRST_VERSION, Row, SECOND, has, opened, runs};
 use anyhow::Result;
 use override_store::{OverrideStore, StoreFault};
-use sqlite::{Alter, Connection, File, FileStore};
+use sqlite::{Alter, Connection, File, FileStore, MemStore};
 use std::alloc::Global;
 use std::mem;
 
@@ -37,18 +37,29 @@ impl Place<FileStore<File>> for OwnFile<'_> {
     }
 }
 
+/// A new database in memory each time.
+#[derive(Clone, Copy)]
+pub struct InMemory {}
+
+impl Place<MemStore> for InMemory {
+    fn connect(&self, alloc: Global) -> Option<Connection<MemStore>> {
+        Connection::open_in_memory(alloc).ok()
+    }
+}
+
 /// Which call is made.
 #[derive(Clone, Copy)]
-enum Call {
+pub enum Call {
     Open,
     Set,
     All,
     Changes,
 }
 
-/// Each call by its name.
-static CALLS: &[(&str, Call)] = &[
-    ("OverrideStore::open_on", Call::Open),
+/// The opening, and each call on an open store, by its name.
+pub static OPENING: &[(&str, Call)] = &[("OverrideStore::open_on", Call::Open)];
+
+pub static CALLS: &[(&str, Call)] = &[
     ("OverrideStore::set", Call::Set),
     ("OverrideStore::all", Call::All),
     ("OverrideStore::changes", Call::Changes),
@@ -188,13 +199,14 @@ impl<S: Alter + Drop, P: Place<S>> Trial for Storing<S, P> {
     }
 }
 
-/// Tries each call on a store at the place.
+/// Tries each of the calls on a store at the place.
 pub fn try_all<S: Alter + Drop, P: Place<S> + Copy + Drop>(
     rt: &HostRuntime,
     hoard: &mut Hoard,
     place: P,
+    calls: &[(&str, Call)],
 ) -> Result<()> {
-    for (name, call) in CALLS {
+    for (name, call) in calls {
         let trial = Storing {
             place,
             call: *call,
