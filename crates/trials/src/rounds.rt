@@ -3,12 +3,35 @@
 pub mod pair;
 pub mod refusals;
 pub mod step;
-pub mod streams;
+mod streams;
 
 use crate::cases::{Case, Line};
 
 /// The cases of this folder.
 pub static LINES: &[Line] = &[
     ("refusals_are_taken_as_they_are", &[Case::RefusedRounds]),
-    ("what_is_left_out_changes_nothing", streams::CASES),
+    (
+        "an_interval_needs_no_reading_before_its_moment",
+        &[Case::Spared(&streams::INTERVAL)],
+    ),
+    (
+        "a_calendar_minute_comes_by_the_clock",
+        &[Case::Spared(&streams::CALENDAR)],
+    ),
+    (
+        "a_throttle_and_a_timeout_come_by_the_clock",
+        &[Case::Spared(&streams::THROTTLE)],
+    ),
+    (
+        "a_job_is_kept_while_a_file_is_there",
+        &[Case::Spared(&streams::PATH_STATE)],
+    ),
+    (
+        "a_watched_path_needs_no_equal_sight",
+        &[Case::Spared(&streams::WATCHED)],
+    ),
+    (
+        "a_queue_directory_needs_no_equal_sight",
+        &[Case::Spared(&streams::QUEUED)],
+    ),
 ];

@@ -1,6 +1,5 @@
 //! The streams. Each ends with a list, whose text both launchers have to answer alike.
 
-use crate::cases::Case;
 use crate::memory_stage::ABSENT;
 use crate::rounds::step::Step::{Ask, End, Round, Sees};
 use crate::rounds::step::Stream;
@@ -90,7 +89,7 @@ const OFTEN: &str =
     r#"{"req":"load","def":"{\"Label\":\"often\",\"Program\":\"/bin/x\",\"StartInterval\":5,\"ThrottleInterval\":0}"}"#;
 
 /// Every five seconds; the seconds between them are left out.
-const INTERVAL: Stream = Stream {
+pub const INTERVAL: Stream = Stream {
     steps: &[
         Ask(OFTEN),
         Round(1_000, 1),
@@ -112,7 +111,7 @@ const HOURLY: &str =
 
 /// A minute is crossed 40 seconds after the start, before a calendar is loaded; then 14 minutes past the hour comes, and comes
 /// again after the wall clock was set back.
-const CALENDAR: Stream = Stream {
+pub const CALENDAR: Stream = Stream {
     steps: &[
         Round(1_000, 1),
         Ask(HOURLY),
@@ -135,7 +134,7 @@ const KEPT: &str =
     r#"{"req":"load","def":"{\"Label\":\"kept\",\"Program\":\"/bin/x\",\"KeepAlive\":true}"}"#;
 
 /// A job that ends too soon waits for its throttle; so does one whose start was refused.
-const THROTTLE: Stream = Stream {
+pub const THROTTLE: Stream = Stream {
     steps: &[
         Ask(KEPT),
         Round(2_000, 2),
@@ -164,7 +163,7 @@ const WHILE_GONE: &str =
     r#"{"req":"load","def":"{\"Label\":\"gone\",\"Program\":\"/bin/x\",\"KeepAlive\":{\"PathState\":{\"/a\":false}},\"ThrottleInterval\":0}"}"#;
 
 /// A job is kept while a file is there, and ends once it is gone. Another one is loaded after that, and has to hear of it too.
-const PATH_STATE: Stream = Stream {
+pub const PATH_STATE: Stream = Stream {
     steps: &[
         Ask(WHILE_THERE),
         Round(1_000, 1),
@@ -192,7 +191,7 @@ const WATCH: &str =
     r#"{"req":"load","def":"{\"Label\":\"watch\",\"Program\":\"/bin/x\",\"WatchPaths\":[\"/a\",\"/b\"],\"ThrottleInterval\":0}"}"#;
 
 /// The first sight of a path starts nothing, nor does an equal one; a change does, and so does an end of the file.
-const WATCHED: Stream = Stream {
+pub const WATCHED: Stream = Stream {
     steps: &[
         Sees(0, FILE),
         Ask(WATCH),
@@ -219,7 +218,7 @@ const QUEUE: &str =
     r#"{"req":"load","def":"{\"Label\":\"queue\",\"Program\":\"/bin/x\",\"QueueDirectories\":[\"/b\"],\"ThrottleInterval\":0}"}"#;
 
 /// A job is kept while something is in its queue directory.
-const QUEUED: Stream = Stream {
+pub const QUEUED: Stream = Stream {
     steps: &[
         Sees(1, FILE),
         Ask(QUEUE),
@@ -239,14 +238,3 @@ const QUEUED: Stream = Stream {
     orders: &[FIRST_RUN, SECOND_RUN],
     left_out: 10,
 };
-
-/// An interval needs no reading before its moment; a calendar minute, a throttle and a timeout come by the clock; a job is kept while a file
-/// is there; a watched path and a queue directory need no equal sight.
-pub const CASES: &[Case] = &[
-    Case::Spared(&INTERVAL),
-    Case::Spared(&CALENDAR),
-    Case::Spared(&THROTTLE),
-    Case::Spared(&PATH_STATE),
-    Case::Spared(&WATCHED),
-    Case::Spared(&QUEUED),
-];
