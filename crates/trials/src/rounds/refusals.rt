@@ -6,8 +6,8 @@ use crate::memory_stage::{LINES, MemoryStore, Sink, header, sink};
 use child_edge::OsEdge;
 use control_socket::ControlSocket;
 use launcher::{Host, Input};
-use live_loop::{System, round};
-use round_launcher::{Live, RoundLauncher};
+use live_loop::{Live, LoopHost, System, round};
+use round_launcher::RoundLauncher;
 use std::fs;
 use std::io::ErrorKind;
 
@@ -51,12 +51,32 @@ fn launcher_over<R: System>(own: R, folder: &str) -> Option<Host<MemoryStore, Os
     Host::new(alloc, header, store, edge, Some(sink(alloc, LINES))).ok()
 }
 
-/// The rounds of a launcher that has the job, with a control socket in the folder.
-fn live_over(
-    host_rt: &HostRuntime,
-    rt: &Refusing,
-    folder: &str,
-) -> Option<Live<Refusing, MemoryStore, Sink>> {
+/// Makes two rounds with the control socket, and gives whether both go on, and the launcher back.
+fn rounds_of<R: System, H: LoopHost + Drop>(
+    rt: &R,
+    host: H,
+    control: ControlSocket,
+) -> Option<(bool, H)> {
+    let mut live = Live::new(rt, rt.alloc(), host, control).ok()?;
+    let first = matches!(round(rt, rt.alloc(), &mut live), Ok(false));
+    let second = matches!(round(rt, rt.alloc(), &mut live), Ok(false));
+    Some((first && second, live.into_host()))
+}
+
+/// Whether the journal is as wanted.
+fn holds<R: System>(host: Host<MemoryStore, OsEdge<R>, Sink>) -> bool {
+    let (table, store, edge, journal) = host.into_parts();
+    drop(table);
+    drop(store);
+    drop(edge);
+    match journal {
+        Some(sink) => sink.taken.as_slice() == JOURNAL,
+        None => false,
+    }
+}
+
+/// Whether two rounds of a launcher that has the job, with a control socket in the folder, go on, and the journal then is as wanted.
+fn is_journaled<R: System>(host_rt: &HostRuntime, rt: &R, folder: &str) -> Option<bool> {
     let own = rt.clone().ok()?;
     let path = format!(in rt.alloc(); "{folder}/socket").ok()?;
     let control = ControlSocket::open(host_rt, rt.alloc(), path.as_str()).ok()?;
@@ -64,28 +84,14 @@ fn live_over(
         Some(host) => {
             let mut host = host;
             drop(host.turn(rt.alloc(), Input::Line(LOAD)));
-            Live::new(rt, rt.alloc(), RoundLauncher::new(host), control).ok()
+            let (go_on, launcher) = rounds_of(rt, RoundLauncher::new(host), control)?;
+            let RoundLauncher { host, .. } = launcher;
+            Some(holds(host) && go_on)
         }
         None => {
             drop(control);
             None
         }
-    }
-}
-
-/// Makes two rounds, and says whether both go on and the journal then is as wanted.
-fn is_journaled<R: System>(rt: &R, live: Live<R, MemoryStore, Sink>) -> bool {
-    let mut live = live;
-    let first = matches!(round(rt, rt.alloc(), &mut live), Ok(false));
-    let second = matches!(round(rt, rt.alloc(), &mut live), Ok(false));
-    let RoundLauncher { host, .. } = live.into_host();
-    let (table, store, edge, journal) = host.into_parts();
-    drop(table);
-    drop(store);
-    drop(edge);
-    match journal {
-        Some(sink) => first && second && sink.taken.as_slice() == JOURNAL,
-        None => false,
     }
 }
 
@@ -97,10 +103,7 @@ pub fn are_taken(rt: &HostRuntime) -> Option<bool> {
         drop(system);
         return None;
     };
-    let is_journaled = match live_over(rt, &system, folder.as_str()) {
-        Some(live) => is_journaled(&system, live),
-        None => false,
-    };
+    let is_journaled = is_journaled(rt, &system, folder.as_str()) == Some(true);
     let is_clear = fs::remove_dir_all(rt, folder.as_str()).is_ok();
     let is_told = match system.told.try_borrow() {
         Ok(told) => told.as_str() == TOLD,
