@@ -2,6 +2,8 @@
 //! words, a zone file), and the making of an edge in memory; and those of a feed of lines, and a replay, which leave what they had. With
 //! memory each makes what it was to make.
 
+ghost use Rattle.std.specs.Prelude.{◌≤◌};
+
 use crate::little_memory::hoard::Hoard;
 use crate::little_memory::trial::{Answer, Trial, tried};
 use crate::little_memory::{feeding, replaying};
@@ -12,7 +14,7 @@ use calendar_due::{Zone, ZoneFault};
 use child_edge::MemoryEdge;
 use conditions::Conditions;
 use ctl_protocol::{LineFeed, ReadFault, outcome_line, reply_line};
-use history_model::{Act, Reading, Reply, Text};
+use history_model::{Act, MAX_UP, Reading, Reply, Text};
 use job_core::JobCore;
 use job_defs::{Def, DefFault, read_def};
 use launchctl_words::{Command, DaemonCommand, WordFault, read_daemon_words, read_words};
@@ -101,12 +103,6 @@ const DAEMON_WORDS: &str =
 /// The minute before clocks in Pyongyang were set back by half an hour: 23:59 of 14 August 2015.
 const BEFORE_THE_CHANGE: u64 = 1_439_564_340;
 
-/// The reading of the load.
-const AT_LOAD: Reading = Reading {
-    up: 0,
-    wall: 1_700_000_000,
-};
-
 /// What the calls are made of.
 #[derive(Drop)]
 struct Given {
@@ -130,6 +126,16 @@ macro_rules! told {
     ($is_right:expr) => {
         if $is_right { Answer::Made } else { Answer::Other }
     };
+}
+
+/// The reading of the load.
+fn at_load() -> Reading
+    ensures { result.up ≤ MAX_UP }
+{
+    Reading {
+        up: 0,
+        wall: 1_700_000_000,
+    }
 }
 
 fn made<T: Drop>(made: Result<T, AllocError>) -> Answer {
@@ -272,7 +278,7 @@ impl Trial for Plain<'_> {
             Call::Conditions => made(Conditions::new(alloc, &given.def)),
             Call::Waiting => made(Waiting::new(alloc)),
             Call::Exchange => made(Exchange::new(alloc)),
-            Call::JobCore => made(JobCore::new(alloc, &given.def, AT_LOAD)),
+            Call::JobCore => made(JobCore::new(alloc, &given.def, at_load())),
             Call::Definition => definition_read(alloc),
             Call::Line(kind, line, wanted) => line_again(alloc, kind, line, wanted),
             Call::Reply => written(reply_line(alloc, &given.reply), REPLY),
