@@ -7,5 +7,5 @@ mod stage;
 
 pub use handed_edge::{ABSENT, Handed, HandedEdge, PATHS, Sights};
 pub use memory_store::MemoryStore;
-pub use sink::{Sink, sink};
+pub use sink::{Sink, new_sink};
 pub use stage::{LINES, Launched, Parts, START, Stage, asked, edge, header, opened, parts_of};

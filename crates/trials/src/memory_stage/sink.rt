@@ -21,7 +21,7 @@ pub struct Sink {
 }
 
 /// One that takes so many writes, each whole, and refuses no flush.
-pub fn sink(alloc: Global, writes: usize) -> Sink {
+pub fn new_sink(alloc: Global, writes: usize) -> Sink {
     Sink {
         taken: Vec::new(alloc),
         piece: usize::MAX,

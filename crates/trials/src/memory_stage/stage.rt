@@ -3,7 +3,7 @@
 
 use crate::memory_stage::handed_edge::{ABSENT, Handed, HandedEdge};
 use crate::memory_stage::memory_store::MemoryStore;
-use crate::memory_stage::sink::{Sink, sink};
+use crate::memory_stage::sink::{Sink, new_sink};
 use child_edge::{EdgeCall, MemoryEdge, Scripted};
 use ctl_protocol::{Header, Settings, ZoneText};
 use history_model::{Reading, Reply, Setting, Text};
@@ -94,7 +94,7 @@ pub fn parts_of(
 /// A launcher of the parts, whose journal takes so many writes.
 pub fn opened(alloc: Global, parts: Parts, writes: usize) -> Result<Stage, HostFault> {
     let (header, store, edge) = parts;
-    Host::new(alloc, header, store, edge, Some(sink(alloc, writes)))
+    Host::new(alloc, header, store, edge, Some(new_sink(alloc, writes)))
 }
 
 /// A launcher, whatever it is made of.

@@ -2,7 +2,7 @@
 
 use crate::edges::places::{edge_over, new_folder};
 use crate::edges::refusing::{Found, Grants, Refusing, new_refusing};
-use crate::memory_stage::{LINES, MemoryStore, Sink, header, sink};
+use crate::memory_stage::{LINES, MemoryStore, Sink, header, new_sink};
 use child_edge::OsEdge;
 use control_socket::ControlSocket;
 use launcher::{Host, Input};
@@ -48,7 +48,7 @@ fn launcher_over<R: System>(own: R, folder: &str) -> Option<Host<MemoryStore, Os
         fault: None,
         asked: 0,
     };
-    Host::new(alloc, header, store, edge, Some(sink(alloc, LINES))).ok()
+    Host::new(alloc, header, store, edge, Some(new_sink(alloc, LINES))).ok()
 }
 
 /// Makes two rounds with the control socket, and gives whether both go on, and the launcher back.

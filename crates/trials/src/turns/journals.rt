@@ -2,7 +2,7 @@
 //! lines are those of the line protocol, and off no run of this code.
 
 use crate::cases::Case;
-use crate::memory_stage::{Sink, header, sink};
+use crate::memory_stage::{Sink, header, new_sink};
 use ctl_protocol::Header;
 use history_model::{Answer, Event, JobItem, Text};
 use launcher::Journal;
@@ -99,7 +99,7 @@ fn becomes(alloc: Global, row: &Row, writes: usize, header: &Header, event: &Eve
         piece: row.piece,
         is_full: row.is_full,
         refuses_flush: row.refuses_flush,
-        ..sink(alloc, writes)
+        ..new_sink(alloc, writes)
     };
     let told = turned(alloc, Journal::begin(alloc, &mut writer, header), event);
     let is_told = told == (!row.is_open, false, row.is_open);
