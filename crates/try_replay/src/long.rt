@@ -7,7 +7,9 @@ use std::io;
 /// A line, filled with blanks to so many bytes, and so many of it: one for each number from 0 on, whose four digits stand for a `#`.
 type Lines = (&'static str, usize, u32);
 
-const HEADER: Lines = ("{\"up\":0,\"wall\":1700000000,\"zone\":\"UTC0\"}", 0, 1);
+const TOP: &str = "{\"up\":0,\"wall\":1700000000,\"zone\":\"UTC0\"}";
+
+const HEADER: Lines = (TOP, 0, 1);
 
 const LIST: &str = "{\"ev\":\"list\"}";
 
@@ -49,8 +51,8 @@ static ROWS: &[Row] = &[
         &[NO_JOB, BAD],
         4,
     ),
-    ("longest_header", &[(HEADER.0, 262_144, 1)], &[], 0),
-    ("header_that_is_too_long", &[(HEADER.0, 262_145, 1)], &[], 2),
+    ("longest_header", &[(TOP, 262_144, 1)], &[], 0),
+    ("header_that_is_too_long", &[(TOP, 262_145, 1)], &[], 2),
     // A load of each of 1,024 jobs, of one more, and of the first again.
     (
         "a_thousand_and_twenty_four_jobs_at_most",
