@@ -53,8 +53,6 @@ fn lines_of(list: List) -> &'static [Line] {
     }
 }
 
-const TURNS: &[List] = &[List::Openings, List::Turns, List::Journals];
-
 /// All lists, in order.
 const CALLS: &[List] = &[
     List::Parts,
@@ -83,7 +81,10 @@ static TASKS: &[(&str, Task)] = &[
     ("edges", Task::Calls(&[List::Edges])),
     ("rounds", Task::Calls(&[List::Rounds])),
     ("stores", Task::Calls(&[List::Stores])),
-    ("turns", Task::Calls(TURNS)),
+    (
+        "turns",
+        Task::Calls(&[List::Openings, List::Turns, List::Journals]),
+    ),
     ("short", Task::Short),
     ("scenes", Task::Scenes),
 ];
