@@ -10,7 +10,7 @@ import socket
 import subprocess
 import time
 
-from edge_scenes import BOUND, call, check, connect, end_process, read_all, text_at, wait_for
+from edge_scenes import BOUND, call, check, connect, end_process, read_all, read_line, text_at, wait_for
 from job_scenes import call_port, node_of
 
 ONCE = (
@@ -85,12 +85,41 @@ LISTED = "PID\tStatus\tLabel\n"
 
 LEFT, REMOVED = "left", "removed"
 
+# The requests of these scenes, as a journal tells them.
+REQUESTS = ("load", "unload", "stop", "list", "print", "shutdown")
+
 
 def printed(label, state, runs, last_exit, disabled):
     """What `jobctl print` says of a job without a process."""
     lines = [f"state = {state}", "pid = -", f"runs = {runs}", f"last exit = {last_exit}", "demand = no", "connections = 0"]
     return f"{label} = {{\n" + "".join(f"\t{line}\n" for line in [*lines, f"disabled = {disabled}"]) + "}\n"
 
+
+# Of one client: what it asks, what `print` of a job comes to show, and what file comes to be there.
+ASKS, SHOWS, LIES = "asks", "shows", "lies"
+
+
+def load_of(label, script, **keys):
+    """The line that loads a job of a shell, which is started at once."""
+    definition = {"Label": label, "ProgramArguments": ["/bin/sh", "-c", script], "RunAtLoad": True, **keys}
+    return ASKS, json.dumps({"req": "load", "def": json.dumps(definition, separators=(",", ":"))}, separators=(",", ":"))
+
+
+def of_job(request, label):
+    return ASKS, json.dumps({"req": request, "job": label}, separators=(",", ":"))
+
+
+# No child is waited for before the next event: the one ends once a file is there that the other makes. Then a job ends by its code, one by
+# TERM (there is no KILL if ExitTimeOut is 0), and one by KILL, which ignores TERM once its file is there.
+ONE_CLIENT = [
+    load_of("a", "until [ -e @/made ]; do sleep 0.01; done"), load_of("b", ": > @/made"),
+    (SHOWS, "a", "last exit = code 0"), (SHOWS, "b", "last exit = code 0"), (ASKS, '{"req":"list"}'),
+    load_of("c", "exit 7"), (SHOWS, "c", "last exit = code 7"), of_job("print", "c"),
+    load_of("d", "while :; do :; done", ExitTimeOut=0), (SHOWS, "d", "state = running"), of_job("stop", "d"),
+    (SHOWS, "d", "last exit = signal 15"), of_job("print", "d"),
+    load_of("e", "trap '' TERM; : > @/deaf; while :; do :; done", ExitTimeOut=1), (LIES, "deaf"), of_job("stop", "e"),
+    (SHOWS, "e", "last exit = signal 9"), of_job("print", "e"), of_job("stop", "e"),
+]
 
 class User:
     """Takes the steps of a scene. Each step that waits is a fault where its fact does not come."""
@@ -204,8 +233,7 @@ class User:
 
     def compare(self, journal):
         """In the replay each request has the outcome that `jobctl` was answered, all of them and in order."""
-        asked = ("load", "unload", "stop", "list", "print", "shutdown")
-        got = [json.loads(outcome) for event, outcome in self.outcomes(journal) if json.loads(event).get("ev") in asked]
+        got = [json.loads(outcome) for event, outcome in self.outcomes(journal) if json.loads(event).get("ev") in REQUESTS]
         got = [(outcome["code"], outcome["text"]) for outcome in got]
         check(got == self.replies, f"the replay of {journal} gives {got}, and jobctl was answered {self.replies}")
 
@@ -371,6 +399,35 @@ def ends_of_jobs(stage):
     user.compare("journal")
 
 
+def a_replay_of_one_clients_lines(stage):
+    """One client asks line by line, over one connection. A replay of the journal gives each line the code and the text of its reply."""
+    user = User(stage)
+    user.serve("--journal journal")
+    replies = []
+    with connect(stage.at("socket")) as client:
+        def answered(line):
+            client.sendall(user.text(line).encode() + b"\n")
+            replies.append(read_line(client).decode())
+            return replies[-1]
+
+        for kind, word, *part in ONE_CLIENT:
+            if kind == ASKS:
+                answered(word)
+            elif kind == SHOWS:
+                line = of_job("print", word)[1]
+                wait_for(lambda: part[0] in answered(line), lambda: f"print {word} does not tell {part[0]!r} but {replies[-1]}")
+            else:
+                wait_for(lambda: os.path.exists(stage.at(word)), f"the file {word} does not come")
+        answered('{"req":"shutdown"}')
+    user.ended(0, REMOVED)
+    got = [outcome for event, outcome in user.outcomes("journal") if json.loads(event)["ev"] in REQUESTS]
+    check(len(got) == len(replies), f"the replay answers {len(got)} requests, and the client had {len(replies)} replies")
+    for reply, outcome in zip(replies, got):
+        code, _, text = reply.partition('"text"')
+        is_same = outcome.startswith(code) and outcome.endswith(f'"text"{text}')
+        check(text and is_same, f"the client was answered {reply!r}, and the replay gives {outcome!r}")
+
+
 def a_shutdown_that_kills(stage):
     """A shutdown ends a job that heeds no TERM by KILL."""
     user = User(stage)
@@ -460,5 +517,6 @@ def callers_of_jobs(stage):
 
 SCENES = [
     a_first_job_and_a_client, settings_outlive_the_launcher, starts_that_are_refused, two_jobs_at_once, what_is_around_a_job,
-    demands_of_jobs, ends_of_jobs, a_shutdown_that_kills, jobs_kept_while_a_file_is_there, a_launcher_that_was_killed, callers_of_jobs,
+    demands_of_jobs, ends_of_jobs, a_replay_of_one_clients_lines, a_shutdown_that_kills, jobs_kept_while_a_file_is_there,
+    a_launcher_that_was_killed, callers_of_jobs,
 ]

@@ -1,6 +1,6 @@
 //! What no contract says, no line of a journal shows and no proof sees, tried: calls of the crates, the real system, stores, turns, want of
 //! memory, and the programs as their users run them. All is in one program, so that the libraries are read and compiled once. Its first
-//! word says what it does; `trials` is all of it, with a line a case:
+//! word says what it does; `trials` is all of it, with a line for each list of cases:
 //!
 //! - by `calls`, those over tables of cases, which are read off the rules of launchd.plist(5), launchctl(1), crontab(5), signal(7), the
 //!   shell's manual and the line protocol, and off no run of this code; by the name of a folder of `src/`, some of them;
@@ -10,17 +10,18 @@
 //! By any other word, or none, it is what `jobd_program` is: the program that its name means.
 #![tactic(auto)]
 
+mod again;
+mod cases;
 mod edges;
 mod little_memory;
 mod memory_stage;
 mod parts;
 mod rounds;
-mod scenes;
 mod stores;
 mod tables;
 mod turns;
 
-use crate::little_memory::report::run_with_little;
+use crate::cases::Line;
 use anyhow::Result;
 use control_client::jobctl;
 use files_and_process::own_process::{Programs, run_by_name};
@@ -30,61 +31,64 @@ use std::env;
 use std::process::ExitCode;
 use std::sync::Wait;
 
-/// Says what was tried, and if it went another way than it should.
-fn show(rt: &impl Print, name: &str, is_so: bool) -> Result<()> {
-    let fault = if is_so { "" } else { ": other than wanted" };
-    println!(rt; "{name}{fault}")?;
-    Ok(())
-}
-
-/// Says what was tried, and the first case of it that went another way than it should.
-fn show_first(rt: &impl Print, name: &str, other: Option<&str>) -> Result<()> {
-    match other {
-        Some(case) => println!(rt; "{name}: other than wanted: {case}")?,
-        None => println!(rt; "{name}")?,
-    }
-    Ok(())
-}
-
-/// Tries all calls with ample memory.
-fn try_calls(rt: &HostRuntime) -> Result<()> {
-    parts::try_all(rt, rt.alloc())?;
-    tables::try_all(rt, rt.alloc())?;
-    edges::try_all(rt)?;
-    rounds::try_all(rt)?;
-    stores::try_all(rt, rt.alloc())?;
-    turns::try_all(rt, rt.alloc())
-}
-
-fn try_all(rt: &HostRuntime) -> Result<()> {
-    try_calls(rt)?;
-    run_with_little(rt)?;
-    scenes::play_all(rt)
-}
-
+/// A list of cases.
 #[derive(Clone, Copy)]
-enum Task {
-    All,
-    Calls,
+enum List {
     Parts,
     Tables,
     Edges,
     Rounds,
     Stores,
+    Openings,
     Turns,
+    Journals,
+}
+
+fn lines_of(list: List) -> &'static [Line] {
+    match list {
+        List::Parts => parts::LINES,
+        List::Tables => tables::LINES,
+        List::Edges => edges::LINES,
+        List::Rounds => rounds::LINES,
+        List::Stores => stores::LINES,
+        List::Openings => turns::OPENINGS,
+        List::Turns => turns::launchers::LINES,
+        List::Journals => turns::JOURNALS,
+    }
+}
+
+/// All lists, in order.
+const CALLS: &[List] = &[
+    List::Parts,
+    List::Tables,
+    List::Edges,
+    List::Rounds,
+    List::Stores,
+    List::Openings,
+    List::Turns,
+    List::Journals,
+];
+
+#[derive(Clone, Copy)]
+enum Task {
+    All,
+    Calls(&'static [List]),
     Short,
     Scenes,
 }
 
 static TASKS: &[(&str, Task)] = &[
     ("trials", Task::All),
-    ("calls", Task::Calls),
-    ("parts", Task::Parts),
-    ("tables", Task::Tables),
-    ("edges", Task::Edges),
-    ("rounds", Task::Rounds),
-    ("stores", Task::Stores),
-    ("turns", Task::Turns),
+    ("calls", Task::Calls(CALLS)),
+    ("parts", Task::Calls(&[List::Parts])),
+    ("tables", Task::Calls(&[List::Tables])),
+    ("edges", Task::Calls(&[List::Edges])),
+    ("rounds", Task::Calls(&[List::Rounds])),
+    ("stores", Task::Calls(&[List::Stores])),
+    (
+        "turns",
+        Task::Calls(&[List::Openings, List::Turns, List::Journals]),
+    ),
     ("short", Task::Short),
     ("scenes", Task::Scenes),
 ];
@@ -101,18 +105,35 @@ fn task_of(rt: &HostRuntime) -> Option<Task> {
     None
 }
 
+const SHELL: &str = "/bin/sh";
+
+/// Runs a program again with its memory limited to 512 MB. Linux does not count the stack in this limit, so the stack can still grow when
+/// all memory is held.
+const WITH_LITTLE: [&str; 2] = ["-c", "ulimit -d 524288 && exec \"$0\" short"];
+
+const PYTHON: &str = "/usr/bin/python3";
+
+/// Plays the scenes of `data/` with a program as each of the three: as their users run them, with real children, files, sockets and clients.
+const SCENES: [&str; 2] = ["edge_scenes.py", "--by"];
+
+/// Tries the calls of these lists with ample memory.
+fn try_calls(rt: &HostRuntime, lists: &[List]) -> Result<()> {
+    for list in lists {
+        cases::try_all(rt, lines_of(*list))?;
+    }
+    Ok(())
+}
+
 fn do_task(rt: &HostRuntime, task: Task) -> Result<()> {
     match task {
-        Task::All => try_all(rt),
-        Task::Calls => try_calls(rt),
-        Task::Parts => parts::try_all(rt, rt.alloc()),
-        Task::Tables => tables::try_all(rt, rt.alloc()),
-        Task::Edges => edges::try_all(rt),
-        Task::Rounds => rounds::try_all(rt),
-        Task::Stores => stores::try_all(rt, rt.alloc()),
-        Task::Turns => turns::try_all(rt, rt.alloc()),
+        Task::All => {
+            try_calls(rt, CALLS)?;
+            again::run_by(rt, SHELL, WITH_LITTLE)?;
+            again::run_by(rt, PYTHON, SCENES)
+        }
+        Task::Calls(lists) => try_calls(rt, lists),
         Task::Short => little_memory::try_all(rt),
-        Task::Scenes => scenes::play_all(rt),
+        Task::Scenes => again::run_by(rt, PYTHON, SCENES),
     }
 }
 

@@ -1,9 +1,11 @@
 //! A launcher for trials: its edge answers by a script, its store of settings and its journal are in memory. Each of the three
 //! can be told to refuse.
+mod handed_edge;
 mod memory_store;
 mod sink;
 mod stage;
 
+pub use handed_edge::{ABSENT, Handed, HandedEdge, PATHS, Sights};
 pub use memory_store::MemoryStore;
-pub use sink::Sink;
-pub use stage::{Stage, edge, header, holds, opened, reading, set_stage, store};
+pub use sink::{Sink, new_sink};
+pub use stage::{LINES, Launched, Parts, START, Stage, asked, edge, header, opened, parts_of};

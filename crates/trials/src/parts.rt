@@ -1,38 +1,87 @@
 //! What is read, and one job's parts: calendars, definitions, exchanges, the heap of moments, and lines.
 
-mod calendars;
-mod definitions;
-mod exchange;
-mod heap;
-mod lines;
+pub mod calendars;
+pub mod definitions;
+pub mod exchange;
+pub mod heap;
+pub mod lines;
 
-use crate::{show, show_first};
-use anyhow::Result;
-use std::alloc::Global;
+use crate::cases::{Case, Line};
+use crate::parts::calendars::cases as times;
+use crate::parts::lines::Kind::{Event, Header, Request, Target};
+use crate::parts::lines::cases as texts;
 
-/// Shows whether each is as wanted.
-pub fn try_all(rt: &impl Print, alloc: Global) -> Result<()> {
-    show_first(
-        rt,
+/// The cases of this folder. Lines are of each kind: those that are taken, and those that are refused.
+pub static LINES: &[Line] = &[
+    (
         "shows_what_the_c_library_shows",
-        calendars::first_shown_otherwise(alloc),
-    )?;
-    show_first(
-        rt,
+        &[Case::Times(times::SHOWN), Case::Times(times::SHOWN_BY_FILE)],
+    ),
+    (
         "zones_are_made_or_refused",
-        calendars::first_other(alloc),
-    )?;
-    show_first(rt, "the_examples_are_read", definitions::first_fault(alloc))?;
-    show(rt, "each_exchange_goes_as_it_says", exchange::all_go(alloc))?;
-    show(
-        rt,
+        &[
+            Case::Crossing,
+            Case::Offsets(&[-86_400, 86_400, i32::MIN, i32::MAX], 0),
+            Case::Offsets(&[-86_399, 86_399], 2),
+            Case::NoFile(b"", 0, 65_537),
+            Case::NoFile(b"", 0, 0),
+            Case::NoFile(b"TZi", 3, 0),
+            Case::NoFile(times::PYONGYANG, 236, 0),
+            Case::NoRules(times::NO_RULES),
+        ],
+    ),
+    (
+        "the_examples_are_read",
+        &[
+            Case::Definition(definitions::KEPT_ALIVE),
+            Case::Definition(definitions::CALENDAR),
+            Case::Definition(definitions::INTERVAL),
+            Case::Definition(definitions::WATCHED_FOLDER),
+            Case::Definition(definitions::QUEUE),
+            Case::Definition(definitions::SOCKET),
+        ],
+    ),
+    (
+        "each_exchange_goes_as_it_says",
+        &[
+            Case::Exchange(exchange::ROOM),
+            Case::Exchange(exchange::SERVED),
+            Case::Exchange(exchange::TOO_LONG),
+            Case::Exchange(exchange::REPLY_WAITS),
+            Case::Exchange(exchange::ENDS),
+        ],
+    ),
+    (
         "each_list_of_steps_goes_as_it_says",
-        heap::all_go(alloc),
-    )?;
-    show_first(rt, "lines_are_read_and_written", lines::first_other(alloc))?;
-    show_first(
-        rt,
+        &[
+            Case::Heap(heap::BY_MOMENTS),
+            Case::Heap(heap::LATER_AND_ONCE),
+            Case::Heap(heap::TIES_AND_GROWTH),
+            Case::Heap(heap::WITHOUT_ROOM),
+            Case::Heap(heap::GROWING),
+        ],
+    ),
+    (
+        "lines_are_read_and_written",
+        &[
+            Case::Lines(Event, true, texts::EVENTS),
+            Case::Lines(Event, true, texts::SHORT_EVENTS),
+            Case::Lines(Event, true, texts::LONG_EVENTS),
+            Case::Lines(Event, false, texts::LONGER_EVENTS),
+            Case::Lines(Request, true, texts::REQUESTS),
+            Case::Lines(Request, true, texts::LONG_REQUESTS),
+            Case::Lines(Request, false, texts::BAD_REQUESTS),
+            Case::Lines(Request, false, texts::LONGER_REQUESTS),
+            Case::Lines(Request, false, texts::EMPTY_LINE),
+            Case::Lines(Header, true, texts::HEADERS),
+            Case::Lines(Header, false, texts::BAD_HEADERS),
+            Case::Lines(Header, false, texts::EMPTY_LINE),
+            Case::Lines(Target, true, texts::TARGETS),
+            Case::Lines(Target, false, texts::BAD_TARGETS),
+        ],
+    ),
+    (
         "outcomes_and_replies_are_written",
-        lines::outcomes::first_fault(alloc),
-    )
-}
+        &[Case::Outcomes(lines::outcomes::TOLD)],
+    ),
+];

@@ -1,32 +1,37 @@
-//! Rounds of the loop over an edge: scripts of real children, refusals, and what may be left out.
+//! Rounds of the loop over an edge: refusals, and what may be left out.
 
-mod edge;
-mod pair;
-mod refusals;
-mod replayed;
-mod scene;
-mod scripts;
-mod step;
+pub mod pair;
+pub mod refusals;
+pub mod step;
 mod streams;
 
-use crate::{show, show_first};
-use anyhow::Result;
+use crate::cases::{Case, Line};
 
-/// Shows whether each is as wanted.
-pub fn try_all(rt: &HostRuntime) -> Result<()> {
-    show(
-        rt,
-        "refusals_are_taken_as_they_are",
-        refusals::are_taken(rt) == Some(true),
-    )?;
-    show_first(
-        rt,
-        "scenes_are_played_and_replayed",
-        scripts::first_other(rt),
-    )?;
-    show_first(
-        rt,
-        "what_is_left_out_changes_nothing",
-        streams::first_other(rt.alloc()),
-    )
-}
+/// The cases of this folder.
+pub static LINES: &[Line] = &[
+    ("refusals_are_taken_as_they_are", &[Case::RefusedRounds]),
+    (
+        "an_interval_needs_no_reading_before_its_moment",
+        &[Case::Spared(&streams::INTERVAL)],
+    ),
+    (
+        "a_calendar_minute_comes_by_the_clock",
+        &[Case::Spared(&streams::CALENDAR)],
+    ),
+    (
+        "a_throttle_and_a_timeout_come_by_the_clock",
+        &[Case::Spared(&streams::THROTTLE)],
+    ),
+    (
+        "a_job_is_kept_while_a_file_is_there",
+        &[Case::Spared(&streams::PATH_STATE)],
+    ),
+    (
+        "a_watched_path_needs_no_equal_sight",
+        &[Case::Spared(&streams::WATCHED)],
+    ),
+    (
+        "a_queue_directory_needs_no_equal_sight",
+        &[Case::Spared(&streams::QUEUED)],
+    ),
+];

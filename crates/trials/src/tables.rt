@@ -1,44 +1,53 @@
 //! The table of jobs by its calls: what no line of a journal shows.
 
-mod steps;
-mod table;
-mod visits;
+pub mod rows;
+pub mod visits;
 
-use crate::{show, show_first};
-use anyhow::Result;
-use std::alloc::Global;
+use crate::cases::{Case, Line};
 
-/// Shows whether each is as wanted.
-pub fn try_all(rt: &impl Print, alloc: Global) -> Result<()> {
-    show(
-        rt,
+/// The cases of this folder: rows over a table with the hundred jobs or with none, and how often they come.
+pub static LINES: &[Line] = &[
+    (
         "numbers_are_given_back_and_kept",
-        table::are_given_back_and_kept(alloc),
-    )?;
-    show(
-        rt,
+        &[
+            Case::Table(false, 101, rows::GIVEN_BACK),
+            Case::Table(false, 1, rows::KEPT),
+        ],
+    ),
+    (
         "children_and_paths_come_in_order",
-        table::are_in_order(alloc),
-    )?;
-    show(
-        rt,
+        &[
+            Case::Table(false, 1, rows::CHILDREN),
+            Case::Table(false, 1, rows::LISTED),
+        ],
+    ),
+    (
         "answers_are_told_by_number",
-        table::are_told_by_number(alloc),
-    )?;
-    show(
-        rt,
-        "an_override_of_no_label_opens_no_table",
-        steps::is_refused(alloc),
-    )?;
-    show(
-        rt,
+        &[
+            Case::Table(false, 1, rows::ANSWERS),
+            Case::Table(false, 1, rows::LATE_ANSWERS),
+        ],
+    ),
+    ("an_override_of_no_label_opens_no_table", &[Case::NoLabel]),
+    (
         "a_shutdown_is_told",
-        steps::stands(alloc, steps::Trial::Shutdown),
-    )?;
-    show(
-        rt,
+        &[Case::Table(false, 1, rows::SHUTS_DOWN)],
+    ),
+    (
         "the_jobs_that_are_touched_are_asked",
-        visits::all_are_asked(alloc),
-    )?;
-    show(rt, "the_next_moment_is_told", visits::is_next_told(alloc))
-}
+        &[
+            Case::Table(true, 1, rows::MANY),
+            Case::Table(true, 1, rows::ALL),
+            Case::Table(true, 1, rows::WATCHED),
+            Case::Table(false, 1, rows::FEW),
+            Case::Table(false, 1, rows::SETTINGS),
+            Case::Table(false, 1, rows::MINUTES),
+            Case::Table(false, 1, rows::HOUR),
+            Case::Table(false, 1, rows::OF_ONE_JOB),
+        ],
+    ),
+    (
+        "the_next_moment_is_told",
+        &[Case::Table(false, 1, rows::MOMENTS)],
+    ),
+];

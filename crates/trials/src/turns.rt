@@ -1,17 +1,26 @@
 //! A launcher over an edge, a store and a journal in memory: its opening, its turns, and what its journal holds.
 
-mod failing_writer;
-mod journals;
-mod launchers;
-mod openings;
-pub mod staged;
+pub mod journals;
+pub mod launchers;
+pub mod openings;
 
-use anyhow::Result;
-use std::alloc::Global;
+use crate::cases::{Case, Line};
 
-/// Shows whether each is as wanted.
-pub fn try_all(rt: &impl Print, alloc: Global) -> Result<()> {
-    openings::try_all(rt, alloc)?;
-    launchers::try_all(rt, alloc)?;
-    journals::try_all(rt, alloc)
-}
+pub static OPENINGS: &[Line] = &[
+    ("a_bad_header_opens_none", openings::HEADERS),
+    ("a_store_that_gives_nothing_opens_none", openings::STORES),
+    ("a_store_out_of_order_opens_none", openings::ORDERS),
+];
+
+pub static JOURNALS: &[Line] = &[
+    ("a_journal_holds_its_lines", journals::LINES_ARE_HELD),
+    (
+        "a_journal_holds_a_front",
+        &[Case::Journal(&journals::FRONT)],
+    ),
+    (
+        "a_journal_over_a_full_writer_holds_a_front",
+        &[Case::Journal(&journals::FULL)],
+    ),
+    ("no_journal_stays_silent", &[Case::NoJournal]),
+];

@@ -1,21 +1,37 @@
 //! Judges one replay.
 
+use crate::sink::Sink;
+use crate::source::Source;
 use replay::{replay, status_of};
 use std::io;
+use std::io::ErrorKind;
+
+/// More reads and writes than any replay makes.
+pub const MANY: usize = 100_000;
 
 /// Replays the input, and tells the name if it wrote what is wanted and ended with the status that is wanted.
-pub fn judge<R: Print + AllocGlobal>(
-    rt: &R,
+pub fn judge(
+    rt: &HostRuntime,
     name: &str,
     input: &[u8],
     wanted: &[u8],
     wanted_status: u8,
 ) -> io::Result<()> {
-    let mut reader = input;
-    let mut written = Vec::new(rt.alloc());
-    let status = status_of(replay(rt.alloc(), &mut reader, &mut written));
-    let is_wanted = written.as_slice() == wanted;
-    drop(written);
+    let mut reader = Source {
+        rest: input,
+        piece: usize::MAX,
+        reads: MANY,
+        failure: ErrorKind::Other,
+    };
+    let mut writer = Sink {
+        taken: Vec::new(rt.alloc()),
+        piece: usize::MAX,
+        writes: MANY,
+        failure: None,
+    };
+    let status = status_of(replay(rt.alloc(), &mut reader, &mut writer));
+    let is_wanted = writer.taken.as_slice() == wanted;
+    drop(writer);
     if status != wanted_status {
         return println!(rt; "{name}: status {status}, wanted {wanted_status}");
     }

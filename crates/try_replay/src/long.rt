@@ -4,118 +4,123 @@ use crate::judge::judge;
 use std::alloc::{AllocError, Global};
 use std::io;
 
-const HEADER: &str = "{\"up\":0,\"wall\":1700000000,\"zone\":\"UTC0\"}";
+/// A line, filled with blanks to so many bytes, and so many of it: one for each number from 0 on, whose four digits stand for a `#`.
+type Lines = (&'static str, usize, u32);
+
+const TOP: &str = "{\"up\":0,\"wall\":1700000000,\"zone\":\"UTC0\"}";
+
+const HEADER: Lines = (TOP, 0, 1);
 
 const LIST: &str = "{\"ev\":\"list\"}";
 
-const NO_JOB: &str = "{\"code\":0,\"orders\":[],\"text\":\"PID\\tStatus\\tLabel\\n\"}\n";
-
-/// What is written for a list and a line that is no event.
-const LIST_AND_BAD: &str = "{\"code\":0,\"orders\":[],\"text\":\"PID\\tStatus\\tLabel\\n\"}\n\
-{\"code\":2,\"orders\":[],\"text\":\"bad request\\n\"}\n";
-
-/// Adds the line, filled with blanks to that many bytes, and a newline.
-fn add_line(input: &mut String, line: &str, bytes: usize) -> Result<(), AllocError> {
-    input.push_str(line)?;
-    for _ in line.len()..bytes {
-        input.push_str(" ")?;
-    }
-    input.push_str("\n")
-}
-
-/// The lines, each filled with blanks to that many bytes.
-fn input_of(alloc: Global, lines: &[(&str, usize)]) -> Result<String, AllocError> {
-    let mut input = String::new(alloc);
-    for (line, bytes) in lines {
-        add_line(&mut input, line, *bytes)?;
-    }
-    Ok(input)
-}
-
-fn judge_lines<R: Print + AllocGlobal>(
-    rt: &R,
-    name: &str,
-    lines: &[(&str, usize)],
-    wanted: &str,
-    status: u8,
-) -> io::Result<()> {
-    let input = input_of(rt.alloc(), lines)?;
-    judge(rt, name, input.as_bytes(), wanted.as_bytes(), status)
-}
-
-/// A load of each of 1,024 jobs, of one more, and of the first again.
-fn many_jobs(alloc: Global) -> Result<String, AllocError> {
-    let mut input = input_of(alloc, &[(HEADER, 0)])?;
-    for number in 0..=1024u32 {
-        let load = format!(in alloc;
-            "{{\"def\":\"{{\\\"Label\\\":\\\"j{number:04}\\\",\\\"Program\\\":\\\"/bin/x\\\"}}\",\"ev\":\"load\"}}"
-        )?;
-        add_line(&mut input, load.as_str(), 0)?;
-    }
-    let again =
-        "{\"def\":\"{\\\"Label\\\":\\\"j0000\\\",\\\"Program\\\":\\\"/bin/x\\\"}\",\"ev\":\"load\"}";
-    add_line(&mut input, again, 0)?;
-    Ok(input)
-}
-
-fn many_loaded(alloc: Global) -> Result<String, AllocError> {
-    let mut wanted = String::new(alloc);
-    for _ in 0..1024u32 {
-        wanted.push_str("{\"code\":0,\"orders\":[],\"text\":\"\"}\n")?;
-    }
-    wanted.push_str("{\"code\":10,\"orders\":[],\"text\":\"too many jobs\\n\"}\n")?;
-    wanted.push_str("{\"code\":4,\"orders\":[],\"text\":\"already loaded\\n\"}\n")?;
-    Ok(wanted)
-}
-
-fn judge_many_jobs<R: Print + AllocGlobal>(rt: &R) -> io::Result<()> {
-    let input = many_jobs(rt.alloc())?;
-    let wanted = many_loaded(rt.alloc())?;
-    judge(
-        rt,
-        "a_thousand_and_twenty_four_jobs_at_most",
-        input.as_bytes(),
-        wanted.as_bytes(),
-        0,
-    )
-}
-
-/// A name, the lines, what is written for them, and the exit status that is wanted.
-type Row = (
-    &'static str,
-    &'static [(&'static str, usize)],
-    &'static str,
-    u8,
+const NO_JOB: Lines = (
+    "{\"code\":0,\"orders\":[],\"text\":\"PID\\tStatus\\tLabel\\n\"}",
+    0,
+    1,
 );
 
+const BAD: Lines = (
+    "{\"code\":2,\"orders\":[],\"text\":\"bad request\\n\"}",
+    0,
+    1,
+);
+
+const LOAD: &str =
+    "{\"def\":\"{\\\"Label\\\":\\\"j#\\\",\\\"Program\\\":\\\"/bin/x\\\"}\",\"ev\":\"load\"}";
+
+/// A name, the lines, what is written for them, and the exit status that is wanted.
+type Row = (&'static str, &'static [Lines], &'static [Lines], u8);
+
 static ROWS: &[Row] = &[
-    ("longest_line", &[(HEADER, 0), (LIST, 262_144)], NO_JOB, 0),
+    ("longest_line", &[HEADER, (LIST, 262_144, 1)], &[NO_JOB], 0),
     (
         "line_that_is_too_long",
-        &[(HEADER, 0), (LIST, 0), (LIST, 262_145), (LIST, 0)],
-        NO_JOB,
+        &[HEADER, (LIST, 0, 1), (LIST, 262_145, 1), (LIST, 0, 1)],
+        &[NO_JOB],
         4,
     ),
     (
         "long_lines_and_a_longer_one",
         &[
-            (HEADER, 0),
-            (LIST, 262_144),
-            ("ab", 0),
-            (LIST, 262_145),
-            (LIST, 0),
+            HEADER,
+            (LIST, 262_144, 1),
+            ("ab", 0, 1),
+            (LIST, 262_145, 1),
+            (LIST, 0, 1),
         ],
-        LIST_AND_BAD,
+        &[NO_JOB, BAD],
         4,
     ),
-    ("longest_header", &[(HEADER, 262_144)], "", 0),
-    ("header_that_is_too_long", &[(HEADER, 262_145)], "", 2),
+    ("longest_header", &[(TOP, 262_144, 1)], &[], 0),
+    ("header_that_is_too_long", &[(TOP, 262_145, 1)], &[], 2),
+    // A load of each of 1,024 jobs, of one more, and of the first again.
+    (
+        "a_thousand_and_twenty_four_jobs_at_most",
+        &[HEADER, (LOAD, 0, 1_025), (LOAD, 0, 1)],
+        &[
+            ("{\"code\":0,\"orders\":[],\"text\":\"\"}", 0, 1_024),
+            (
+                "{\"code\":10,\"orders\":[],\"text\":\"too many jobs\\n\"}",
+                0,
+                1,
+            ),
+            (
+                "{\"code\":4,\"orders\":[],\"text\":\"already loaded\\n\"}",
+                0,
+                1,
+            ),
+        ],
+        0,
+    ),
 ];
 
-/// Judges each of them.
-pub fn judge_all<R: Print + AllocGlobal>(rt: &R) -> io::Result<()> {
-    for (name, lines, wanted, status) in ROWS {
-        judge_lines(rt, name, lines, wanted, *status)?;
+/// Adds the line of this number, filled with blanks to that many bytes, and a newline.
+fn add_line(
+    alloc: Global,
+    text: &mut String,
+    line: &str,
+    bytes: usize,
+    number: u32,
+) -> Result<(), AllocError> {
+    match line.split_once('#') {
+        Some((front, back)) => {
+            let digits = format!(in alloc; "{number:04}")?;
+            text.push_str(front)?;
+            text.push_str(digits.as_str())?;
+            text.push_str(back)?;
+        }
+        None => text.push_str(line)?,
     }
-    judge_many_jobs(rt)
+    for _ in line.len()..bytes {
+        text.push_str(" ")?;
+    }
+    text.push_str("\n")
+}
+
+/// Adds so many lines of the kind.
+fn add_lines(alloc: Global, text: &mut String, lines: Lines) -> Result<(), AllocError> {
+    let (line, bytes, count) = lines;
+    for number in 0..count {
+        add_line(alloc, text, line, bytes, number)?;
+    }
+    Ok(())
+}
+
+/// All lines, one behind another.
+fn text_of(alloc: Global, all: &[Lines]) -> Result<String, AllocError> {
+    let mut text = String::new(alloc);
+    for lines in all {
+        add_lines(alloc, &mut text, *lines)?;
+    }
+    Ok(text)
+}
+
+/// Judges each of them.
+pub fn judge_all(rt: &HostRuntime) -> io::Result<()> {
+    for (name, lines, wanted, status) in ROWS {
+        let input = text_of(rt.alloc(), lines)?;
+        let wanted = text_of(rt.alloc(), wanted)?;
+        judge(rt, name, input.as_bytes(), wanted.as_bytes(), *status)?;
+    }
+    Ok(())
 }

@@ -1,14 +1,13 @@
 //! The inputs that lie in `data/`: `rows.txt` lists them, each with the exit status that is wanted.
 
 use crate::judge::judge;
-use std::rt::Files;
 use std::{fs, io};
 
-fn read_stored<R: Files + AllocGlobal>(rt: &R, name: &str, kind: &str) -> io::Result<Vec<u8>> {
+fn read_stored(rt: &HostRuntime, name: &str, kind: &str) -> io::Result<Vec<u8>> {
     fs::read(rt, format!(in rt.alloc(); "{name}.{kind}")?)
 }
 
-fn judge_one<R: Files + Print + AllocGlobal>(rt: &R, name: &str, status: &str) -> io::Result<()> {
+fn judge_one(rt: &HostRuntime, name: &str, status: &str) -> io::Result<()> {
     let input = read_stored(rt, name, "in")?;
     let wanted = read_stored(rt, name, "out")?;
     match status.parse::<u8>() {
@@ -18,7 +17,7 @@ fn judge_one<R: Files + Print + AllocGlobal>(rt: &R, name: &str, status: &str) -
 }
 
 /// Judges each input that the list names.
-pub fn judge_all<R: Files + Print + AllocGlobal>(rt: &R) -> io::Result<()> {
+pub fn judge_all(rt: &HostRuntime) -> io::Result<()> {
     let list = fs::read_to_string(rt, "rows.txt")?;
     for line in list.lines() {
         if let Some((status, name)) = line.split_once(' ') {

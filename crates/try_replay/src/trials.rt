@@ -1,6 +1,7 @@
 //! The trials.
 
 use crate::journal::{HEADER, JOURNAL, OUTCOMES, outcomes_of, wanted_of};
+use crate::judge::MANY;
 use crate::sink::Sink;
 use crate::source::Source;
 use replay::{ReplayFault, replay, replay_within};
@@ -8,117 +9,116 @@ use std::alloc::Global;
 use std::io;
 use std::io::ErrorKind;
 
-/// More reads and writes than any trial makes.
-const MANY: usize = 100_000;
+/// A trial, which is made for each number of a range.
+#[derive(Clone, Copy)]
+enum Trial {
+    /// The journal in pieces of that many bytes is answered whole.
+    Pieces,
+    /// As many reads of so many bytes, and then one that fails so, leave the outcome lines of the lines before.
+    Reads(usize, ErrorKind),
+    /// As many written bytes, and then a write that fails so, or takes no byte, leave these bytes.
+    Writes(Option<ErrorKind>),
+    /// As many reads of one byte, and no more, leave the outcome lines of the lines before.
+    Counts,
+    /// As few reads as a reader of pieces of that many bytes makes, and one at its end, are enough for the whole journal: reads are
+    /// counted, and not bytes.
+    LongReads,
+    /// A journal that ends after as many bytes is answered as far as it goes. Its last line needs no newline, and is no event if it is cut.
+    Fronts,
+}
 
-/// A reader of the whole journal in pieces.
-fn whole(piece: usize) -> Source<'static> {
-    Source {
-        rest: JOURNAL,
-        piece,
-        reads: MANY,
-        failure: ErrorKind::Other,
+/// A run: how the journal is read and written, how many reads there may be if that is bounded, how it ends, and what is written then.
+#[derive(Drop)]
+struct Run {
+    rest: &'static [u8],
+    /// The most bytes that one read gives, how many reads go well, and how the next one fails.
+    reads: (usize, usize, ErrorKind),
+    /// The most bytes that one write takes, how many writes go well, and how the next one fails.
+    writes: (usize, usize, Option<ErrorKind>),
+    most: Option<usize>,
+    ending: Result<(), ReplayFault>,
+    wanted: (&'static [u8], &'static [u8]),
+}
+
+/// The whole journal, read and written in long pieces.
+const WHOLE: Run = Run {
+    rest: JOURNAL,
+    reads: (64, MANY, ErrorKind::Other),
+    writes: (MANY, MANY, None),
+    most: None,
+    ending: Ok(()),
+    wanted: (OUTCOMES, b""),
+};
+
+/// The run of the trial's number.
+fn run_of(trial: Trial, number: usize) -> Run {
+    match trial {
+        Trial::Pieces => Run {
+            reads: (number, MANY, ErrorKind::Other),
+            writes: (number, MANY, None),
+            ..WHOLE
+        },
+        Trial::Reads(piece, failure) => Run {
+            reads: (piece, number, failure),
+            ending: Err(ReplayFault::Read),
+            wanted: (outcomes_of(piece.saturating_mul(number)), b""),
+            ..WHOLE
+        },
+        Trial::Writes(failure) => Run {
+            writes: (1, number, failure),
+            ending: Err(ReplayFault::Write),
+            wanted: (&OUTCOMES[..number.min(OUTCOMES.len())], b""),
+            ..WHOLE
+        },
+        Trial::Counts => Run {
+            reads: (1, MANY, ErrorKind::Other),
+            most: Some(number),
+            ending: Err(ReplayFault::ReadCount),
+            wanted: (outcomes_of(number), b""),
+            ..WHOLE
+        },
+        Trial::LongReads => Run {
+            reads: (number, MANY, ErrorKind::Other),
+            most: Some(JOURNAL.len().div_ceil(number.max(1)).saturating_add(1)),
+            ..WHOLE
+        },
+        Trial::Fronts if number < HEADER => Run {
+            rest: &JOURNAL[..number.min(JOURNAL.len())],
+            ending: Err(ReplayFault::Header),
+            wanted: (b"", b""),
+            ..WHOLE
+        },
+        Trial::Fronts => Run {
+            rest: &JOURNAL[..number.min(JOURNAL.len())],
+            wanted: wanted_of(number),
+            ..WHOLE
+        },
     }
 }
 
-/// Whether the journal in pieces of so many bytes is answered whole.
-fn is_answered(alloc: Global, piece: usize) -> bool {
-    let mut writer = Sink {
-        taken: Vec::new(alloc),
-        piece,
-        writes: MANY,
-        failure: None,
-    };
-    let ending = replay(alloc, &mut whole(piece), &mut writer);
-    ending == Ok(()) && writer.taken.as_slice() == OUTCOMES
-}
-
-/// Whether a read that fails after so many pieces leaves the outcome lines of the lines before.
-fn read_may_fail(alloc: Global, piece: usize, reads: usize, failure: ErrorKind) -> bool {
+/// Whether the run ends, and leaves written, what it has to.
+fn holds(alloc: Global, run: &Run) -> bool {
+    let (piece, reads, failure) = run.reads;
     let mut reader = Source {
-        rest: JOURNAL,
+        rest: run.rest,
         piece,
         reads,
         failure,
     };
-    let mut written = Vec::new(alloc);
-    let ending = replay(alloc, &mut reader, &mut written);
-    let wanted = outcomes_of(piece.saturating_mul(reads));
-    ending == Err(ReplayFault::Read) && written.as_slice() == wanted
-}
-
-/// Whether a write that fails after so many bytes leaves these bytes.
-fn write_may_fail(alloc: Global, writes: usize, failure: Option<ErrorKind>) -> bool {
+    let (piece, writes, failure) = run.writes;
     let mut writer = Sink {
         taken: Vec::new(alloc),
-        piece: 1,
+        piece,
         writes,
         failure,
     };
-    let ending = replay(alloc, &mut whole(64), &mut writer);
-    let wanted = &OUTCOMES[..writes.min(OUTCOMES.len())];
-    ending == Err(ReplayFault::Write) && writer.taken.as_slice() == wanted
-}
-
-/// Whether so many reads of one byte, and no more, leave the outcome lines of the lines before.
-fn reads_are_counted(alloc: Global, reads: usize) -> bool {
-    let mut written = Vec::new(alloc);
-    let ending = replay_within(alloc, &mut whole(1), &mut written, reads as u64);
-    ending == Err(ReplayFault::ReadCount) && written.as_slice() == outcomes_of(reads)
-}
-
-/// Whether as few reads as a reader of long pieces makes, and one at its end, are enough for the whole journal: reads are
-/// counted, and not bytes.
-fn few_long_reads_suffice(alloc: Global, piece: usize) -> bool {
-    let reads = JOURNAL.len().div_ceil(piece.max(1)).saturating_add(1);
-    let mut written = Vec::new(alloc);
-    let ending = replay_within(alloc, &mut whole(piece), &mut written, reads as u64);
-    ending == Ok(()) && written.as_slice() == OUTCOMES
-}
-
-/// Whether a journal that ends after so many bytes is answered as far as it goes. Its last line needs no newline, and is
-/// no event if it is cut.
-fn front_is_answered(alloc: Global, bytes: usize) -> bool {
-    let mut reader = &JOURNAL[..bytes.min(JOURNAL.len())];
-    let mut written = Vec::new(alloc);
-    let ending = replay(alloc, &mut reader, &mut written);
-    if bytes < HEADER {
-        return ending == Err(ReplayFault::Header) && written.is_empty();
-    }
-    let (lines, last) = wanted_of(bytes);
-    let text = written.as_slice();
-    ending == Ok(())
-        && text.len() == lines.len() + last.len()
-        && text.starts_with(lines)
-        && text.ends_with(last)
-}
-
-/// A trial, which is made for each number of a range.
-#[derive(Clone, Copy)]
-enum Trial {
-    /// The journal in pieces of that many bytes.
-    Pieces,
-    /// As many reads of so many bytes, and then one that fails so.
-    Reads(usize, ErrorKind),
-    /// As many written bytes, and then a write that fails so, or takes no byte.
-    Writes(Option<ErrorKind>),
-    /// As many reads at most.
-    Counts,
-    /// Reads of that many bytes.
-    LongReads,
-    /// As many bytes of the journal.
-    Fronts,
-}
-
-fn holds(alloc: Global, trial: Trial, number: usize) -> bool {
-    match trial {
-        Trial::Pieces => is_answered(alloc, number),
-        Trial::Reads(piece, failure) => read_may_fail(alloc, piece, number, failure),
-        Trial::Writes(failure) => write_may_fail(alloc, number, failure),
-        Trial::Counts => reads_are_counted(alloc, number),
-        Trial::LongReads => few_long_reads_suffice(alloc, number),
-        Trial::Fronts => front_is_answered(alloc, number),
-    }
+    let ending = match run.most {
+        Some(most) => replay_within(alloc, &mut reader, &mut writer, most as u64),
+        None => replay(alloc, &mut reader, &mut writer),
+    };
+    let (lines, last) = run.wanted;
+    let text = writer.taken.as_slice();
+    ending == run.ending && text.strip_prefix(lines) == Some(last)
 }
 
 /// The least and the greatest number of the trial.
@@ -138,7 +138,7 @@ fn always_holds(alloc: Global, trial: Trial) -> bool {
     let (least, greatest) = range(trial);
     let mut are_so = true;
     for number in least..=greatest {
-        let is_so = holds(alloc, trial, number);
+        let is_so = holds(alloc, &run_of(trial, number));
         are_so = are_so && is_so;
     }
     are_so
@@ -170,7 +170,7 @@ static TRIALS: &[(&str, Trial)] = &[
 ];
 
 /// Makes each trial, and names it.
-pub fn try_all<R: Print + AllocGlobal>(rt: &R) -> io::Result<()> {
+pub fn try_all(rt: &HostRuntime) -> io::Result<()> {
     for (name, trial) in TRIALS {
         let fault = if always_holds(rt.alloc(), *trial) {
             ""

@@ -1,7 +1,8 @@
 //! What is expected of the control socket in each round, where its clients are many, greedy or still.
 
+use crate::cases::Case;
+use crate::edges::control_stage::Step;
 use crate::edges::control_stage::Step::*;
-use crate::edges::control_stage::{Step, played};
 
 /// The first line of each client is answered before the second of any, and the 17th of a client in the next round.
 const A_CLIENT_HAS_16_LINES_A_ROUND: &[Step] = &[
@@ -213,26 +214,16 @@ const CLIENTS_WAKE_THE_POLL: &[Step] = &[
 ];
 
 /// Their names are those of their sockets.
-static ROWS: &[(&str, &[Step])] = &[
-    ("lines", A_CLIENT_HAS_16_LINES_A_ROUND),
-    ("time", A_ROUND_ENDS_WITH_ITS_TIME),
-    ("least", A_ROUND_WITHOUT_TIME_ANSWERS_A_LINE),
-    ("silent", THE_LONGEST_SILENT_CLIENT_GIVES_WAY),
-    ("burst", CLIENTS_THAT_COME_AT_ONCE_GET_IN),
-    ("many", A_CLIENT_BEHIND_64_IS_TURNED_AWAY),
-    ("stuck", A_CLIENT_THAT_TAKES_NOTHING_GIVES_WAY),
-    ("waits", A_NEW_CLIENT_WAITS_FOR_A_WHOLE_ROUND),
-    ("unread", A_CLIENT_THAT_NEVER_READ_MAY_LEAVE),
-    ("turns", A_CLIENT_WITH_MUCH_TO_SAY_HOLDS_UP_NOBODY),
-    ("wakes", CLIENTS_WAKE_THE_POLL),
+pub const CASES: &[Case] = &[
+    Case::Control("lines", A_CLIENT_HAS_16_LINES_A_ROUND),
+    Case::Control("time", A_ROUND_ENDS_WITH_ITS_TIME),
+    Case::Control("least", A_ROUND_WITHOUT_TIME_ANSWERS_A_LINE),
+    Case::Control("silent", THE_LONGEST_SILENT_CLIENT_GIVES_WAY),
+    Case::Control("burst", CLIENTS_THAT_COME_AT_ONCE_GET_IN),
+    Case::Control("many", A_CLIENT_BEHIND_64_IS_TURNED_AWAY),
+    Case::Control("stuck", A_CLIENT_THAT_TAKES_NOTHING_GIVES_WAY),
+    Case::Control("waits", A_NEW_CLIENT_WAITS_FOR_A_WHOLE_ROUND),
+    Case::Control("unread", A_CLIENT_THAT_NEVER_READ_MAY_LEAVE),
+    Case::Control("turns", A_CLIENT_WITH_MUCH_TO_SAY_HOLDS_UP_NOBODY),
+    Case::Control("wakes", CLIENTS_WAKE_THE_POLL),
 ];
-
-/// The first row whose clients are served otherwise.
-pub fn first_other(rt: &HostRuntime) -> Option<&'static str> {
-    for (name, steps) in ROWS {
-        if played(rt, name, steps) != Some(steps.len()) {
-            return Some(name);
-        }
-    }
-    None
-}

@@ -11,7 +11,6 @@ use std::net::Shutdown;
 use std::os::unix::net::UnixStream;
 
 /// What is done, and what is expected of it.
-#[derive(Clone, Copy)]
 pub enum Step {
     /// So many clients connect.
     Connect(usize),
@@ -63,26 +62,16 @@ struct Stage {
 /// Under this token the socket wakes the poll.
 const ASKED: Token = Token(3);
 
-/// The socket at the path, registered with the poll.
-fn socket_at(rt: &HostRuntime, path: &str, watch: &Watch) -> Option<ControlSocket> {
-    let mut socket = ControlSocket::open(rt, rt.alloc(), path).ok()?;
-    if socket.register(watch.poll.registry(), ASKED).is_ok() {
-        Some(socket)
-    } else {
-        drop(socket);
-        None
-    }
-}
-
-/// A stage with no client.
+/// A stage with no client, whose socket is registered with the poll.
 fn new_stage(rt: &HostRuntime, name: &str) -> Option<Stage> {
     let path = folder_name(rt, name)?;
     let watch = new_watch(rt)?;
-    let Some(socket) = socket_at(rt, path.as_str(), &watch) else {
+    let Ok(mut socket) = ControlSocket::open(rt, rt.alloc(), path.as_str()) else {
         drop(watch);
         return None;
     };
-    Some(Stage {
+    let is_registered = socket.register(watch.poll.registry(), ASKED).is_ok();
+    let stage = Stage {
         path,
         watch,
         socket,
@@ -95,27 +84,30 @@ fn new_stage(rt: &HostRuntime, name: &str) -> Option<Stage> {
             left: 0,
         },
         clients: Vec::new(rt.alloc()),
-    })
+    };
+    if is_registered {
+        Some(stage)
+    } else {
+        drop(stage);
+        None
+    }
 }
 
-/// Plays the steps. The number of the first that goes wrong, or of none; or None if the socket can't be opened.
-pub fn played(rt: &HostRuntime, name: &str, steps: &[Step]) -> Option<usize> {
+/// Whether each step goes as it says. None if the socket can't be opened.
+pub fn all_go(rt: &HostRuntime, name: &str, steps: &[Step]) -> Option<bool> {
     let mut stage = new_stage(rt, name)?;
-    let mut passed = 0usize;
+    let mut all_go = true;
     for step in steps {
-        if !stage.play(rt, *step) {
-            break;
-        }
-        passed = passed.saturating_add(1);
+        all_go = all_go && stage.play(rt, step);
     }
     stage.socket.remove(rt);
     drop(stage);
-    Some(passed)
+    Some(all_go)
 }
 
 impl Stage {
-    fn play(&mut self, rt: &HostRuntime, step: Step) -> bool {
-        match step {
+    fn play(&mut self, rt: &HostRuntime, step: &Step) -> bool {
+        match *step {
             Step::Connect(count) => self.connect(rt, count).is_some(),
             Step::Sends(number, text) => send(&mut self.clients, number, true, text.as_bytes(), 1),
             Step::SendsTimes(number, text, count) => {
@@ -159,8 +151,8 @@ impl Stage {
         }
     }
 
-    fn play_plain(&mut self, step: Step) -> bool {
-        match step {
+    fn play_plain(&mut self, step: &Step) -> bool {
+        match *step {
             Step::HalfCloses(number) => match self.clients.get_mut(number) {
                 Some(Some(client)) => client.shutdown(Shutdown::Write).is_ok(),
                 _ => false,

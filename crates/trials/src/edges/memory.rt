@@ -1,14 +1,14 @@
 //! The edge in memory: what it answers by a script, and what it then lists.
 
-use crate::edges::calls::{Jobs, Told, are_answered, jobs_of};
+use crate::edges::calls::{Told, are_answered, jobs_of};
 use child_edge::{EdgeCall, MemoryEdge, Scripted};
 use history_model::{Ended, Obs, Reading};
 use std::alloc::Global;
 
 /// A script, for how many calls there is room, and the calls with the answers that are expected. The first ones are
 /// listed, as many as `listed` says, and so many calls fail.
-struct Case {
-    script: &'static [Scripted],
+pub struct Script {
+    answers: &'static [Scripted],
     room: usize,
     calls: &'static [Told],
     listed: usize,
@@ -47,8 +47,8 @@ const AT: Scripted = Scripted::At(Reading {
 const OVER: Scripted = Scripted::Over(Ended::Signal(15));
 
 /// Each kind of call; a close and a release take no answer of the script.
-const EACH_KIND: Case = Case {
-    script: &[
+pub const EACH_KIND: &Script = &Script {
+    answers: &[
         Scripted::Started(812),
         Scripted::Done,
         Scripted::Running,
@@ -76,8 +76,8 @@ const EACH_KIND: Case = Case {
 };
 
 /// Each call is refused, and has no memory.
-const EACH_FAULT: Case = Case {
-    script: &[
+pub const EACH_FAULT: &Script = &Script {
+    answers: &[
         Scripted::Refused,
         Scripted::Refused,
         Scripted::Refused,
@@ -115,8 +115,8 @@ const EACH_FAULT: Case = Case {
 };
 
 /// Answers of another kind than the calls', and a child with the process id 0, are refusals. Each takes its answer.
-const ANOTHER_KIND: Case = Case {
-    script: &[
+pub const ANOTHER_KIND: &Script = &Script {
+    answers: &[
         Scripted::Done,
         Scripted::Started(0),
         Scripted::Started(7),
@@ -144,8 +144,8 @@ const ANOTHER_KIND: Case = Case {
 };
 
 /// A script that has ended refuses each call; a close and a release are still done.
-const ENDED: Case = Case {
-    script: &[Scripted::Started(812)],
+pub const ENDED: &Script = &Script {
+    answers: &[Scripted::Started(812)],
     room: 20,
     calls: &[
         (START, Scripted::Started(812)),
@@ -163,8 +163,8 @@ const ENDED: Case = Case {
 };
 
 /// Past the room each call is refused and not listed. A close and a release are done, and not listed.
-const PAST_THE_ROOM: Case = Case {
-    script: &[
+pub const PAST_THE_ROOM: &Script = &Script {
+    answers: &[
         Scripted::Started(812),
         Scripted::Running,
         Scripted::Running,
@@ -183,56 +183,28 @@ const PAST_THE_ROOM: Case = Case {
     failures: 2,
 };
 
-/// An edge with the case's script. None without memory.
-fn edge_with(alloc: Global, case: &Case) -> Option<MemoryEdge> {
-    let mut script = Vec::new(alloc);
-    script.extend_from_slice(case.script).ok()?;
-    MemoryEdge::new(alloc, script, case.room).ok()
+/// An edge with the script. None without memory.
+fn edge_with(alloc: Global, script: &Script) -> Option<MemoryEdge> {
+    let mut answers = Vec::new(alloc);
+    answers.extend_from_slice(script.answers).ok()?;
+    MemoryEdge::new(alloc, answers, script.room).ok()
 }
 
-/// Whether the calls are answered, listed and counted as the case says.
-fn is_so(edge: &mut MemoryEdge, jobs: &Jobs, case: &Case) -> bool {
-    let are_answered = are_answered(edge, jobs, case.calls);
-    let are_listed = edge.calls() == &case.calls[..case.listed.min(case.calls.len())];
-    are_answered && are_listed && edge.failures() == case.failures
-}
-
-/// The same, over an edge of its own.
-fn passes(alloc: Global, jobs: &Jobs, case: &Case) -> bool {
-    match edge_with(alloc, case) {
-        Some(mut edge) => {
-            let is_so = is_so(&mut edge, jobs, case);
-            drop(edge);
-            is_so
-        }
-        None => false,
-    }
-}
-
-static CASES: &[Case] = &[EACH_KIND, EACH_FAULT, ANOTHER_KIND, ENDED, PAST_THE_ROOM];
-
-/// How many cases pass, before one that does not.
-fn passed(alloc: Global, jobs: &Jobs) -> usize {
-    let mut passed = 0usize;
-    for case in CASES {
-        if !passes(alloc, jobs, case) {
-            break;
-        }
-        passed = passed.saturating_add(1);
-    }
-    passed
-}
-
-/// Whether each case is answered by the edge's script.
-pub fn all_pass(alloc: Global) -> bool {
+/// Whether the calls are answered, listed and counted as the script says.
+pub fn is_so(alloc: Global, script: &Script) -> Option<bool> {
+    let mut edge = edge_with(alloc, script)?;
     let first = "{\"Label\":\"a\",\"Program\":\"/bin/x\"}";
     let second = "{\"Label\":\"b\",\"Program\":\"/bin/x\"}";
-    match jobs_of(alloc, first, second) {
+    let are_answered = match jobs_of(alloc, first, second) {
         Some(jobs) => {
-            let count = passed(alloc, &jobs);
+            let are_so = are_answered(&mut edge, &jobs, script.calls);
             drop(jobs);
-            count == CASES.len()
+            are_so
         }
         None => false,
-    }
+    };
+    let listed = &script.calls[..script.listed.min(script.calls.len())];
+    let are_counted = edge.calls() == listed && edge.failures() == script.failures;
+    drop(edge);
+    Some(are_answered && are_counted)
 }

@@ -8,7 +8,7 @@ use std::io::ErrorKind;
 
 /// How every call fails, the child that starts if one does, the calls, how many of them fail, and what is then told, if that is
 /// looked at.
-struct Case {
+pub struct Refused {
     kind: ErrorKind,
     child: Option<Found>,
     calls: &'static [Told],
@@ -54,7 +54,7 @@ const CLOSE: EdgeCall = EdgeCall::Close { job: 0, conn: 1 };
 const RELEASE: EdgeCall = EdgeCall::Release { job: 0 };
 
 /// Each call is answered by its fault, want of memory told apart, and counted; a close and a release count nothing.
-const NO_MEMORY: Case = Case {
+pub const NO_MEMORY: &Refused = &Refused {
     kind: ErrorKind::OutOfMemory,
     child: None,
     calls: &[
@@ -70,7 +70,7 @@ const NO_MEMORY: Case = Case {
     told: None,
 };
 
-const NO_RIGHT: Case = Case {
+pub const NO_RIGHT: &Refused = &Refused {
     kind: ErrorKind::PermissionDenied,
     child: None,
     calls: &[
@@ -87,7 +87,7 @@ const NO_RIGHT: Case = Case {
 };
 
 /// A child that can't be waited for is kept, and told; another is started beside it.
-const A_LOST_CHILD: Case = Case {
+pub const A_LOST_CHILD: &Refused = &Refused {
     kind: ErrorKind::PermissionDenied,
     child: LOST,
     calls: &[
@@ -108,7 +108,7 @@ const A_LOST_CHILD: Case = Case {
 };
 
 /// A process id of 0 is no child.
-const CHILD_0: Case = Case {
+pub const CHILD_0: &Refused = &Refused {
     kind: ErrorKind::PermissionDenied,
     child: NO_CHILD,
     calls: &[(START, Scripted::Refused), (POLL, Scripted::Refused)],
@@ -116,61 +116,45 @@ const CHILD_0: Case = Case {
     told: None,
 };
 
-static CASES: &[Case] = &[NO_MEMORY, NO_RIGHT, A_LOST_CHILD, CHILD_0];
-
 const PLAIN: &str =
     "{\"Label\":\"a\",\"Program\":\"/bin/x\",\"inetdCompatibility\":{\"Wait\":false},\"Sockets\":{\"s\":{\"SockServiceName\":7}}}";
 
 const FILED: &str =
     "{\"Label\":\"a\",\"Program\":\"/bin/x\",\"StandardInPath\":\"/in\",\"inetdCompatibility\":{\"Wait\":false},\"Sockets\":{\"s\":{\"SockServiceName\":7}}}";
 
-/// Whether these lines wait to be told, and no others.
-fn tells(edge: &mut OsEdge<Refusing>, lines: &[&str]) -> bool {
-    let mut are_next = true;
-    for line in lines {
-        let is_next = match edge.next_notice() {
-            Some(told) => told.text.as_str() == *line,
-            None => false,
-        };
-        are_next = are_next && is_next;
+/// Whether the calls are answered, counted and told as it says: these lines wait to be told, and no others.
+fn goes(edge: &mut OsEdge<Refusing>, jobs: &Jobs, refused: &Refused) -> bool {
+    let are_answered = are_answered(edge, jobs, refused.calls);
+    let mut are_so = are_answered && edge.failures() == refused.failures;
+    if let Some(lines) = refused.told {
+        for line in lines {
+            are_so &= match edge.next_notice() {
+                Some(told) => told.text.as_str() == *line,
+                None => false,
+            };
+        }
+        are_so &= edge.next_notice().is_none();
     }
-    are_next && edge.next_notice().is_none()
-}
-
-/// Whether the calls are answered, counted and told as the case says.
-fn is_so(edge: &mut OsEdge<Refusing>, jobs: &Jobs, case: &Case) -> bool {
-    let are_answered = are_answered(edge, jobs, case.calls);
-    let are_counted = edge.failures() == case.failures;
-    let are_told = match case.told {
-        Some(lines) => tells(edge, lines),
-        None => true,
-    };
-    are_answered && are_counted && are_told
-}
-
-/// The same, over an edge of its own.
-fn passes_with(rt: &HostRuntime, jobs: &Jobs, case: &Case) -> Option<bool> {
-    let system = new_refusing(rt, case.kind, case.child, Grants::Nothing)?;
-    let mut edge = edge_over(system, "/none")?;
-    let is_so = is_so(&mut edge, jobs, case);
-    drop(edge);
-    Some(is_so)
-}
-
-/// The same, with definitions of its own.
-fn passes(rt: &HostRuntime, case: &Case) -> Option<bool> {
-    let second = if case.child.is_none() { FILED } else { PLAIN };
-    let jobs = jobs_of(rt.alloc(), PLAIN, second)?;
-    let passes = passes_with(rt, &jobs, case);
-    drop(jobs);
-    passes
+    are_so
 }
 
 /// Whether each refusal of the system is counted, kept and told.
-pub fn all_pass(rt: &HostRuntime) -> bool {
-    let mut all_pass = true;
-    for case in CASES {
-        all_pass &= passes(rt, case) == Some(true);
-    }
-    all_pass
+pub fn is_so(rt: &HostRuntime, refused: &Refused) -> Option<bool> {
+    let system = new_refusing(rt, refused.kind, refused.child, Grants::Nothing)?;
+    let mut edge = edge_over(system, "/none")?;
+    let second = if refused.child.is_none() {
+        FILED
+    } else {
+        PLAIN
+    };
+    let is_so = match jobs_of(rt.alloc(), PLAIN, second) {
+        Some(jobs) => {
+            let is_so = goes(&mut edge, &jobs, refused);
+            drop(jobs);
+            is_so
+        }
+        None => false,
+    };
+    drop(edge);
+    Some(is_so)
 }

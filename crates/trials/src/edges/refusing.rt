@@ -15,7 +15,7 @@ use std::rt::Clock;
 use std::time::Duration;
 
 /// What the system grants all the same.
-#[derive(Clone, Copy, PartialEq, Eq)]
+#[derive(Clone, Copy)]
 pub enum Grants {
     Nothing,
     /// Files are opened, and a socket is bound at which nobody can be let in.

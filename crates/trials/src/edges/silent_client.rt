@@ -12,19 +12,15 @@ use std::{fs, mem};
 
 const STILL: &str = "a: a client was let go: it took nothing of its reply for a minute";
 
-/// An end of a connection whose far end stays open.
-fn near_end(rt: &HostRuntime) -> Option<UnixStream> {
-    let (near, far) = UnixStream::pair(rt).ok()?;
-    mem::forget(far);
-    Some(near)
-}
-
-/// Has the edge make the sockets of job 0, and take a client of it under number 1.
+/// Has the edge make the sockets of job 0, and take a client of it under number 1. The client's far end stays open.
 fn takes_client(rt: &HostRuntime, edge: &mut OsEdge<Refusing>, def: &Def) -> bool {
     let is_bound = edge.bind(0, def).is_ok();
-    let is_taken = match near_end(rt) {
-        Some(near) => takes(rt.alloc(), edge, Client::Unix(near)) == Some(true),
-        None => false,
+    let is_taken = match UnixStream::pair(rt) {
+        Ok((near, far)) => {
+            mem::forget(far);
+            takes(rt.alloc(), edge, Client::Unix(near)) == Some(true)
+        }
+        Err(_) => false,
     };
     is_bound && is_taken
 }
@@ -63,19 +59,14 @@ fn lets_go(rt: &HostRuntime, folder: &str, def: &Def) -> Option<bool> {
     Some(is_taken && is_long && is_told && is_empty)
 }
 
-/// A definition with a socket at this port.
-fn def_at(rt: &HostRuntime, port: u16) -> Option<Def> {
-    let text = format!(in rt.alloc();
-        "{{\"Label\":\"a\",\"Program\":\"/bin/x\",\"inetdCompatibility\":{{\"Wait\":false}},\"Sockets\":{{\"s\":{{\"SockNodeName\":\"localhost\",\"SockServiceName\":{port}}}}}}}"
-    ).ok()?;
-    read_def(rt.alloc(), text.as_bytes()).ok()
-}
-
 /// The same, with a job and a folder of its own.
 pub fn is_let_go(rt: &HostRuntime) -> Option<bool> {
     let port = free_port(rt)?;
     let folder = new_folder(rt, "minute")?;
-    let def = def_at(rt, port)?;
+    let text = format!(in rt.alloc();
+        "{{\"Label\":\"a\",\"Program\":\"/bin/x\",\"inetdCompatibility\":{{\"Wait\":false}},\"Sockets\":{{\"s\":{{\"SockNodeName\":\"localhost\",\"SockServiceName\":{port}}}}}}}"
+    ).ok()?;
+    let def = read_def(rt.alloc(), text.as_bytes()).ok()?;
     let lets_go = lets_go(rt, folder.as_str(), &def);
     drop(def);
     lets_go

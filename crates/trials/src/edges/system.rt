@@ -15,7 +15,6 @@ use std::os::unix::net::UnixStream;
 use std::{fs, mem};
 
 /// What is done, and what is expected of it.
-#[derive(Clone, Copy)]
 pub enum Step {
     /// The call is answered so.
     Answers(EdgeCall, Scripted),
@@ -46,7 +45,7 @@ pub enum Step {
 }
 
 /// Its name is that of its folder. Run 1 runs the first script in a shell, and run 2 the second.
-pub struct Case {
+pub struct Scene {
     pub name: &'static str,
     pub scripts: [&'static str; 2],
     pub steps: &'static [Step],
@@ -70,14 +69,6 @@ fn job_text(alloc: Global, folder: &str, port: u16, script: &str) -> Result<Stri
     )
 }
 
-/// The jobs of these scripts.
-fn jobs_in(alloc: Global, folder: &str, port: u16, scripts: [&str; 2]) -> Option<Jobs> {
-    let [first, second] = scripts;
-    let first = job_text(alloc, folder, port, first).ok()?;
-    let second = job_text(alloc, folder, port, second).ok()?;
-    jobs_of(alloc, first.as_str(), second.as_str())
-}
-
 /// Whether the edge takes the client under number 1, for job 0.
 pub fn takes<R: System>(alloc: Global, edge: &mut OsEdge<R>, client: Client) -> Option<bool> {
     match Exchange::new(alloc) {
@@ -86,14 +77,6 @@ pub fn takes<R: System>(alloc: Global, edge: &mut OsEdge<R>, client: Client) -> 
             drop(client);
             None
         }
-    }
-}
-
-/// Whether a client waits, and the edge takes it or refuses to.
-fn is_taken(alloc: Global, edge: &mut OsEdge<HostRuntime>, is_taken: bool) -> bool {
-    match edge.accept(0) {
-        Some(client) => takes(alloc, edge, client) == Some(is_taken),
-        None => false,
     }
 }
 
@@ -112,9 +95,9 @@ fn is_so(
     edge: &mut OsEdge<HostRuntime>,
     watch: &mut Watch,
     last: &mut Option<u64>,
-    step: Step,
+    step: &Step,
 ) -> bool {
-    match step {
+    match *step {
         Step::Answers(call, wanted) | Step::Ends(call, wanted) => {
             are_answered(edge, place.jobs, &[(call, wanted)])
         }
@@ -122,7 +105,10 @@ fn is_so(
         Step::NoneIsOver(job) => edge.over_from(job).is_none(),
         Step::HasFailed(count) => edge.failures() == count,
         Step::NobodyCalls => edge.accept(0).is_none(),
-        Step::IsTaken(wanted) => is_taken(rt.alloc(), edge, wanted),
+        Step::IsTaken(wanted) => match edge.accept(0) {
+            Some(client) => takes(rt.alloc(), edge, client) == Some(wanted),
+            None => false,
+        },
         Step::HasSockets(has_some) => has_sockets(edge, last, has_some),
         Step::Registers => edge.register(watch.poll.registry(), CALLED).is_ok(),
         Step::IsWoken(wanted) => is_woken(watch, CALLED, wanted),
@@ -167,9 +153,9 @@ fn comes(
     edge: &mut OsEdge<HostRuntime>,
     watch: &mut Watch,
     last: &mut Option<u64>,
-    step: Step,
+    step: &Step,
 ) -> bool {
-    let tries = match step {
+    let tries = match *step {
         Step::Ends(..) | Step::IsOver(..) | Step::IsTaken(_) => 500u32,
         _ => 1,
     };
@@ -182,57 +168,40 @@ fn comes(
     false
 }
 
-/// How many steps go well, before one that does not.
-fn passed(
-    rt: &HostRuntime,
-    place: Place<'_>,
-    edge: &mut OsEdge<HostRuntime>,
-    watch: &mut Watch,
-    steps: &[Step],
-) -> usize {
+/// Whether each step goes well, over an edge and a poll of its own.
+fn all_come(rt: &HostRuntime, place: Place<'_>, steps: &[Step]) -> Option<bool> {
+    let mut edge = edge_over(rt.clone().ok()?, place.folder)?;
+    let Some(mut watch) = new_watch(rt) else {
+        drop(edge);
+        return None;
+    };
     let mut last = None;
-    let mut passed = 0usize;
+    let mut all_come = true;
     for step in steps {
-        if !comes(rt, place, edge, watch, &mut last, *step) {
-            break;
-        }
-        passed = passed.saturating_add(1);
+        all_come = all_come && comes(rt, place, &mut edge, &mut watch, &mut last, step);
     }
-    passed
-}
-
-/// The same, over an edge and a poll of its own.
-fn passed_at(rt: &HostRuntime, place: Place<'_>, steps: &[Step]) -> Option<usize> {
-    let mut watch = new_watch(rt)?;
-    let edge = match rt.clone() {
-        Ok(own) => edge_over(own, place.folder),
-        Err(_) => None,
-    };
-    let passed = match edge {
-        Some(mut edge) => {
-            let passed = passed(rt, place, &mut edge, &mut watch, steps);
-            drop(edge);
-            Some(passed)
-        }
-        None => None,
-    };
+    drop(edge);
     drop(watch);
-    passed
+    Some(all_come)
 }
 
-/// The same, with the case's jobs, if its folder could then be removed.
-pub fn played(rt: &HostRuntime, case: &Case) -> Option<usize> {
+/// The same, with the scene's jobs, if its folder could then be removed.
+pub fn is_played(rt: &HostRuntime, scene: &Scene) -> Option<bool> {
+    let alloc = rt.alloc();
     let port = free_port(rt)?;
-    let folder = new_folder(rt, case.name)?;
+    let folder = new_folder(rt, scene.name)?;
     let folder = folder.as_str();
-    let jobs = jobs_in(rt.alloc(), folder, port, case.scripts)?;
+    let [first, second] = scene.scripts;
+    let first = job_text(alloc, folder, port, first).ok()?;
+    let second = job_text(alloc, folder, port, second).ok()?;
+    let jobs = jobs_of(alloc, first.as_str(), second.as_str())?;
     let place = Place {
         folder,
         port,
         jobs: &jobs,
     };
-    let passed = passed_at(rt, place, case.steps);
+    let all_come = all_come(rt, place, scene.steps);
     drop(jobs);
     let is_left = fs::remove_dir_all(rt, folder).is_ok();
-    if is_left { passed } else { None }
+    Some(is_left && all_come == Some(true))
 }

@@ -43,18 +43,15 @@ impl Hoard {
     /// Takes blocks of this size until one is refused, and tells whether one was.
     fn take(&mut self, alloc: Global, size: usize) -> bool {
         for _ in self.blocks.len()..BLOCKS {
-            if !self.take_one(alloc, size) {
+            let is_taken = match Vec::with_capacity(alloc, size) {
+                Ok(block) => self.blocks.push(block).is_ok(),
+                Err(_) => false,
+            };
+            if !is_taken {
                 return true;
             }
         }
         false
-    }
-
-    fn take_one(&mut self, alloc: Global, size: usize) -> bool {
-        match Vec::with_capacity(alloc, size) {
-            Ok(block) => self.blocks.push(block).is_ok(),
-            Err(_) => false,
-        }
     }
 
     /// Gives all blocks back.

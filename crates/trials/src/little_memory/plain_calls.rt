@@ -1,25 +1,28 @@
 //! The calls that leave nothing if they are refused: those that make a part of a job, that read or write a text as a whole (lines,
-//! words, a zone file), and the making of an edge in memory. With memory each makes what it was to make.
+//! words, a zone file), and the making of an edge in memory; and those of a feed of lines, and a replay, which leave what they had. With
+//! memory each makes what it was to make.
 
 ghost use Rattle.std.specs.Prelude.{◌≤◌};
 
 use crate::little_memory::hoard::Hoard;
-use crate::little_memory::trial::{Answer, Trial};
+use crate::little_memory::trial::{Answer, Trial, tried};
+use crate::little_memory::{feeding, replaying};
+use crate::parts::calendars::cases::PYONGYANG;
+use crate::parts::lines::{Kind, again};
+use anyhow::{Result, bail};
 use calendar_due::{Zone, ZoneFault};
 use child_edge::MemoryEdge;
 use conditions::Conditions;
-use ctl_protocol::{
-    ReadFault, event_line, header_line, outcome_line, read_event, read_header, read_target,
-    reply_line,
-};
+use ctl_protocol::{LineFeed, ReadFault, outcome_line, reply_line};
 use history_model::{Act, MAX_UP, Reading, Reply, Text};
 use job_core::JobCore;
 use job_defs::{Def, DefFault, read_def};
 use launchctl_words::{Command, DaemonCommand, WordFault, read_daemon_words, read_words};
 use socket_demand::{Exchange, Waiting};
 use std::alloc::{AllocError, Global};
+use std::mem;
 
-/// Which call is made. A header and an event are read, and then written.
+/// Which call is made.
 #[derive(Clone, Copy)]
 enum Call {
     Conditions,
@@ -27,15 +30,17 @@ enum Call {
     Exchange,
     JobCore,
     Definition,
-    Header,
-    Event,
-    Target,
+    /// A line is read, and then written so.
+    Line(Kind, &'static str, &'static str),
     Reply,
     Outcome,
     Words,
     DaemonWords,
     Zone,
     Edge,
+    /// A line is taken of a feed, or else a piece is fed.
+    Feed(bool),
+    Replay,
 }
 
 /// Each call by its name.
@@ -45,35 +50,41 @@ static CALLS: &[(&str, Call)] = &[
     ("Exchange::new", Call::Exchange),
     ("JobCore::new", Call::JobCore),
     ("read_def", Call::Definition),
-    ("read_header", Call::Header),
-    ("read_event", Call::Event),
-    ("read_target", Call::Target),
+    ("read_header", Call::Line(Kind::Header, HEADER, HEADER_LINE)),
+    ("read_event", Call::Line(Kind::Event, LOAD, LOAD_LINE)),
+    ("read_target", Call::Line(Kind::Target, TARGET, LABEL_LINE)),
     ("reply_line", Call::Reply),
     ("outcome_line", Call::Outcome),
     ("read_words", Call::Words),
     ("read_daemon_words", Call::DaemonWords),
     ("Zone::tzif", Call::Zone),
     ("MemoryEdge::new", Call::Edge),
+    ("LineFeed::feed", Call::Feed(false)),
+    ("LineFeed::next_line", Call::Feed(true)),
+    ("replay", Call::Replay),
 ];
 
 /// A definition with two paths of each kind, two calendar entries and a socket.
 const DEFINITION: &str =
     r#"{"Label":"a","Program":"/bin/x","StartCalendarInterval":[{"Minute":5},{"Hour":3}],"WatchPaths":["/w","/v"],"QueueDirectories":["/q","/r"],"KeepAlive":{"PathState":{"/f":true,"/g":false}},"Sockets":{"l":{"SockPathName":"/s"}},"inetdCompatibility":{"Wait":false}}"#;
 
-const HEADER: &[u8] =
-    b"{\"up\":5,\"wall\":1700000000,\"zone\":\"EST5EDT,M3.2.0,M11.1.0\",\"overrides\":{\"a\":true,\"b\":false}}";
+const HEADER: &str =
+    "{\"up\":5,\"wall\":1700000000,\"zone\":\"EST5EDT,M3.2.0,M11.1.0\",\"overrides\":{\"a\":true,\"b\":false}}";
 
 /// The same, as it is written.
-const HEADER_LINE: &[u8] =
-    b"{\"overrides\":{\"a\":true,\"b\":false},\"up\":5,\"wall\":1700000000,\"zone\":\"EST5EDT,M3.2.0,M11.1.0\"}\n";
+const HEADER_LINE: &str =
+    "{\"overrides\":{\"a\":true,\"b\":false},\"up\":5,\"wall\":1700000000,\"zone\":\"EST5EDT,M3.2.0,M11.1.0\"}\n";
 
-const LOAD: &[u8] = b"{\"ev\":\"load\",\"def\":\"{\\\"Label\\\":\\\"a\\\"}\",\"F\":true}";
+const LOAD: &str = "{\"ev\":\"load\",\"def\":\"{\\\"Label\\\":\\\"a\\\"}\",\"F\":true}";
 
 /// The same, as it is written.
-const LOAD_LINE: &[u8] =
-    b"{\"F\":true,\"bind\":true,\"def\":\"{\\\"Label\\\":\\\"a\\\"}\",\"ev\":\"load\",\"store\":true,\"w\":false}\n";
+const LOAD_LINE: &str =
+    "{\"F\":true,\"bind\":true,\"def\":\"{\\\"Label\\\":\\\"a\\\"}\",\"ev\":\"load\",\"store\":true,\"w\":false}\n";
 
 const TARGET: &str = "gui/501/com.example.a-label-of-some-length";
+
+/// Its label, as it is written.
+const LABEL_LINE: &str = "com.example.a-label-of-some-length\n";
 
 const TEXT: &str = "PID\tStatus\tLabel\n812\t0\ta\n";
 
@@ -89,20 +100,6 @@ const WORDS: &str = "jobctl load -w one.json two.json";
 const DAEMON_WORDS: &str =
     "jobd serve --socket jobd.sock --store set.db --spool runs --zone UTC0 --journal day.log";
 
-/// The zone file of Asia/Pyongyang, as the database of 2025 has it.
-static PYONGYANG: [u8; 237] = [
-    84, 90, 105, 102, 50, 0, 0, 0, 0, 0, 0, 0, 0, 0, 0, 0, 0, 0, 0, 0, 0, 0, 0, 0, 0, 0, 0, 0, 0,
-    0, 0, 0, 0, 0, 0, 5, 0, 0, 0, 4, 0, 0, 0, 12, 139, 215, 241, 156, 146, 230, 22, 248, 210, 47,
-    97, 112, 85, 206, 2, 112, 90, 236, 117, 112, 1, 2, 3, 1, 3, 0, 0, 117, 228, 0, 0, 0, 0, 119,
-    136, 0, 4, 0, 0, 126, 144, 0, 8, 0, 0, 126, 144, 0, 4, 76, 77, 84, 0, 75, 83, 84, 0, 74, 83,
-    84, 0, 84, 90, 105, 102, 50, 0, 0, 0, 0, 0, 0, 0, 0, 0, 0, 0, 0, 0, 0, 0, 0, 0, 0, 0, 0, 0, 0,
-    0, 0, 0, 0, 0, 0, 0, 0, 5, 0, 0, 0, 4, 0, 0, 0, 12, 255, 255, 255, 255, 139, 215, 241, 156,
-    255, 255, 255, 255, 146, 230, 22, 248, 255, 255, 255, 255, 210, 47, 97, 112, 0, 0, 0, 0, 85,
-    206, 2, 112, 0, 0, 0, 0, 90, 236, 117, 112, 1, 2, 3, 1, 3, 0, 0, 117, 228, 0, 0, 0, 0, 119,
-    136, 0, 4, 0, 0, 126, 144, 0, 8, 0, 0, 126, 144, 0, 4, 76, 77, 84, 0, 75, 83, 84, 0, 74, 83,
-    84, 0, 10, 75, 83, 84, 45, 57, 10,
-];
-
 /// The minute before clocks in Pyongyang were set back by half an hour: 23:59 of 14 August 2015.
 const BEFORE_THE_CHANGE: u64 = 1_439_564_340;
 
@@ -115,17 +112,29 @@ struct Given {
     reply: Reply,
 }
 
+/// A call, and what it is made on.
 #[derive(Drop)]
 struct Plain<'a> {
     call: Call,
     given: &'a Given,
+    feed: Option<LineFeed>,
+    written: Vec<u8>,
 }
 
-fn told(is_right: bool) -> Answer {
-    if is_right {
-        Answer::Made
-    } else {
-        Answer::Other
+/// What was made, if it is right.
+macro_rules! told {
+    ($is_right:expr) => {
+        if $is_right { Answer::Made } else { Answer::Other }
+    };
+}
+
+/// The reading of the load.
+fn at_load() -> Reading
+    ensures { result.up ≤ MAX_UP }
+{
+    Reading {
+        up: 0,
+        wall: 1_700_000_000,
     }
 }
 
@@ -141,99 +150,36 @@ fn made<T: Drop>(made: Result<T, AllocError>) -> Answer {
 
 fn written(line: Result<Vec<u8>, AllocError>, wanted: &[u8]) -> Answer {
     match line {
-        Ok(line) => told(line.as_slice() == wanted),
+        Ok(line) => told!(line.as_slice() == wanted),
         Err(_) => Answer::NoMemory,
     }
 }
 
-fn unread(fault: ReadFault) -> Answer {
-    match fault {
-        ReadFault::NoMemory => Answer::NoMemory,
-        ReadFault::BadRequest => Answer::Other,
-    }
-}
-
-/// The reading of the load.
-fn at_load() -> Reading
-    ensures { result.up ≤ MAX_UP }
-{
-    Reading {
-        up: 0,
-        wall: 1_700_000_000,
-    }
-}
-
-fn header_again(alloc: Global) -> Answer {
-    match read_header(alloc, HEADER) {
-        Ok(header) => {
-            let line = header_line(alloc, &header);
-            drop(header);
-            written(line, HEADER_LINE)
-        }
-        Err(fault) => unread(fault),
-    }
-}
-
-fn event_again(alloc: Global) -> Answer {
-    match read_event(alloc, LOAD) {
-        Ok(event) => {
-            let line = event_line(alloc, &event);
-            drop(event);
-            written(line, LOAD_LINE)
-        }
-        Err(fault) => unread(fault),
-    }
-}
-
-fn target_read(alloc: Global) -> Answer {
-    match read_target(alloc, TARGET) {
-        Ok(label) => told(TARGET.strip_prefix("gui/501/") == Some(label.as_str())),
-        Err(fault) => unread(fault),
-    }
-}
-
-fn is_command(command: &Command) -> bool {
-    match command {
-        Command::Load {
-            writes_setting,
-            force,
-            paths,
-        } => {
-            let paths = paths.as_slice();
-            *writes_setting
-                && !*force
-                && paths.len() == 2
-                && paths[0].as_str() == "one.json"
-                && paths[1].as_str() == "two.json"
-        }
-        _ => false,
-    }
-}
-
-fn is_serve(command: &DaemonCommand) -> bool {
-    match command {
-        DaemonCommand::Serve {
-            socket,
-            store,
-            spool,
-            journal: Some(journal),
-            ..
-        } => {
-            socket.as_str() == "jobd.sock"
-                && store.as_str() == "set.db"
-                && spool.as_str() == "runs"
-                && journal.as_str() == "day.log"
-        }
-        _ => false,
+fn line_again(alloc: Global, kind: Kind, line: &str, wanted: &str) -> Answer {
+    match again(alloc, kind, line) {
+        Ok(line) => told!(line.as_slice() == wanted.as_bytes()),
+        Err(ReadFault::NoMemory) => Answer::NoMemory,
+        Err(ReadFault::BadRequest) => Answer::Other,
     }
 }
 
 fn words_read(alloc: Global, words: &[String]) -> Answer {
     match read_words(alloc, words) {
         Ok(read) => {
-            let answer = told(read.socket.as_str() == "jobd.sock" && is_command(&read.command));
+            let is_load = match &read.command {
+                Command::Load {
+                    writes_setting: true,
+                    force: false,
+                    paths,
+                } => match paths.as_slice() {
+                    [one, two] => one.as_str() == "one.json" && two.as_str() == "two.json",
+                    _ => false,
+                },
+                _ => false,
+            };
+            let is_socket = read.socket.as_str() == "jobd.sock";
             drop(read);
-            answer
+            told!(is_load && is_socket)
         }
         Err(WordFault::NoMemory) => Answer::NoMemory,
         Err(WordFault::Usage) => Answer::Other,
@@ -243,9 +189,21 @@ fn words_read(alloc: Global, words: &[String]) -> Answer {
 fn daemon_words_read(alloc: Global, words: &[String]) -> Answer {
     match read_daemon_words(alloc, words) {
         Ok(command) => {
-            let answer = told(is_serve(&command));
+            let is_serve = match &command {
+                DaemonCommand::Serve {
+                    socket,
+                    store,
+                    spool,
+                    journal: Some(journal),
+                    ..
+                } => {
+                    let is_socket = socket.as_str() == "jobd.sock" && store.as_str() == "set.db";
+                    is_socket && spool.as_str() == "runs" && journal.as_str() == "day.log"
+                }
+                _ => false,
+            };
             drop(command);
-            answer
+            told!(is_serve)
         }
         Err(WordFault::NoMemory) => Answer::NoMemory,
         Err(WordFault::Usage) => Answer::Other,
@@ -253,11 +211,11 @@ fn daemon_words_read(alloc: Global, words: &[String]) -> Answer {
 }
 
 fn zone_read(alloc: Global) -> Answer {
-    match Zone::tzif(alloc, &PYONGYANG) {
+    match Zone::tzif(alloc, PYONGYANG) {
         Ok(zone) => {
             let shown = zone.civil_minute(BEFORE_THE_CHANGE);
             drop(zone);
-            told(shown.day == 14 && shown.hour == 23 && shown.minute == 59)
+            told!(shown.day == 14 && shown.hour == 23 && shown.minute == 59)
         }
         Err(ZoneFault::NoMemory) => Answer::NoMemory,
         Err(ZoneFault::BadZone) => Answer::Other,
@@ -300,8 +258,18 @@ fn words_of(alloc: Global, line: &str) -> Result<Vec<String>, AllocError> {
 }
 
 impl Trial for Plain<'_> {
-    fn prepare(&mut self, _alloc: Global) -> bool {
-        true
+    fn prepare(&mut self, alloc: Global) -> bool {
+        match self.call {
+            Call::Feed(is_taking) => {
+                drop(mem::replace(&mut self.feed, feeding::fed(alloc, is_taking)));
+                self.feed.is_some()
+            }
+            Call::Replay => {
+                self.written.clear();
+                self.written.reserve(replaying::ROOM).is_ok()
+            }
+            _ => true,
+        }
     }
 
     fn call(&mut self, alloc: Global) -> Answer {
@@ -312,43 +280,57 @@ impl Trial for Plain<'_> {
             Call::Exchange => made(Exchange::new(alloc)),
             Call::JobCore => made(JobCore::new(alloc, &given.def, at_load())),
             Call::Definition => definition_read(alloc),
-            Call::Header => header_again(alloc),
-            Call::Event => event_again(alloc),
-            Call::Target => target_read(alloc),
+            Call::Line(kind, line, wanted) => line_again(alloc, kind, line, wanted),
             Call::Reply => written(reply_line(alloc, &given.reply), REPLY),
             Call::Outcome => written(outcome_line(alloc, &given.reply, ORDERS), OUTCOME),
             Call::Words => words_read(alloc, given.words.as_slice()),
             Call::DaemonWords => daemon_words_read(alloc, given.daemon_words.as_slice()),
             Call::Zone => zone_read(alloc),
             Call::Edge => made(MemoryEdge::new(alloc, Vec::new(alloc), 100)),
+            Call::Feed(is_taking) => match self.feed.as_mut() {
+                Some(feed) => feeding::fed_or_taken(feed, is_taking),
+                None => Answer::Other,
+            },
+            Call::Replay => replaying::replayed(alloc, &mut self.written),
         }
     }
 
-    fn is_right(&mut self, alloc: Global, _answer: Answer) -> bool {
-        self.call(alloc) == Answer::Made
+    fn is_right(&mut self, alloc: Global, answer: Answer) -> bool {
+        match self.call {
+            Call::Feed(is_taking) => match self.feed.as_mut() {
+                Some(feed) => feeding::is_kept(feed, is_taking, answer),
+                None => false,
+            },
+            Call::Replay => {
+                let is_kept = replaying::are_outcomes(self.written.as_slice(), answer);
+                let is_prepared = self.prepare(alloc);
+                let is_made = self.call(alloc) == Answer::Made;
+                let is_so = replaying::are_outcomes(self.written.as_slice(), Answer::Made);
+                is_kept && is_prepared && is_made && is_so
+            }
+            _ => self.call(alloc) == Answer::Made,
+        }
     }
 }
 
 /// Tries each call in turn.
-fn try_each(
-    rt: &impl Print,
-    alloc: Global,
-    hoard: &mut Hoard,
-    given: &Given,
-) -> anyhow::Result<()> {
+pub fn try_all(rt: &HostRuntime, hoard: &mut Hoard) -> Result<()> {
+    let Some(given) = what_is_given(rt.alloc()) else {
+        bail!("what the calls are made of was refused");
+    };
+    let mut done = Ok(());
     for (name, call) in CALLS {
-        crate::little_memory::tried(rt, alloc, hoard, name, Plain { call: *call, given })?;
-    }
-    Ok(())
-}
-
-pub fn try_all(rt: &impl Print, alloc: Global, hoard: &mut Hoard) -> anyhow::Result<()> {
-    match what_is_given(alloc) {
-        Some(given) => {
-            let done = try_each(rt, alloc, hoard, &given);
-            drop(given);
-            done
+        let plain = Plain {
+            call: *call,
+            given: &given,
+            feed: None,
+            written: Vec::new(rt.alloc()),
+        };
+        done = tried(rt, hoard, name, plain);
+        if done.is_err() {
+            break;
         }
-        None => anyhow::bail!("what the calls are made of was refused"),
     }
+    drop(given);
+    done
 }

@@ -1,7 +1,6 @@
 //! The replay of a journal.
 
-use crate::little_memory::hoard::Hoard;
-use crate::little_memory::trial::{Answer, Trial};
+use crate::little_memory::trial::Answer;
 use replay::{ReplayFault, replay};
 use std::alloc::Global;
 
@@ -26,55 +25,26 @@ const OUTCOMES: &[u8] =
 {\"code\":0,\"orders\":[],\"text\":\"\"}\n";
 
 /// How many bytes the writer takes with no memory; more than are written.
-const ROOM: usize = 4096;
+pub const ROOM: usize = 4096;
 
-/// `replay`. If it is refused, what stands written is the outcome lines of the lines before, and with memory all are written.
-#[derive(Drop)]
-struct Replaying {
-    written: Vec<u8>,
+/// Replays the journal. If that is refused, what stands written is the outcome lines of the lines before.
+pub fn replayed(alloc: Global, written: &mut Vec<u8>) -> Answer {
+    let mut reader = JOURNAL;
+    match replay(alloc, &mut reader, written) {
+        Ok(()) => Answer::Made,
+        Err(ReplayFault::NoMemory) => Answer::NoMemory,
+        Err(_) => Answer::Other,
+    }
 }
 
-/// Whether the bytes are a front of the outcome lines, each of them whole.
-fn is_front(written: &[u8]) -> bool {
+/// Whether the bytes are all outcome lines, or if the replay was refused a front of them, each of them whole.
+pub fn are_outcomes(written: &[u8], answer: Answer) -> bool {
     let is_whole = match written.last() {
         Some(byte) => *byte == b'\n',
         None => true,
     };
-    is_whole && OUTCOMES.starts_with(written)
-}
-
-impl Trial for Replaying {
-    fn prepare(&mut self, alloc: Global) -> bool {
-        match Vec::with_capacity(alloc, ROOM) {
-            Ok(written) => {
-                self.written = written;
-                true
-            }
-            Err(_) => false,
-        }
+    match answer {
+        Answer::Made => written == OUTCOMES,
+        _ => is_whole && OUTCOMES.starts_with(written),
     }
-
-    fn call(&mut self, alloc: Global) -> Answer {
-        let mut reader = JOURNAL;
-        match replay(alloc, &mut reader, &mut self.written) {
-            Ok(()) => Answer::Made,
-            Err(ReplayFault::NoMemory) => Answer::NoMemory,
-            Err(_) => Answer::Other,
-        }
-    }
-
-    fn is_right(&mut self, alloc: Global, answer: Answer) -> bool {
-        if answer == Answer::Made {
-            return self.written.as_slice() == OUTCOMES;
-        }
-        let is_front = is_front(self.written.as_slice());
-        let is_prepared = self.prepare(alloc);
-        let is_made = self.call(alloc) == Answer::Made;
-        is_front && is_prepared && is_made && self.written.as_slice() == OUTCOMES
-    }
-}
-
-pub fn try_it(rt: &impl Print, alloc: Global, hoard: &mut Hoard) -> anyhow::Result<()> {
-    let written = Vec::new(alloc);
-    crate::little_memory::tried(rt, alloc, hoard, "replay", Replaying { written })
 }

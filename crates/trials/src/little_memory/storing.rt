@@ -2,8 +2,9 @@
 //! in memory. What lets a store go is proved for its whole type, so all but the connections is generic over what the store stands on.
 
 use crate::little_memory::hoard::Hoard;
-use crate::little_memory::trial::{Answer, Trial};
+use crate::little_memory::trial::{Answer, Trial, tried};
 use crate::stores::calls::{FIRST_VERSION, Row, SECOND, has, opened, runs};
+use anyhow::Result;
 use override_store::{OverrideStore, StoreFault};
 use sqlite::{Alter, Connection, File, FileStore, MemStore};
 use std::alloc::Global;
@@ -25,7 +26,7 @@ pub trait Place<S: Alter> {
 }
 
 /// The file in the folder where the program runs.
-#[derive(Drop)]
+#[derive(Clone, Copy)]
 pub struct OwnFile<'a> {
     pub rt: &'a HostRuntime,
 }
@@ -48,15 +49,17 @@ impl Place<MemStore> for InMemory {
 
 /// Which call is made.
 #[derive(Clone, Copy)]
-enum Call {
+pub enum Call {
     Open,
     Set,
     All,
     Changes,
 }
 
-/// Each call on an open store by its name.
-static STORE_CALLS: &[(&str, Call)] = &[
+/// The opening, and each call on an open store, by its name.
+pub static OPENING: &[(&str, Call)] = &[("OverrideStore::open_on", Call::Open)];
+
+pub static CALLS: &[(&str, Call)] = &[
     ("OverrideStore::set", Call::Set),
     ("OverrideStore::all", Call::All),
     ("OverrideStore::changes", Call::Changes),
@@ -94,16 +97,6 @@ fn first_version<S: Alter + Drop, P: Place<S>>(alloc: Global, place: &P) -> Opti
         drop(conn);
         None
     }
-}
-
-/// The store on a new connection to the place.
-fn opened_at<S: Alter + Drop, P: Place<S>>(alloc: Global, place: &P) -> Option<OverrideStore<S>> {
-    opened(alloc, place.connect(alloc)?)
-}
-
-/// The store on a connection to the place, whose database is first made one of the first version.
-fn moved_at<S: Alter + Drop, P: Place<S>>(alloc: Global, place: &P) -> Option<OverrideStore<S>> {
-    opened(alloc, first_version(alloc, place)?)
 }
 
 fn call_on<S: Alter>(alloc: Global, store: &mut OverrideStore<S>, call: Call) -> Answer {
@@ -170,7 +163,11 @@ impl<S: Alter + Drop, P: Place<S>> Trial for Storing<S, P> {
             drop(mem::replace(&mut self.conn, first_version(alloc, &self.place)));
             return self.conn.is_some();
         }
-        drop(mem::replace(&mut self.store, moved_at(alloc, &self.place)));
+        let store = match first_version(alloc, &self.place) {
+            Some(conn) => opened(alloc, conn),
+            None => None,
+        };
+        drop(mem::replace(&mut self.store, store));
         self.store.is_some()
     }
 
@@ -188,7 +185,10 @@ impl<S: Alter + Drop, P: Place<S>> Trial for Storing<S, P> {
         if matches!(self.call, Call::Open) {
             let store = match answer {
                 Answer::Made => self.store.take(),
-                _ => opened_at(alloc, &self.place),
+                _ => match self.place.connect(alloc) {
+                    Some(conn) => opened(alloc, conn),
+                    None => None,
+                },
             };
             return has_moved(alloc, store);
         }
@@ -199,37 +199,21 @@ impl<S: Alter + Drop, P: Place<S>> Trial for Storing<S, P> {
     }
 }
 
-/// Tries the opening of a store at the place.
-pub fn try_opening<S: Alter + Drop, P: Place<S> + Drop>(
-    rt: &impl Print,
-    alloc: Global,
+/// Tries each of the calls on a store at the place.
+pub fn try_all<S: Alter + Drop, P: Place<S> + Copy + Drop>(
+    rt: &HostRuntime,
     hoard: &mut Hoard,
     place: P,
-) -> anyhow::Result<()> {
-    let trial = Storing {
-        place,
-        call: Call::Open,
-        conn: None,
-        store: None,
-    };
-    crate::little_memory::tried(rt, alloc, hoard, "OverrideStore::open_on", trial)
-}
-
-/// Tries each call on a store at the place.
-pub fn try_calls<S: Alter + Drop, P: Place<S> + Copy + Drop>(
-    rt: &impl Print,
-    alloc: Global,
-    hoard: &mut Hoard,
-    place: P,
-) -> anyhow::Result<()> {
-    for (name, call) in STORE_CALLS {
+    calls: &[(&str, Call)],
+) -> Result<()> {
+    for (name, call) in calls {
         let trial = Storing {
             place,
             call: *call,
             conn: None,
             store: None,
         };
-        crate::little_memory::tried(rt, alloc, hoard, name, trial)?;
+        tried(rt, hoard, name, trial)?;
     }
     Ok(())
 }

@@ -2,7 +2,8 @@
 //! enough.
 
 use crate::little_memory::hoard::Hoard;
-use std::alloc::{AllocError, Global};
+use anyhow::{Result, bail};
+use std::alloc::Global;
 
 /// What a call answered.
 #[derive(Clone, Copy, PartialEq, Eq)]
@@ -27,9 +28,15 @@ pub trait Trial {
     fn is_right(&mut self, alloc: Global, answer: Answer) -> bool;
 }
 
+/// What is taken of the block that is given back. An allocator may keep a small block for a growth of just its size; what is
+/// left of a greater one serves any growth that fits.
+const FILLER: usize = 4096;
+
+/// How many times a call is made at most.
+const ROUNDS: u32 = 4096;
+
 /// How a call stood its trial.
-#[derive(Clone, Copy, PartialEq, Eq)]
-pub enum Verdict {
+enum Verdict {
     /// It was refused memory so many times, each time answered so and left what it should, and then was made.
     Stood(u32),
     /// It answered or left something else, if so many bytes were left to it.
@@ -38,36 +45,25 @@ pub enum Verdict {
     NotTried,
 }
 
-/// What is taken of the block that is given back. An allocator may keep a small block for a growth of just its size; what is
-/// left of a greater one serves any growth that fits.
-const FILLER: usize = 4096;
-
-/// How many times a call is made at most.
-const ROUNDS: u32 = 4096;
-
 /// Makes the call with no memory left, and then with more and more.
-pub fn stand<T: Trial>(
-    alloc: Global,
-    hoard: &mut Hoard,
-    trial: &mut T,
-) -> Result<Verdict, AllocError> {
+fn stand<T: Trial>(alloc: Global, hoard: &mut Hoard, trial: &mut T) -> Verdict {
     let mut remaining = 0usize;
     for refused in 0..ROUNDS {
         if !trial.prepare(alloc) {
-            return Ok(Verdict::NotTried);
+            return Verdict::NotTried;
         }
-        let Some(answer) = answer_with(alloc, hoard, trial, remaining)? else {
-            return Ok(Verdict::NotTried);
+        let Some(answer) = answer_with(alloc, hoard, trial, remaining) else {
+            return Verdict::NotTried;
         };
         if answer == Answer::Other || !trial.is_right(alloc, answer) {
-            return Ok(Verdict::Fell(remaining));
+            return Verdict::Fell(remaining);
         }
         if answer == Answer::Made {
-            return Ok(Verdict::Stood(refused));
+            return Verdict::Stood(refused);
         }
         remaining = remaining.saturating_add(16 + remaining / 64);
     }
-    Ok(Verdict::NotTried)
+    Verdict::NotTried
 }
 
 /// What the call answers if so many bytes are left. None if the memory is not limited.
@@ -76,11 +72,11 @@ fn answer_with<T: Trial>(
     hoard: &mut Hoard,
     trial: &mut T,
     remaining: usize,
-) -> Result<Option<Answer>, AllocError> {
-    let kept: Vec<u8> = Vec::with_capacity(alloc, FILLER.saturating_add(remaining))?;
+) -> Option<Answer> {
+    let kept: Vec<u8> = Vec::with_capacity(alloc, FILLER.saturating_add(remaining)).ok()?;
     let is_all = hoard.take_all(alloc);
     drop(kept);
-    let filler: Vec<u8> = Vec::with_capacity(alloc, FILLER)?;
+    let filler: Vec<u8> = Vec::with_capacity(alloc, FILLER).ok()?;
     let answer = if is_all {
         Some(trial.call(alloc))
     } else {
@@ -88,5 +84,25 @@ fn answer_with<T: Trial>(
     };
     drop(filler);
     hoard.give_back();
-    Ok(answer)
+    answer
+}
+
+/// Tries a call, and says how it stood that. An error if it answered or left something else than it should, or if the memory was not
+/// limited. The trial is let go here, since each place that lets it go is proved for its whole type.
+pub fn tried<T: Trial + Drop>(
+    rt: &HostRuntime,
+    hoard: &mut Hoard,
+    name: &str,
+    trial: T,
+) -> Result<()> {
+    let mut trial = trial;
+    let verdict = stand(rt.alloc(), hoard, &mut trial);
+    drop(trial);
+    match verdict {
+        Verdict::Stood(0) => bail!("{name}: was never refused memory"),
+        Verdict::Stood(_) => println!(rt; "{name}: no memory, then made")?,
+        Verdict::Fell(remaining) => bail!("{name}: wrong with {remaining} bytes left"),
+        Verdict::NotTried => bail!("{name}: not tried"),
+    }
+    Ok(())
 }

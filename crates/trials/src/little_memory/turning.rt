@@ -1,8 +1,9 @@
 //! A launcher that is made where memory is short, and its turns.
 
 use crate::little_memory::hoard::Hoard;
-use crate::little_memory::trial::{Answer, Trial};
-use crate::turns::staged::{Launched, Parts, asked, parts_of};
+use crate::little_memory::trial::{Answer, Trial, tried};
+use crate::memory_stage::{Launched, Parts, asked, parts_of};
+use anyhow::Result;
 use child_edge::{EdgeCall, Scripted};
 use history_model::{JobNo, Reading};
 use launcher::{HostFault, Input};
@@ -11,7 +12,6 @@ use std::mem;
 
 /// A turn that takes memory, and what a second request shows of it.
 struct Turn {
-    name: &'static str,
     /// The definition that is loaded first.
     before: &'static [u8],
     /// The answers of the outside, in order.
@@ -69,111 +69,82 @@ const LATER: Reading = Reading {
     wall: 1_700_000_101,
 };
 
-static TURNS: &[Turn] = &[
-    Turn {
-        name: "turn: list",
-        before: LOAD,
-        answers: &[STARTED],
-        input: Input::Line(LIST),
-        text: RUNNING,
-        probe: LIST,
-        was: RUNNING,
-        is: RUNNING,
-        undone: 0,
-    },
-    Turn {
-        name: "turn: print",
-        before: LOAD,
-        answers: &[STARTED],
-        input: Input::Line(PRINT),
-        text: PRINTED,
-        probe: PRINT,
-        was: PRINTED,
-        is: PRINTED,
-        undone: 0,
-    },
-    Turn {
-        name: "turn: load -w, with a socket",
-        before: LOAD,
-        answers: &[STARTED, DONE, DONE, DONE],
-        input: Input::Line(LOAD_LISTENING),
-        text: "",
-        probe: LIST,
-        was: RUNNING,
-        is: "PID\tStatus\tLabel\n812\t0\ta\n-\t0\ts\n",
-        undone: 2,
-    },
-    Turn {
-        name: "turn: disable",
-        before: LOAD,
-        answers: &[STARTED],
-        input: Input::Line(b"{\"req\":\"disable\",\"job\":\"a\"}"),
-        text: "",
-        probe: PRINT,
-        was: PRINTED,
-        is: DISABLED,
-        undone: 0,
-    },
-    Turn {
-        name: "turn: a reading that crosses minutes",
-        before: LOAD_CALENDAR,
-        answers: &[STARTED],
-        input: Input::Clock(LATER),
-        text: "",
-        probe: LIST,
-        was: "PID\tStatus\tLabel\n-\t0\ta\n",
-        is: RUNNING,
-        undone: 0,
-    },
+/// The making of a launcher, and turns, by their names.
+static CALLS: &[(&str, Option<&Turn>)] = &[
+    ("Host::new", None),
+    (
+        "turn: list",
+        Some(&Turn {
+            before: LOAD,
+            answers: &[STARTED],
+            input: Input::Line(LIST),
+            text: RUNNING,
+            probe: LIST,
+            was: RUNNING,
+            is: RUNNING,
+            undone: 0,
+        }),
+    ),
+    (
+        "turn: print",
+        Some(&Turn {
+            before: LOAD,
+            answers: &[STARTED],
+            input: Input::Line(PRINT),
+            text: PRINTED,
+            probe: PRINT,
+            was: PRINTED,
+            is: PRINTED,
+            undone: 0,
+        }),
+    ),
+    (
+        "turn: load -w, with a socket",
+        Some(&Turn {
+            before: LOAD,
+            answers: &[STARTED, DONE, DONE, DONE],
+            input: Input::Line(LOAD_LISTENING),
+            text: "",
+            probe: LIST,
+            was: RUNNING,
+            is: "PID\tStatus\tLabel\n812\t0\ta\n-\t0\ts\n",
+            undone: 2,
+        }),
+    ),
+    (
+        "turn: disable",
+        Some(&Turn {
+            before: LOAD,
+            answers: &[STARTED],
+            input: Input::Line(b"{\"req\":\"disable\",\"job\":\"a\"}"),
+            text: "",
+            probe: PRINT,
+            was: PRINTED,
+            is: DISABLED,
+            undone: 0,
+        }),
+    ),
+    (
+        "turn: a reading that crosses minutes",
+        Some(&Turn {
+            before: LOAD_CALENDAR,
+            answers: &[STARTED],
+            input: Input::Clock(LATER),
+            text: "",
+            probe: LIST,
+            was: "PID\tStatus\tLabel\n-\t0\ta\n",
+            is: RUNNING,
+            undone: 0,
+        }),
+    ),
 ];
 
-/// `Host::new` over a store that has one setting. What it refuses is gone, so all is made anew for each call.
-#[derive(Drop)]
-struct Making<H> {
-    parts: Option<Parts>,
-    host: Option<H>,
-}
-
-impl<H: Launched + Drop> Trial for Making<H> {
-    fn prepare(&mut self, alloc: Global) -> bool {
-        drop(mem::replace(&mut self.host, None));
-        let parts = parts_of(alloc, "UTC0", 0, &["a"], &[]).ok();
-        drop(mem::replace(&mut self.parts, parts));
-        self.parts.is_some()
-    }
-
-    fn call(&mut self, alloc: Global) -> Answer {
-        let Some(parts) = self.parts.take() else {
-            return Answer::Other;
-        };
-        match H::open(alloc, parts) {
-            Ok(host) => {
-                drop(mem::replace(&mut self.host, Some(host)));
-                Answer::Made
-            }
-            Err(HostFault::NoMemory) => Answer::NoMemory,
-            Err(_) => Answer::Other,
-        }
-    }
-
-    /// A launcher that was made refuses the disabled label. One that was refused is made with memory.
-    fn is_right(&mut self, alloc: Global, answer: Answer) -> bool {
-        if answer == Answer::NoMemory {
-            let is_prepared = self.prepare(alloc);
-            let is_made = self.call(alloc) == Answer::Made;
-            return is_prepared && is_made;
-        }
-        match self.host.as_mut() {
-            Some(host) => asked(alloc, host, Input::Line(LOAD), "").0 == 5,
-            None => false,
-        }
-    }
-}
-
-/// A turn on a launcher whose job runs.
+/// The making of a launcher over a store that has one setting, or a turn on one whose job runs. What a making refuses is gone, so all is
+/// made anew for each call.
 #[derive(Drop)]
 struct Turning<H> {
-    turn: &'static Turn,
+    turn: Option<&'static Turn>,
+    parts: Option<Parts>,
     host: Option<H>,
     /// How many calls to the outside it made before the turn.
     calls: usize,
@@ -194,23 +165,18 @@ fn taken<H: Launched>(alloc: Global, host: &mut H, turn: &Turn) -> (u8, Answer) 
     (code, answer)
 }
 
-/// Whether the request that shows what there is has this text.
-fn shows<H: Launched>(alloc: Global, host: &mut H, turn: &Turn, text: &str) -> bool {
-    asked(alloc, host, Input::Line(turn.probe), text) == (0, true)
-}
-
 /// Whether a refused turn left all as it was, but for so many calls, and is made with memory.
 fn is_undone<H: Launched>(alloc: Global, host: &mut H, turn: &Turn, calls: usize) -> bool {
     let is_uncalled = host.calls() == calls;
-    let was_so = shows(alloc, host, turn, turn.was);
+    let was_so = asked(alloc, host, Input::Line(turn.probe), turn.was) == (0, true);
     let is_made = taken(alloc, host, turn).1 == Answer::Made;
-    let is_so = shows(alloc, host, turn, turn.is);
+    let is_so = asked(alloc, host, Input::Line(turn.probe), turn.is) == (0, true);
     is_uncalled && was_so && is_made && is_so
 }
 
 /// A launcher that has the turn's first job, if it took that.
 fn ready<H: Launched + Drop>(alloc: Global, turn: &Turn) -> Option<H> {
-    let parts = parts_of(alloc, "UTC0", 0, &[], turn.answers).ok()?;
+    let parts = parts_of(alloc, "UTC0", 0, &[], turn.answers)?;
     let mut host = H::open(alloc, parts).ok()?;
     if asked(alloc, &mut host, Input::Line(turn.before), "") == (0, true) {
         Some(host)
@@ -220,9 +186,32 @@ fn ready<H: Launched + Drop>(alloc: Global, turn: &Turn) -> Option<H> {
     }
 }
 
+impl<H: Launched + Drop> Turning<H> {
+    /// Makes the launcher of the parts.
+    fn open(&mut self, alloc: Global) -> Answer {
+        let Some(parts) = self.parts.take() else {
+            return Answer::Other;
+        };
+        match H::open(alloc, parts) {
+            Ok(host) => {
+                drop(mem::replace(&mut self.host, Some(host)));
+                Answer::Made
+            }
+            Err(HostFault::NoMemory) => Answer::NoMemory,
+            Err(_) => Answer::Other,
+        }
+    }
+}
+
 impl<H: Launched + Drop> Trial for Turning<H> {
     fn prepare(&mut self, alloc: Global) -> bool {
-        drop(mem::replace(&mut self.host, ready(alloc, self.turn)));
+        let Some(turn) = self.turn else {
+            drop(mem::replace(&mut self.host, None));
+            let parts = parts_of(alloc, "UTC0", 0, &["a"], &[]);
+            drop(mem::replace(&mut self.parts, parts));
+            return self.parts.is_some();
+        };
+        drop(mem::replace(&mut self.host, ready(alloc, turn)));
         match self.host.as_mut() {
             Some(host) => {
                 self.calls = host.calls();
@@ -233,56 +222,49 @@ impl<H: Launched + Drop> Trial for Turning<H> {
     }
 
     fn call(&mut self, alloc: Global) -> Answer {
-        match self.host.as_mut() {
-            Some(host) => {
-                let (code, answer) = taken(alloc, host, self.turn);
+        match (self.turn, self.host.as_mut()) {
+            (Some(turn), Some(host)) => {
+                let (code, answer) = taken(alloc, host, turn);
                 self.code = code;
                 answer
             }
-            None => Answer::Other,
+            (Some(_), None) => Answer::Other,
+            (None, _) => self.open(alloc),
         }
     }
 
-    fn is_right(&mut self, alloc: Global, _answer: Answer) -> bool {
-        match (self.host.as_mut(), self.code) {
-            (Some(host), 1) => is_undone(alloc, host, self.turn, self.calls),
-            (Some(host), 9) => {
-                let calls = self.calls.saturating_add(self.turn.undone);
-                is_undone(alloc, host, self.turn, calls)
+    /// A launcher that was made refuses the disabled label. One that was refused is made with memory.
+    fn is_right(&mut self, alloc: Global, answer: Answer) -> bool {
+        if self.turn.is_none() && answer == Answer::NoMemory {
+            let is_prepared = self.prepare(alloc);
+            return self.open(alloc) == Answer::Made && is_prepared;
+        }
+        match (self.turn, self.host.as_mut(), self.code) {
+            (Some(turn), Some(host), 1) => is_undone(alloc, host, turn, self.calls),
+            (Some(turn), Some(host), 9) => {
+                let calls = self.calls.saturating_add(turn.undone);
+                is_undone(alloc, host, turn, calls)
             }
-            (Some(host), _) => shows(alloc, host, self.turn, self.turn.is),
-            (None, _) => false,
+            (Some(turn), Some(host), _) => {
+                asked(alloc, host, Input::Line(turn.probe), turn.is) == (0, true)
+            }
+            (None, Some(host), _) => asked(alloc, host, Input::Line(LOAD), "").0 == 5,
+            (_, None, _) => false,
         }
     }
 }
 
-/// Tries the making of a launcher.
-pub fn try_making<H: Launched + Drop>(
-    rt: &impl Print,
-    alloc: Global,
-    hoard: &mut Hoard,
-) -> anyhow::Result<()> {
-    let trial: Making<H> = Making {
-        parts: None,
-        host: None,
-    };
-    crate::little_memory::tried(rt, alloc, hoard, "Host::new", trial)
-}
-
-/// Tries each turn.
-pub fn try_turns<H: Launched + Drop>(
-    rt: &impl Print,
-    alloc: Global,
-    hoard: &mut Hoard,
-) -> anyhow::Result<()> {
-    for turn in TURNS {
+/// Tries the making of a launcher, and then each turn.
+pub fn try_all<H: Launched + Drop>(rt: &HostRuntime, hoard: &mut Hoard) -> Result<()> {
+    for (name, turn) in CALLS {
         let trial: Turning<H> = Turning {
-            turn,
+            turn: *turn,
+            parts: None,
             host: None,
             calls: 0,
             code: 0,
         };
-        crate::little_memory::tried(rt, alloc, hoard, turn.name, trial)?;
+        tried(rt, hoard, name, trial)?;
     }
     Ok(())
 }

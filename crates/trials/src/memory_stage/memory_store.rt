@@ -22,17 +22,6 @@ pub struct MemoryStore {
 }
 
 impl MemoryStore {
-    /// Says whether it holds this setting and no other.
-    pub fn is_one(&self, label: &str, disabled: bool) -> bool {
-        match self.held.first() {
-            Some(setting) => {
-                let same = setting.label.as_str() == label && setting.disabled == disabled;
-                same && self.held.len() == 1
-            }
-            None => false,
-        }
-    }
-
     /// Keeps the setting if it answers so and there is memory for it, and tells whether it did.
     fn keep(&mut self, label: &str, disabled: bool) -> bool {
         if !self.answer {

@@ -1,100 +1,141 @@
-//! A launcher over an edge, a store and a journal in memory.
+//! A launcher over an edge, a store and a journal in memory. What lets a launcher go is proved for its whole type, so most trials are
+//! generic over it.
 
+use crate::memory_stage::handed_edge::{ABSENT, Handed, HandedEdge};
 use crate::memory_stage::memory_store::MemoryStore;
-use crate::memory_stage::sink::Sink;
+use crate::memory_stage::sink::{Sink, new_sink};
 use child_edge::{EdgeCall, MemoryEdge, Scripted};
 use ctl_protocol::{Header, Settings, ZoneText};
-use history_model::{Reading, Refusal, Setting, Text};
-use launcher::{Host, HostFault};
-use std::alloc::Global;
+use history_model::{Reading, Reply, Setting, Text};
+use launcher::{Host, HostFault, Input};
+use std::alloc::{AllocError, Global};
 
-pub type Stage = Host<MemoryStore, MemoryEdge, Sink>;
+pub type Stage = Host<MemoryStore, HandedEdge, Sink>;
 
-/// The clocks so many milliseconds after the start.
-pub fn reading(up: u64) -> Reading {
-    Reading {
-        up,
-        wall: 1_700_000_000,
-    }
-}
+/// What a launcher is made of.
+pub type Parts = (Header, MemoryStore, HandedEdge);
+
+/// How many lines a journal takes; more than are written.
+pub const LINES: usize = 1_000;
+
+/// The clocks as launchers begin.
+pub const START: Reading = Reading {
+    up: 0,
+    wall: 1_700_000_000,
+};
 
 /// An edge that gives the answers beside these calls.
-pub fn edge(alloc: Global, calls: &[(EdgeCall, Scripted)]) -> Result<MemoryEdge, Refusal> {
+pub fn edge(alloc: Global, calls: &[(EdgeCall, Scripted)]) -> Option<HandedEdge> {
     let mut answers = Vec::new(alloc);
     for (_call, answer) in calls {
-        if answers.push(*answer).is_err() {
-            return Err(Refusal::NoMemory);
-        }
+        answers.push(*answer).ok()?;
     }
-    match MemoryEdge::new(alloc, answers, 16) {
-        Ok(edge) => Ok(edge),
-        Err(_) => Err(Refusal::NoMemory),
-    }
+    let orders = MemoryEdge::new(alloc, answers, 16).ok()?;
+    Some(HandedEdge {
+        orders,
+        now: START,
+        sights: [ABSENT, ABSENT],
+    })
 }
 
 /// A header of this zone and `up`.
-pub fn header(alloc: Global, zone: &str, up: u64) -> Result<Header, Refusal> {
-    let Ok(rule) = Text::copy_of(alloc, zone) else {
-        return Err(Refusal::NoMemory);
-    };
-    Ok(Header {
-        reading: reading(up),
+pub fn header(alloc: Global, zone: &str, up: u64) -> Option<Header> {
+    let rule = Text::copy_of(alloc, zone).ok()?;
+    Some(Header {
+        reading: Reading { up, ..START },
         zone: ZoneText::Posix(rule),
         overrides: Settings::new(Vec::new(alloc)),
     })
 }
 
-/// A store that holds these settings and gives them, and answers so if it is told another.
-pub fn store(alloc: Global, held: Vec<Setting>, answer: bool) -> MemoryStore {
-    MemoryStore {
-        alloc,
-        held,
-        answer,
-        fault: None,
-        asked: 0,
+/// A setting for each of these names, in their order: it is disabled.
+fn disabled(alloc: Global, names: &[&str]) -> Result<Vec<Setting>, AllocError> {
+    let mut held = Vec::new(alloc);
+    for name in names {
+        let label = Text::copy_of(alloc, name)?;
+        held.push(Setting {
+            label,
+            disabled: true,
+        })?;
     }
+    Ok(held)
 }
 
-/// A launcher of this header over the edge and the store, whose journal takes so many writes.
-pub fn opened(
+/// What a launcher is made of: a header of this zone and `up`, a store that disables these labels and takes each setting, and an edge that
+/// gives the answers beside these calls.
+pub fn parts_of(
     alloc: Global,
-    header: Header,
-    store: MemoryStore,
-    edge: MemoryEdge,
-    writes: usize,
-) -> Result<Stage, HostFault> {
-    let sink = Sink {
-        taken: Vec::new(alloc),
-        writes,
-    };
-    Host::new(alloc, header, store, edge, Some(sink))
-}
-
-/// A launcher with no job, whose edge gives the answers beside these calls, whose store is empty and answers so, and whose
-/// journal takes so many writes.
-pub fn set_stage(
-    alloc: Global,
+    zone: &str,
+    up: u64,
+    held: &[&str],
     calls: &[(EdgeCall, Scripted)],
-    answer: bool,
-    writes: usize,
-) -> Result<Stage, Refusal> {
+) -> Option<Parts> {
     let edge = edge(alloc, calls)?;
-    let header = header(alloc, "UTC0", 0)?;
-    let store = store(alloc, Vec::new(alloc), answer);
-    match opened(alloc, header, store, edge, writes) {
-        Ok(host) => Ok(host),
-        Err(_) => Err(Refusal::NoMemory),
+    match (header(alloc, zone, up), disabled(alloc, held)) {
+        (Some(header), Ok(held)) => {
+            let store = MemoryStore {
+                alloc,
+                held,
+                answer: true,
+                fault: None,
+                asked: 0,
+            };
+            Some((header, store, edge))
+        }
+        (header, held) => {
+            drop(edge);
+            drop(header);
+            drop(held);
+            None
+        }
     }
 }
 
-/// Says whether the journal holds the first lines, then the last one, and no more.
-pub fn holds(stage: Stage, first: &[u8], last: &[u8]) -> bool {
-    let (table, store, edge, journal) = stage.into_parts();
-    drop(table);
-    drop(store);
-    drop(edge);
-    match journal {
-        Some(sink) => sink.taken.as_slice().strip_prefix(first) == Some(last),
-        None => false,
+/// A launcher of the parts, whose journal takes so many writes.
+pub fn opened(alloc: Global, parts: Parts, writes: usize) -> Result<Stage, HostFault> {
+    let (header, store, edge) = parts;
+    Host::new(alloc, header, store, edge, Some(new_sink(alloc, writes)))
+}
+
+/// A launcher, whatever it is made of.
+pub trait Launched {
+    /// A launcher of the parts.
+    fn open(alloc: Global, parts: Parts) -> Result<Self, HostFault>;
+
+    /// What it replies to the input.
+    fn reply_to(&mut self, alloc: Global, input: Input<'_>) -> Reply;
+
+    /// How many calls it has made.
+    fn calls(&mut self) -> usize;
+
+    /// Whether its journal was closed, and that was not told yet.
+    fn has_closed(&mut self) -> bool;
+}
+
+impl Launched for Stage {
+    fn open(alloc: Global, parts: Parts) -> Result<Stage, HostFault> {
+        opened(alloc, parts, LINES)
     }
+
+    fn reply_to(&mut self, alloc: Global, input: Input<'_>) -> Reply {
+        self.turn(alloc, input)
+    }
+
+    fn calls(&mut self) -> usize {
+        self.edge().orders().len()
+    }
+
+    fn has_closed(&mut self) -> bool {
+        self.report_journal_closing()
+    }
+}
+
+/// The code and whether the text is this one.
+pub fn asked<H: Launched>(alloc: Global, host: &mut H, input: Input<'_>, text: &str) -> (u8, bool) {
+    let reply = host.reply_to(alloc, input);
+    let code = match reply.refusal {
+        Some(refusal) => refusal.code(),
+        None => 0,
+    };
+    (code, reply.text.as_str() == text)
 }

@@ -4,7 +4,7 @@ use calendar_due::{Zone, ZoneFault};
 use history_model::CivilMinute;
 use std::alloc::Global;
 
-mod cases;
+pub mod cases;
 
 // The latest second that a clock may tell.
 const LATEST: u64 = 250_000_000_000;
@@ -28,50 +28,32 @@ fn numbers_of(line: &str) -> Option<[u64; 7]> {
     Some(numbers)
 }
 
-// What the zone shows at so many seconds, with these before it.
-fn shown_by(zone: &Zone, seconds: u64) -> [u64; 7] {
-    let shown = zone.civil_minute(seconds.min(LATEST));
-    [
-        seconds,
+// Whether the zone of the line shows what the line says.
+fn is_shown(alloc: Global, line: &str) -> Option<bool> {
+    let numbers = numbers_of(line)?;
+    let (name, _) = line.split_once(" ")?;
+    let zone = zone_of(alloc, name)?;
+    let shown = zone.civil_minute(numbers[0].min(LATEST));
+    drop(zone);
+    let shown = [
+        numbers[0],
         u64::from(shown.year.unsigned_abs()),
         u64::from(shown.month),
         u64::from(shown.day),
         u64::from(shown.hour),
         u64::from(shown.minute),
         u64::from(shown.weekday),
-    ]
+    ];
+    Some(shown == numbers)
 }
 
-// Whether the zone of the line shows what the line says.
-fn is_shown(alloc: Global, line: &str) -> bool {
-    let (name, _) = line.split_once(" ").unwrap_or((line, ""));
-    match (numbers_of(line), zone_of(alloc, name)) {
-        (Some(numbers), Some(zone)) => {
-            let is_so = shown_by(&zone, numbers[0]) == numbers;
-            drop(zone);
-            is_so
-        }
-        (_, zone) => {
-            drop(zone);
-            false
-        }
-    }
-}
-
-// The first line that is not shown so.
-fn first_fault(alloc: Global, lines: &'static str) -> Option<&'static str> {
+/// Whether each time is shown as the C library shows it, by the zone's rule or by its file.
+pub fn are_shown(alloc: Global, lines: &str) -> bool {
+    let mut are_so = true;
     for line in lines.lines() {
-        if !is_shown(alloc, line) {
-            return Some(line);
-        }
+        are_so &= is_shown(alloc, line) == Some(true);
     }
-    None
-}
-
-/// The first time that is shown otherwise than the C library shows it, by the zone's rule or by its file.
-pub fn first_shown_otherwise(alloc: Global) -> Option<&'static str> {
-    let by_rule = first_fault(alloc, cases::SHOWN);
-    by_rule.or(first_fault(alloc, cases::SHOWN_BY_FILE))
+    are_so
 }
 
 const AN_HOUR_EAST: CivilMinute = CivilMinute {
@@ -83,7 +65,8 @@ const AN_HOUR_EAST: CivilMinute = CivilMinute {
     weekday: 2,
 };
 
-fn crosses_one(alloc: Global) -> Option<bool> {
+/// Whether a zone crosses a minute, which is the one that it shows then.
+pub fn crosses_one(alloc: Global) -> Option<bool> {
     let zone = Zone::fixed(3600).ok()?;
     let crossed = zone.crossed(alloc, 1_700_000_000, 1_700_000_040).ok();
     let is_shown = zone.civil_minute(1_700_000_040) == AN_HOUR_EAST;
@@ -95,76 +78,35 @@ fn is_no_zone(made: Result<Zone, ZoneFault>) -> bool {
     matches!(made.err(), Some(ZoneFault::BadZone))
 }
 
-/// Whether a file of so many bytes, each of them 0, is none.
-fn is_no_long_file(alloc: Global, bytes: usize) -> bool {
-    match vec![in alloc; 0u8; bytes] {
-        Ok(long) => is_no_zone(Zone::tzif(alloc, long.as_slice())),
-        Err(_) => false,
-    }
+/// Whether so many zeros, and then so many of the bytes, are no zone's file.
+pub fn is_no_file(alloc: Global, bytes: &[u8], count: usize, zeros: usize) -> Option<bool> {
+    let mut file = vec![in alloc; 0u8; zeros].ok()?;
+    file.extend_from_slice(&bytes[..count.min(bytes.len())])
+        .ok()?;
+    Some(is_no_zone(Zone::tzif(alloc, file.as_slice())))
 }
 
-/// The first text that is taken as a rule, though it is none.
-fn first_rule() -> Option<&'static str> {
-    for text in cases::NO_RULES.lines() {
-        if !is_no_zone(Zone::posix(text)) {
-            return Some(text);
-        }
+/// Whether each line is refused as no rule.
+pub fn are_no_rules(lines: &str) -> bool {
+    let mut are_so = true;
+    for text in lines.lines() {
+        are_so &= is_no_zone(Zone::posix(text));
     }
-    None
+    are_so
 }
 
-/// How many of these offsets make a zone, and how many are refused as none.
-fn zones_of(offsets: &[i32]) -> (usize, usize) {
+/// How many of these offsets make a zone. None if another one is not refused as none.
+pub fn zones_of(offsets: &[i32]) -> Option<usize> {
     let mut made = 0usize;
-    let mut refused = 0usize;
     for seconds in offsets {
         match Zone::fixed(*seconds) {
             Ok(zone) => {
                 drop(zone);
                 made = made.saturating_add(1);
             }
-            Err(ZoneFault::BadZone) => refused = refused.saturating_add(1),
-            Err(_) => {}
+            Err(ZoneFault::BadZone) => {}
+            Err(_) => return None,
         }
     }
-    (made, refused)
+    Some(made)
 }
-
-/// How many of these files are no zone's.
-fn refused_files(alloc: Global, files: &[&[u8]]) -> usize {
-    let mut count = 0usize;
-    for bytes in files {
-        if is_no_zone(Zone::tzif(alloc, bytes)) {
-            count = count.saturating_add(1);
-        }
-    }
-    count
-}
-
-/// The first thing that is otherwise: a rule that is taken, or what is said here.
-pub fn first_other(alloc: Global) -> Option<&'static str> {
-    let cut_short = match cases::PYONGYANG.split_last() {
-        Some((_, rest)) => rest,
-        None => b"",
-    };
-    let facts = [
-        ("a zone crosses a minute", crosses_one(alloc) == Some(true)),
-        ("far offsets are refused", zones_of(FAR) == (0, 4)),
-        ("near offsets are taken", zones_of(NEAR) == (2, 0)),
-        ("a long file is refused", is_no_long_file(alloc, 65_537)),
-        (
-            "short files are refused",
-            refused_files(alloc, &[b"".as_slice(), b"TZi", cut_short]) == 3,
-        ),
-    ];
-    for (name, is_so) in facts {
-        if !is_so {
-            return Some(name);
-        }
-    }
-    first_rule()
-}
-
-const FAR: &[i32] = &[-86_400, 86_400, i32::MIN, i32::MAX];
-
-const NEAR: &[i32] = &[-86_399, 86_399];

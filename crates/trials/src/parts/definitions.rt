@@ -1,11 +1,12 @@
 //! The definitions of the folder `examples/jobs`, byte for byte, each with what is read from it.
 
 use history_model::{Entry, Text};
-use job_defs::{Address, Def, DefFault, PathState, Socket, Variable, read_def};
+use job_defs::{Address, Def, PathState, Socket, Variable, read_def};
 use std::alloc::Global;
 
-/// What is read from a definition.
-struct Read {
+/// A definition, and what is read from it.
+pub struct Read {
+    text: &'static str,
     label: &'static str,
     program: &'static str,
     arguments: &'static [&'static str],
@@ -28,13 +29,14 @@ struct Read {
 }
 
 /// Where a socket is.
-enum Place {
+pub enum Place {
     Path(&'static str),
     Port([u8; 4], u16),
 }
 
 /// What is read where a key is absent. No example has a key of one that runs once, is disabled or is kept alive by a crash.
 const ABSENT: Read = Read {
+    text: "",
     label: "",
     program: "",
     arguments: &[],
@@ -56,7 +58,7 @@ const ABSENT: Read = Read {
     sockets: &[],
 };
 
-const KEPT_ALIVE: &str = r#"{
+const KEPT_ALIVE_TEXT: &str = r#"{
   "Label": "org.example.web",
   "ProgramArguments": ["/usr/local/bin/webd", "--port", "8080"],
   "KeepAlive": true,
@@ -70,7 +72,8 @@ const KEPT_ALIVE: &str = r#"{
 "#;
 
 /// What is read from it.
-const KEPT_ALIVE_READ: Read = Read {
+pub const KEPT_ALIVE: &Read = &Read {
+    text: KEPT_ALIVE_TEXT,
     label: "org.example.web",
     program: "/usr/local/bin/webd",
     arguments: &["--port", "8080"],
@@ -85,7 +88,7 @@ const KEPT_ALIVE_READ: Read = Read {
     ..ABSENT
 };
 
-const CALENDAR: &str = r#"{
+const CALENDAR_TEXT: &str = r#"{
   "Label": "org.example.backup",
   "Program": "/usr/local/bin/backup",
   "StartCalendarInterval": [
@@ -96,7 +99,8 @@ const CALENDAR: &str = r#"{
 "#;
 
 /// What is read from it.
-const CALENDAR_READ: Read = Read {
+pub const CALENDAR: &Read = &Read {
+    text: CALENDAR_TEXT,
     label: "org.example.backup",
     program: "/usr/local/bin/backup",
     calendar: &[
@@ -118,7 +122,7 @@ const CALENDAR_READ: Read = Read {
     ..ABSENT
 };
 
-const INTERVAL: &str = r#"{
+const INTERVAL_TEXT: &str = r#"{
   "Label": "org.example.poll",
   "ProgramArguments": ["/usr/local/bin/poll", "--quiet"],
   "StartInterval": 300,
@@ -127,7 +131,8 @@ const INTERVAL: &str = r#"{
 "#;
 
 /// What is read from it.
-const INTERVAL_READ: Read = Read {
+pub const INTERVAL: &Read = &Read {
+    text: INTERVAL_TEXT,
     label: "org.example.poll",
     program: "/usr/local/bin/poll",
     arguments: &["--quiet"],
@@ -136,7 +141,7 @@ const INTERVAL_READ: Read = Read {
     ..ABSENT
 };
 
-const WATCHED_FOLDER: &str = r#"{
+const WATCHED_FOLDER_TEXT: &str = r#"{
   "Label": "org.example.reload",
   "ProgramArguments": ["/usr/local/bin/reload"],
   "WatchPaths": ["/etc/example", "/etc/example.conf"]
@@ -144,14 +149,15 @@ const WATCHED_FOLDER: &str = r#"{
 "#;
 
 /// What is read from it.
-const WATCHED_FOLDER_READ: Read = Read {
+pub const WATCHED_FOLDER: &Read = &Read {
+    text: WATCHED_FOLDER_TEXT,
     label: "org.example.reload",
     program: "/usr/local/bin/reload",
     watch_paths: &["/etc/example", "/etc/example.conf"],
     ..ABSENT
 };
 
-const QUEUE: &str = r#"{
+const QUEUE_TEXT: &str = r#"{
   "Label": "org.example.mail",
   "ProgramArguments": ["/usr/local/bin/send-mail", "/var/spool/example"],
   "QueueDirectories": ["/var/spool/example"],
@@ -160,7 +166,8 @@ const QUEUE: &str = r#"{
 "#;
 
 /// What is read from it.
-const QUEUE_READ: Read = Read {
+pub const QUEUE: &Read = &Read {
+    text: QUEUE_TEXT,
     label: "org.example.mail",
     program: "/usr/local/bin/send-mail",
     arguments: &["/var/spool/example"],
@@ -170,7 +177,7 @@ const QUEUE_READ: Read = Read {
     ..ABSENT
 };
 
-const SOCKET: &str = r#"{
+const SOCKET_TEXT: &str = r#"{
   "Label": "org.example.echo",
   "ProgramArguments": ["/bin/cat"],
   "Sockets": {
@@ -182,7 +189,8 @@ const SOCKET: &str = r#"{
 "#;
 
 /// What is read from it.
-const SOCKET_READ: Read = Read {
+pub const SOCKET: &Read = &Read {
+    text: SOCKET_TEXT,
     label: "org.example.echo",
     program: "/bin/cat",
     sockets: &[
@@ -191,16 +199,6 @@ const SOCKET_READ: Read = Read {
     ],
     ..ABSENT
 };
-
-/// Each definition, and what is read from it.
-static EXAMPLES: [(&str, Read); 6] = [
-    (KEPT_ALIVE, KEPT_ALIVE_READ),
-    (CALENDAR, CALENDAR_READ),
-    (INTERVAL, INTERVAL_READ),
-    (WATCHED_FOLDER, WATCHED_FOLDER_READ),
-    (QUEUE, QUEUE_READ),
-    (SOCKET, SOCKET_READ),
-];
 
 fn are_texts(items: &[Text], wanted: &[&str]) -> bool {
     let mut are_so = items.len() == wanted.len();
@@ -228,26 +226,22 @@ fn are_states(items: &[PathState], wanted: &[(&str, bool)]) -> bool {
     are_so
 }
 
-fn is_at(address: &Address, place: &Place) -> bool {
-    match (address, place) {
-        (Address::Unix(path), Place::Path(wanted)) => path.as_str() == *wanted,
-        (Address::Inet { host, port }, Place::Port(bytes, number)) => {
-            *host == *bytes && *port == *number
-        }
-        _ => false,
-    }
-}
-
 fn are_at(items: &[Socket], wanted: &[Place]) -> bool {
     let mut are_so = items.len() == wanted.len();
     for (socket, place) in items.iter().zip(wanted.iter()) {
-        are_so &= is_at(&socket.address, place);
+        are_so &= match (&socket.address, place) {
+            (Address::Unix(path), Place::Path(wanted)) => path.as_str() == *wanted,
+            (Address::Inet { host, port }, Place::Port(bytes, number)) => {
+                *host == *bytes && *port == *number
+            }
+            _ => false,
+        };
     }
     are_so
 }
 
-/// Whether this is read from the definition.
-fn is_read(def: &Def, read: &Read) -> bool {
+/// Whether the definition has this.
+fn has(def: &Def, read: &Read) -> bool {
     let facts = [
         def.label() == read.label,
         def.program() == read.program,
@@ -276,24 +270,14 @@ fn is_read(def: &Def, read: &Read) -> bool {
     !facts.contains(&false)
 }
 
-/// Whether this is read from the text, if that is a definition.
-fn read_as(alloc: Global, text: &str, read: &Read) -> Result<bool, DefFault> {
-    match read_def(alloc, text.as_bytes()) {
+/// Whether this is read from the text.
+pub fn is_read(alloc: Global, read: &Read) -> bool {
+    match read_def(alloc, read.text.as_bytes()) {
         Ok(def) => {
-            let is_read = is_read(&def, read);
+            let is_read = has(&def, read);
             drop(def);
-            Ok(is_read)
+            is_read
         }
-        Err(fault) => Err(fault),
+        Err(_) => false,
     }
-}
-
-/// The label of the first example of which another thing is read.
-pub fn first_fault(alloc: Global) -> Option<&'static str> {
-    for (text, read) in &EXAMPLES {
-        if read_as(alloc, text, read) != Ok(true) {
-            return Some(read.label);
-        }
-    }
-    None
 }

@@ -5,8 +5,7 @@ use socket_demand::{Exchange, ExchangeFault};
 use std::alloc::Global;
 
 /// What is told of an exchange, and what is expected of it.
-#[derive(Clone, Copy)]
-enum Step {
+pub enum Step {
     /// A piece of the request, and how it is refused.
     Piece(&'static str, Option<ExchangeFault>),
     /// So many bytes more of the request, and how they are refused.
@@ -29,7 +28,7 @@ enum Step {
 }
 
 /// A request in two pieces, and a reply of which two bytes are sent.
-const SERVED: &[Step] = &[
+pub const SERVED: &[Step] = &[
     Piece("ab", None),
     Piece("c", None),
     Asked("abc"),
@@ -48,7 +47,7 @@ const SERVED: &[Step] = &[
 ];
 
 /// A request that would be too long leaves what was there, and a shorter piece is still taken.
-const TOO_LONG: &[Step] = &[
+pub const TOO_LONG: &[Step] = &[
     Piece("abc", None),
     Bytes(65_534, Some(ExchangeFault::TooLong)),
     Asked("abc"),
@@ -63,7 +62,7 @@ const TOO_LONG: &[Step] = &[
 ];
 
 /// A reply waits up to its room, and goes on if some was sent.
-const REPLY_WAITS: &[Step] = &[
+pub const REPLY_WAITS: &[Step] = &[
     RequestEnd,
     Asked(""),
     Reply("ab", 2),
@@ -76,22 +75,19 @@ const REPLY_WAITS: &[Step] = &[
 ];
 
 /// An exchange is done once both ends were told and nothing is left.
-const ENDS: &[Step] = &[Done(false), ReplyEnd, Done(false), RequestEnd, Done(true)];
+pub const ENDS: &[Step] = &[Done(false), ReplyEnd, Done(false), RequestEnd, Done(true)];
 
 /// With the room of its beginning: the longest request at once, and as much of a reply as may wait.
-const ROOM: &[Step] = &[
+pub const ROOM: &[Step] = &[
     Bytes(65_536, None),
     Bytes(1, Some(ExchangeFault::TooLong)),
     ReplyBytes(65_536, 16_384),
     LeftBytes(16_384),
 ];
 
-/// Each list is of an exchange of its own.
-static LISTS: &[&[Step]] = &[ROOM, SERVED, TOO_LONG, REPLY_WAITS, ENDS];
-
 /// Whether the step goes as it says. The bytes of long pieces are those of the filler.
-fn goes(exchange: &mut Exchange, step: Step, filler: &[u8]) -> bool {
-    match step {
+fn goes(exchange: &mut Exchange, step: &Step, filler: &[u8]) -> bool {
+    match *step {
         Piece(piece, fault) => exchange.request(piece.as_bytes()).err() == fault,
         Bytes(count, fault) => {
             let piece = &filler[..count.min(filler.len())];
@@ -122,26 +118,14 @@ fn goes(exchange: &mut Exchange, step: Step, filler: &[u8]) -> bool {
     }
 }
 
-/// How many steps go as they say, before one that does not. None without memory.
-fn gone(alloc: Global, steps: &[Step]) -> Option<usize> {
+/// Whether the exchange goes as its steps say. None without memory.
+pub fn all_go(alloc: Global, steps: &[Step]) -> Option<bool> {
     let filler = vec![in alloc; b'x'; 65_536].ok()?;
     let mut exchange = Exchange::new(alloc).ok()?;
-    let mut passed = 0usize;
+    let mut all_go = true;
     for step in steps {
-        if !goes(&mut exchange, *step, filler.as_slice()) {
-            break;
-        }
-        passed = passed.saturating_add(1);
+        all_go &= goes(&mut exchange, step, filler.as_slice());
     }
     drop(exchange);
-    Some(passed)
-}
-
-/// Whether each exchange goes as it says.
-pub fn all_go(alloc: Global) -> bool {
-    let mut all_go = true;
-    for steps in LISTS {
-        all_go &= gone(alloc, steps) == Some(steps.len());
-    }
-    all_go
+    Some(all_go)
 }

@@ -5,8 +5,7 @@ use std::alloc::Global;
 use timer_heap::TimerHeap;
 
 /// What is asked of a heap, and what is expected of it.
-#[derive(Clone, Copy)]
-enum Step {
+pub enum Step {
     /// Room for so many numbers is made: at once, or at the second try.
     Reserve(u32),
     /// The job of this number has this moment.
@@ -20,7 +19,7 @@ enum Step {
 }
 
 /// A job's newer moment takes the place of the older one; a moment comes once it is reached, and not before.
-const BY_MOMENTS: &[Step] = &[
+pub const BY_MOMENTS: &[Step] = &[
     Reserve(2),
     Set(0, 500),
     Set(1, 300),
@@ -33,7 +32,7 @@ const BY_MOMENTS: &[Step] = &[
 ];
 
 /// A later moment takes the place of an earlier one too, and a job comes once for its moment.
-const LATER_AND_ONCE: &[Step] = &[
+pub const LATER_AND_ONCE: &[Step] = &[
     Reserve(5),
     Set(4, 10),
     Set(3, 20),
@@ -45,7 +44,7 @@ const LATER_AND_ONCE: &[Step] = &[
 ];
 
 /// Of equal moments the lesser number comes first, whatever the room is. A growth keeps the moments.
-const TIES_AND_GROWTH: &[Step] = &[
+pub const TIES_AND_GROWTH: &[Step] = &[
     Reserve(3),
     Set(2, 7),
     Set(0, 7),
@@ -61,10 +60,10 @@ const TIES_AND_GROWTH: &[Step] = &[
 ];
 
 /// A heap without room has no moment, and gives none.
-const WITHOUT_ROOM: &[Step] = &[Clear(0), Least(None), Due(0, None)];
+pub const WITHOUT_ROOM: &[Step] = &[Clear(0), Least(None), Due(0, None)];
 
 /// With one growth refused (`rt try --test --fail-alloc N`) the heap is as it was, and the next growth succeeds.
-const GROWING: &[Step] = &[
+pub const GROWING: &[Step] = &[
     Reserve(2),
     Set(1, 5),
     Reserve(9),
@@ -73,18 +72,9 @@ const GROWING: &[Step] = &[
     Least(Some((1, 4))),
 ];
 
-/// Each list is of a heap of its own.
-static LISTS: &[&[Step]] = &[
-    BY_MOMENTS,
-    LATER_AND_ONCE,
-    TIES_AND_GROWTH,
-    WITHOUT_ROOM,
-    GROWING,
-];
-
 /// Whether the step goes as it says.
-fn goes(alloc: Global, heap: &mut TimerHeap, step: Step) -> bool {
-    match step {
+fn goes(alloc: Global, heap: &mut TimerHeap, step: &Step) -> bool {
+    match *step {
         Reserve(count) => {
             let is_made = heap.reserve(alloc, count).is_ok();
             is_made || heap.reserve(alloc, count).is_ok()
@@ -109,24 +99,12 @@ fn goes(alloc: Global, heap: &mut TimerHeap, step: Step) -> bool {
     }
 }
 
-/// How many steps go as they say, before one that does not. None without memory.
-fn gone(alloc: Global, steps: &[Step]) -> Option<usize> {
+/// Whether the heap goes as its steps say. None without memory.
+pub fn all_go(alloc: Global, steps: &[Step]) -> Option<bool> {
     let mut heap = TimerHeap::new(alloc).ok()?;
-    let mut passed = 0usize;
-    for step in steps {
-        if !goes(alloc, &mut heap, *step) {
-            break;
-        }
-        passed = passed.saturating_add(1);
-    }
-    Some(passed)
-}
-
-/// Whether each list of steps goes as it says.
-pub fn all_go(alloc: Global) -> bool {
     let mut all_go = true;
-    for steps in LISTS {
-        all_go &= gone(alloc, steps) == Some(steps.len());
+    for step in steps {
+        all_go &= goes(alloc, &mut heap, step);
     }
-    all_go
+    Some(all_go)
 }

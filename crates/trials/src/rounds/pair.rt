@@ -1,21 +1,19 @@
 //! Two launchers to which the same is told: one as the loop tells it, which leaves out what may change nothing, and one that is
 //! told everything.
 
-use crate::memory_stage::{MemoryStore, Sink, edge, header, reading, store};
-use crate::rounds::edge::{ABSENT, Handed, HandedEdge, PATHS, Sights as Seen};
+use crate::memory_stage::{
+    ABSENT, Handed, HandedEdge, LINES, Launched, MemoryStore, PATHS, START, Sights as Seen, Sink,
+    Stage, parts_of,
+};
 use crate::rounds::step::{Step, Stream};
-use child_edge::{EdgeCall, Scripted};
 use control_socket::Answers;
-use history_model::{Reading, Refusal, Reply};
+use history_model::{Reading, Reply};
 use launcher::{Host, Input};
 use live_loop::Sights;
 use outside::SettingStore;
 use round_launcher::RoundLauncher;
 use std::alloc::Global;
 use std::io::Write;
-
-/// As many lines the journal of a launcher takes at most.
-const LINES: usize = 1_000;
 
 #[derive(Drop)]
 struct Pair<T: SettingStore, E: Handed, W: Write> {
@@ -26,10 +24,6 @@ struct Pair<T: SettingStore, E: Handed, W: Write> {
     seen: Seen,
 }
 
-fn are_equal(one: &Reply, other: &Reply) -> bool {
-    one.refusal == other.refusal && one.text.as_str() == other.text.as_str()
-}
-
 impl<T: SettingStore, E: Handed, W: Write> Pair<T, E, W> {
     // The one launcher is told what its loop tells it, the other the reading and each sight.
     fn round(&mut self, alloc: Global) {
@@ -37,62 +31,55 @@ impl<T: SettingStore, E: Handed, W: Write> Pair<T, E, W> {
         self.spared.begin(alloc);
         let _clock = self.whole.turn(alloc, Input::Clock(self.at));
         if self.looks.look(alloc, &mut self.spared) {
-            self.see(alloc);
+            let [first, second] = self.seen;
+            let [place, other] = PATHS;
+            let _first = self.whole.turn(alloc, Input::Saw(place, first));
+            let _second = self.whole.turn(alloc, Input::Saw(other, second));
         }
     }
 
-    fn see(&mut self, alloc: Global) {
-        let [first, second] = self.seen;
-        let [place, other] = PATHS;
-        let _first = self.whole.turn(alloc, Input::Saw(place, first));
-        let _second = self.whole.turn(alloc, Input::Saw(other, second));
-    }
-
-    fn ask(&mut self, alloc: Global, line: &[u8]) -> bool {
-        let spared = self.spared.answer(alloc, line);
-        let whole = self.whole.turn(alloc, Input::Line(line));
-        are_equal(&spared, &whole)
-    }
-
-    fn tell(&mut self, alloc: Global, input: Input<'_>) -> bool {
-        let spared = self.spared.give(alloc, input);
+    // Says whether the other launcher replies to the input as the one did.
+    fn is_alike(&mut self, alloc: Global, spared: &Reply, input: Input<'_>) -> bool {
         let whole = self.whole.turn(alloc, input);
-        are_equal(&spared, &whole)
+        spared.refusal == whole.refusal && spared.text.as_str() == whole.text.as_str()
     }
 
     // Says whether both answer the step alike.
-    fn play(&mut self, alloc: Global, step: Step) -> bool {
-        match step {
+    fn play(&mut self, alloc: Global, step: &Step) -> bool {
+        match *step {
             Step::Round(up, passed) => {
-                self.at = at(up, passed);
+                let wall = START.wall.saturating_add(passed);
+                self.at = Reading { up, wall };
                 self.round(alloc);
                 true
             }
-            Step::First(obs) => {
-                let [_, second] = self.seen;
-                self.seen = [obs, second];
+            Step::Sees(place, obs) => {
+                let [first, second] = self.seen;
+                self.seen = if place == 0 {
+                    [obs, second]
+                } else {
+                    [first, obs]
+                };
                 true
             }
-            Step::Second(obs) => {
-                let [first, _] = self.seen;
-                self.seen = [first, obs];
-                true
+            Step::Ask(line) => {
+                let spared = self.spared.answer(alloc, line.as_bytes());
+                self.is_alike(alloc, &spared, Input::Line(line.as_bytes()))
             }
-            Step::Ask(line) => self.ask(alloc, line.as_bytes()),
-            Step::End(label, run, how) => self.tell(alloc, Input::Ended(label, run, how)),
+            Step::End(label, run, how) => {
+                let spared = self.spared.give(alloc, Input::Ended(label, run, how));
+                self.is_alike(alloc, &spared, Input::Ended(label, run, how))
+            }
         }
-    }
-
-    fn order_alike(&mut self) -> bool {
-        let spared = self.spared.host.edge().orders();
-        spared == self.whole.edge().orders()
     }
 
     // Says whether both answer each step alike and have ordered the same after it, and in the end this.
     fn play_all(&mut self, alloc: Global, stream: &Stream) -> bool {
         for step in stream.steps {
-            let answered = self.play(alloc, *step);
-            if !self.order_alike() || !answered {
+            let answered = self.play(alloc, step);
+            let spared = self.spared.host.edge().orders();
+            let is_same = spared == self.whole.edge().orders();
+            if !is_same || !answered {
                 return false;
             }
         }
@@ -100,79 +87,47 @@ impl<T: SettingStore, E: Handed, W: Write> Pair<T, E, W> {
     }
 }
 
-fn at(up: u64, passed: u64) -> Reading {
-    let start = reading(up);
-    Reading {
-        up,
-        wall: start.wall.saturating_add(passed),
-    }
+/// A launcher whose edge gives the answers beside these calls.
+fn staged(alloc: Global, stream: &Stream) -> Option<Stage> {
+    let parts = parts_of(alloc, "UTC0", 0, &[], stream.orders)?;
+    Stage::open(alloc, parts).ok()
 }
 
-type Stage = Host<MemoryStore, HandedEdge, Sink>;
-
-fn set_stage(alloc: Global, orders: &[(EdgeCall, Scripted)]) -> Result<Stage, Refusal> {
-    let header = header(alloc, "UTC0", 0)?;
-    let orders = match edge(alloc, orders) {
-        Ok(orders) => orders,
-        Err(refusal) => {
-            drop(header);
-            return Err(refusal);
-        }
-    };
-    let edge = HandedEdge {
-        orders,
-        now: reading(0),
-        sights: [ABSENT, ABSENT],
-    };
-    let store = store(alloc, Vec::new(alloc), true);
-    let sink = Sink {
-        taken: Vec::new(alloc),
-        writes: LINES,
-    };
-    match Host::new(alloc, header, store, edge, Some(sink)) {
-        Ok(host) => Ok(host),
-        Err(_) => Err(Refusal::NoMemory),
-    }
-}
-
-// How many lines the launcher's journal could still take.
-fn lines_left(host: Stage) -> usize {
+// How many lines the launcher's journal took.
+fn lines_of(host: Stage) -> usize {
     let (table, store, edge, journal) = host.into_parts();
     drop(table);
     drop(store);
     drop(edge);
     match journal {
-        Some(sink) => sink.writes,
-        None => 0,
+        Some(sink) => LINES.saturating_sub(sink.writes),
+        None => LINES,
     }
 }
 
-fn set_pair(
-    alloc: Global,
-    orders: &[(EdgeCall, Scripted)],
-) -> Result<Pair<MemoryStore, HandedEdge, Sink>, Refusal> {
-    let host = set_stage(alloc, orders)?;
-    match (set_stage(alloc, orders), Sights::new(alloc)) {
-        (Ok(whole), Ok(looks)) => Ok(Pair {
+fn set_pair(alloc: Global, stream: &Stream) -> Option<Pair<MemoryStore, HandedEdge, Sink>> {
+    let host = staged(alloc, stream)?;
+    match (staged(alloc, stream), Sights::new(alloc)) {
+        (Some(whole), Ok(looks)) => Some(Pair {
             spared: RoundLauncher::new(host),
             looks,
             whole,
-            at: reading(0),
+            at: START,
             seen: [ABSENT, ABSENT],
         }),
         (whole, looks) => {
             drop(host);
             drop(whole);
             drop(looks);
-            Err(Refusal::NoMemory)
+            None
         }
     }
 }
 
 /// Says whether both launchers answer each step of the stream alike, have ordered the same after each step, and in the end what
 /// stands beside the steps, and whether the journal of the one is shorter by so many lines.
-pub fn is_spared(alloc: Global, stream: &Stream) -> Result<bool, Refusal> {
-    let mut pair = set_pair(alloc, stream.orders)?;
+pub fn is_spared(alloc: Global, stream: &Stream) -> Option<bool> {
+    let mut pair = set_pair(alloc, stream)?;
     let are_alike = pair.play_all(alloc, stream);
     let Pair {
         spared,
@@ -182,7 +137,6 @@ pub fn is_spared(alloc: Global, stream: &Stream) -> Result<bool, Refusal> {
     } = pair;
     drop(looks);
     let RoundLauncher { host, .. } = spared;
-    let spared = lines_left(host);
-    let whole = lines_left(whole);
-    Ok(are_alike && spared == whole.saturating_add(stream.left_out))
+    let lines = lines_of(host).saturating_add(stream.left_out);
+    Some(are_alike && lines == lines_of(whole))
 }

@@ -1,11 +1,13 @@
-//! Rounds over a system that refuses, with one job.
+//! Rounds over a system that refuses, with one job. The launcher's store and its journal are in memory.
 
-use crate::edges::places::new_folder;
+use crate::edges::places::{edge_over, new_folder};
 use crate::edges::refusing::{Found, Grants, Refusing, new_refusing};
-use crate::memory_stage::{MemoryStore, Sink};
-use crate::rounds::scene::{control_in, goes_on, journal_of, launcher_over};
-use launcher::Input;
-use round_launcher::{Live, RoundLauncher};
+use crate::memory_stage::{LINES, MemoryStore, Sink, header, new_sink};
+use child_edge::OsEdge;
+use control_socket::ControlSocket;
+use launcher::{Host, Input};
+use live_loop::{Live, LoopHost, System, round};
+use round_launcher::RoundLauncher;
 use std::fs;
 use std::io::ErrorKind;
 
@@ -31,29 +33,63 @@ const FOUND: Option<Found> = Some(Found {
     refusals: 2,
 });
 
-/// Makes two rounds, and says whether both go on and the journal then is as wanted.
-fn is_journaled(rt: &Refusing, live: Live<Refusing, MemoryStore, Sink>) -> bool {
-    let mut live = live;
-    let first = goes_on(rt, &mut live);
-    let second = goes_on(rt, &mut live);
-    match journal_of(live) {
-        Some(journal) => first && second && journal.as_slice() == JOURNAL,
+/// A launcher with no job over the runtime's system, which spools in the folder.
+fn launcher_over<R: System>(own: R, folder: &str) -> Option<Host<MemoryStore, OsEdge<R>, Sink>> {
+    let alloc = own.alloc();
+    let edge = edge_over(own, folder)?;
+    let Some(header) = header(alloc, "UTC0", 0) else {
+        drop(edge);
+        return None;
+    };
+    let store = MemoryStore {
+        alloc,
+        held: Vec::new(alloc),
+        answer: true,
+        fault: None,
+        asked: 0,
+    };
+    Host::new(alloc, header, store, edge, Some(new_sink(alloc, LINES))).ok()
+}
+
+/// Makes two rounds with the control socket, and gives whether both go on, and the launcher back.
+fn rounds_of<R: System, H: LoopHost + Drop>(
+    rt: &R,
+    host: H,
+    control: ControlSocket,
+) -> Option<(bool, H)> {
+    let mut live = Live::new(rt, rt.alloc(), host, control).ok()?;
+    let first = matches!(round(rt, rt.alloc(), &mut live), Ok(false));
+    let second = matches!(round(rt, rt.alloc(), &mut live), Ok(false));
+    Some((first && second, live.into_host()))
+}
+
+/// Whether the journal is as wanted.
+fn holds<R: System>(host: Host<MemoryStore, OsEdge<R>, Sink>) -> bool {
+    let (table, store, edge, journal) = host.into_parts();
+    drop(table);
+    drop(store);
+    drop(edge);
+    match journal {
+        Some(sink) => sink.taken.as_slice() == JOURNAL,
         None => false,
     }
 }
 
-/// The rounds of a launcher that has the job.
-fn live_over(
-    host_rt: &HostRuntime,
-    rt: &Refusing,
-    folder: &str,
-) -> Option<Live<Refusing, MemoryStore, Sink>> {
-    let mut host = launcher_over(rt, rt.clone().ok()?, folder)?;
-    drop(host.turn(rt.alloc(), Input::Line(LOAD)));
-    match control_in(host_rt, folder) {
-        Some(control) => Live::new(rt, rt.alloc(), RoundLauncher::new(host), control).ok(),
+/// Whether two rounds of a launcher that has the job, with a control socket in the folder, go on, and the journal then is as wanted.
+fn is_journaled<R: System>(host_rt: &HostRuntime, rt: &R, folder: &str) -> Option<bool> {
+    let own = rt.clone().ok()?;
+    let path = format!(in rt.alloc(); "{folder}/socket").ok()?;
+    let control = ControlSocket::open(host_rt, rt.alloc(), path.as_str()).ok()?;
+    match launcher_over(own, folder) {
+        Some(host) => {
+            let mut host = host;
+            drop(host.turn(rt.alloc(), Input::Line(LOAD)));
+            let (go_on, launcher) = rounds_of(rt, RoundLauncher::new(host), control)?;
+            let RoundLauncher { host, .. } = launcher;
+            Some(holds(host) && go_on)
+        }
         None => {
-            drop(host);
+            drop(control);
             None
         }
     }
@@ -67,10 +103,7 @@ pub fn are_taken(rt: &HostRuntime) -> Option<bool> {
         drop(system);
         return None;
     };
-    let is_journaled = match live_over(rt, &system, folder.as_str()) {
-        Some(live) => is_journaled(&system, live),
-        None => false,
-    };
+    let is_journaled = is_journaled(rt, &system, folder.as_str()) == Some(true);
     let is_clear = fs::remove_dir_all(rt, folder.as_str()).is_ok();
     let is_told = match system.told.try_borrow() {
         Ok(told) => told.as_str() == TOLD,

@@ -4,15 +4,12 @@ use child_edge::{EdgeCall, Scripted};
 use history_model::{Ended, Obs};
 
 /// One step of a stream.
-#[derive(Clone, Copy)]
 pub enum Step {
     /// A round: the clocks stand at so many milliseconds of `up`, and so many seconds past the start; paths are looked at if it
     /// is time.
     Round(u64, u64),
-    /// From now on this is at the first path.
-    First(Obs),
-    /// From now on this is at the second path.
-    Second(Obs),
+    /// From now on this is at the path of this number, 0 or 1.
+    Sees(u8, Obs),
     /// A line of a control client.
     Ask(&'static str),
     /// The job's run ended so.

@@ -1,12 +1,10 @@
 //! The streams. Each ends with a list, whose text both launchers have to answer alike.
 
-use crate::rounds::edge::ABSENT;
-use crate::rounds::pair::is_spared;
-use crate::rounds::step::Step::{Ask, End, First, Round, Second};
+use crate::memory_stage::ABSENT;
+use crate::rounds::step::Step::{Ask, End, Round, Sees};
 use crate::rounds::step::Stream;
 use child_edge::{EdgeCall, Scripted};
 use history_model::{Ended, Obs};
-use std::alloc::Global;
 
 const LIST: &str = r#"{"req":"list"}"#;
 
@@ -91,7 +89,7 @@ const OFTEN: &str =
     r#"{"req":"load","def":"{\"Label\":\"often\",\"Program\":\"/bin/x\",\"StartInterval\":5,\"ThrottleInterval\":0}"}"#;
 
 /// Every five seconds; the seconds between them are left out.
-const INTERVAL: Stream = Stream {
+pub const INTERVAL: Stream = Stream {
     steps: &[
         Ask(OFTEN),
         Round(1_000, 1),
@@ -113,7 +111,7 @@ const HOURLY: &str =
 
 /// A minute is crossed 40 seconds after the start, before a calendar is loaded; then 14 minutes past the hour comes, and comes
 /// again after the wall clock was set back.
-const CALENDAR: Stream = Stream {
+pub const CALENDAR: Stream = Stream {
     steps: &[
         Round(1_000, 1),
         Ask(HOURLY),
@@ -136,7 +134,7 @@ const KEPT: &str =
     r#"{"req":"load","def":"{\"Label\":\"kept\",\"Program\":\"/bin/x\",\"KeepAlive\":true}"}"#;
 
 /// A job that ends too soon waits for its throttle; so does one whose start was refused.
-const THROTTLE: Stream = Stream {
+pub const THROTTLE: Stream = Stream {
     steps: &[
         Ask(KEPT),
         Round(2_000, 2),
@@ -165,17 +163,17 @@ const WHILE_GONE: &str =
     r#"{"req":"load","def":"{\"Label\":\"gone\",\"Program\":\"/bin/x\",\"KeepAlive\":{\"PathState\":{\"/a\":false}},\"ThrottleInterval\":0}"}"#;
 
 /// A job is kept while a file is there, and ends once it is gone. Another one is loaded after that, and has to hear of it too.
-const PATH_STATE: Stream = Stream {
+pub const PATH_STATE: Stream = Stream {
     steps: &[
         Ask(WHILE_THERE),
         Round(1_000, 1),
         Round(2_000, 2),
-        First(FILE),
+        Sees(0, FILE),
         Round(2_500, 2),
         Round(3_000, 3),
         End("there", 1, DONE),
         Round(4_000, 4),
-        First(ABSENT),
+        Sees(0, ABSENT),
         Round(5_000, 5),
         End("there", 2, DONE),
         Round(6_000, 6),
@@ -193,19 +191,19 @@ const WATCH: &str =
     r#"{"req":"load","def":"{\"Label\":\"watch\",\"Program\":\"/bin/x\",\"WatchPaths\":[\"/a\",\"/b\"],\"ThrottleInterval\":0}"}"#;
 
 /// The first sight of a path starts nothing, nor does an equal one; a change does, and so does an end of the file.
-const WATCHED: Stream = Stream {
+pub const WATCHED: Stream = Stream {
     steps: &[
-        First(FILE),
+        Sees(0, FILE),
         Ask(WATCH),
         Round(1_000, 1),
         Round(2_000, 2),
-        First(CHANGED),
+        Sees(0, CHANGED),
         Round(3_000, 3),
         End("watch", 1, DONE),
         Round(4_000, 4),
-        Second(FILE),
+        Sees(1, FILE),
         Round(5_000, 5),
-        First(ABSENT),
+        Sees(0, ABSENT),
         Round(6_000, 6),
         End("watch", 2, DONE),
         Round(7_000, 7),
@@ -220,17 +218,17 @@ const QUEUE: &str =
     r#"{"req":"load","def":"{\"Label\":\"queue\",\"Program\":\"/bin/x\",\"QueueDirectories\":[\"/b\"],\"ThrottleInterval\":0}"}"#;
 
 /// A job is kept while something is in its queue directory.
-const QUEUED: Stream = Stream {
+pub const QUEUED: Stream = Stream {
     steps: &[
-        Second(FILE),
+        Sees(1, FILE),
         Ask(QUEUE),
         Round(1_000, 1),
         Round(2_000, 2),
-        Second(FULL),
+        Sees(1, FULL),
         Round(3_000, 3),
         Round(4_000, 4),
         End("queue", 1, DONE),
-        Second(FILE),
+        Sees(1, FILE),
         Round(5_000, 5),
         End("queue", 2, DONE),
         Round(6_000, 6),
@@ -240,23 +238,3 @@ const QUEUED: Stream = Stream {
     orders: &[FIRST_RUN, SECOND_RUN],
     left_out: 10,
 };
-
-/// Each stream by what it shows.
-static STREAMS: &[(&str, Stream)] = &[
-    ("an_interval_needs_no_reading_before_its_moment", INTERVAL),
-    ("a_calendar_minute_comes_by_the_clock", CALENDAR),
-    ("a_throttle_and_a_timeout_come_by_the_clock", THROTTLE),
-    ("a_job_is_kept_while_a_file_is_there", PATH_STATE),
-    ("a_watched_path_needs_no_equal_sight", WATCHED),
-    ("a_queue_directory_needs_no_equal_sight", QUEUED),
-];
-
-/// The first stream in which something changes if what may be left out is left out.
-pub fn first_other(alloc: Global) -> Option<&'static str> {
-    for (name, stream) in STREAMS {
-        if is_spared(alloc, stream) != Ok(true) {
-            return Some(name);
-        }
-    }
-    None
-}

@@ -37,11 +37,16 @@ pub fn opened<S: Alter + Drop>(alloc: Global, conn: Connection<S>) -> Option<Ove
     OverrideStore::open_on(alloc, conn).ok()
 }
 
-/// The files of a connection that is closed.
-pub fn files_of<D: Disk + Drop>(conn: Connection<FileStore<D>>) -> Option<Files<D>> {
-    conn.close_files().ok()
+/// Whether the store makes all of these settings.
+pub fn set_all<S: Alter>(store: &mut OverrideStore<S>, rows: &[Row<'_>]) -> bool {
+    let mut is_set = true;
+    for row in rows {
+        is_set = sets(store, *row) && is_set;
+    }
+    is_set
 }
 
+/// Whether the store makes the setting.
 pub fn sets<S: Alter>(store: &mut OverrideStore<S>, row: Row<'_>) -> bool {
     let (label, disabled, second) = row;
     is_label(label) && second <= 250_000_000_000 && store.set(label, disabled, second).is_ok()

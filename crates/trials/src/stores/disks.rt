@@ -41,10 +41,3 @@ pub fn copies(alloc: Global, from: &Disks, log: u64, db: u64) -> Option<Disks> {
         }
     }
 }
-
-/// What the disks hold, on disks that do not stop.
-pub fn left(alloc: Global, disks: Disks) -> Option<Disks> {
-    let left = copies(alloc, &disks, MANY, MANY);
-    drop(disks);
-    left
-}

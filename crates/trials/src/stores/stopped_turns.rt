@@ -1,11 +1,7 @@
 //! A launcher over a store whose disks stop after so many calls, for each number of calls: a setting that was acknowledged is
 //! found by the store that is opened again, and one that was refused is not made.
 
-use crate::memory_stage::{Sink, edge, header};
-use crate::stores::disks::{Disks, copies, left};
-use crate::stores::over_files::{Task, done_over};
-use crate::stores::stops::is_so_over;
-use child_edge::{EdgeCall, MemoryEdge, Scripted};
+use crate::memory_stage::{HandedEdge, Sink, edge, header};
 use history_model::Setting;
 use launcher::{Host, Input};
 use outside::SettingStore;
@@ -22,10 +18,9 @@ const LOAD: &[u8] =
 pub type Codes = (u8, u8);
 
 /// A launcher over this store; none if the store refused.
-fn launched<T: SettingStore + Drop>(alloc: Global, store: T) -> Option<Host<T, MemoryEdge, Sink>> {
-    let calls: [(EdgeCall, Scripted); 0] = [];
-    match (header(alloc, "UTC0", 0), edge(alloc, &calls)) {
-        (Ok(header), Ok(edge)) => Host::new(alloc, header, store, edge, None).ok(),
+fn launched<T: SettingStore + Drop>(alloc: Global, store: T) -> Option<Host<T, HandedEdge, Sink>> {
+    match (header(alloc, "UTC0", 0), edge(alloc, &[])) {
+        (Some(header), Some(edge)) => Host::new(alloc, header, store, edge, None).ok(),
         (header, edge) => {
             drop(store);
             drop(header);
@@ -35,7 +30,7 @@ fn launched<T: SettingStore + Drop>(alloc: Global, store: T) -> Option<Host<T, M
     }
 }
 
-fn code<T: SettingStore>(alloc: Global, host: &mut Host<T, MemoryEdge, Sink>, line: &[u8]) -> u8 {
+fn code<T: SettingStore>(alloc: Global, host: &mut Host<T, HandedEdge, Sink>, line: &[u8]) -> u8 {
     match host.turn(alloc, Input::Line(line)).refusal {
         Some(refusal) => refusal.code(),
         None => 0,
@@ -43,7 +38,7 @@ fn code<T: SettingStore>(alloc: Global, host: &mut Host<T, MemoryEdge, Sink>, li
 }
 
 /// The store once `a` was disabled and loaded.
-fn turned<T: SettingStore + Drop>(alloc: Global, host: Host<T, MemoryEdge, Sink>) -> (Codes, T) {
+fn turned<T: SettingStore + Drop>(alloc: Global, host: Host<T, HandedEdge, Sink>) -> (Codes, T) {
     let mut host = host;
     let disabled = code(alloc, &mut host, DISABLE);
     let loaded = code(alloc, &mut host, LOAD);
@@ -62,36 +57,11 @@ pub fn turned_over<S: Alter + Drop>(alloc: Global, conn: Connection<S>) -> Optio
     Some((codes, settings.store.close_on().into_store()))
 }
 
-/// Whether `a` alone has a setting, and that disables it.
-fn is_disabled(all: &[Setting]) -> bool {
-    match all {
-        [one] => one.label.as_str() == "a" && one.disabled,
-        _ => false,
-    }
-}
-
-/// Whether a store may have these settings if those codes were answered.
+/// Whether a store may have these settings if those codes were answered: that of `a` alone, which disables it, or none if it was refused.
 pub fn may_follow_turns(codes: Codes, all: &[Setting]) -> bool {
-    match codes {
-        (0, 5) => is_disabled(all),
-        (9, 0) => all.is_empty() || is_disabled(all),
+    match (codes, all) {
+        ((0, 5) | (9, 0), [one]) => one.label.as_str() == "a" && one.disabled,
+        ((9, 0), []) => true,
         _ => false,
-    }
-}
-
-/// Whether the setting was acknowledged; none if what is found does not follow.
-pub fn turns_stop(alloc: Global, from: &Disks, log: u64, db: u64) -> Option<bool> {
-    let Some((done, files)) = done_over(alloc, copies(alloc, from, log, db)?, 7, Task::Turn) else {
-        return Some(false);
-    };
-    match done.codes {
-        Some(codes) => {
-            let is_so = is_so_over(alloc, left(alloc, files)?, Task::FollowsTurns(codes));
-            if is_so { Some(codes.0 == 0) } else { None }
-        }
-        None => {
-            drop(files);
-            Some(false)
-        }
     }
 }

@@ -2,10 +2,9 @@
 //! settings, or from the opening of a new one through a launcher's turns: what was acknowledged is found again.
 
 use crate::stores::calls::{Row, SECOND, sets, show_all};
-use crate::stores::disks::{Disks, MANY, copies, left};
-use crate::stores::files::{empty_files, old_files};
+use crate::stores::disks::{Disks, MANY, copies};
+use crate::stores::files::{Begin, NOTHING as EMPTY, left_by};
 use crate::stores::over_files::{Task, done_over};
-use crate::stores::stopped_turns::turns_stop;
 use history_model::Setting;
 use override_store::OverrideStore;
 use sqlite::{Alter, Connection};
@@ -29,22 +28,18 @@ pub const NOTHING: Said = Said {
     second: false,
 };
 
-fn set_twice<S: Alter>(store: &mut OverrideStore<S>) -> Said {
-    let first = sets(store, ON);
-    let second = sets(store, OFF);
-    Said {
-        opened: true,
-        first,
-        second,
-    }
-}
-
 /// A store is opened and two settings are made.
 pub fn set_over<S: Alter + Drop>(alloc: Global, conn: Connection<S>) -> (Said, S) {
     match OverrideStore::open_or_give(alloc, conn) {
         Ok(store) => {
             let mut store = store;
-            let said = set_twice(&mut store);
+            let first = sets(&mut store, ON);
+            let second = sets(&mut store, OFF);
+            let said = Said {
+                opened: true,
+                first,
+                second,
+            };
             (said, store.close_on().into_store())
         }
         Err((_, store)) => (NOTHING, store),
@@ -67,9 +62,14 @@ pub fn may_follow(said: Said, all: &[Setting]) -> bool {
     }
 }
 
-/// Whether a store over these files lists what the task says.
-pub fn is_so_over(alloc: Global, files: Disks, task: Task) -> bool {
-    match done_over(alloc, files, 9, task) {
+/// Whether a store over copies of these files, on disks that do not stop, lists what the task says. The files are let go.
+fn is_so_over(alloc: Global, files: Disks, task: Task) -> bool {
+    let left = copies(alloc, &files, MANY, MANY);
+    drop(files);
+    let Some(left) = left else {
+        return false;
+    };
+    match done_over(alloc, left, 9, task) {
         Some((done, files)) => {
             drop(files);
             done.is_so
@@ -78,50 +78,42 @@ pub fn is_so_over(alloc: Global, files: Disks, task: Task) -> bool {
     }
 }
 
-/// Whether the second setting was acknowledged; none if what is found does not follow.
-fn settings_stop(alloc: Global, from: &Disks, log: u64, db: u64) -> Option<bool> {
-    let (done, files) = done_over(alloc, copies(alloc, from, log, db)?, 7, Task::SetTwice)?;
-    let is_so = is_so_over(alloc, left(alloc, files)?, Task::Follows(done.said));
-    if is_so { Some(done.said.second) } else { None }
-}
-
 /// What runs over the disks: two settings, or a launcher.
 #[derive(Clone, Copy)]
-enum Run {
+pub enum Run {
     Settings,
     Turns,
 }
 
-/// What runs, and whether the log's disk stops; otherwise that of the database does.
-static STOPS: &[(&str, Run, bool)] = &[
-    ("the_log_stops", Run::Settings, true),
-    ("the_database_stops", Run::Settings, false),
-    ("a_setting_lasts_where_the_log_stops", Run::Turns, true),
-    (
-        "a_setting_lasts_where_the_database_stops",
-        Run::Turns,
-        false,
-    ),
-];
-
-/// The files that the run begins with.
-fn first_files(alloc: Global, run: Run) -> Option<Disks> {
-    match run {
-        Run::Settings => old_files(alloc),
-        Run::Turns => empty_files(alloc),
-    }
-}
-
-/// Whether the run was acknowledged whole; none if what is found does not follow.
+/// Whether the run was acknowledged whole; none if what is found does not follow. A launcher that is not made acknowledges nothing.
 fn stops(alloc: Global, run: Run, from: &Disks, log: u64, db: u64) -> Option<bool> {
-    match run {
-        Run::Settings => settings_stop(alloc, from, log, db),
-        Run::Turns => turns_stop(alloc, from, log, db),
+    let task = match run {
+        Run::Settings => Task::SetTwice,
+        Run::Turns => Task::Turn,
+    };
+    let done = done_over(alloc, copies(alloc, from, log, db)?, 7, task);
+    match (run, done) {
+        (Run::Settings, Some((done, files))) => {
+            let is_so = is_so_over(alloc, files, Task::Follows(done.said));
+            if is_so { Some(done.said.second) } else { None }
+        }
+        (Run::Turns, Some((done, files))) => match done.codes {
+            Some(codes) => {
+                let is_so = is_so_over(alloc, files, Task::FollowsTurns(codes));
+                if is_so { Some(codes.0 == 0) } else { None }
+            }
+            None => {
+                drop(files);
+                Some(false)
+            }
+        },
+        (Run::Turns, None) => Some(false),
+        (Run::Settings, None) => None,
     }
 }
 
 /// Whether each stop of the log, or of the database, is followed, up to a run that is acknowledged whole.
-fn each_stop_is_followed(alloc: Global, run: Run, from: &Disks, is_log: bool) -> bool {
+fn each_is_followed(alloc: Global, run: Run, from: &Disks, is_log: bool) -> bool {
     for calls in 0..200u64 {
         let (log, db) = if is_log { (calls, MANY) } else { (MANY, calls) };
         match stops(alloc, run, from, log, db) {
@@ -133,21 +125,18 @@ fn each_stop_is_followed(alloc: Global, run: Run, from: &Disks, is_log: bool) ->
     false
 }
 
-fn all_stops_are_followed(alloc: Global, run: Run, is_log: bool) -> bool {
-    match first_files(alloc, run) {
+/// The same, from files of the first version for settings, and from a store with no setting for a launcher.
+pub fn are_followed(alloc: Global, run: Run, is_log: bool) -> bool {
+    let from = match run {
+        Run::Settings => left_by(alloc, Begin::Old, &[]),
+        Run::Turns => left_by(alloc, Begin::New, &[EMPTY]),
+    };
+    match from {
         Some(from) => {
-            let is_so = each_stop_is_followed(alloc, run, &from, is_log);
+            let is_so = each_is_followed(alloc, run, &from, is_log);
             drop(from);
             is_so
         }
         None => false,
     }
-}
-
-/// Shows whether each stop is followed.
-pub fn try_all(rt: &impl Print, alloc: Global) -> anyhow::Result<()> {
-    for (name, run, is_log) in STOPS {
-        crate::show(rt, name, all_stops_are_followed(alloc, *run, *is_log))?;
-    }
-    Ok(())
 }

@@ -2,11 +2,11 @@
 //! replies, calls and lines are read off the rules of launchctl(1) and launchd.plist(5) and the line protocol, and off no run
 //! of this code.
 
+use crate::cases::{Case, Line};
 use crate::little_memory::turning::{LIST, LOAD, LOAD_LISTENING};
-use crate::memory_stage::{MemoryStore, Sink, Stage, opened};
-use crate::turns::staged::{asked, parts_of};
+use crate::memory_stage::{Handed, Launched, MemoryStore, Sink, Stage, asked, opened, parts_of};
 use child_edge::{EdgeCall, Scripted};
-use history_model::{Ended, JobNo, Reading, Refusal};
+use history_model::{Ended, JobNo, Reading};
 use launcher::Input;
 use std::alloc::Global;
 
@@ -14,8 +14,7 @@ use std::alloc::Global;
 type Told = (Input<'static>, u8, &'static str, usize);
 
 /// What a launcher is told, and what comes of it.
-struct Case {
-    name: &'static str,
+pub struct Turns {
     /// The labels that its store disables.
     held: &'static [&'static str],
     /// What its store answers if it is told a setting.
@@ -137,8 +136,7 @@ const AT_60_000: Input<'static> = Input::Clock(Reading {
 });
 
 /// A launcher with no setting, whose store takes each and whose journal takes all, and that has a job in the end.
-const WITH_A_JOB: Case = Case {
-    name: "",
+const WITH_A_JOB: Turns = Turns {
     held: &[],
     answer: true,
     writes: 1_000,
@@ -152,274 +150,289 @@ const WITH_A_JOB: Case = Case {
 };
 
 /// The same with none.
-const WITHOUT: Case = Case {
+const WITHOUT: Turns = Turns {
     has_job: false,
     ..WITH_A_JOB
 };
 
-static CASES: &[Case] = &[
+pub static LINES: &[Line] = &[
     // The journal has the header, the load, and the answer to the start.
-    Case {
-        name: "a_load_and_its_start_are_journaled",
-        told: &[(Input::Line(LOAD), 0, "", 1)],
-        calls: &[(START_1, STARTED)],
-        journal: Some(STARTS),
-        ..WITH_A_JOB
-    },
-    Case {
-        name: "a_load_and_its_refused_start_are_journaled",
-        told: &[(Input::Line(LOAD), 0, "", 1)],
-        calls: &[(START_1, Scripted::Refused)],
-        journal: Some(STARTS_NOT),
-        ..WITH_A_JOB
-    },
+    (
+        "a_load_and_its_start_are_journaled",
+        &[Case::Launched(&Turns {
+            told: &[(Input::Line(LOAD), 0, "", 1)],
+            calls: &[(START_1, STARTED)],
+            journal: Some(STARTS),
+            ..WITH_A_JOB
+        })],
+    ),
+    (
+        "a_load_and_its_refused_start_are_journaled",
+        &[Case::Launched(&Turns {
+            told: &[(Input::Line(LOAD), 0, "", 1)],
+            calls: &[(START_1, Scripted::Refused)],
+            journal: Some(STARTS_NOT),
+            ..WITH_A_JOB
+        })],
+    ),
     // TERM at once, KILL twenty seconds later, and nothing once the child has ended. The list shows how.
-    Case {
-        name: "a_job_that_stays_is_killed",
-        told: &[
-            (LOAD_AT_ONCE, 0, "", 1),
-            (AT_1_000, 0, "", 1),
-            (STOP, 0, "", 2),
-            (AT_20_999, 0, "", 2),
-            (AT_21_000, 0, "", 3),
-            (KILLED, 0, "", 3),
-            (Input::Line(LIST), 0, "PID\tStatus\tLabel\n-\t-9\ta\n", 3),
-            (AT_60_000, 0, "", 3),
-        ],
-        calls: &[
-            (START_1, STARTED),
-            (TERM_1, Scripted::Done),
-            (KILL_1, Scripted::Done),
-        ],
-        ..WITH_A_JOB
-    },
+    (
+        "a_job_that_stays_is_killed",
+        &[Case::Launched(&Turns {
+            told: &[
+                (LOAD_AT_ONCE, 0, "", 1),
+                (AT_1_000, 0, "", 1),
+                (STOP, 0, "", 2),
+                (AT_20_999, 0, "", 2),
+                (AT_21_000, 0, "", 3),
+                (KILLED, 0, "", 3),
+                (Input::Line(LIST), 0, "PID\tStatus\tLabel\n-\t-9\ta\n", 3),
+                (AT_60_000, 0, "", 3),
+            ],
+            calls: &[
+                (START_1, STARTED),
+                (TERM_1, Scripted::Done),
+                (KILL_1, Scripted::Done),
+            ],
+            ..WITH_A_JOB
+        })],
+    ),
     // A job is started a second after a refused start at the soonest, also if its throttle is 0. TERM and KILL then go to the
     // second run, the KILL twenty seconds after the stop.
-    Case {
-        name: "a_refused_start_comes_again",
-        told: &[
-            (LOAD_AT_ONCE, 0, "", 1),
-            (AT_999, 0, "", 1),
-            (AT_1_000, 0, "", 2),
-            (STOP, 0, "", 3),
-            (AT_20_999, 0, "", 3),
-            (AT_21_000, 0, "", 4),
-        ],
-        calls: &[
-            (START_1, Scripted::Refused),
-            (START_2, STARTED),
-            (TERM_2, Scripted::Done),
-            (KILL_2, Scripted::Done),
-        ],
-        ..WITH_A_JOB
-    },
+    (
+        "a_refused_start_comes_again",
+        &[Case::Launched(&Turns {
+            told: &[
+                (LOAD_AT_ONCE, 0, "", 1),
+                (AT_999, 0, "", 1),
+                (AT_1_000, 0, "", 2),
+                (STOP, 0, "", 3),
+                (AT_20_999, 0, "", 3),
+                (AT_21_000, 0, "", 4),
+            ],
+            calls: &[
+                (START_1, Scripted::Refused),
+                (START_2, STARTED),
+                (TERM_2, Scripted::Done),
+                (KILL_2, Scripted::Done),
+            ],
+            ..WITH_A_JOB
+        })],
+    ),
     // A refused TERM comes again, and the KILL stays due twenty seconds after the stop.
-    Case {
-        name: "a_refused_term_comes_again",
-        told: &[
-            (LOAD_AT_ONCE, 0, "", 1),
-            (AT_1_000, 0, "", 1),
-            (STOP, 0, "", 2),
-            (AT_20_999, 0, "", 3),
-            (AT_21_000, 0, "", 4),
-        ],
-        calls: &[
-            (START_1, STARTED),
-            (TERM_1, Scripted::Refused),
-            (TERM_1, Scripted::Done),
-            (KILL_1, Scripted::Done),
-        ],
-        ..WITH_A_JOB
-    },
+    (
+        "a_refused_term_comes_again",
+        &[Case::Launched(&Turns {
+            told: &[
+                (LOAD_AT_ONCE, 0, "", 1),
+                (AT_1_000, 0, "", 1),
+                (STOP, 0, "", 2),
+                (AT_20_999, 0, "", 3),
+                (AT_21_000, 0, "", 4),
+            ],
+            calls: &[
+                (START_1, STARTED),
+                (TERM_1, Scripted::Refused),
+                (TERM_1, Scripted::Done),
+                (KILL_1, Scripted::Done),
+            ],
+            ..WITH_A_JOB
+        })],
+    ),
     // A refused KILL comes again a second later.
-    Case {
-        name: "a_refused_kill_comes_again",
-        told: &[
-            (LOAD_AT_ONCE, 0, "", 1),
-            (AT_1_000, 0, "", 1),
-            (STOP, 0, "", 2),
-            (AT_21_000, 0, "", 3),
-            (AT_21_999, 0, "", 3),
-            (AT_22_000, 0, "", 4),
-        ],
-        calls: &[
-            (START_1, STARTED),
-            (TERM_1, Scripted::Done),
-            (KILL_1, Scripted::Refused),
-            (KILL_1, Scripted::Done),
-        ],
-        ..WITH_A_JOB
-    },
+    (
+        "a_refused_kill_comes_again",
+        &[Case::Launched(&Turns {
+            told: &[
+                (LOAD_AT_ONCE, 0, "", 1),
+                (AT_1_000, 0, "", 1),
+                (STOP, 0, "", 2),
+                (AT_21_000, 0, "", 3),
+                (AT_21_999, 0, "", 3),
+                (AT_22_000, 0, "", 4),
+            ],
+            calls: &[
+                (START_1, STARTED),
+                (TERM_1, Scripted::Done),
+                (KILL_1, Scripted::Refused),
+                (KILL_1, Scripted::Done),
+            ],
+            ..WITH_A_JOB
+        })],
+    ),
     // If the system refused to wait for the present child, nothing is asked of the outside.
-    Case {
-        name: "a_refused_wait_orders_nothing",
-        told: &[
-            (LOAD_AT_ONCE, 0, "", 1),
-            (Input::WaitRefused("a", 1), 0, "", 1),
-            (Input::WaitRefused("a", 2), 13, "", 1),
-        ],
-        calls: &[(START_1, STARTED)],
-        ..WITH_A_JOB
-    },
+    (
+        "a_refused_wait_orders_nothing",
+        &[Case::Launched(&Turns {
+            told: &[
+                (LOAD_AT_ONCE, 0, "", 1),
+                (Input::WaitRefused("a", 1), 0, "", 1),
+                (Input::WaitRefused("a", 2), 13, "", 1),
+            ],
+            calls: &[(START_1, STARTED)],
+            ..WITH_A_JOB
+        })],
+    ),
     // The sockets are bound, the store is told once and refuses, and they are given up again. The one line tells so.
-    Case {
-        name: "a_refused_store_releases_the_sockets",
-        answer: false,
-        told: &[(Input::Line(LOAD_LISTENING), 9, "", 2)],
-        calls: &[(BIND, Scripted::Done), (RELEASE, Scripted::Done)],
-        asked: 1,
-        journal: Some(NOT_STORED),
-        ..WITHOUT
-    },
-    Case {
-        name: "a_refused_bind_asks_no_store",
-        told: &[(Input::Line(LOAD_LISTENING), 11, "", 1)],
-        calls: &[(BIND, Scripted::Refused)],
-        ..WITHOUT
-    },
+    (
+        "a_refused_store_releases_the_sockets",
+        &[Case::Launched(&Turns {
+            answer: false,
+            told: &[(Input::Line(LOAD_LISTENING), 9, "", 2)],
+            calls: &[(BIND, Scripted::Done), (RELEASE, Scripted::Done)],
+            asked: 1,
+            journal: Some(NOT_STORED),
+            ..WITHOUT
+        })],
+    ),
+    (
+        "a_refused_bind_asks_no_store",
+        &[Case::Launched(&Turns {
+            told: &[(Input::Line(LOAD_LISTENING), 11, "", 1)],
+            calls: &[(BIND, Scripted::Refused)],
+            ..WITHOUT
+        })],
+    ),
     // A label that is disabled is so in the store, and for loads.
-    Case {
-        name: "a_setting_is_stored",
-        told: &[(DISABLE_A, 0, "", 0), (Input::Line(LOAD), 5, "", 0)],
-        asked: 1,
-        disabled: Some("a"),
-        ..WITHOUT
-    },
-    Case {
-        name: "a_setting_of_no_job_is_stored",
-        writes: 10,
-        told: &[(
-            Input::Line(b"{\"req\":\"disable\",\"job\":\"z\"}"),
-            0,
-            "",
-            0,
-        )],
-        asked: 1,
-        disabled: Some("z"),
-        ..WITHOUT
-    },
-    Case {
-        name: "a_setting_that_is_not_stored_is_not_made",
-        answer: false,
-        told: &[(DISABLE_A, 9, "", 0), (Input::Line(LOAD), 0, "", 1)],
-        calls: &[(START_1, STARTED)],
-        asked: 1,
-        ..WITH_A_JOB
-    },
+    (
+        "a_setting_is_stored",
+        &[Case::Launched(&Turns {
+            told: &[(DISABLE_A, 0, "", 0), (Input::Line(LOAD), 5, "", 0)],
+            asked: 1,
+            disabled: Some("a"),
+            ..WITHOUT
+        })],
+    ),
+    (
+        "a_setting_of_no_job_is_stored",
+        &[Case::Launched(&Turns {
+            writes: 10,
+            told: &[(
+                Input::Line(b"{\"req\":\"disable\",\"job\":\"z\"}"),
+                0,
+                "",
+                0,
+            )],
+            asked: 1,
+            disabled: Some("z"),
+            ..WITHOUT
+        })],
+    ),
+    (
+        "a_setting_that_is_not_stored_is_not_made",
+        &[Case::Launched(&Turns {
+            answer: false,
+            told: &[(DISABLE_A, 9, "", 0), (Input::Line(LOAD), 0, "", 1)],
+            calls: &[(START_1, STARTED)],
+            asked: 1,
+            ..WITH_A_JOB
+        })],
+    ),
     // The launcher begins with the settings of its store.
-    Case {
-        name: "a_launcher_begins_with_the_store",
-        held: &["a"],
-        writes: 10,
-        told: &[(Input::Line(LOAD), 5, "", 0)],
-        disabled: Some("a"),
-        journal: Some(BEGUN),
-        ..WITHOUT
-    },
+    (
+        "a_launcher_begins_with_the_store",
+        &[Case::Launched(&Turns {
+            held: &["a"],
+            writes: 10,
+            told: &[(Input::Line(LOAD), 5, "", 0)],
+            disabled: Some("a"),
+            journal: Some(BEGUN),
+            ..WITHOUT
+        })],
+    ),
     // Turns go on if the journal's writer refuses, and its closing is told once.
-    Case {
-        name: "a_refused_line_stops_no_turn",
-        writes: 1,
-        told: &[(LOAD_AT_ONCE, 0, "", 1), (STOP, 0, "", 2)],
-        calls: &[(START_1, STARTED), (TERM_1, Scripted::Done)],
-        is_closed: true,
-        ..WITH_A_JOB
-    },
+    (
+        "a_refused_line_stops_no_turn",
+        &[Case::Launched(&Turns {
+            writes: 1,
+            told: &[(LOAD_AT_ONCE, 0, "", 1), (STOP, 0, "", 2)],
+            calls: &[(START_1, STARTED), (TERM_1, Scripted::Done)],
+            is_closed: true,
+            ..WITH_A_JOB
+        })],
+    ),
     // What is told is no event: the journal holds its header alone.
-    Case {
-        name: "a_line_that_is_no_request_is_no_event",
-        told: &[
-            (Input::Line(b"{\"req\":\"lists\"}"), 2, "", 0),
-            (CLOCK_LINE, 2, "", 0),
-            (Input::Line(b"{\"ev\":\"list\"}"), 2, "", 0),
-            (Input::Line(b""), 2, "", 0),
-        ],
-        journal: Some(HEADER),
-        ..WITHOUT
-    },
+    (
+        "a_line_that_is_no_request_is_no_event",
+        &[Case::Launched(&Turns {
+            told: &[
+                (Input::Line(b"{\"req\":\"lists\"}"), 2, "", 0),
+                (CLOCK_LINE, 2, "", 0),
+                (Input::Line(b"{\"ev\":\"list\"}"), 2, "", 0),
+                (Input::Line(b""), 2, "", 0),
+            ],
+            journal: Some(HEADER),
+            ..WITHOUT
+        })],
+    ),
     // The same of what happens under a name that is no label.
-    Case {
-        name: "a_name_that_is_no_label_is_no_event",
-        told: &[
-            (Input::Came("", 1), 2, "", 0),
-            (Input::Left("a/b", 1), 2, "", 0),
-            (Input::Ended("a\n", 1, Ended::Code(0)), 2, "", 0),
-            (Input::WaitRefused("", 1), 2, "", 0),
-        ],
-        journal: Some(HEADER),
-        ..WITHOUT
-    },
+    (
+        "a_name_that_is_no_label_is_no_event",
+        &[Case::Launched(&Turns {
+            told: &[
+                (Input::Came("", 1), 2, "", 0),
+                (Input::Left("a/b", 1), 2, "", 0),
+                (Input::Ended("a\n", 1, Ended::Code(0)), 2, "", 0),
+                (Input::WaitRefused("", 1), 2, "", 0),
+            ],
+            journal: Some(HEADER),
+            ..WITHOUT
+        })],
+    ),
 ];
 
-/// The launcher of the case.
-fn launched(alloc: Global, case: &Case) -> Result<Stage, Refusal> {
-    let (header, mut store, edge) = parts_of(alloc, "UTC0", 0, case.held, case.calls)?;
-    store.answer = case.answer;
-    match opened(alloc, header, store, edge, case.writes) {
-        Ok(stage) => Ok(stage),
-        Err(_) => Err(Refusal::NoMemory),
-    }
-}
-
 /// Whether each input is answered as it says, and so many calls were then made.
-fn are_answered(alloc: Global, stage: &mut Stage, told: &[Told]) -> bool {
+fn are_answered<H: Launched>(alloc: Global, host: &mut H, told: &[Told]) -> bool {
     let mut are_so = true;
     for (input, code, text, made) in told {
-        are_so &= asked(alloc, stage, *input, text) == (*code, true);
-        are_so &= stage.edge().calls().len() == *made;
+        are_so &= asked(alloc, host, *input, text) == (*code, true);
+        are_so &= host.calls() == *made;
     }
     are_so
 }
 
-/// Whether the launcher answers as the case says, and tells once, and not before, that its journal was closed if it was.
-fn answers(alloc: Global, stage: &mut Stage, case: &Case) -> bool {
-    let was_told = stage.report_journal_closing();
-    let are_so = are_answered(alloc, stage, case.told);
-    let is_told = stage.report_journal_closing();
-    let is_told_again = stage.report_journal_closing();
-    are_so && !was_told && is_told == case.is_closed && !is_told_again
+/// Whether the launcher answers as it is said, and tells once, and not before, that its journal was closed if it was.
+fn answers<H: Launched>(alloc: Global, host: &mut H, turns: &Turns) -> bool {
+    let was_told = host.has_closed();
+    let are_so = are_answered(alloc, host, turns.told);
+    let is_told = host.has_closed();
+    let is_told_again = host.has_closed();
+    are_so && !was_told && is_told == turns.is_closed && !is_told_again
 }
 
-fn has_stored(store: &MemoryStore, case: &Case) -> bool {
-    let is_held = match case.disabled {
-        Some(label) => store.is_one(label, true),
-        None => store.held.is_empty(),
+/// Whether the store has the one setting, or none, and the journal holds what is looked at.
+fn has_kept(store: &MemoryStore, journal: Option<&Sink>, turns: &Turns) -> bool {
+    let is_held = match (turns.disabled, store.held.as_slice()) {
+        (Some(label), [setting]) => setting.label.as_str() == label && setting.disabled,
+        (None, []) => true,
+        _ => false,
     };
-    is_held && store.asked == case.asked
-}
-
-fn has_noted(journal: Option<&Sink>, case: &Case) -> bool {
-    match (case.journal, journal) {
+    let is_noted = match (turns.journal, journal) {
         (Some(wanted), Some(sink)) => sink.taken.as_slice() == wanted,
         (Some(_), None) => false,
         (None, _) => true,
-    }
+    };
+    is_held && store.asked == turns.asked && is_noted
 }
 
-/// Whether the launcher leaves what the case says. It is let go here alone, since each place that lets it go is proved for its whole type.
-fn leaves(stage: Stage, case: &Case) -> bool {
+/// Whether the launcher leaves what is said. It is let go here alone, since each place that lets it go is proved for its whole type.
+fn leaves(stage: Stage, turns: &Turns) -> bool {
     let (table, store, edge, journal) = stage.into_parts();
-    let is_left = edge.calls() == case.calls && table.is_empty() != case.has_job;
-    let has_stored = has_stored(&store, case);
-    let has_noted = has_noted(journal.as_ref(), case);
+    let is_left = edge.orders() == turns.calls && table.is_empty() != turns.has_job;
+    let has_kept = has_kept(&store, journal.as_ref(), turns);
     drop(table);
     drop(store);
     drop(edge);
     drop(journal);
-    is_left && has_stored && has_noted
+    is_left && has_kept
 }
 
-fn is_so(alloc: Global, case: &Case) -> Result<bool, Refusal> {
-    let mut stage = launched(alloc, case)?;
-    let answers = answers(alloc, &mut stage, case);
-    let leaves = leaves(stage, case);
-    Ok(answers && leaves)
-}
-
-/// Shows whether each launcher answers, calls, stores and writes as its case says.
-pub fn try_all(rt: &impl Print, alloc: Global) -> anyhow::Result<()> {
-    for case in CASES {
-        crate::show(rt, case.name, is_so(alloc, case) == Ok(true))?;
-    }
-    Ok(())
+/// Whether the launcher answers, calls, stores and writes as it is said.
+pub fn is_so(alloc: Global, turns: &Turns) -> Option<bool> {
+    let (header, mut store, edge) = parts_of(alloc, "UTC0", 0, turns.held, turns.calls)?;
+    store.answer = turns.answer;
+    let mut stage = opened(alloc, (header, store, edge), turns.writes).ok()?;
+    let answers = answers(alloc, &mut stage, turns);
+    let leaves = leaves(stage, turns);
+    Some(answers && leaves)
 }

@@ -1,11 +1,10 @@
 //! What is written for outcomes and replies, to the byte: among them the code and the text of each refusal, as users see them.
-use super::is_line;
 use ctl_protocol::{outcome_line, reply_line};
 use history_model::{Act, KeyName, Reason, Refusal, Reply, Text};
 use std::alloc::Global;
 
 /// A refusal if there is one, a text, the orders of an outcome or none for a reply, and the line that is wanted.
-type Told = (
+pub type Told = (
     Option<Refusal>,
     &'static str,
     Option<&'static [(&'static str, Act)]>,
@@ -14,7 +13,7 @@ type Told = (
 
 const BAD: Option<Refusal> = Some(Refusal::BadDefinition(Reason::NotJson, KeyName::NoKey));
 
-static TOLD: [Told; 19] = [
+pub const TOLD: &[Told] = &[
     (
         None,
         "a\t\"b\"\n",
@@ -144,6 +143,11 @@ static TOLD: [Told; 19] = [
     ),
 ];
 
+/// Whether the line is this text, and a newline.
+pub fn is_line(line: &[u8], text: &str) -> bool {
+    line.split_last() == Some((&b'\n', text.as_bytes()))
+}
+
 fn is_told(alloc: Global, told: &Told) -> bool {
     let (refusal, text, orders, wanted) = *told;
     let Ok(text) = Text::copy_of(alloc, text) else {
@@ -161,12 +165,11 @@ fn is_told(alloc: Global, told: &Told) -> bool {
     }
 }
 
-/// The first line that is not written, if there is one.
-pub fn first_fault(alloc: Global) -> Option<&'static str> {
-    for told in &TOLD {
-        if !is_told(alloc, told) {
-            return Some(told.3);
-        }
+/// Whether each line is written.
+pub fn are_told(alloc: Global, all: &[Told]) -> bool {
+    let mut are_told = true;
+    for told in all {
+        are_told &= is_told(alloc, told);
     }
-    None
+    are_told
 }

@@ -1,0 +1,104 @@
+//! All cases of calls, and the one function that tries each. A line of what is shown stands for one case or more.
+
+use crate::edges::{control_stage, further_clients, memory, refused, silent_client, system};
+use crate::parts::{calendars, definitions, exchange, heap, lines};
+use crate::rounds::{pair, refusals, step};
+use crate::stores::{files, on_disks, stops};
+use crate::tables::{rows, visits};
+use crate::turns::{journals, launchers, openings};
+use anyhow::Result;
+
+/// One case, by what tries it.
+pub enum Case {
+    Times(&'static str),
+    Crossing,
+    NoRules(&'static str),
+    Offsets(&'static [i32], usize),
+    NoFile(&'static [u8], usize, usize),
+    Definition(&'static definitions::Read),
+    Exchange(&'static [exchange::Step]),
+    Heap(&'static [heap::Step]),
+    Lines(lines::Kind, bool, &'static str),
+    Outcomes(&'static [lines::outcomes::Told]),
+    Table(bool, u32, &'static [rows::Row]),
+    NoLabel,
+    Control(&'static str, &'static [control_stage::Step]),
+    Further(&'static further_clients::Further),
+    Scripted(&'static memory::Script),
+    Refusing(&'static refused::Refused),
+    SilentClient,
+    System(&'static system::Scene),
+    RefusedRounds,
+    Spared(&'static step::Stream),
+    Stored(&'static on_disks::Listed),
+    ManyStored,
+    Lasting(files::Begin, &'static [files::Round]),
+    Stopping(stops::Run, bool),
+    Opening(&'static openings::Opening),
+    Launched(&'static launchers::Turns),
+    Journal(&'static journals::Row),
+    NoJournal,
+}
+
+/// What is shown, and the cases that it stands for.
+pub type Line = (&'static str, &'static [Case]);
+
+/// Whether the case goes as it says.
+fn goes(rt: &HostRuntime, case: &Case) -> bool {
+    let alloc = rt.alloc();
+    match *case {
+        Case::Times(lines) => calendars::are_shown(alloc, lines),
+        Case::Crossing => calendars::crosses_one(alloc) == Some(true),
+        Case::NoRules(lines) => calendars::are_no_rules(lines),
+        Case::Offsets(offsets, zones) => calendars::zones_of(offsets) == Some(zones),
+        Case::NoFile(bytes, count, zeros) => {
+            calendars::is_no_file(alloc, bytes, count, zeros) == Some(true)
+        }
+        Case::Definition(read) => definitions::is_read(alloc, read),
+        Case::Exchange(steps) => exchange::all_go(alloc, steps) == Some(true),
+        Case::Heap(steps) => heap::all_go(alloc, steps) == Some(true),
+        Case::Lines(kind, are_taken, lines) => lines::are_kept(alloc, kind, are_taken, lines),
+        Case::Outcomes(told) => lines::outcomes::are_told(alloc, told),
+        Case::Table(is_full, times, rows) => {
+            visits::all_happen(alloc, is_full, times, rows) == Some(true)
+        }
+        Case::NoLabel => visits::is_refused(alloc) == Some(true),
+        Case::Control(name, steps) => control_stage::all_go(rt, name, steps) == Some(true),
+        Case::Further(further) => further_clients::is_placed(further),
+        Case::Scripted(script) => memory::is_so(alloc, script) == Some(true),
+        Case::Refusing(refused) => refused::is_so(rt, refused) == Some(true),
+        Case::SilentClient => silent_client::is_let_go(rt) == Some(true),
+        Case::System(scene) => system::is_played(rt, scene) == Some(true),
+        Case::RefusedRounds => refusals::are_taken(rt) == Some(true),
+        Case::Spared(stream) => pair::is_spared(alloc, stream) == Some(true),
+        Case::Stored(listed) => on_disks::is_listed(alloc, listed) == Some(true),
+        Case::ManyStored => on_disks::has_many(alloc) == Some(true),
+        Case::Lasting(begin, rounds) => files::do_last(alloc, begin, rounds),
+        Case::Stopping(run, is_log) => stops::are_followed(alloc, run, is_log),
+        Case::Opening(opening) => openings::is_so(alloc, opening) == Some(true),
+        Case::Launched(turns) => launchers::is_so(alloc, turns) == Some(true),
+        Case::Journal(row) => journals::become_so(alloc, row) == Some(true),
+        Case::NoJournal => journals::is_silent(alloc) == Some(true),
+    }
+}
+
+/// The number of the first case that goes otherwise.
+fn first_other(rt: &HostRuntime, cases: &[Case]) -> Option<usize> {
+    for (number, case) in cases.iter().enumerate() {
+        if !goes(rt, case) {
+            return Some(number);
+        }
+    }
+    None
+}
+
+/// Tries all cases, and shows their lines, each with its first case that goes another way than it should.
+pub fn try_all(rt: &HostRuntime, lines: &[Line]) -> Result<()> {
+    for (name, cases) in lines {
+        match first_other(rt, cases) {
+            Some(number) => println!(rt; "{name}: other than wanted: case {number}")?,
+            None => println!(rt; "{name}")?,
+        }
+    }
+    Ok(())
+}
