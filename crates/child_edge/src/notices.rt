@@ -165,6 +165,12 @@ impl Notices {
         }
     }
 
+    /// A run of the job of this label was given a signal, as the form says.
+    pub(crate) fn signalled(&mut self, label: &str, run: u64, form: &str) {
+        let holes = [Words(label), Number(run)];
+        self.run(form, &holes);
+    }
+
     /// A run has ended, after this time if it is known: seconds with one place. Nothing is told without its job's label.
     pub(crate) fn ended(
         &mut self,
@@ -216,7 +222,14 @@ impl Notices {
     }
 
     // The line is told, if its reason was not told last of this call.
-    fn tell(&mut self, call: Call, reason: String, label: &str, run: Option<u64>, what: &str) {
+    fn tell<'x>(
+        &mut self,
+        call: Call,
+        reason: String,
+        label: &'x str,
+        run: Option<u64>,
+        what: &'x str,
+    ) {
         let is_known = match self.told.get(&call) {
             Some(last) => last.as_str() == reason.as_str(),
             None => false,

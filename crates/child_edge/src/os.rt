@@ -188,7 +188,7 @@ impl<R: Processes> OsEdge<R> {
     {
         self.notices.done(job, asked);
         if let Some(label) = self.children.label(job, run) {
-            self.notices.run(form, &[Words(label), Number(run)]);
+            self.notices.signalled(label, run, form);
         }
     }
 }

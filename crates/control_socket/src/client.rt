@@ -8,7 +8,7 @@ use std::io;
 use std::io::{ErrorKind, Read, Write};
 
 /// What a client's connection may do next.
-#[derive(Clone, Copy, PartialEq, Eq)]
+#[derive(Clone, Copy)]
 pub(crate) enum Progress {
     /// The client has to go on first.
     Waits,
@@ -83,8 +83,14 @@ impl Client {
         if !self.has_unsent() {
             self.taken = turn.up;
         }
-        let is_more = self.converse(alloc, room, turn)?;
-        self.send(turn.up)?;
+        let is_more = match self.converse(alloc, room, turn) {
+            Ok(is_more) => is_more,
+            Err(error) => return Err(error),
+        };
+        match self.send(turn.up) {
+            Ok(()) => {}
+            Err(error) => return Err(error),
+        }
         if !self.dialogue.is_silent() {
             self.heard = self.looked;
         }

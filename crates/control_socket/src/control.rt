@@ -10,11 +10,11 @@ use history_model::Text;
 use mio::net::{UnixListener, UnixStream};
 use mio::{Interest, Registry, Token};
 use slab::Slab;
-use std::alloc::Global;
+use std::alloc::{AllocError, Global};
 use std::fs::{File, Files};
-use std::io;
 use std::io::{Error, ErrorKind, Read, Write};
 use std::net::Net;
+use std::{io, mem};
 
 /// As many clients are served at a time.
 pub const CLIENTS: usize = 64;
@@ -73,7 +73,7 @@ impl Drop for ControlSocket {
 }
 
 /// Where a new client can be.
-#[derive(Drop)]
+#[derive(Clone, Copy)]
 enum Place {
     Free,
     /// In the place of the client of this key, which is let go.
@@ -81,6 +81,13 @@ enum Place {
     /// That is known only once a round looked at every client.
     Unknown,
     Nowhere,
+}
+
+/// How a client stands still: it says nothing, or it takes nothing of its reply.
+#[derive(Clone, Copy)]
+enum Still {
+    Silent,
+    Stuck,
 }
 
 impl ControlSocket {
@@ -93,7 +100,10 @@ impl ControlSocket {
         alloc: Global,
         path: &str,
     ) -> io::Result<ControlSocket> {
-        let (own_path, room, clients) = memory_for(alloc, path)?;
+        let (own_path, room, clients) = match memory_for(alloc, path) {
+            Ok(memory) => memory,
+            Err(error) => return Err(Error::from(error)),
+        };
         let (lock, listener, mark) = match bind(rt, alloc, path) {
             Ok(bound) => bound,
             Err(error) => {
@@ -251,7 +261,7 @@ impl ControlSocket {
     // Whether there is a spare descriptor now.
     fn keep_spare<R: Files<File = File>>(&mut self, rt: &R) -> bool {
         if self.spare.is_none() {
-            self.spare = spare_descriptor(rt);
+            drop(mem::replace(&mut self.spare, spare_descriptor(rt)));
         }
         self.spare.is_some()
     }
@@ -272,7 +282,7 @@ impl ControlSocket {
 
     // False: no client is silent.
     fn let_silent_go(&mut self) -> bool {
-        match self.longest_silent() {
+        match self.longest(Still::Silent) {
             Some(key) => {
                 drop(self.clients.try_remove(key));
                 true
@@ -318,10 +328,10 @@ impl ControlSocket {
         if self.clients.len() < CLIENTS {
             return Place::Free;
         }
-        if let Some(key) = self.longest_silent() {
+        if let Some(key) = self.longest(Still::Silent) {
             return Place::Of(key);
         }
-        match self.longest_stuck() {
+        match self.longest(Still::Stuck) {
             Some(key) => Place::Of(key),
             None if self.is_whole && !self.has_new() => Place::Nowhere,
             None => Place::Unknown,
@@ -329,28 +339,24 @@ impl ControlSocket {
     }
 
     fn has_new(&self) -> bool {
-        self.clients.iter().any(|(_, client)| client.is_new())
-    }
-
-    fn longest_silent(&self) -> Option<usize> {
-        let mut least = u64::MAX;
-        let mut longest = None;
-        for (key, client) in self.clients.iter() {
-            if let Some(since) = client.silent_since(self.rounds) {
-                if since < least {
-                    least = since;
-                    longest = Some(key);
-                }
+        for (_, client) in self.clients.iter() {
+            if client.is_new() {
+                return true;
             }
         }
-        longest
+        false
     }
 
-    fn longest_stuck(&self) -> Option<usize> {
+    // The client that stands still so for longest.
+    fn longest(&self, how: Still) -> Option<usize> {
         let mut least = u64::MAX;
         let mut longest = None;
         for (key, client) in self.clients.iter() {
-            if let Some(since) = client.stuck_since(self.rounds, self.up) {
+            let since = match how {
+                Still::Silent => client.silent_since(self.rounds),
+                Still::Stuck => client.stuck_since(self.rounds, self.up),
+            };
+            if let Some(since) = since {
                 if since < least {
                     least = since;
                     longest = Some(key);
@@ -371,7 +377,12 @@ impl ControlSocket {
     /// Whether no client has a reply that is not yet sent. A client that never reads keeps it false, so whoever waits for it
     /// waits for some time only.
     pub fn is_quiet(&self) -> bool {
-        !self.clients.iter().any(|(_, client)| client.has_unsent())
+        for (_, client) in self.clients.iter() {
+            if client.has_unsent() {
+                return false;
+            }
+        }
+        true
     }
 
     /// Removes the socket's file and then the lock's, at a clean end. A file that somebody else put in the place of one is left.
@@ -382,18 +393,24 @@ impl ControlSocket {
 }
 
 // The socket's path, the room for a piece, and that for the clients.
-fn memory_for(alloc: Global, path: &str) -> io::Result<(Text, Vec<u8>, Slab<Client>)> {
-    let path = Text::copy_of(alloc, path)?;
-    let Ok(room) = zeros(alloc) else {
-        drop(path);
-        return Err(Error::from(ErrorKind::OutOfMemory));
+fn memory_for(alloc: Global, path: &str) -> Result<(Text, Vec<u8>, Slab<Client>), AllocError> {
+    let path = match Text::copy_of(alloc, path) {
+        Ok(path) => path,
+        Err(error) => return Err(error),
+    };
+    let room = match Vec::from_elem(alloc, 0u8, PIECE) {
+        Ok(room) => room,
+        Err(error) => {
+            drop(path);
+            return Err(error);
+        }
     };
     match Slab::with_capacity(alloc, CLIENTS) {
         Ok(clients) => Ok((path, room, clients)),
         Err(error) => {
             drop(path);
             drop(room);
-            Err(Error::from(error))
+            Err(error)
         }
     }
 }
@@ -404,7 +421,10 @@ fn bind<R: Files<File = File> + Net>(
     alloc: Global,
     path: &str,
 ) -> io::Result<(LockFile, UnixListener, SocketMark)> {
-    let lock = lock_beside(rt, alloc, path)?;
+    let lock = match lock_beside(rt, alloc, path) {
+        Ok(lock) => lock,
+        Err(error) => return Err(error),
+    };
     match socket_file::bind(rt, path) {
         Ok((listener, mark)) => Ok((lock, listener, mark)),
         Err(error) => {
@@ -417,7 +437,10 @@ fn bind<R: Files<File = File> + Net>(
 
 // The lock on the file of the socket's path and `.lock`.
 fn lock_beside<R: Files<File = File>>(rt: &R, alloc: Global, path: &str) -> io::Result<LockFile> {
-    let beside = format!(in alloc; "{path}.lock")?;
+    let beside = match format!(in alloc; "{path}.lock") {
+        Ok(beside) => beside,
+        Err(error) => return Err(Error::from(error)),
+    };
     match LockFile::take(rt, beside) {
         Ok(lock) => Ok(lock),
         Err(error) => Err(match error.kind() {
@@ -435,10 +458,4 @@ fn lock_beside<R: Files<File = File>>(rt: &R, alloc: Global, path: &str) -> io::
 // The null device is opened for its descriptor alone. None: the system gives none.
 fn spare_descriptor<R: Files<File = File>>(rt: &R) -> Option<File> {
     File::open(rt, "/dev/null").ok()
-}
-
-fn zeros(alloc: Global) -> io::Result<Vec<u8>> {
-    let mut room = Vec::new(alloc);
-    room.resize(PIECE, 0u8)?;
-    Ok(room)
 }

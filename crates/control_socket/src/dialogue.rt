@@ -10,7 +10,7 @@ use std::alloc::{AllocError, Global};
 pub const UNSENT: usize = 65_536;
 
 /// What is still taken from a client.
-#[derive(Clone, Copy, PartialEq, Eq)]
+#[derive(Clone, Copy)]
 enum Intake {
     /// Further bytes.
     Open,
@@ -51,7 +51,7 @@ impl Dialogue {
 
     /// Takes the next piece of what the client sends. What comes behind a line that is too long is dropped.
     pub(crate) fn take(&mut self, piece: &[u8]) -> Result<(), AllocError> {
-        if self.intake != Intake::Open {
+        if !matches!(self.intake, Intake::Open) {
             return Ok(());
         }
         self.has_lines = true;

@@ -5,27 +5,20 @@ use std::alloc::{AllocError, Global};
 use std::io::{Error, ErrorKind};
 
 /// Refusals of one kind: the last, until something went well, and what is still to be told.
-#[derive(Drop)]
+#[derive(Clone, Copy)]
 struct Refusals {
     last: Option<Error>,
     due: Option<Error>,
 }
 
 /// The refusals of the control socket. They take no memory until they are told.
-#[derive(Drop)]
+#[derive(Clone, Copy)]
 pub(crate) struct Notices {
     accepts: Refusals,
     clients: Refusals,
 }
 
 impl Refusals {
-    fn new() -> Refusals {
-        Refusals {
-            last: None,
-            due: None,
-        }
-    }
-
     fn note(&mut self, error: Error) {
         let is_known = match self.last {
             None => false,
@@ -42,9 +35,13 @@ impl Refusals {
 
 impl Notices {
     pub(crate) fn new() -> Notices {
+        let none = Refusals {
+            last: None,
+            due: None,
+        };
         Notices {
-            accepts: Refusals::new(),
-            clients: Refusals::new(),
+            accepts: none,
+            clients: none,
         }
     }
 
@@ -72,14 +69,24 @@ impl Notices {
 
     /// The next line to be told. None also for want of memory for it: it then stays.
     pub(crate) fn next(&mut self, alloc: Global) -> Option<Text> {
-        if let Some(error) = self.accepts.due {
-            let text = accept_text(alloc, error).ok()?;
+        let accept = self.accepts.due;
+        let client = self.clients.due;
+        let text = match (accept, client) {
+            (Some(error), _) => line_of(alloc, "cannot accept", error),
+            (None, Some(error)) if error.kind() == ErrorKind::OutOfMemory => {
+                String::from_str(alloc, "control socket: a client was let go: no memory")
+            }
+            (None, Some(error)) => line_of(alloc, "a client was let go", error),
+            (None, None) => return None,
+        };
+        let Ok(text) = text else {
+            return None;
+        };
+        if accept.is_some() {
             self.accepts.due = None;
-            return Some(Text::new(text));
+        } else {
+            self.clients.due = None;
         }
-        let error = self.clients.due?;
-        let text = client_text(alloc, error).ok()?;
-        self.clients.due = None;
         Some(Text::new(text))
     }
 }
@@ -91,13 +98,6 @@ fn is_going_away(kind: ErrorKind) -> bool {
     )
 }
 
-fn accept_text(alloc: Global, error: Error) -> Result<String, AllocError> {
-    format!(in alloc; "control socket: cannot accept: {error}")
-}
-
-fn client_text(alloc: Global, error: Error) -> Result<String, AllocError> {
-    if error.kind() == ErrorKind::OutOfMemory {
-        return format!(in alloc; "control socket: a client was let go: no memory");
-    }
-    format!(in alloc; "control socket: a client was let go: {error}")
+fn line_of(alloc: Global, what: &str, error: Error) -> Result<String, AllocError> {
+    format!(in alloc; "control socket: {what}: {error}")
 }

@@ -90,9 +90,12 @@ impl Callers {
 
     /// Whether one that came by this bind was not read yet.
     pub fn has_new(&self, bind: u64) -> bool {
-        self.held
-            .iter()
-            .any(|(_, caller)| caller.is_new && caller.origin.bind == bind)
+        for (_, caller) in self.held.iter() {
+            if caller.is_new && caller.origin.bind == bind {
+                return true;
+            }
+        }
+        false
     }
 
     /// Takes a client in, for which there is a place. After an `Err` it is let go, for this reason.

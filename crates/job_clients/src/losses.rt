@@ -47,17 +47,19 @@ impl Loss {
     }
 
     fn words(self, alloc: Global) -> Result<String, AllocError> {
-        match self {
-            Loss::TooLong => format!(in alloc; "a request of more than {} bytes", MAX_REQUEST),
-            Loss::Silent => format!(in alloc; "it sent nothing for a minute"),
-            Loss::Displaced => {
-                format!(in alloc; "it sent nothing for 5 seconds, and another one came")
-            }
-            Loss::Crowded => format!(in alloc; "too many clients send at a time"),
-            Loss::NoMemory => format!(in alloc; "no memory"),
-            Loss::QueueFull => format!(in alloc; "too many connections wait"),
-            Loss::System(error) => format!(in alloc; "{error}"),
-        }
+        let words = match self {
+            Loss::TooLong => return format!(in alloc;
+                "a request of more than {} bytes",
+                MAX_REQUEST
+            ),
+            Loss::System(error) => return format!(in alloc; "{error}"),
+            Loss::Silent => "it sent nothing for a minute",
+            Loss::Displaced => "it sent nothing for 5 seconds, and another one came",
+            Loss::Crowded => "too many clients send at a time",
+            Loss::NoMemory => "no memory",
+            Loss::QueueFull => "too many connections wait",
+        };
+        String::from_str(alloc, words)
     }
 }
 
@@ -102,31 +104,33 @@ impl Losses {
         let Ok(reason) = loss.words(self.alloc) else {
             return;
         };
-        if self.is_told(origin, reason.as_str()) {
+        if self.is_told(origin, reason.as_str()) || !self.add(label, reason.as_str()) {
+            drop(reason);
             return;
         }
-        if self.add(label, reason.as_str()).is_ok() {
-            self.remember(origin, reason, up);
-        }
+        self.remember(origin, reason, up);
     }
 
     fn is_told(&self, origin: Origin, reason: &str) -> bool {
-        match self.told.get(&origin.job) {
-            Some(told) if told.bind == origin.bind => told
-                .reasons
-                .iter()
-                .any(|known| known.as_str() == reason),
-            _ => false,
+        if let Some(told) = self.told.get(&origin.job) {
+            for known in told.reasons.iter() {
+                if told.bind == origin.bind && known.as_str() == reason {
+                    return true;
+                }
+            }
         }
+        false
     }
 
-    fn add(&mut self, label: &str, reason: &str) -> Result<(), AllocError> {
+    // Whether the line has room, and memory.
+    fn add(&mut self, label: &str, reason: &str) -> bool {
         if self.waiting.len() >= ROOM {
-            return Err(AllocError);
+            return false;
         }
-        let line = format!(in self.alloc; "{label}: a client was let go: {reason}")?;
-        self.waiting.push_back(Text::new(line))?;
-        Ok(())
+        match format!(in self.alloc; "{label}: a client was let go: {reason}") {
+            Ok(line) => self.waiting.push_back(Text::new(line)).is_ok(),
+            Err(_) => false,
+        }
     }
 
     // Want of memory forgets it.
