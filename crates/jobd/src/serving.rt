@@ -1,6 +1,6 @@
 //! `jobd serve`: what the launcher stands on is opened step by step, and then it serves.
 
-use child_edge::{ChildEdge, OsEdge, SocketEdge};
+use child_edge::OsEdge;
 use control_socket::ControlSocket;
 use ctl_protocol::{Header, Settings, ZoneText};
 use exit_status::{CLOCK_OR_WAITING, NO_MEMORY, STORE};
@@ -25,10 +25,10 @@ use std::sync::Wait;
 
 /// What a launcher has before its store is opened.
 #[derive(Drop)]
-struct Parts<E> {
+struct Parts<R: System> {
     reading: Reading,
     zone: ZoneText,
-    edge: E,
+    edge: OsEdge<R>,
     journal: Option<File>,
 }
 
@@ -56,10 +56,7 @@ pub(crate) fn serve_at<L: Wait>(
             drop(prepared);
             status
         }
-        Err(status) => {
-            drop(zone);
-            status
-        }
+        Err(status) => status,
     }
 }
 
@@ -69,7 +66,6 @@ fn prepare<R: AllocGlobal + Env + Eprint + Files<File = File>>(
     places: Places,
 ) -> Result<Prepared, u8> {
     let Ok(wishes) = read_wishes(rt) else {
-        drop(places);
         return Err(NO_MEMORY);
     };
     match open_null_streams(rt, alloc) {
@@ -82,10 +78,10 @@ fn prepare<R: AllocGlobal + Env + Eprint + Files<File = File>>(
             _null_streams: held,
         }),
         Err(error) => {
-            drop(places);
+            let level = wishes.level;
             Err(refuse(
                 rt,
-                wishes.level,
+                level,
                 CLOCK_OR_WAITING,
                 "null device",
                 "/dev/null",
@@ -131,7 +127,7 @@ fn parts_of<R: System>(
     alloc: Global,
     plan: &Plan,
     zone: ZoneWords,
-) -> Result<(Parts<OsEdge<R>>, ControlSocket), u8> {
+) -> Result<(Parts<R>, ControlSocket), u8> {
     let zone = zone_of(rt, alloc, plan.wishes.level, zone)?;
     match system_of(rt, alloc, plan) {
         Ok((edge, reading)) => parts_over(rt, alloc, plan, zone, edge, reading),
@@ -142,14 +138,14 @@ fn parts_of<R: System>(
     }
 }
 
-fn parts_over<R: System, E: Drop>(
+fn parts_over<R: System>(
     rt: &R,
     alloc: Global,
     plan: &Plan,
     zone: ZoneText,
-    edge: E,
+    edge: OsEdge<R>,
     reading: Reading,
-) -> Result<(Parts<E>, ControlSocket), u8> {
+) -> Result<(Parts<R>, ControlSocket), u8> {
     let control = match bound(rt, alloc, plan) {
         Ok(control) => control,
         Err(status) => {
@@ -181,7 +177,7 @@ fn serve_on<L: Wait, R: System + Print, T: SettingStore + Drop>(
     waits: &L,
     alloc: Global,
     plan: &Plan,
-    parts: Parts<OsEdge<R>>,
+    parts: Parts<R>,
     control: ControlSocket,
     kept: (T, Vec<Setting>),
 ) -> Result<u8, u8> {
@@ -233,14 +229,14 @@ fn serve_with<L: Wait, R: System + Print, T: SettingStore + Drop>(
     }
 }
 
-fn launcher_of<T: SettingStore + Drop, E: ChildEdge + SocketEdge + Drop>(
-    rt: &impl Eprint,
+fn launcher_of<R: System, T: SettingStore + Drop>(
+    rt: &R,
     alloc: Global,
     plan: &Plan,
-    parts: Parts<E>,
+    parts: Parts<R>,
     store: T,
     settings: Vec<Setting>,
-) -> Result<Host<T, E, BufWriter<File>>, u8> {
+) -> Result<Host<T, OsEdge<R>, BufWriter<File>>, u8> {
     let Parts {
         reading,
         zone,
@@ -265,8 +261,8 @@ fn launcher_of<T: SettingStore + Drop, E: ChildEdge + SocketEdge + Drop>(
 }
 
 // The journal, emptied. A header that is too long for it is told.
-fn writer_of(
-    rt: &impl Eprint,
+fn writer_of<R: System>(
+    rt: &R,
     alloc: Global,
     plan: &Plan,
     header: &Header,
