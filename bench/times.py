@@ -4,7 +4,8 @@
     bench/times.py
 
 It calls rt's own function for the gate, and has it use nothing of an earlier run (some kits never do), with RT_JOBS lanes (as many
-as there are processors if it is unset). The sum is appended to bench/history.csv. Each process that rt starts is counted by its user and system time, its own
+as there are processors if it is unset). The sum is appended to bench/history.csv, and what each proof took is left in bench/crate_seconds.csv, by which
+`make build` orders the crates. Each process that rt starts is counted by its user and system time, its own
 children included, and put down to the crate that it names:
 
     proof    the check of the crate from nothing; of a program also its two compilers
@@ -14,6 +15,7 @@ children included, and put down to the crate that it names:
 
 The last lines are those of rt, then the sum and the time by the clock. The status is rt's.
 """
+import csv
 import os
 import subprocess
 import sys
@@ -76,6 +78,14 @@ class Timed(subprocess.Popen):
         return self.returncode
 
 
+def keep_seconds(spent):
+    """Leaves what the proof of each crate took, for the order of a build."""
+    with open(f"{HERE}/crate_seconds.csv", "w", newline="", encoding="utf-8") as file:
+        rows = csv.writer(file, lineterminator="\n")
+        rows.writerow(["crate", "proof"])
+        rows.writerows([crate, f"{spent[crate, of]:.0f}"] for crate, of in sorted(spent) if of == "proof")
+
+
 def print_table(spent, begun):
     crates = {crate for crate, _ in spent}
     rows = [(crate, [spent.get((crate, it), 0.0) for it in COLUMNS]) for crate in crates]
@@ -100,6 +110,8 @@ def main():
     status = rt.ci(True) if rt.ci.__code__.co_argcount else rt.ci()
     sys.stdout.flush()
     print_table(Timed.spent, begun)
+    if not status:
+        keep_seconds(Timed.spent)
     return status
 
 
