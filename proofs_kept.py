@@ -15,7 +15,7 @@ import threading
 import time
 
 sys.dont_write_bytecode = True
-from kit import TOP, load_rt
+from kit import TOP, Timed, load_rt
 from lanes import Lanes, measured
 
 # What nobody took for so many seconds is removed.
@@ -24,37 +24,6 @@ UNUSED = 5 * 24 * 3600
 
 def store():
     return os.environ.get("KIVGROND_KEPT") or os.path.join(os.environ.get("XDG_CACHE_HOME") or os.path.expanduser("~/.cache"), "kivgrond")
-
-
-class Timed(subprocess.Popen):
-    """A process whose processor time is put down for the crate that its words name, once it was waited for."""
-
-    spent = {}
-
-    def __init__(self, args, *others, **how):
-        words = [it for it in args if isinstance(it, str)] if isinstance(args, list) else []
-        self.crate = words[words.index("--crate-name") + 1] if "--crate-name" in words else ""
-        super().__init__(args, *others, **how)
-
-    def _try_wait(self, wait_flags):
-        try:
-            found, status, used = os.wait4(self.pid, wait_flags)
-        except ChildProcessError:
-            return self.pid, 0
-        if found == self.pid:
-            self.spent[self.crate] = self.spent.get(self.crate, 0.0) + used.ru_utime + used.ru_stime
-        return found, status
-
-    def _internal_poll(self, _deadstate=None, **_others):
-        if self.returncode is None and self._waitpid_lock.acquire(False):
-            try:
-                if self.returncode is None:
-                    found, status = self._try_wait(os.WNOHANG)
-                    if found == self.pid:
-                        self._handle_exitstatus(status)
-            finally:
-                self._waitpid_lock.release()
-        return self.returncode
 
 
 class Proofs:

@@ -19,7 +19,6 @@ import csv
 import os
 import subprocess
 import sys
-import threading
 import time
 
 sys.dont_write_bytecode = True
@@ -32,50 +31,17 @@ import kit
 COLUMNS = ("proof", "tests", "edits", "runs")
 
 
-def place_of(words, folder):
-    """The crate and the column of a process, by its words and the folder that it works in."""
-    words = [it for it in words if isinstance(it, str)]
-    if "--crate-name" not in words:
-        return "-", "runs"
-    crate = words[words.index("--crate-name") + 1]
-    if os.path.basename(str(folder or "")).startswith("rt-edit-"):
-        return crate, "edits"
-    return crate, "tests" if "--test" in words else "proof"
+class Timed(kit.Timed):
+    """A process whose processor time is put down to the crate that it names, and to a column."""
 
-
-class Timed(subprocess.Popen):
-    """A process whose processor time is put down once it was waited for."""
-
-    spent = {}
-    guard = threading.Lock()
-
-    def __init__(self, args, *others, **how):
-        self.place = place_of(args if isinstance(args, list) else [args], how.get("cwd"))
-        super().__init__(args, *others, **how)
-
-    def note(self, used):
-        with self.guard:
-            self.spent[self.place] = self.spent.get(self.place, 0.0) + used.ru_utime + used.ru_stime
-
-    def _try_wait(self, wait_flags):
-        try:
-            found, status, used = os.wait4(self.pid, wait_flags)
-        except ChildProcessError:
-            return self.pid, 0
-        if found == self.pid:
-            self.note(used)
-        return found, status
-
-    def _internal_poll(self, _deadstate=None, **_others):
-        if self.returncode is None and self._waitpid_lock.acquire(False):
-            try:
-                if self.returncode is None:
-                    found, status = self._try_wait(os.WNOHANG)
-                    if found == self.pid:
-                        self._handle_exitstatus(status)
-            finally:
-                self._waitpid_lock.release()
-        return self.returncode
+    @staticmethod
+    def place(words, folder):
+        crate = kit.crate_in(words)
+        if not crate:
+            return "-", "runs"
+        if os.path.basename(str(folder or "")).startswith("rt-edit-"):
+            return crate, "edits"
+        return crate, "tests" if "--test" in words else "proof"
 
 
 def keep_seconds(spent):
