@@ -58,7 +58,7 @@ try_crate() {
   mkdir -p "$room/crates/$1/must-fail"
   part_edits "$1" "$room/crates/$1/must-fail"
   if [ -n "$(ls "$room/crates/$1/must-fail")" ]; then
-    cp "$top"/{crates.txt,HANDLES,kit.py,check_crate.py,proofs_kept.py} "$room/"
+    cp "$top"/{crates.txt,HANDLES,kit.py,lanes.py,check_crate.py,proofs_kept.py} "$room/"
     for other in "$top"/crates/*/; do
       lay_crate "$(basename "$other")" "$room"
     done
