@@ -130,7 +130,7 @@ def main():
         known |= words
         if path.endswith((".antt", ".rt")):
             holders.setdefault(os.path.basename(path).rsplit(".", 1)[0], []).append(words)
-    for name in ("crates.txt", "Makefile", "install.mk", "build.mk", "build_all.py", "check_crate.py", "kit.py"):
+    for name in ("crates.txt", "Makefile", "install.mk", "build.mk", "build_all.py", "check_crate.py", "kit.py", "lanes.py", "proofs_kept.py"):
         known |= {name.partition(".")[0]}
         known |= set(WORD.findall(text_of(f"{TOP}/{name}")))
     faults, named = [], set()
