@@ -50,50 +50,47 @@ const WHOLE: Run = Run {
     wanted: (OUTCOMES, b""),
 };
 
-/// The run of the trial's number.
+/// The run of the trial's number. The journal and its outcomes are named once, since each place that names a long constant is dear to prove.
 fn run_of(trial: Trial, number: usize) -> Run {
+    let mut run = WHOLE;
     match trial {
-        Trial::Pieces => Run {
-            reads: (number, MANY, ErrorKind::Other),
-            writes: (number, MANY, None),
-            ..WHOLE
-        },
-        Trial::Reads(piece, failure) => Run {
-            reads: (piece, number, failure),
-            ending: Err(ReplayFault::Read),
-            wanted: (outcomes_of(piece.saturating_mul(number)), b""),
-            ..WHOLE
-        },
-        Trial::Writes(failure) => Run {
-            writes: (1, number, failure),
-            ending: Err(ReplayFault::Write),
-            wanted: (&OUTCOMES[..number.min(OUTCOMES.len())], b""),
-            ..WHOLE
-        },
-        Trial::Counts => Run {
-            reads: (1, MANY, ErrorKind::Other),
-            most: Some(number),
-            ending: Err(ReplayFault::ReadCount),
-            wanted: (outcomes_of(number), b""),
-            ..WHOLE
-        },
-        Trial::LongReads => Run {
-            reads: (number, MANY, ErrorKind::Other),
-            most: Some(JOURNAL.len().div_ceil(number.max(1)).saturating_add(1)),
-            ..WHOLE
-        },
-        Trial::Fronts if number < HEADER => Run {
-            rest: &JOURNAL[..number.min(JOURNAL.len())],
-            ending: Err(ReplayFault::Header),
-            wanted: (b"", b""),
-            ..WHOLE
-        },
-        Trial::Fronts => Run {
-            rest: &JOURNAL[..number.min(JOURNAL.len())],
-            wanted: wanted_of(number),
-            ..WHOLE
-        },
+        Trial::Pieces => {
+            run.reads = (number, MANY, ErrorKind::Other);
+            run.writes = (number, MANY, None);
+        }
+        Trial::Reads(piece, failure) => {
+            run.reads = (piece, number, failure);
+            run.ending = Err(ReplayFault::Read);
+            run.wanted = (outcomes_of(piece.saturating_mul(number)), b"");
+        }
+        Trial::Writes(failure) => {
+            let (outcomes, _) = run.wanted;
+            run.writes = (1, number, failure);
+            run.ending = Err(ReplayFault::Write);
+            run.wanted = (&outcomes[..number.min(outcomes.len())], b"");
+        }
+        Trial::Counts => {
+            run.reads = (1, MANY, ErrorKind::Other);
+            run.most = Some(number);
+            run.ending = Err(ReplayFault::ReadCount);
+            run.wanted = (outcomes_of(number), b"");
+        }
+        Trial::LongReads => {
+            let reads = run.rest.len().div_ceil(number.max(1));
+            run.reads = (number, MANY, ErrorKind::Other);
+            run.most = Some(reads.saturating_add(1));
+        }
+        Trial::Fronts => {
+            run.rest = &run.rest[..number.min(run.rest.len())];
+            if number < HEADER {
+                run.ending = Err(ReplayFault::Header);
+                run.wanted = (b"", b"");
+            } else {
+                run.wanted = wanted_of(number);
+            }
+        }
     }
+    run
 }
 
 /// Whether the run ends, and leaves written, what it has to.
