@@ -76,7 +76,7 @@ fn holds<R: System>(host: Host<MemoryStore, OsEdge<R>, Sink>) -> bool {
 }
 
 /// Whether two rounds of a launcher that has the job, with a control socket in the folder, go on, and the journal then is as wanted.
-fn is_journaled<R: System>(host_rt: &HostRuntime, rt: &R, folder: &str) -> Option<bool> {
+fn is_journaled(host_rt: &HostRuntime, rt: &Refusing, folder: &str) -> Option<bool> {
     let own = rt.clone().ok()?;
     let path = format!(in rt.alloc(); "{folder}/socket").ok()?;
     let control = ControlSocket::open(host_rt, rt.alloc(), path.as_str()).ok()?;
