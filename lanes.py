@@ -1,7 +1,7 @@
 """Which crate of a build is proved when, and by how many jobs: those first behind which the longest chain of others waits.
 
-A check by two jobs takes some 0.6 of its time and a tenth more of the processors, by three half of its time and a fifth more. So a crate gets more than
-one job only if processors would be idle beside it, or if the chain behind it is longer than all other work takes on the processors that are left.
+A check by two jobs takes a fifth to two thirds more of the processors, most in large crates over many others. So a crate gets a second job only if a
+processor would be idle beside it.
 How long a crate takes is what `make times` measured last (bench/crate_seconds.csv); it only has to be right beside the others.
 """
 import csv
@@ -30,12 +30,9 @@ class Lanes:
         for name in sorted(below, key=lambda it: -len(below[it])):
             self.behind[name] = seconds[name] + max((self.behind[it] for it in below if name in below[it]), default=0)
 
-    def jobs(self, name, free, others, running, left):
-        """As many jobs as the task gets, if `free` lanes are free and so many others could begin beside it."""
-        beside = sum(self.seconds[it] for it in [*running, *left] if it != name)
-        spread = beside / max(self.lanes - 1, 1)
-        wanted = 3 if self.behind[name] > 1.5 * spread else 2 if self.behind[name] > 1.1 * spread else 1
-        return max(1, min(max(wanted, free // (others + 1)), free, 4))
+    def jobs(self, free, others):
+        """As many jobs as a task gets, if `free` lanes are free and so many others could begin beside it."""
+        return max(1, min(free // (others + 1), 2))
 
     def run(self, call):
         """Calls `call(name, jobs)` for each task once those that it waits for have ended, and answers what each gave."""
@@ -58,7 +55,7 @@ class Lanes:
             name = ready.pop(0)
             if free < 1:
                 break
-            jobs = self.jobs(name, free, len(ready), [it[0] for it in at_work], left)
+            jobs = self.jobs(free, len(ready))
             room = self.room - sum(memory for _, _, memory in at_work)
             while jobs > 1 and self.memory[name] * (1 + MORE_MEMORY * (jobs - 1)) > room:
                 jobs -= 1
