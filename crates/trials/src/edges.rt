@@ -16,8 +16,13 @@ mod system_cases;
 use crate::cases::{Case, Line};
 use crate::edges::further_clients as further;
 
+/// The cases of this folder. Nothing else names them: a function is proved over all of a list that it names.
+pub fn lines() -> &'static [Line] {
+    LINES
+}
+
 /// The cases of this folder.
-pub static LINES: &[Line] = &[
+static LINES: &[Line] = &[
     ("each_round_serves_each_client", control_rows::CASES),
     (
         "the_longest_silent_goes_for_a_further_client",

@@ -46,14 +46,14 @@ enum List {
 
 fn lines_of(list: List) -> &'static [Line] {
     match list {
-        List::Parts => parts::LINES,
-        List::Tables => tables::LINES,
-        List::Edges => edges::LINES,
-        List::Rounds => rounds::LINES,
-        List::Stores => stores::LINES,
-        List::Openings => turns::OPENINGS,
-        List::Turns => turns::launchers::LINES,
-        List::Journals => turns::JOURNALS,
+        List::Parts => parts::lines(),
+        List::Tables => tables::lines(),
+        List::Edges => edges::lines(),
+        List::Rounds => rounds::lines(),
+        List::Stores => stores::lines(),
+        List::Openings => turns::opening_lines(),
+        List::Turns => turns::launchers::lines(),
+        List::Journals => turns::journal_lines(),
     }
 }
 

@@ -11,8 +11,13 @@ use crate::parts::calendars::cases as times;
 use crate::parts::lines::Kind::{Event, Header, Request, Target};
 use crate::parts::lines::cases as texts;
 
+/// The cases of this folder. Nothing else names them: a function is proved over all of a list that it names.
+pub fn lines() -> &'static [Line] {
+    LINES
+}
+
 /// The cases of this folder. Lines are of each kind: those that are taken, and those that are refused.
-pub static LINES: &[Line] = &[
+static LINES: &[Line] = &[
     (
         "shows_what_the_c_library_shows",
         &[Case::Times(times::SHOWN), Case::Times(times::SHOWN_BY_FILE)],

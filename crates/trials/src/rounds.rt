@@ -7,8 +7,13 @@ mod streams;
 
 use crate::cases::{Case, Line};
 
+/// The cases of this folder. Nothing else names them: a function is proved over all of a list that it names.
+pub fn lines() -> &'static [Line] {
+    LINES
+}
+
 /// The cases of this folder.
-pub static LINES: &[Line] = &[
+static LINES: &[Line] = &[
     ("refusals_are_taken_as_they_are", &[Case::RefusedRounds]),
     (
         "an_interval_needs_no_reading_before_its_moment",

@@ -12,8 +12,13 @@ use crate::cases::{Case, Line};
 use crate::stores::files::Begin;
 use crate::stores::stops::Run;
 
+/// The cases of this folder. Nothing else names them: a function is proved over all of a list that it names.
+pub fn lines() -> &'static [Line] {
+    LINES
+}
+
 /// The cases of this folder.
-pub static LINES: &[Line] = &[
+static LINES: &[Line] = &[
     ("the_last_setting_stands", &[Case::Stored(on_disks::LAST)]),
     (
         "the_rows_of_the_first_version",

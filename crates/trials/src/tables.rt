@@ -5,8 +5,13 @@ pub mod visits;
 
 use crate::cases::{Case, Line};
 
+/// The cases of this folder. Nothing else names them: a function is proved over all of a list that it names.
+pub fn lines() -> &'static [Line] {
+    LINES
+}
+
 /// The cases of this folder: rows over a table with the hundred jobs or with none, and how often they come.
-pub static LINES: &[Line] = &[
+static LINES: &[Line] = &[
     (
         "numbers_are_given_back_and_kept",
         &[

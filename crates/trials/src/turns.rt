@@ -6,13 +6,23 @@ pub mod openings;
 
 use crate::cases::{Case, Line};
 
-pub static OPENINGS: &[Line] = &[
+/// The cases of `openings`.
+pub fn opening_lines() -> &'static [Line] {
+    OPENINGS
+}
+
+static OPENINGS: &[Line] = &[
     ("a_bad_header_opens_none", openings::HEADERS),
     ("a_store_that_gives_nothing_opens_none", openings::STORES),
     ("a_store_out_of_order_opens_none", openings::ORDERS),
 ];
 
-pub static JOURNALS: &[Line] = &[
+/// The cases of `journals`.
+pub fn journal_lines() -> &'static [Line] {
+    JOURNALS
+}
+
+static JOURNALS: &[Line] = &[
     ("a_journal_holds_its_lines", journals::LINES_ARE_HELD),
     (
         "a_journal_holds_a_front",

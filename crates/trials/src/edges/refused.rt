@@ -122,20 +122,28 @@ const PLAIN: &str =
 const FILED: &str =
     "{\"Label\":\"a\",\"Program\":\"/bin/x\",\"StandardInPath\":\"/in\",\"inetdCompatibility\":{\"Wait\":false},\"Sockets\":{\"s\":{\"SockServiceName\":7}}}";
 
-/// Whether the calls are answered, counted and told as it says: these lines wait to be told, and no others.
+/// Whether these lines wait to be told, and no others.
+fn are_told(edge: &mut OsEdge<Refusing>, lines: &[&str]) -> bool {
+    let mut are_so = true;
+    for line in lines {
+        are_so &= match edge.next_notice() {
+            Some(told) => told.text.as_str() == *line,
+            None => false,
+        };
+    }
+    let is_all = edge.next_notice().is_none();
+    are_so && is_all
+}
+
+/// Whether the calls are answered, counted and told as it says.
 fn goes(edge: &mut OsEdge<Refusing>, jobs: &Jobs, refused: &Refused) -> bool {
     let are_answered = are_answered(edge, jobs, refused.calls);
-    let mut are_so = are_answered && edge.failures() == refused.failures;
-    if let Some(lines) = refused.told {
-        for line in lines {
-            are_so &= match edge.next_notice() {
-                Some(told) => told.text.as_str() == *line,
-                None => false,
-            };
-        }
-        are_so &= edge.next_notice().is_none();
-    }
-    are_so
+    let are_counted = edge.failures() == refused.failures;
+    let are_told = match refused.told {
+        Some(lines) => are_told(edge, lines),
+        None => true,
+    };
+    are_answered && are_counted && are_told
 }
 
 /// Whether each refusal of the system is counted, kept and told.

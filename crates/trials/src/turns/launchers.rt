@@ -155,7 +155,12 @@ const WITHOUT: Turns = Turns {
     ..WITH_A_JOB
 };
 
-pub static LINES: &[Line] = &[
+/// The cases of launchers, turn by turn.
+pub fn lines() -> &'static [Line] {
+    LINES
+}
+
+static LINES: &[Line] = &[
     // The journal has the header, the load, and the answer to the start.
     (
         "a_load_and_its_start_are_journaled",
