@@ -17,7 +17,7 @@ use crate::cases::{Case, Line};
 use crate::edges::further_clients as further;
 
 /// The cases of this folder. Nothing else names them: a function is proved over all of a list that it names.
-pub fn lines() -> &'static [Line] {
+pub fn list() -> &'static [Line] {
     LINES
 }
 

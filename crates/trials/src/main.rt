@@ -46,13 +46,13 @@ enum List {
 
 fn lines_of(list: List) -> &'static [Line] {
     match list {
-        List::Parts => parts::lines(),
-        List::Tables => tables::lines(),
-        List::Edges => edges::lines(),
-        List::Rounds => rounds::lines(),
-        List::Stores => stores::lines(),
+        List::Parts => parts::list(),
+        List::Tables => tables::list(),
+        List::Edges => edges::list(),
+        List::Rounds => rounds::list(),
+        List::Stores => stores::list(),
         List::Openings => turns::opening_lines(),
-        List::Turns => turns::launchers::lines(),
+        List::Turns => turns::launchers::list(),
         List::Journals => turns::journal_lines(),
     }
 }

@@ -12,7 +12,7 @@ use crate::parts::lines::Kind::{Event, Header, Request, Target};
 use crate::parts::lines::cases as texts;
 
 /// The cases of this folder. Nothing else names them: a function is proved over all of a list that it names.
-pub fn lines() -> &'static [Line] {
+pub fn list() -> &'static [Line] {
     LINES
 }
 

@@ -13,7 +13,7 @@ use crate::stores::files::Begin;
 use crate::stores::stops::Run;
 
 /// The cases of this folder. Nothing else names them: a function is proved over all of a list that it names.
-pub fn lines() -> &'static [Line] {
+pub fn list() -> &'static [Line] {
     LINES
 }
 

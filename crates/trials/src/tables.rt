@@ -6,7 +6,7 @@ pub mod visits;
 use crate::cases::{Case, Line};
 
 /// The cases of this folder. Nothing else names them: a function is proved over all of a list that it names.
-pub fn lines() -> &'static [Line] {
+pub fn list() -> &'static [Line] {
     LINES
 }
 

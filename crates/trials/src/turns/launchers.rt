@@ -156,7 +156,7 @@ const WITHOUT: Turns = Turns {
 };
 
 /// The cases of launchers, turn by turn.
-pub fn lines() -> &'static [Line] {
+pub fn list() -> &'static [Line] {
     LINES
 }
 
