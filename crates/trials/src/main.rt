@@ -34,7 +34,9 @@ use std::sync::Wait;
 /// A list of cases.
 #[derive(Clone, Copy)]
 enum List {
-    Parts,
+    Times,
+    Jobs,
+    Lines,
     Tables,
     Edges,
     Rounds,
@@ -46,7 +48,9 @@ enum List {
 
 fn lines_of(list: List) -> &'static [Line] {
     match list {
-        List::Parts => parts::list(),
+        List::Times => parts::times_list(),
+        List::Jobs => parts::job_list(),
+        List::Lines => parts::lines_list(),
         List::Tables => tables::list(),
         List::Edges => edges::list(),
         List::Rounds => rounds::list(),
@@ -59,7 +63,9 @@ fn lines_of(list: List) -> &'static [Line] {
 
 /// All lists, in order.
 const CALLS: &[List] = &[
-    List::Parts,
+    List::Times,
+    List::Jobs,
+    List::Lines,
     List::Tables,
     List::Edges,
     List::Rounds,
@@ -80,7 +86,10 @@ enum Task {
 static TASKS: &[(&str, Task)] = &[
     ("trials", Task::All),
     ("calls", Task::Calls(CALLS)),
-    ("parts", Task::Calls(&[List::Parts])),
+    (
+        "parts",
+        Task::Calls(&[List::Times, List::Jobs, List::Lines]),
+    ),
     ("tables", Task::Calls(&[List::Tables])),
     ("edges", Task::Calls(&[List::Edges])),
     ("rounds", Task::Calls(&[List::Rounds])),

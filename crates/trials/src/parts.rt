@@ -11,13 +11,22 @@ use crate::parts::calendars::cases as times;
 use crate::parts::lines::Kind::{Event, Header, Request, Target};
 use crate::parts::lines::cases as texts;
 
-/// The cases of this folder. Nothing else names them: a function is proved over all of a list that it names.
-pub fn list() -> &'static [Line] {
+/// The cases of clocks and zones. Nothing else names the list: a function is proved over all of a list that it names.
+pub fn times_list() -> &'static [Line] {
+    TIMES
+}
+
+/// The cases of one job's parts: its definition, the bytes of an exchange, its moments.
+pub fn job_list() -> &'static [Line] {
+    JOBS
+}
+
+/// The cases of lines.
+pub fn lines_list() -> &'static [Line] {
     LINES
 }
 
-/// The cases of this folder. Lines are of each kind: those that are taken, and those that are refused.
-static LINES: &[Line] = &[
+static TIMES: &[Line] = &[
     (
         "shows_what_the_c_library_shows",
         &[Case::Times(times::SHOWN), Case::Times(times::SHOWN_BY_FILE)],
@@ -35,6 +44,9 @@ static LINES: &[Line] = &[
             Case::NoRules(times::NO_RULES),
         ],
     ),
+];
+
+static JOBS: &[Line] = &[
     (
         "the_examples_are_read",
         &[
@@ -66,6 +78,10 @@ static LINES: &[Line] = &[
             Case::Heap(heap::GROWING),
         ],
     ),
+];
+
+/// Lines of each kind: those that are taken, and those that are refused.
+static LINES: &[Line] = &[
     (
         "lines_are_read_and_written",
         &[
