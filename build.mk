@@ -2,8 +2,8 @@
 # leaves it as build/jobd, with build/jobctl and build/jobscope as links to it. What an earlier build or gate on this machine passed
 # over the same files is not proved again.
 PROGRAM := jobd_program
-# The program acts by the name that it is started under.
-put_program = install -m 755 crates/$(PROGRAM)/out/$(PROGRAM) build/jobd && ln -sf jobd build/jobctl && ln -sf jobd build/jobscope
+# The program acts by the name that it is started under. The links are hard ones: the gate of kit 13b stops at a symbolic link in any folder here.
+put_program = install -m 755 crates/$(PROGRAM)/out/$(PROGRAM) build/jobd && ln -f build/jobd build/jobctl && ln -f build/jobd build/jobscope
 # Which commit and which kit stand behind the program of build/.
 say_proved = { echo "Commit: $$(git rev-parse HEAD)"; echo "Kit: $$(rt version)"; \
     echo "Program: $$(cd build && sha256sum jobd)"; } > build/proved.txt

@@ -1,5 +1,5 @@
 #!/bin/sh
-# Makes dist/jobd_VERSION_amd64.deb of the archive's files in dist/, by dpkg-deb. Two runs over one tree give the same bytes.
+# Makes dist/jobd_VERSION_amd64.deb of the archive in dist/, by dpkg-deb. Two runs over one tree give the same bytes.
 set -eu
 
 cd "${0%/*}/.."
@@ -14,7 +14,9 @@ fail() {
     echo "deb: $*" >&2
     exit 1
 }
-[ -f "$source/SHA256SUMS" ] || fail "$source is not there: make dist first"
+[ -f "$source.tar.gz" ] || fail "$source.tar.gz is not there: make dist first"
+rm -rf "$source"
+tar -C dist -xzf "$source.tar.gz"
 SOURCE_DATE_EPOCH=${SOURCE_DATE_EPOCH:-$(git log -1 --format=%ct)}
 export SOURCE_DATE_EPOCH
 
@@ -51,5 +53,5 @@ install -m 755 "$debian/postinst" "$debian/prerm" "$debian/postrm" "$root/DEBIAN
 (cd "$root" && find usr lib etc -type f | sort | xargs md5sum >DEBIAN/md5sums)
 find "$root" -exec touch -h -d "@$SOURCE_DATE_EPOCH" {} +
 dpkg-deb --root-owner-group -Zxz -b "$root" "dist/jobd_${version}_amd64.deb" >/dev/null
-rm -rf "$root"
+rm -rf "$root" "$source"
 echo "dist/jobd_${version}_amd64.deb"

@@ -44,3 +44,5 @@ mv dist/SHA256SUMS "$stage"
 tar --sort=name --format=gnu --mtime="@$SOURCE_DATE_EPOCH" --owner=root:0 --group=root:0 --mode='u=rwX,go=rX' -C dist -cf - "$name" |
     gzip -n -9 >"dist/$name.tar.gz"
 echo "dist/$name.tar.gz: it needs glibc ${libc#GLIBC_} or newer; $(sed -n 's/^Standing: //p' "$stage/PROVED.txt")"
+# The gate of kit 13b stops at a symbolic link in any folder here.
+rm -rf "$stage"
