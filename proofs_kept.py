@@ -83,8 +83,8 @@ class Proofs:
             try:
                 os.rename(room, self.place(crate.name))
             except OSError:
-                # another run kept it meanwhile
-                pass
+                # another run kept it meanwhile, or the disk is full
+                return self.is_kept(crate.name)
             return True
         finally:
             shutil.rmtree(room, ignore_errors=True)
