@@ -1,7 +1,7 @@
 # make run    builds the replay of a journal without a proof and runs the first example: a look, in about a minute
 # make test   the gate: every proof, the wrong bodies, the tests, the programs; with kit 13f, what an earlier run on this machine
 #             passed over the same files is not proved or tried again; with 13b everything is. It leaves the program in build/ too
-# make times  the gate with nothing kept from earlier runs, and then what each crate cost it, in processor seconds
+# make times  the build and then the gate, with nothing kept from earlier runs: how long the build took, and what each crate cost in processor seconds
 # make build  proves, and leaves the program as build/jobd, with build/jobctl and build/jobscope as links to it
 # make dist   the archive of the program in build/, with what belongs to it; make deb, the Debian package of it
 # make bench  times build/jobd, the calendar and the live launcher, and counts the instructions of a line; BASELINE=PROGRAM takes turns

@@ -3,9 +3,9 @@
 
     build_all.py PROGRAM
 
-It is `rt ci PROGRAM` without the wrong bodies, which only the gate tries: rt's own function is called, which finds the order and the number of
-jobs of each check, and works on a copy. What the gate or an earlier build passed on this machine is not proved again, and what this
-passes the gate does not prove again. RT_JOBS bounds the checks that run side by side. With a kit whose rt keeps nothing (13b), the same is
+It is `rt ci PROGRAM` without the wrong bodies, which only the gate tries: rt's own function is called, which works on a copy. lanes.py finds the
+order and the number of jobs of each check, and the two compilers of the program run side by side. What the gate or an earlier build passed on this
+machine is not proved again, and what this passes the gate does not prove again. RT_JOBS bounds the checks that run side by side. With a kit whose rt keeps nothing (13b), the same is
 done by proofs_kept.py: what it proves is kept for the next build and for check_crate.py, and the gate proves it again.
 
 A line is written as each crate is proved: how many of all are, and its name. What rt said stands in build/build.log; if something is not proved,
@@ -21,7 +21,10 @@ import sys
 import time
 
 sys.dont_write_bytecode = True
+from concurrent.futures import ThreadPoolExecutor
+
 from kit import TOP, below, load_rt, rt_keeps
+from lanes import Lanes, measured
 from proofs_kept import Proofs
 
 
@@ -63,10 +66,38 @@ def build_by_ours(program):
     return 0
 
 
-def build_by_rt(program):
-    """Builds the program by a kit whose rt keeps what it proved, and leaves it in crates/PROGRAM/out/."""
+def lanes_of(rt, tasks):
+    """The lanes for rt's tasks: the proof of each crate, and its tests, of which there are none here. A task is what it waits for, its lines, the
+    memory that rt reckons with, and its call."""
+    known = measured(f"{TOP}/bench/crate_seconds.csv")
+    number = os.environ.get("RT_JOBS", "")
+    seconds = {(crate, what): known.get(crate, 20 + tasks[crate, what][1] // 6) if what == "proof" else 0 for crate, what in tasks}
+    # Checks were seen to take a third to a half of what rt reckons. By its figure the greatest crate waits until little else is left to prove.
+    memory = {task: tasks[task][2] // 2 for task in tasks}
+    below = {task: set(tasks[task][0]) for task in tasks}
+    return Lanes(below, seconds, memory, int(number) if number.isdigit() else rt.processors(), 0.85 * rt.free())
+
+
+def side_by_side(compile_by):
+    """rt has LLVM compile a proved program, and then Rattle's own compiler. This begins the second beside the first."""
+    pool, others = ThreadPoolExecutor(1), {}
+
+    def compiled(crate, backend, words, to):
+        if backend == "rattle":
+            return others.pop(crate.name).result()
+        others[crate.name] = pool.submit(compile_by, crate, "rattle", words, to)
+        status = compile_by(crate, backend, words, to)
+        if status:
+            # rt asks for no second then, and removes what it reads
+            others.pop(crate.name).result()
+        return status
+
+    return compiled
+
+
+def build_by_rt(program, rt):
+    """Builds the program by a kit whose rt keeps what it proved, and leaves it in crates/PROGRAM/out/. This rt serves for nothing else then."""
     count = len(below(program))
-    rt = load_rt("ci", "run", "edits_of", "need")
     run = rt.run
 
     def run_and_take(crate, tests, ending=""):
@@ -78,9 +109,8 @@ def build_by_rt(program):
         return run(crate, tests, ending)
 
     rt.run, rt.edits_of = run_and_take, lambda crate: ([], [])
-    # Checks were seen to take a third to a half of what rt reckons. By its figure the greatest crate waits until little else is left to prove.
-    need = rt.need
-    rt.need = lambda crate: need(crate) // 2
+    rt.in_lanes = lambda tasks: lanes_of(rt, tasks).run(lambda task, jobs, given: tasks[task][3](given, jobs))
+    rt.Crate.compile_by = side_by_side(rt.Crate.compile_by)
     with open("build/build.log", "w+", encoding="utf-8", errors="replace") as log:
         with contextlib.redirect_stdout(Progress(log, sys.stdout, count)):
             status = rt.ci(False, [program])
@@ -97,7 +127,10 @@ def main(program):
     # rt proves no crates by name where this says that the gate runs
     os.environ.pop("CI", None)
     os.makedirs("build", exist_ok=True)
-    status = build_by_rt(program) if rt_keeps() else build_by_ours(program)
+    if rt_keeps():
+        status = build_by_rt(program, load_rt("ci", "run", "edits_of", "in_lanes", "processors", "free", "Crate"))
+    else:
+        status = build_by_ours(program)
     used = [resource.getrusage(it) for it in (resource.RUSAGE_SELF, resource.RUSAGE_CHILDREN)]
     minutes = sum(it.ru_utime + it.ru_stime for it in used) / 60
     print(f"{minutes:.1f} processor minutes, {(time.monotonic() - start) / 60:.1f} by the clock")

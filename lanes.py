@@ -1,7 +1,7 @@
 """Which crate of a build is proved when, and by how many jobs: those first behind which the longest chain of others waits.
 
-A check by two jobs takes a fifth to two thirds more of the processors, most in large crates over many others. So a crate gets a second job only if a
-processor would be idle beside it.
+A check by more than one job takes a fifth to two thirds more of the processors, most in large crates over many others. So a crate gets further
+jobs only if processors would be idle beside it: behind the table the chain of crates is all that is left, and waits for nothing else.
 How long a crate takes is what `make times` measured last (bench/crate_seconds.csv); it only has to be right beside the others.
 """
 import csv
@@ -10,6 +10,8 @@ from concurrent.futures import FIRST_COMPLETED, ThreadPoolExecutor, wait
 
 # What a check by one job needs more for each further job.
 MORE_MEMORY = 0.6
+# A fifth job of one check gains nothing.
+MOST_JOBS = 4
 
 
 def measured(path):
@@ -32,10 +34,11 @@ class Lanes:
 
     def jobs(self, free, others):
         """As many jobs as a task gets, if `free` lanes are free and so many others could begin beside it."""
-        return max(1, min(free // (others + 1), 2))
+        return max(1, min(free // (others + 1), MOST_JOBS))
 
     def run(self, call):
-        """Calls `call(name, jobs)` for each task once those that it waits for have ended, and answers what each gave."""
+        """Calls `call(name, jobs, given)` for each task once those that it waits for have ended, and answers what each gave: `given`, which has
+        what those gave."""
         given, running, left = {}, {}, sorted(self.below, key=lambda it: -self.behind[it])
         with ThreadPoolExecutor(self.lanes) as pool:
             while left or running:
@@ -62,5 +65,5 @@ class Lanes:
             needed = self.memory[name] * (1 + MORE_MEMORY * (jobs - 1))
             if needed <= room or not at_work:
                 left.remove(name)
-                new.append((pool.submit(call, name, jobs), name, jobs, needed))
+                new.append((pool.submit(call, name, jobs, given), name, jobs, needed))
         return new

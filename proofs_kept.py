@@ -126,7 +126,7 @@ class Proofs:
         crates = self.with_those_below(names)
         done, guard, failed, known = [0], threading.Lock(), set(), measured(f"{TOP}/bench/crate_seconds.csv")
 
-        def work(name, jobs):
+        def work(name, jobs, _given):
             crate = self.crates[name]
             if failed & {it.name for it in crate.below()}:
                 failed.add(name)

@@ -1,12 +1,13 @@
 #!/usr/bin/env python3
-"""Runs the gate as `rt ci` does, and prints what it cost: the processor seconds of each crate's proof, tests and edits.
+"""Builds the program as `make build` does, then runs the gate as `rt ci` does, both with nothing of an earlier run, and prints what they cost: the time
+of the build by the clock, and the processor seconds of each crate's proof, tests and edits.
 
     bench/times.py
 
-It calls rt's own function for the gate, and has it use nothing of an earlier run (some kits never do), with RT_JOBS lanes (as many
-as there are processors if it is unset). The sum is appended to bench/history.csv, and what each proof took is left in bench/crate_seconds.csv, by which
-`make build` orders the crates. Each process that rt starts is counted by its user and system time, its own
-children included, and put down to the crate that it names:
+It calls rt's own functions, with RT_JOBS lanes (as many as there are processors if it is unset). The gate takes what the build proved, as it does for
+users, so each part is done once. A kit whose rt keeps nothing (13b) runs the gate alone. What was proved is then kept as by any other run. The figures
+are appended to bench/history.csv, and what each proof took is left in bench/crate_seconds.csv, by which `make build` orders the crates. Each process that
+rt starts is counted by its user and system time, its own children included, and put down to the crate that it names:
 
     proof    the check of the crate from nothing; of a program also its two compilers
     tests    the check of the crate with its tests, and their compiler
@@ -15,8 +16,10 @@ children included, and put down to the crate that it names:
 
 The last lines are those of rt, then the sum and the time by the clock. The status is rt's.
 """
+import contextlib
 import csv
 import os
+import shutil
 import subprocess
 import sys
 import time
@@ -26,8 +29,10 @@ import history
 
 HERE = os.path.dirname(os.path.abspath(__file__))
 sys.path.insert(0, os.path.dirname(HERE))
+import build_all
 import kit
 
+PROGRAM = "jobd_program"
 COLUMNS = ("proof", "tests", "edits", "runs")
 
 
@@ -62,18 +67,56 @@ def print_table(spent, begun):
     sums = [sum(cells[at] for _, cells in rows) for at in range(len(COLUMNS))]
     print(f"{'sum':24}" + "".join(f"{it:9.1f}" for it in (*sums, sum(sums))))
     minutes = (time.monotonic() - begun) / 60
-    history.append("the whole gate", f"{sum(sums) / 60:.1f}", "processor minutes", "make times")
+    history.append("the whole gate", minutes_of(spent), "processor minutes", "make times")
     print(f"{sum(sums) / 60:.1f} processor minutes, {minutes:.1f} minutes by the clock, RT_JOBS={os.environ['RT_JOBS']}")
+
+
+def minutes_of(spent):
+    return f"{sum(spent.values()) / 60:.1f}"
+
+
+@contextlib.contextmanager
+def nothing_kept(rt):
+    """Has this rt keep what it proves in an empty folder, and hands that over to the usual one at the end."""
+    usual = rt.STORE
+    rt.STORE = f"{usual}-{os.getpid()}"
+    os.makedirs(rt.STORE, 0o700)
+    try:
+        yield rt.STORE
+    finally:
+        os.makedirs(f"{usual}/edits", 0o700, exist_ok=True)
+        for name in [*os.listdir(rt.STORE), *(f"edits/{it}" for it in os.listdir(f"{rt.STORE}/edits"))]:
+            if name != "edits" and not os.path.exists(f"{usual}/{name}"):
+                os.rename(f"{rt.STORE}/{name}", f"{usual}/{name}")
+        shutil.rmtree(rt.STORE, ignore_errors=True)
+
+
+def build_and_gate(rt):
+    """The status of the gate over what a build proved, which is timed by the clock, with nothing kept from before."""
+    with nothing_kept(rt) as store:
+        begun = time.monotonic()
+        builder = kit.load_rt()
+        builder.STORE = store
+        status = build_all.build_by_rt(PROGRAM, builder)
+        clock = f"{(time.monotonic() - begun) / 60:.1f}"
+        said = f"make build: {minutes_of(Timed.spent)} processor minutes, {clock} by the clock"
+        if not status:
+            history.append("the program from nothing", clock, "minutes by the clock", "make times")
+            history.append("the program from nothing", minutes_of(Timed.spent), "processor minutes", "make times")
+        print(said, flush=True)
+        status = rt.ci(False)
+    print(said)
+    return status
 
 
 def main():
     os.chdir(os.path.dirname(HERE))
     os.environ.setdefault("RT_JOBS", str(os.cpu_count()))
+    os.makedirs("build", exist_ok=True)
     rt = kit.load_rt("ci")
     begun = time.monotonic()
     subprocess.Popen = Timed
-    # a kit that keeps what an earlier run passed is told to begin anew
-    status = rt.ci(True) if rt.ci.__code__.co_argcount else rt.ci()
+    status = build_and_gate(rt) if kit.rt_keeps() else rt.ci()
     sys.stdout.flush()
     print_table(Timed.spent, begun)
     if not status:

@@ -141,7 +141,7 @@ SOURCE = {
     "label": read("crates/history_model/specs/Labels.antt"),
 }
 # What several files count by is named in one.
-LIMITS = dict(re.findall(r"const (\w+): usize = ([\d_]+);", read(DEFS + "parts.rt")))
+LIMITS = dict(re.findall(r"const (\w+): usize = ([\d_]+);", read(DEFS + "demand.rt")))
 for name, limit in LIMITS.items():
     SOURCE = {file: re.sub(rf"\b{name}\b", limit, text) for file, text in SOURCE.items()}
 # Each key, the file that checks it, and how its numbers stand there. Behind them stand numbers that the page may name too.

@@ -1,6 +1,6 @@
 //! Why a start was refused: which part of it, and what the system said.
 
-use job_defs::Def;
+use definition_values::Def;
 use std::io;
 use std::io::ErrorKind;
 

@@ -15,8 +15,8 @@ use crate::{
     ChildEdge, Client, ClockEdge, Edge, EdgeFault, Notice, PathEdge, SocketEdge, clock, paths,
     words,
 };
+use definition_values::Def;
 use history_model::{Ended, JobNo, Obs, Reading, Text};
-use job_defs::Def;
 use mio::{Registry, Token};
 use socket_demand::Exchange;
 use std::alloc::Global;

@@ -1,7 +1,7 @@
 //! The lines that the edge has to tell: forms whose holes are filled. Each is absent where there was no memory for it.
 
 use Hole::{Error, Number, Text};
-use job_defs::{Address, Socket};
+use definition_values::{Address, Socket};
 use std::alloc::{AllocError, Global};
 use std::fmt::Write;
 use std::io;

@@ -15,10 +15,10 @@ use crate::JobEvent;
 use crate::calendar::Calendar;
 use crate::paths::{Queues, Watches};
 use conditions::Conditions;
+use definition_values::Def;
 use history_model::{
     Act, Answer, DemandKind, JobItem, JobState, MAX_UP, MAX_WALL, Obs, Reading, Refusal, ShownJob,
 };
-use job_defs::Def;
 use pace::{Ending, Interval, Signal, Throttle};
 use socket_demand::Waiting;
 use std::alloc::{AllocError, Global};
@@ -53,7 +53,7 @@ pub struct Job {
 impl Job {
     ghost use Rattle.history_model.specs.JobItems.{item_of};
     ghost use Rattle.job_core.specs.JobEvents.{item_of_event};
-    ghost use Rattle.job_defs.specs.Definitions.{definition};
+    ghost use Rattle.definition_values.specs.Definitions.{definition};
     ghost use Rattle.history_model.specs.Shown.{shown_by, state_by};
     ghost use Rattle.job_core.specs.JobFields.{facts};
     ghost use Rattle.history_model.specs.Facts.{facts_of};

@@ -20,9 +20,9 @@ mod calendar;
 mod job;
 mod paths;
 
+use definition_values::Def;
 use history_model::{Act, DemandKind, JobItem, MAX_UP, Obs, Reading, Reasons, Refusal, ShownJob};
 use job::Job;
-use job_defs::Def;
 use std::alloc::{AllocError, Global};
 use std::marker::Model;
 
@@ -57,7 +57,7 @@ impl JobCore {
     ghost use Rattle.job_core.specs.JobEvents.{item_of_event};
     ghost use Rattle.history_model.specs.Shown.{shown_of};
     ghost use Rattle.job_core.specs.Memory.{NeedsNoMemory};
-    ghost use Rattle.job_defs.specs.Definitions.{definition};
+    ghost use Rattle.definition_values.specs.Definitions.{definition};
 
     /// A job that was loaded at this reading. It takes all memory that the job ever needs, and its one refusal is of memory.
     pub fn new(alloc: Global, def: &Def, at: Reading) -> Result<JobCore, AllocError>

@@ -7,12 +7,13 @@ use Rattle.history_model.specs.declared.Reason.TheVariants.{BadLabel, NotObject}
 use Rattle.history_model.specs.declared.KeyName.TheVariants as keys
 use Rattle.history_model.specs.Labels.{is_label}
 use Rattle.history_model.specs.Machine.{Fault}
-use Rattle.job_defs.specs.Described.{Described}
+use Rattle.definition_values.specs.Described.{Described}
+use Rattle.definition_values.specs.Groups.{Launch}
 use Rattle.json_kinds.specs.DefFaults.{bad, or_fault, ◌>>=◌}
 use Rattle.json_kinds.specs.JsonKinds.{bool_key, optional_text, required, text_at}
 use Rattle.job_defs.specs.Commands.{command_key, label_key}
 use Rattle.job_defs.specs.Sockets.{sockets_and_inetd}
-use Rattle.job_defs.specs.Keys.{json_at, Launch, launch_at, demand_at, pace_at, surroundings_at, refusals_at, def_at, def_of}
+use Rattle.job_defs.specs.Keys.{json_at, launch_at, demand_at, pace_at, surroundings_at, refusals_at, def_at, def_of}
 
 -- what a step goes on with
 goes_on : {A B E : Type 0} (r : Result A E) (f : A → Result B E) (b : B) → (r >>= f) ≡ Ok b → (a : A) × (r ≡ Ok a) × (f a ≡ Ok b)

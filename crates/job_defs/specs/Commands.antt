@@ -8,6 +8,7 @@ use Rattle.history_model.specs.declared.KeyName.TheVariants.{Label, ProgramArgum
 use Rattle.history_model.specs.Machine.{Fault}
 use Rattle.history_model.specs.RefusalTexts.{key_text}
 use Rattle.history_model.specs.Labels.{is_label}
+use Rattle.definition_values.specs.Groups.{Command}
 use Rattle.json_kinds.specs.DefFaults.{bad, ◌>>=◌}
 use Rattle.json_kinds.specs.JsonKinds.{text_at, array_at, plain_at, filled_at, each_item, required}
 
@@ -17,11 +18,6 @@ label_key d = do
   found ← required Label d
   text ← text_at Label found
   if is_label text then Ok text else Err (bad BadLabel Label)
-
--- the executable, and the arguments after argv[0]
-pub record Command : Type 0 where
-  pub program : List ℕ
-  pub arguments : List (List ℕ)
 
 -- an argument
 abbrev pub word_at : Data → Result (List ℕ) Fault

@@ -8,19 +8,13 @@ use Rattle.history_model.specs.declared.Reason.TheVariants.{TooLong}
 use Rattle.history_model.specs.declared.KeyName.TheVariants.{KeepAlive}
 use Rattle.history_model.specs.Machine.{Fault}
 use Rattle.history_model.specs.RefusalTexts.{key_text}
-use Rattle.job_defs.specs.declared.parts.PathState.{PathState}
-use Rattle.job_defs.specs.declared.parts.TheConstants.{LIST_LIMIT}
+use Rattle.definition_values.specs.declared.parts.PathState.{PathState}
+use Rattle.job_defs.specs.declared.demand.TheConstants.{LIST_LIMIT}
+use Rattle.definition_values.specs.Groups.{Keep}
 use Rattle.json_kinds.specs.DefFaults.{bad, ◌>>=◌}
 use Rattle.json_kinds.specs.Names.{Key, crashed, path_state, successful_exit}
 use Rattle.json_kinds.specs.JsonKinds.{bool_at, object_at, filled, each_member, where_there, optional}
 use Rattle.json_kinds.specs.declared.keys.TheConstants.{PATH_LIMIT}
-
--- what `KeepAlive` says
-pub record Keep : Type 0 where
-  pub always : Bool
-  pub successful_exit : Option Bool
-  pub crashed : Option Bool
-  pub path_state : List PathState
 
 -- a boolean has no conditions
 abbrev pub unconditional : Bool → Keep

@@ -3,34 +3,25 @@
 use Rattle.std.specs.Prelude.{ℕ, ◌+◌, List, length, Bool, true, false, Result, Ok, Option, ⊤}
 use Rattle.serde_json.specs.Data.{Data}
 use Rattle.serde_json.specs.Find.{as_object}
-use Rattle.history_model.specs.declared.Entry.{Entry}
 use Rattle.history_model.specs.declared.Reason.TheVariants.{NotJson, NotObject}
 use Rattle.history_model.specs.declared.KeyName.TheVariants.{NoKey, Program, RunAtLoad, LaunchOnlyOnce, DisabledKey, OnDemand, WatchPaths, QueueDirectories, StartInterval, ThrottleInterval, ExitTimeOut, WorkingDirectory, StandardInPath, StandardOutPath, StandardErrorPath, UserName, GroupName, RootDirectory}
 use Rattle.history_model.specs.Machine.{Fault}
-use Rattle.job_defs.specs.declared.parts.Variable.{Variable}
-use Rattle.job_defs.specs.declared.parts.Socket.{Socket}
-use Rattle.job_defs.specs.Described.{Described}
+use Rattle.definition_values.specs.Described.{Described}
+use Rattle.definition_values.specs.Definitions.{has_some}
+use Rattle.definition_values.specs.Groups.{Launch, Demand, Pace, Surroundings, described}
 use Rattle.json_kinds.specs.DefFaults.{bad, or_fault, ◌>>=◌}
 use Rattle.json_kinds.specs.Json.{json_in}
 use Rattle.json_kinds.specs.Names.{Key}
 use Rattle.json_kinds.specs.JsonKinds.{bool_key, integer_key, optional_integer, optional_text, optional_path, refused_key}
-use Rattle.job_defs.specs.Commands.{Command, label_key, command_key}
-use Rattle.job_defs.specs.Conditions.{Keep, keep_key}
+use Rattle.job_defs.specs.Commands.{label_key, command_key}
+use Rattle.job_defs.specs.Conditions.{keep_key}
 use Rattle.job_defs.specs.Paths.{paths_key}
 use Rattle.job_defs.specs.Calendars.{calendar_key}
 use Rattle.job_defs.specs.Variables.{environment_key}
-use Rattle.job_defs.specs.Sockets.{has_some, sockets_and_inetd}
+use Rattle.job_defs.specs.Sockets.{sockets_and_inetd}
 use Rattle.job_defs.specs.Ignored.{not_acted_on}
 
 -- ---- what is run
-
--- the keys from `Label` to `Disabled`
-pub record Launch : Type 0 where
-  pub label : List ℕ
-  pub command : Command
-  pub run_at_load : Bool
-  pub launch_only_once : Bool
-  pub disabled : Bool
 
 -- `Label` to `Disabled`
 unfoldable pub launch_at : Data → Result Launch Fault
@@ -51,14 +42,6 @@ launch_at d = do
 
 -- ---- when it runs
 
--- the keys from `OnDemand` to `StartCalendarInterval`
-pub record Demand : Type 0 where
-  pub keep : Keep
-  pub watch_paths : List (List ℕ)
-  pub queue_directories : List (List ℕ)
-  pub start_interval : Option ℕ
-  pub calendar : List Entry
-
 -- `OnDemand` to `StartCalendarInterval`
 unfoldable pub demand_at : Data → Result Demand Fault
 demand_at d = do
@@ -78,11 +61,6 @@ demand_at d = do
 
 -- ---- how fast
 
--- the keys `ThrottleInterval` and `ExitTimeOut`
-pub record Pace : Type 0 where
-  pub throttle_interval : ℕ
-  pub exit_time_out : ℕ
-
 -- `ThrottleInterval` and `ExitTimeOut`
 unfoldable pub pace_at : Data → Result Pace Fault
 pace_at d = do
@@ -91,14 +69,6 @@ pace_at d = do
   Ok (record { throttle_interval = throttle; exit_time_out = exit })
 
 -- ---- what is around it
-
--- the keys from `EnvironmentVariables` to `StandardErrorPath`
-pub record Surroundings : Type 0 where
-  pub environment : List Variable
-  pub working_directory : Option (List ℕ)
-  pub standard_in_path : Option (List ℕ)
-  pub standard_out_path : Option (List ℕ)
-  pub standard_error_path : Option (List ℕ)
 
 -- `EnvironmentVariables` to `StandardErrorPath`
 unfoldable pub surroundings_at : Data → Result Surroundings Fault
@@ -126,34 +96,6 @@ refusals_at d = do
   refused_key RootDirectory d
 
 -- ---- the whole definition
-
--- what all keys give
-abbrev pub described : Launch → Demand → Pace → Surroundings → List Socket → List Key → Described
-described launch demand pace around sockets ignored = record {
-  label = launch.label;
-  program = launch.command.program;
-  arguments = launch.command.arguments;
-  run_at_load = launch.run_at_load;
-  launch_only_once = launch.launch_only_once;
-  disabled = launch.disabled;
-  keep_alive = demand.keep.always;
-  successful_exit = demand.keep.successful_exit;
-  crashed = demand.keep.crashed;
-  path_state = demand.keep.path_state;
-  watch_paths = demand.watch_paths;
-  queue_directories = demand.queue_directories;
-  start_interval = demand.start_interval;
-  calendar = demand.calendar;
-  throttle_interval = pace.throttle_interval;
-  exit_time_out = pace.exit_time_out;
-  environment = around.environment;
-  working_directory = around.working_directory;
-  standard_in_path = around.standard_in_path;
-  standard_out_path = around.standard_out_path;
-  standard_error_path = around.standard_error_path;
-  sockets = sockets;
-  not_acted_on = ignored;
-}
 
 -- all keys
 unfoldable pub def_at : Data → Result Described Fault

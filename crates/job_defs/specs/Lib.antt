@@ -1,5 +1,3 @@
-pub mod Described
-pub mod Definitions
 pub mod Commands
 pub mod Conditions
 pub mod Paths
@@ -8,4 +6,4 @@ pub mod Variables
 pub mod Ignored
 pub mod Sockets
 pub mod Keys
-pub mod Parts
+pub mod GatheredNames

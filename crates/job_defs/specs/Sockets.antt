@@ -12,9 +12,10 @@ use Rattle.history_model.specs.declared.Reason.TheVariants.{Missing, OutOfRange,
 use Rattle.history_model.specs.declared.KeyName.TheVariants as keys
 use Rattle.history_model.specs.Machine.{Fault}
 use Rattle.history_model.specs.RefusalTexts.{key_text}
-use Rattle.job_defs.specs.declared.parts.Socket.{Socket}
-use Rattle.job_defs.specs.declared.parts.Address.{Address}
-use Rattle.job_defs.specs.declared.parts.Address.TheVariants.{Unix, Inet}
+use Rattle.definition_values.specs.declared.parts.Socket.{Socket}
+use Rattle.definition_values.specs.Definitions.{has_some}
+use Rattle.definition_values.specs.declared.parts.Address.{Address}
+use Rattle.definition_values.specs.declared.parts.Address.TheVariants.{Unix, Inet}
 use Rattle.json_kinds.specs.Digits.{is_digit}
 use Rattle.json_kinds.specs.DefFaults.{bad, or_fault, ◌>>=◌}
 use Rattle.json_kinds.specs.Names.{Key, secure_key, socket_type, passive, family, protocol, path_name, node_name, service_name, wait}
@@ -163,10 +164,6 @@ inetd_key has_sockets d = inetd_by (get (key_text keys.InetdCompatibility) d) wh
   inetd_by None = if has_sockets then Err (bad Unsupported keys.InetdCompatibility) else Ok tt
 
 -- ---- both keys
-
--- there is one at least
-abbrev pub has_some : List Socket → Bool
-has_some sockets = not (length sockets == 0)
 
 -- `Sockets` and `inetdCompatibility`
 unfoldable pub sockets_and_inetd : Data → Result (List Socket) Fault

@@ -6,7 +6,7 @@ ghost use Rattle.json_kinds.specs.DefFaults.{Gives};
 ghost use Rattle.json_kinds.specs.JsonKinds.{each_item};
 ghost use Rattle.job_defs.specs.Calendars.{part, entry_at, calendar_key};
 
-use crate::parts::LIST_LIMIT;
+use crate::demand::LIST_LIMIT;
 use history_model::{Entry, KeyName, Reason};
 use json_kinds::DefFault;
 use json_kinds::kinds::{integer_of, members_or_one_of, object_of};

@@ -6,12 +6,12 @@ ghost use Rattle.json_kinds.specs.DefFaults.{Gives};
 ghost use Rattle.json_kinds.specs.JsonKinds.{each_item, path_at};
 ghost use Rattle.job_defs.specs.Paths.{paths_key};
 ghost use Rattle.job_defs.specs.Keys.{demand_at, pace_at};
-ghost use Rattle.job_defs.specs.Parts.{demand_of, pace_of};
-ghost use Rattle.job_defs.specs.declared.parts.TheConstants.{LIST_LIMIT};
+ghost use Rattle.definition_values.specs.Parts.{demand_of, pace_of};
+ghost use Rattle.job_defs.specs.declared.demand.TheConstants.{LIST_LIMIT};
 
 use crate::calendars::calendar_key_of;
 use crate::conditions::keep_key_of;
-use crate::parts::{Demand, LIST_LIMIT, Pace};
+use definition_values::{Demand, Pace};
 use history_model::{KeyName, Reason, Text};
 use json_kinds::DefFault;
 use json_kinds::keys::{PATH_LIMIT, bool_key_of, integer_key_of, optional_integer_of};
@@ -19,6 +19,9 @@ use json_kinds::kinds::{array_of, filled_of};
 use json_kinds::names::key_name;
 use serde_json::Value;
 use std::alloc::Global;
+
+/// The most paths of a definition, paths of `KeepAlive`, and calendar entries.
+pub(crate) const LIST_LIMIT: usize = 64;
 
 #[tactic(auto, unfolding(crate::specs::Keys::demand_at))]
 pub(crate) fn demand_keys(alloc: Global, def: &Value) -> Result<Demand, DefFault>

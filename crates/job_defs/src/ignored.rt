@@ -7,7 +7,7 @@ ghost use Rattle.history_model.specs.RefusalTexts.{key_text};
 ghost use Rattle.history_model.specs.declared.KeyName.TheVariants as keys;
 ghost use Rattle.job_defs.specs.Ignored as ignored;
 ghost use Rattle.job_defs.specs.Ignored.{members_in};
-ghost use Rattle.job_defs.specs.Parts.{Gains, names_of};
+ghost use Rattle.job_defs.specs.GatheredNames.{Gains, names_of};
 ghost use Rattle.json_kinds.specs.JsonKinds.{texts_in};
 
 use history_model::{KeyName, Text};

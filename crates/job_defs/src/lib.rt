@@ -13,21 +13,18 @@ macro_rules! given {
 
 mod calendars;
 mod conditions;
-mod def;
 mod demand;
 mod host;
 mod ignored;
 mod launch;
 pub mod laws;
 mod load_text;
-mod parts;
 mod read;
 mod socket;
 mod sockets;
 mod surroundings;
 
-pub use def::Def;
+pub use definition_values::{Address, Def, PathState, Socket, Variable};
 pub use json_kinds::{DefFault, is_label, json_value, key_name, reason_name};
 pub use load_text::loaded;
-pub use parts::{Address, PathState, Socket, Variable};
 pub use read::read_def;

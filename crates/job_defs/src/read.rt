@@ -5,12 +5,12 @@ ghost use Rattle.serde_json.specs.View.{view};
 ghost use Rattle.json_kinds.specs.DefFaults.{Gives};
 ghost use Rattle.job_defs.specs.Keys.{refusals_at, def_at, def_of};
 
-use crate::def::Def;
 use crate::demand::{demand_keys, pace_keys};
 use crate::ignored::not_acted_on_of;
 use crate::launch::launch_keys;
 use crate::sockets::sockets_and_inetd_of;
 use crate::surroundings::surroundings_keys;
+use definition_values::Def;
 use history_model::{KeyName, Reason};
 use json_kinds::keys::refused_key_of;
 use json_kinds::{DefFault, json_value};
@@ -56,14 +56,7 @@ fn def_in(alloc: Global, value: &Value) -> Result<Def, DefFault>
     let sockets = given!(sockets_and_inetd_of(alloc, value));
     given!(refusals_keys(value));
     let not_acted_on = not_acted_on_of(alloc, !sockets.is_empty(), value)?;
-    Ok(Def {
-        launch,
-        demand,
-        pace,
-        surroundings,
-        sockets,
-        not_acted_on,
-    })
+    Ok(Def::of(launch, demand, pace, surroundings, sockets, not_acted_on))
 }
 
 /// Keys that would change who or where the job is.

@@ -8,8 +8,8 @@ use Rattle.history_model.specs.Labels.{Label}
 use Rattle.history_model.specs.Machine.{State, Event, Load}
 use Rattle.history_model.specs.Acceptance.{refusal_in, refusal_stored, refused_if}
 use Rattle.history_model.specs.Step.{outcome, outcome_by, step, step_by, set_if}
-use Rattle.job_defs.specs.Described.{Described}
-use Rattle.job_defs.specs.Definitions.{given, has_sockets}
+use Rattle.definition_values.specs.Described.{Described}
+use Rattle.definition_values.specs.Definitions.{given, has_sockets}
 use Rattle.job_defs.specs.Keys.{def_of}
 use Rattle.loaded_jobs.specs.Tables.{Table, Row, Name, IsOnce}
 use Rattle.loaded_jobs.specs.StandsFor.{KeepsState}

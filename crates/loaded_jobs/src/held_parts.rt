@@ -29,7 +29,7 @@ pub struct HeldDef {
 }
 
 impl Model for HeldDef {
-    ghost use Rattle.job_defs.specs.Described.{Described};
+    ghost use Rattle.definition_values.specs.Described.{Described};
 
     ghost Value = { Described };
 

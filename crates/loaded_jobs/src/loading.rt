@@ -15,7 +15,7 @@ ghost use Rattle.history_model.specs.Acceptance.{refusal_of_load, refusal_in, re
 ghost use Rattle.history_model.specs.Search.{or_else};
 ghost use Rattle.history_model.specs.MachineLaws.{AreInOrder};
 ghost use Rattle.job_defs.specs.Keys.{def_of};
-ghost use Rattle.job_defs.specs.Definitions.{definition, given};
+ghost use Rattle.definition_values.specs.Definitions.{definition, given};
 ghost use Rattle.loaded_jobs.specs.Tables.{labels_in};
 ghost use Rattle.loaded_jobs.specs.StandsFor.{KeepsState};
 ghost use Rattle.loaded_jobs.specs.TableOutcomes.{IsSameFor, Means};

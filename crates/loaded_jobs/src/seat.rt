@@ -12,7 +12,7 @@ ghost use Rattle.history_model.specs.Due.{due};
 ghost use Rattle.history_model.specs.FactsOfPast.{Keeps, ordered};
 ghost use Rattle.history_model.specs.Step.{acts_of, lists};
 ghost use Rattle.history_model.specs.Clock as clock;
-ghost use Rattle.job_defs.specs.Definitions.{definition};
+ghost use Rattle.definition_values.specs.Definitions.{definition};
 ghost use Rattle.job_core.specs.JobEvents.{item_of_event};
 ghost use Rattle.loaded_jobs.specs.StandsFor.{numbered_orders};
 ghost use Rattle.loaded_jobs.specs.Touch.{item_for};

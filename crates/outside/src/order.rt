@@ -7,8 +7,8 @@ ghost use Rattle.std.specs.Result.{ForOk};
 
 use crate::Unheard;
 use child_edge::{ChildEdge, EdgeFault, SocketEdge};
+use definition_values::Def;
 use history_model::{Act, Answer, Order};
-use job_defs::Def;
 
 /// The answer that the result of a start is.
 fn spawn_answer(run: u64, started: Result<u32, EdgeFault>) -> Answer

@@ -3,7 +3,7 @@ use Rattle.std.proofs.Common.{◌≡◌, ◌∙◌, ◌++◌, map, string_bytes,
 use Rattle.std.specs.Ordering.{nat_cmp}
 use Rattle.std.specs.Cmp.Lexicographic.{slice_cmp}
 use Rattle.std.specs.BTreeSet.{insert_key}
-use Rattle.job_defs.specs.Parts.{names_of}
+use Rattle.job_defs.specs.GatheredNames.{names_of}
 use Rattle.job_defs.proofs.IgnoredLemmas.{inserted}
 use Rattle.job_defs.proofs.ignored.add.Goals as goal
 

@@ -3,7 +3,7 @@ use Rattle.std.proofs.Common.{◌≡◌, drop}
 use Rattle.serde_json.specs.View.{items_view}
 use Rattle.json_kinds.specs.JsonKinds.{texts_in}
 use Rattle.job_defs.specs.Ignored.{with_names, others_in_each}
-use Rattle.job_defs.specs.Parts.{names_of}
+use Rattle.job_defs.specs.GatheredNames.{names_of}
 use Rattle.job_defs.proofs.ignored.add_others_in_each.Given as goal
 
 abbrev pub invariant-loop-item : goal.invariant-loop-item

@@ -2,7 +2,7 @@
 use Rattle.std.proofs.Common.{◌≡◌}
 use Rattle.serde_json.specs.View.{members_view}
 use Rattle.job_defs.specs.Ignored.{with_names, unlisted}
-use Rattle.job_defs.specs.Parts.{names_of}
+use Rattle.job_defs.specs.GatheredNames.{names_of}
 use Rattle.job_defs.proofs.ignored.add_unlisted.Given as goal
 
 abbrev pub invariant-loop-name : goal.invariant-loop-name

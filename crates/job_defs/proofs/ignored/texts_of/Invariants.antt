@@ -1,6 +1,6 @@
 -- What stays true in the loop of `ignored::texts_of`.
 use Rattle.std.proofs.Common.{◌≡◌, ◌++◌, map, string_bytes}
-use Rattle.job_defs.specs.Parts.{names_of}
+use Rattle.job_defs.specs.GatheredNames.{names_of}
 use Rattle.job_defs.proofs.ignored.texts_of.Given as goal
 
 abbrev pub invariant-loop-name : goal.invariant-loop-name

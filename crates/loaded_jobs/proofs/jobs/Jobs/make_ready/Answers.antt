@@ -6,7 +6,7 @@ use Rattle.history_model.specs.Items.{Loaded}
 use Rattle.history_model.specs.FactsOfPast.{Keeps}
 use Rattle.history_model.specs.Machine.{Load}
 use Rattle.history_model.specs.Acceptance.{refusal_in}
-use Rattle.job_defs.specs.Definitions.{definition}
+use Rattle.definition_values.specs.Definitions.{definition}
 use Rattle.loaded_jobs.specs.Seats.{name, rows}
 use Rattle.loaded_jobs.specs.Loads.{given_in, IsAbsent, IsReady, IsMade, enabled_if}
 use Rattle.loaded_jobs.specs.Sound.{seen_table}

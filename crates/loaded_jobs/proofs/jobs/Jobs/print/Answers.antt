@@ -8,7 +8,7 @@ use Rattle.history_model.specs.Machine.{past_in, sets, flag_in, is_disabled}
 use Rattle.history_model.specs.Acceptance.{refused_if, refusal_absent}
 use Rattle.history_model.specs.Texts.{print_text, printed}
 use Rattle.history_model.specs.Clock.{definition_of}
-use Rattle.job_defs.specs.Definitions.{definition}
+use Rattle.definition_values.specs.Definitions.{definition}
 use Rattle.loaded_jobs.specs.Seats.{name, is_loaded_under}
 use Rattle.loaded_jobs.proofs.FirstLemmas.{first-where, none-where}
 use Rattle.loaded_jobs.proofs.PlacesLemmas.{no-one-here, someone-here}

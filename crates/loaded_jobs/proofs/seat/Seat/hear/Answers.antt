@@ -5,7 +5,7 @@ use Rattle.std.specs.List.{list_any}
 use Rattle.history_model.specs.Calendar.{matches}
 use Rattle.history_model.specs.Items.{Read, Saw}
 use Rattle.history_model.specs.Step.{lists}
-use Rattle.job_defs.specs.Definitions.{definition}
+use Rattle.definition_values.specs.Definitions.{definition}
 use Rattle.loaded_jobs.specs.Touch.{item_for}
 use Rattle.loaded_jobs.proofs.HearingLemmas.{heard-as, heard-nothing}
 use Rattle.loaded_jobs.proofs.seat.Seat.hear.Goals as goal

@@ -2,9 +2,6 @@
 
 use history_model::{Entry, Text};
 
-/// The most paths of a definition, paths of `KeepAlive`, and calendar entries.
-pub const LIST_LIMIT: usize = 64;
-
 /// A condition of `KeepAlive.PathState`: the job is wanted while something is at the path (`present`), or while nothing
 /// is.
 #[derive(Drop)]
@@ -37,17 +34,18 @@ pub enum Address {
 
 /// What is run: the executable, and the arguments after argv[0].
 #[derive(Drop)]
-pub(crate) struct Command {
-    pub(crate) program: Text,
-    pub(crate) arguments: Vec<Text>,
+pub struct Command {
+    pub program: Text,
+    pub arguments: Vec<Text>,
 }
 
-pub(crate) struct Launch {
-    pub(crate) label: Text,
-    pub(crate) command: Command,
-    pub(crate) run_at_load: bool,
-    pub(crate) launch_only_once: bool,
-    pub(crate) disabled: bool,
+/// What is run, under which label, and how it is loaded.
+pub struct Launch {
+    pub label: Text,
+    pub command: Command,
+    pub run_at_load: bool,
+    pub launch_only_once: bool,
+    pub disabled: bool,
 }
 
 // for the proof: who lets it go calls this, in place of letting each part go
@@ -65,19 +63,20 @@ impl Drop for Launch {
 
 /// What `KeepAlive` and `OnDemand` say.
 #[derive(Drop)]
-pub(crate) struct Keep {
-    pub(crate) always: bool,
-    pub(crate) successful_exit: Option<bool>,
-    pub(crate) crashed: Option<bool>,
-    pub(crate) path_state: Vec<PathState>,
+pub struct Keep {
+    pub always: bool,
+    pub successful_exit: Option<bool>,
+    pub crashed: Option<bool>,
+    pub path_state: Vec<PathState>,
 }
 
-pub(crate) struct Demand {
-    pub(crate) keep: Keep,
-    pub(crate) watch_paths: Vec<Text>,
-    pub(crate) queue_directories: Vec<Text>,
-    pub(crate) start_interval: Option<u32>,
-    pub(crate) calendar: Vec<Entry>,
+/// What makes the job run.
+pub struct Demand {
+    pub keep: Keep,
+    pub watch_paths: Vec<Text>,
+    pub queue_directories: Vec<Text>,
+    pub start_interval: Option<u32>,
+    pub calendar: Vec<Entry>,
 }
 
 // for the proof: who lets it go calls this, in place of letting each part go
@@ -93,18 +92,20 @@ impl Drop for Demand {
     }
 }
 
+/// How often the job is started, and how long it may take to end, in seconds.
 #[derive(Clone, Copy)]
-pub(crate) struct Pace {
-    pub(crate) throttle_interval: u32,
-    pub(crate) exit_time_out: u32,
+pub struct Pace {
+    pub throttle_interval: u32,
+    pub exit_time_out: u32,
 }
 
-pub(crate) struct Surroundings {
-    pub(crate) environment: Vec<Variable>,
-    pub(crate) working_directory: Option<Text>,
-    pub(crate) standard_in_path: Option<Text>,
-    pub(crate) standard_out_path: Option<Text>,
-    pub(crate) standard_error_path: Option<Text>,
+/// What is around its child.
+pub struct Surroundings {
+    pub environment: Vec<Variable>,
+    pub working_directory: Option<Text>,
+    pub standard_in_path: Option<Text>,
+    pub standard_out_path: Option<Text>,
+    pub standard_error_path: Option<Text>,
 }
 
 // for the proof: who lets it go calls this, in place of letting each part go

@@ -1,21 +1,23 @@
 //! A definition that was read, and what it says of each key.
 
 ghost use Rattle.std.specs.Prelude.{◌≡◌, ◌≤◌, IfSome, option_map};
-ghost use Rattle.job_defs.specs.Definitions.{has_sockets};
+ghost use Rattle.definition_values.specs.Definitions.{has_sockets};
+ghost use Rattle.definition_values.specs.Groups.{described};
+ghost use Rattle.definition_values.specs.Parts.{launch_of, demand_of, pace_of, surroundings_of};
 
 use crate::parts::{Demand, Launch, Pace, PathState, Socket, Surroundings, Variable};
 use history_model::{Entry, Text};
 use std::marker::Model;
 
-/// A job's definition, read from JSON by [`read_def`](crate::read_def). The keys and their meaning are those of
+/// A job's definition, as `job_defs::read_def` reads it from JSON. The keys and their meaning are those of
 /// launchd.plist(5), but for what is said here.
 pub struct Def {
-    pub(crate) launch: Launch,
-    pub(crate) demand: Demand,
-    pub(crate) pace: Pace,
-    pub(crate) surroundings: Surroundings,
-    pub(crate) sockets: Vec<Socket>,
-    pub(crate) not_acted_on: Vec<Text>,
+    launch: Launch,
+    demand: Demand,
+    pace: Pace,
+    surroundings: Surroundings,
+    sockets: Vec<Socket>,
+    not_acted_on: Vec<Text>,
 }
 
 // for the proof: who lets it go calls this, in place of letting each part go
@@ -34,7 +36,7 @@ impl Drop for Def {
 
 impl Model for Def {
     ghost use Rattle.std.specs.Prelude.{◌≤◌, IfSome};
-    ghost use Rattle.job_defs.specs.Described.{Described};
+    ghost use Rattle.definition_values.specs.Described.{Described};
 
     ghost Value = { Described };
 
@@ -70,7 +72,33 @@ impl Model for Def {
 }
 
 impl Def {
-    /// `Label`: the job's name, which no other loaded job has. 1 to 255 bytes; [`is_label`](crate::is_label) says which.
+    /// The definition with these parts. The intervals are within their ranges: `StartInterval` 1 to 31,536,000, `ThrottleInterval` and
+    /// `ExitTimeOut` at most 86,400, all in seconds. `not_acted_on` are the keys that nothing acts on.
+    pub fn of(
+        launch: Launch,
+        demand: Demand,
+        pace: Pace,
+        surroundings: Surroundings,
+        sockets: Vec<Socket>,
+        not_acted_on: Vec<Text>,
+    ) -> Def
+        requires interval { IfSome demand.start_interval (λ seconds. (1 ≤ seconds)
+            × (seconds ≤ 31536000)) }
+        requires bounds { (pace.throttle_interval ≤ 86400) × (pace.exit_time_out ≤ 86400) }
+        ensures { result ≡ described (launch_of launch) (demand_of demand) (pace_of pace)
+            (surroundings_of surroundings) sockets.items not_acted_on.items }
+    {
+        Def {
+            launch,
+            demand,
+            pace,
+            surroundings,
+            sockets,
+            not_acted_on,
+        }
+    }
+
+    /// `Label`: the job's name, which no other loaded job has. 1 to 255 bytes; `json_kinds::is_label` says which.
     pub fn label(&self) -> &str
         ensures { result.now ≡ self.now.label }
     {

@@ -1,14 +1,18 @@
 -- What a machine of jobs takes of a definition.
-use Rattle.std.specs.Prelude.{ℕ, Bool, List, map}
+use Rattle.std.specs.Prelude.{ℕ, Bool, List, map, length, not, ◌==◌}
 use Rattle.history_model.specs.Items.{Definition}
 use Rattle.history_model.specs.Machine.{Given}
-use Rattle.job_defs.specs.Described.{Described}
-use Rattle.job_defs.specs.Sockets.{has_some}
-use Rattle.job_defs.specs.declared.parts.PathState.{PathState}
+use Rattle.definition_values.specs.Described.{Described}
+use Rattle.definition_values.specs.declared.parts.PathState.{PathState}
+use Rattle.definition_values.specs.declared.parts.Socket.{Socket}
 
 -- a path, and whether something is to be there
 abbrev pub path_wish : PathState → List ℕ × Bool
 path_wish wish = (wish.path, wish.present)
+
+-- there is one at least
+abbrev pub has_some : List Socket → Bool
+has_some sockets = not (length sockets == 0)
 
 -- there is at least one socket
 abbrev pub has_sockets : Described → Bool

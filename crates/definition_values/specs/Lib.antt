@@ -1,0 +1,4 @@
+pub mod Described
+pub mod Definitions
+pub mod Groups
+pub mod Parts

@@ -1,0 +1,10 @@
+//! What a job's definition says, key by key: a `Def`, as the reader of definitions makes it, with a getter for each key that is acted on.
+#![tactic(auto)]
+
+mod def;
+mod parts;
+
+pub use def::Def;
+pub use parts::{
+    Address, Command, Demand, Keep, Launch, Pace, PathState, Socket, Surroundings, Variable,
+};
