@@ -1,6 +1,6 @@
 -- The keys of a definition, one by one, in the order in which they are checked. They are those of
 -- launchd.plist(5); the first key with a fault is the answer.
-use Rattle.std.specs.Prelude.{ℕ, ◌+◌, List, length, Bool, true, false, Result, Ok, Option, ⊤}
+use Rattle.std.specs.Prelude.{ℕ, ◌+◌, List, length, true, false, Result, Ok, ⊤}
 use Rattle.serde_json.specs.Data.{Data}
 use Rattle.serde_json.specs.Find.{as_object}
 use Rattle.history_model.specs.declared.Reason.TheVariants.{NotJson, NotObject}
@@ -11,7 +11,6 @@ use Rattle.definition_values.specs.Definitions.{has_some}
 use Rattle.definition_values.specs.Groups.{Launch, Demand, Pace, Surroundings, described}
 use Rattle.json_kinds.specs.DefFaults.{bad, or_fault, ◌>>=◌}
 use Rattle.json_kinds.specs.Json.{json_in}
-use Rattle.json_kinds.specs.Names.{Key}
 use Rattle.json_kinds.specs.JsonKinds.{bool_key, integer_key, optional_integer, optional_text, optional_path, refused_key}
 use Rattle.job_defs.specs.Commands.{label_key, command_key}
 use Rattle.job_defs.specs.Conditions.{keep_key}
