@@ -80,11 +80,11 @@ def nothing_kept(rt):
     """Has this rt keep what it proves in an empty folder, and hands that over to the usual one at the end."""
     usual = rt.STORE
     rt.STORE = f"{usual}-{os.getpid()}"
-    os.makedirs(rt.STORE, 0o700)
+    for folder in (rt.STORE, usual):
+        os.makedirs(f"{folder}/edits", 0o700, exist_ok=True)
     try:
         yield rt.STORE
     finally:
-        os.makedirs(f"{usual}/edits", 0o700, exist_ok=True)
         for name in [*os.listdir(rt.STORE), *(f"edits/{it}" for it in os.listdir(f"{rt.STORE}/edits"))]:
             if name != "edits" and not os.path.exists(f"{usual}/{name}"):
                 os.rename(f"{rt.STORE}/{name}", f"{usual}/{name}")
