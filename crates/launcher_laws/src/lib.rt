@@ -1,6 +1,4 @@
-//! What holds of a launcher over any list of turns, by the contracts of `launcher::Host::new` and `launcher::Host::turn` alone; and of its
-//! store, if it is opened again.
+//! What holds of a launcher over any list of turns, by the contracts of `launcher::Host::new` and `launcher::Host::turn` alone.
 #![tactic(auto)]
 
 pub mod laws;
-pub mod reopening;

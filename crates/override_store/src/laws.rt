@@ -8,7 +8,7 @@ ghost use Rattle.sqlite.specs.Held.{state};
 ghost use Rattle.sqlite.specs.State.{HasCleanDisk};
 ghost use Rattle.sqlite_wal.specs.Reads.{AreClean};
 ghost use Rattle.history_model.specs.declared.event.Setting.{Setting};
-ghost use Rattle.override_store.specs.OverrideStores.{HoldsNow, IsOpenedOn, HoldsOn, rows_now};
+ghost use Rattle.override_store.specs.OverrideStores.{HoldsNow, IsOpenedOn, HoldsOn, StaysSame, rows_now};
 ghost use Rattle.override_store.specs.Settings.{HoldsEach, ListAlike};
 
 use crate::OverrideStore;
@@ -28,17 +28,21 @@ pub fn a_store_opened_again_holds_the_same<S: Alter, R: Alter>(
 }
 
 /// What a store held, a store holds that `open_on` gives on the connection that `open_files` made of the files that
-/// `close_files` gave.
+/// `close_files` gave; and each label has the setting and the second that it had.
 pub fn a_store_over_its_files_holds_the_same<D: Disk>(
     store: &OverrideStore<FileStore<D>>,
     files: &Files<D>,
     conn: &Connection<FileStore<D>>,
     again: &OverrideStore<FileStore<D>>,
 )
-    ensures { (AreClean D.Disk files.now.log files.now.db → IsCopied store.now files.now) →
+    ensures holds { (AreClean D.Disk files.now.log files.now.db → IsCopied store.now files.now) →
         (HasCleanDisk (file_state conn.now) → Finds files.now conn.now) →
         IsOpenedOn (file_state conn.now) (file_state again.now) →
         HoldsOn (file_state store.now) (file_state again.now) }
+    ensures same { (AreClean D.Disk files.now.log files.now.db → IsCopied store.now files.now) →
+        (HasCleanDisk (file_state conn.now) → Finds files.now conn.now) →
+        IsOpenedOn (file_state conn.now) (file_state again.now) →
+        StaysSame (file_state store.now) (file_state again.now) }
 {
     let _ = store;
     let _ = files;

@@ -3,8 +3,8 @@
 use crate::stores::calls::{FIRST_VERSION, Row, SECOND, connected, has, opened, set_all};
 use crate::stores::disks::{Disks, new_disks};
 use crate::stores::over_files::{Task, done_over};
-use launcher_laws::reopening::reopened_on_files;
 use override_store::OverrideStore;
+use override_store::again::on_files;
 use sqlite::{Alter, Connection, Files, Options};
 use sqlite_disk::Disk;
 use std::alloc::Global;
@@ -83,7 +83,7 @@ fn listed<S: Alter + Drop>(
 /// The files after one round, if it passes.
 fn played<D: Disk + Drop>(alloc: Global, files: Files<D>, round: &Round) -> Option<Files<D>> {
     let (store, is_set) = set_on(alloc, connected(alloc, files, 5)?, round.sets)?;
-    let again = reopened_on_files(alloc, store, Options::new(6))?;
+    let again = on_files(alloc, store, Options::new(6))?;
     let (conn, is_there) = listed(alloc, again, round.want);
     let files = conn.close_files().ok()?;
     if is_set && is_there {
