@@ -1,14 +1,15 @@
 -- What a text that is written piece by piece comes to.
-use Rattle.std.specs.Prelude.{ℕ, List}
+use Rattle.std.specs.Prelude.{ℕ, ◌++◌, ◌/◌, ◌%◌, List}
 use Rattle.std.specs.Fmt.{decimal}
 use Rattle.std.specs.List.{flat_map}
 use Rattle.run_times.specs.declared.ink.Piece.{Piece}
-use Rattle.run_times.specs.declared.ink.Piece.TheVariants.{Text, Number}
+use Rattle.run_times.specs.declared.ink.Piece.TheVariants.{Text, Number, TwoDigits}
 
 -- the bytes of a piece
 abbrev pub piece_text : Piece → List ℕ
 piece_text (Text part) = part.now
 piece_text (Number number) = decimal number
+piece_text (TwoDigits number) = decimal (number / 10 % 10) ++ decimal (number % 10)
 
 -- the bytes of the pieces, one behind the other
 abbrev pub pieces_text : List Piece → List ℕ

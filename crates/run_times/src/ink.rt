@@ -16,6 +16,8 @@ use std::fmt::Write;
 pub enum Piece<'a> {
     Text(&'a str),
     Number(u64),
+    /// The last two digits of a number.
+    TwoDigits(u64),
 }
 
 /// A text that is written piece by piece. A refusal of memory is kept, and told once the text is taken: so those who write it have
@@ -77,6 +79,20 @@ impl Ink {
         }
     }
 
+    /// Adds the form, in which each `$` stands for the next of the pieces. Pieces for which there is no `$` are left out.
+    pub fn fill(&mut self, form: &str, pieces: &[Piece<'_>]) {
+        let mut parts = form.split('$');
+        self.put(parts.next().unwrap_or(""));
+        let mut next: usize = 0;
+        for part in parts {
+            if let Some(piece) = pieces.get(next) {
+                self.put_piece(piece);
+            }
+            self.put(part);
+            next = next.saturating_add(1);
+        }
+    }
+
     fn put_piece(&mut self, piece: &Piece<'_>)
         ensures added { self.new.is_refused ≡ false → string_bytes self.new.text ≡ string_bytes self.old.text ++ piece_text piece.now }
         ensures kept { self.new.is_refused ≡ false → self.old.is_refused ≡ false }
@@ -84,6 +100,10 @@ impl Ink {
         match *piece {
             Piece::Text(part) => self.put(part),
             Piece::Number(number) => self.put_number(number),
+            Piece::TwoDigits(number) => {
+                self.put_number(number / 10 % 10);
+                self.put_number(number % 10);
+            }
         }
     }
 

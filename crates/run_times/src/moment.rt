@@ -3,14 +3,12 @@
 ghost use Rattle.std.specs.Prelude.{◌≤◌};
 
 use crate::ink::Ink;
-use crate::ink::Piece::{Number, Text};
+use crate::ink::Piece::{Number, Text, TwoDigits};
 use calendar_due::Zone;
 use history_model::{CivilMinute, MAX_WALL};
 use std::alloc::{AllocError, Global};
 
-const WEEKDAYS: [&str; 7] = [
-    " Sun ", " Mon ", " Tue ", " Wed ", " Thu ", " Fri ", " Sat ",
-];
+const WEEKDAYS: [&str; 7] = ["Sun", "Mon", "Tue", "Wed", "Thu", "Fri", "Sat"];
 
 const DAY: u32 = 1440;
 
@@ -30,34 +28,21 @@ pub fn time_text(alloc: Global, zone: &Zone, second: u64) -> Result<String, Allo
 {
     let at = zone.civil_minute(second);
     let (sign, offset) = offset_of(&at, second);
-    let (month, day) = (u64::from(at.month), u64::from(at.day));
-    let (hour, minute) = (u64::from(at.hour), u64::from(at.minute));
-    let (hours, minutes) = (offset / 60, offset % 60);
     let mut ink = Ink::new(alloc);
-    // No year is before 1969, nor after 9999. Each other number has two digits.
-    ink.put_all(&[
+    // No year is before 1969, nor after 9999.
+    let pieces = [
         Number(u64::from(at.year.unsigned_abs())),
-        Text("-"),
-        Number(month / 10),
-        Number(month % 10),
-        Text("-"),
-        Number(day / 10),
-        Number(day % 10),
+        TwoDigits(u64::from(at.month)),
+        TwoDigits(u64::from(at.day)),
         Text(WEEKDAYS[usize::from(at.weekday % 7)]),
-        Number(hour / 10),
-        Number(hour % 10),
-        Text(":"),
-        Number(minute / 10),
-        Number(minute % 10),
-        Text(":"),
-        Number(second % 60 / 10),
-        Number(second % 10),
+        TwoDigits(u64::from(at.hour)),
+        TwoDigits(u64::from(at.minute)),
+        TwoDigits(second % 60),
         Text(sign),
-        Number(hours / 10),
-        Number(hours % 10),
-        Number(minutes / 10),
-        Number(minutes % 10),
-    ]);
+        TwoDigits(offset / 60),
+        TwoDigits(offset % 60),
+    ];
+    ink.fill("$-$-$ $ $:$:$ $$$", &pieces);
     ink.into_text()
 }
 
@@ -68,6 +53,6 @@ fn offset_of(at: &CivilMinute, second: u64) -> (&'static str, u64) {
     let days = (u32::from(at.weekday) + 12 - utc_days) % 7;
     let shown = days * DAY + u32::from(at.hour) * 60 + u32::from(at.minute);
     let utc = 2 * DAY + ((second / 60) % 1440) as u32;
-    let sign = if shown < utc { " -" } else { " +" };
+    let sign = if shown < utc { "-" } else { "+" };
     (sign, u64::from(shown.abs_diff(utc)))
 }

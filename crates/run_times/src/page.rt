@@ -56,6 +56,14 @@ fn is_same_day(one: &str, other: &str) -> bool {
     is_same_date && is_same_offset
 }
 
+// Which hole the `$` before this part of a form stands for, if the next one is that, and what stands behind it.
+fn place_in(part: &str, next: usize) -> (usize, &str) {
+    match part.as_bytes() {
+        [digit @ b'0'..=b'9', ..] => (usize::from(*digit - b'0'), part.get(1..).unwrap_or("")),
+        _ => (next, part),
+    }
+}
+
 impl<'a> Page<'a> {
     /// An empty one.
     pub fn new(alloc: Global, zone: &'a Zone, now: Reading) -> Page<'a> {
@@ -84,14 +92,16 @@ impl<'a> Page<'a> {
         ink.into_text()
     }
 
-    /// Adds the form, in which each `$` stands for the next of the holes. Holes for which there is no `$` are left out.
+    /// Adds the form, in which each `$` stands for the next of the holes or, with a digit behind it, for the hole of that number, from 0.
+    /// Holes for which there is no `$` are left out.
     pub fn add(&mut self, form: &str, holes: &[Hole<'_>]) {
+        let mut parts = form.split('$');
+        self.ink.put(parts.next().unwrap_or(""));
         let mut next: usize = 0;
-        for part in form.split('$') {
-            if next > 0 {
-                self.add_hole(holes.get(next - 1));
-            }
-            self.ink.put(part);
+        for part in parts {
+            let (place, rest) = place_in(part, next);
+            self.add_hole(holes.get(place));
+            self.ink.put(rest);
             next = next.saturating_add(1);
         }
     }

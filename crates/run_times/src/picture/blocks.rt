@@ -2,9 +2,9 @@
 
 use crate::escape::is_unwritable;
 use crate::ink::Ink;
-use crate::ink::Piece::Text;
-use crate::page::Hole::{Moment, Number};
-use crate::page::{Hole, Page};
+use crate::ink::Piece::{Number, Text};
+use crate::page::Hole::Moment;
+use crate::page::Page;
 use crate::picture::axis::Axis;
 use crate::picture::chart::{Bar, Chart, Mark, Row, grade};
 use crate::picture::piece::NO_READING;
@@ -19,17 +19,13 @@ const BLOCKS: [char; 6] = ['▀', '█', '▄', '▓', '▒', '▚'];
 /// So many columns a line may have at least: a moment has room in them.
 const NARROWEST: u16 = 32;
 
-/// How many columns an axis has at least.
-const LEAST: usize = 8;
-
-/// What the blocks and the marks mean, each in a line.
+/// What the blocks and the marks mean.
 const LEGEND: &str =
-    "█ code 0\n▓ another code\n▒ a signal\n▚ a crash\n▄ stopped\n▀ lives\nv demand\n~ throttle\nx refusal";
+    "█ code 0\t▓ another code\t▒ a signal\t▚ a crash\t▄ stopped\t▀ lives\tv demand\t~ throttle\tx refusal\n";
 
-/// How lines are laid out: the columns of a whole line and of its label, and the axis behind that.
+/// How the chart is laid out: the columns of its labels, and the axis behind them and a space.
 #[derive(Clone, Copy)]
 struct Layout {
-    width: usize,
     column: usize,
     axis: Axis,
 }
@@ -41,72 +37,104 @@ pub fn blocks_text(
     chart: &Chart,
     width: u16,
 ) -> Result<String, AllocError> {
-    let width = usize::from(width.max(NARROWEST));
-    let mut column: usize = 0;
-    for row in &chart.rows {
-        column = columns_of(row.label.as_str()).max(column);
-    }
-    let column = column.min(width / 3);
-    let room = width.saturating_sub(column).saturating_sub(1).max(LEAST);
-    let layout = Layout {
-        width,
-        column,
-        axis: Axis::new(chart.axis.from, chart.axis.until, room as u16),
-    };
+    let width = width.max(NARROWEST);
+    let layout = layout_of(chart, width);
+    let axis = &layout.axis;
     let mut page = Page::new(alloc, zone, NO_READING);
-    let mut cells = Vec::new(alloc);
-    match cells.resize(room, ' ') {
-        Ok(()) => put_lines(&mut page, &layout, cells.as_mut_slice(), chart),
-        Err(_) => page.ink.refuse(),
-    }
-    drop(cells);
+    page.add("$\tto $\n", &[Moment(axis.from), Moment(axis.until)]);
+    let ticks = ticks(&mut page, axis, u64::from(axis.places / 11).max(1));
+    put_lines(alloc, &mut page.ink, &layout, chart, ticks.as_slice());
+    drop(ticks);
     match page.into_text() {
         Ok(text) => {
-            let trimmed = trimmed(alloc, text.as_str());
+            let fitted = fitted(alloc, text.as_str(), usize::from(width));
             drop(text);
-            trimmed
+            fitted
         }
         Err(error) => Err(error),
     }
 }
 
-// The lines without the spaces at their ends.
-fn trimmed(alloc: Global, text: &str) -> Result<String, AllocError> {
+// The labels have a third of the width at most.
+fn layout_of(chart: &Chart, width: u16) -> Layout {
+    let width = usize::from(width);
+    let mut column: usize = 0;
+    for row in &chart.rows {
+        column = columns_of(row.label.as_str()).max(column);
+    }
+    let column = column.min(width / 3);
+    let room = width.saturating_sub(column).saturating_sub(1);
+    Layout {
+        column,
+        axis: Axis::new(chart.axis.from, chart.axis.until, room as u16),
+    }
+}
+
+// The lines without the spaces at their ends; those that are too wide, in several.
+fn fitted(alloc: Global, text: &str, width: usize) -> Result<String, AllocError> {
     let mut ink = Ink::new(alloc);
     for line in text.lines() {
-        ink.put(line.trim_end_matches(' '));
-        ink.put("\n");
+        put_fitted(&mut ink, line.trim_end_matches(' '), width);
     }
     ink.into_text()
 }
 
-fn put_lines(page: &mut Page<'_>, layout: &Layout, cells: &mut [char], chart: &Chart) {
-    let span = [Moment(layout.axis.from), Moment(layout.axis.until)];
-    put_pieces(page, "$\nto $", &span, '\n', layout.width);
-    for row in &chart.rows {
-        put_row(&mut page.ink, layout, cells, row);
+// Adds a line. One with tabs has parts between them, which stand two spaces apart; else its parts are its words. A part that has no room
+// in the width begins a new line.
+fn put_fitted(ink: &mut Ink, line: &str, width: usize) {
+    let (between, gap) = if line.contains('\t') {
+        ('\t', "  ")
+    } else {
+        (' ', " ")
+    };
+    // Before the first part there is no line, and so no room in it.
+    let mut used: usize = usize::MAX;
+    for part in line.split(between) {
+        let wide = columns_of(part);
+        let behind = used.saturating_add(gap.len()).saturating_add(wide);
+        let has_room = behind <= width;
+        let before = if has_room {
+            gap
+        } else if used < usize::MAX {
+            "\n"
+        } else {
+            ""
+        };
+        ink.put_all(&[Text(before), Text(part)]);
+        used = if has_room { behind } else { wide };
     }
-    put_axis(page, layout, cells);
-    put_pieces(page, LEGEND, &[], '\n', layout.width);
+    ink.put("\n");
+}
+
+fn put_lines(alloc: Global, ink: &mut Ink, layout: &Layout, chart: &Chart, ticks: &[Tick]) {
+    let mut cells = Vec::new(alloc);
+    if cells.resize(usize::from(layout.axis.places), ' ').is_err() {
+        ink.refuse();
+    }
+    for row in &chart.rows {
+        put_row(ink, layout, cells.as_mut_slice(), row);
+    }
+    put_axis(ink, layout, cells.as_mut_slice(), ticks);
+    drop(cells);
+    ink.put(LEGEND);
     for (sentence, one, other) in missing(chart).iter() {
         if (*one | *other) > 0 {
-            let numbers = [Number(*one), Number(*other)];
-            put_pieces(page, *sentence, &numbers, ' ', layout.width);
+            ink.fill(*sentence, &[Number(*one), Number(*other)]);
+            ink.put("\n");
         }
     }
 }
 
 // Adds a line: the label in its column, cut if it is longer and with control characters as question marks, a space, and the cells, of which
 // each place of the axis has one. They are empty then.
-fn put_line(ink: &mut Ink, layout: &Layout, cells: &mut [char], label: &str) {
-    let (front, rest) = cut(label, layout.column);
-    let mut used = columns_of(rest);
+fn put_line(ink: &mut Ink, column: usize, cells: &mut [char], label: &str) {
+    let (front, rest) = cut(label, column);
     for c in front.chars() {
         ink.put_char(if is_unwritable(c) { '?' } else { c });
     }
     ink.put(rest);
-    used = used.saturating_add(columns_of(front));
-    for _ in used..layout.column.saturating_add(1) {
+    let used = columns_of(front).saturating_add(columns_of(rest));
+    for _ in used..column.saturating_add(1) {
         ink.put(" ");
     }
     for c in cells.iter() {
@@ -122,13 +150,13 @@ fn put_row(ink: &mut Ink, layout: &Layout, cells: &mut [char], row: &Row) {
     for (grave, block) in BLOCKS.iter().enumerate() {
         set_bars(cells, axis, row.bars.as_slice(), grave, *block);
     }
-    put_line(ink, layout, cells, row.label.as_str());
+    put_line(ink, layout.column, cells, row.label.as_str());
+    set_marks(cells, axis, row.demands.as_slice(), 'v');
+    set_marks(cells, axis, row.throttles.as_slice(), '~');
+    set_marks(cells, axis, row.refusals.as_slice(), 'x');
     let marks = row.demands.len() | row.throttles.len() | row.refusals.len();
     if marks > 0 {
-        set_marks(cells, axis, row.demands.as_slice(), 'v');
-        set_marks(cells, axis, row.throttles.as_slice(), '~');
-        set_marks(cells, axis, row.refusals.as_slice(), 'x');
-        put_line(ink, layout, cells, "");
+        put_line(ink, layout.column, cells, "");
     }
 }
 
@@ -137,8 +165,8 @@ fn set_bars(cells: &mut [char], axis: &Axis, bars: &[Bar], grave: usize, block: 
     for bar in bars {
         if grade(bar.end).0 == grave {
             let (first, past) = axis.filled(bar.from, bar.until);
-            for place in first..past {
-                set(cells, usize::from(place), block);
+            if let Some(filled) = cells.get_mut(usize::from(first)..usize::from(past)) {
+                filled.fill(block);
             }
         }
     }
@@ -152,24 +180,17 @@ fn set_marks(cells: &mut [char], axis: &Axis, marks: &[Mark], sign: char) {
 }
 
 // The ticks: a line with their texts, and one with what stands below them.
-fn put_axis(page: &mut Page<'_>, layout: &Layout, cells: &mut [char]) {
-    let most = u64::from(layout.axis.places / 11).max(1);
-    match ticks(page.alloc, page.zone, &layout.axis, most) {
-        Ok(ticks) => {
-            set_ticks(cells, &layout.axis, ticks.as_slice(), false);
-            put_line(&mut page.ink, layout, cells, "");
-            set_ticks(cells, &layout.axis, ticks.as_slice(), true);
-            put_line(&mut page.ink, layout, cells, "");
-            drop(ticks);
-        }
-        Err(_) => page.ink.refuse(),
-    }
+fn put_axis(ink: &mut Ink, layout: &Layout, cells: &mut [char], ticks: &[Tick]) {
+    set_ticks(cells, &layout.axis, ticks, false);
+    put_line(ink, layout.column, cells, "");
+    set_ticks(cells, &layout.axis, ticks, true);
+    put_line(ink, layout.column, cells, "");
 }
 
 fn set_ticks(cells: &mut [char], axis: &Axis, ticks: &[Tick], is_below: bool) {
-    for (index, tick) in ticks.iter().enumerate() {
+    for tick in ticks {
         let (place, _) = axis.filled(tick.at, tick.at);
-        let (text, below) = tick.parts(ticks.get(index.wrapping_sub(1)));
+        let (text, below) = tick.parts();
         if is_below {
             set_text(cells, usize::from(place), ' ', below);
         } else {
@@ -195,39 +216,4 @@ fn set(cells: &mut [char], place: usize, c: char) {
     if let Some(cell) = cells.get_mut(place) {
         *cell = c;
     }
-}
-
-// Adds the pieces of a form whose holes are filled, in lines of the width.
-fn put_pieces(page: &mut Page<'_>, form: &str, holes: &[Hole<'_>], between: char, width: usize) {
-    let mut inner = Page::new(page.alloc, page.zone, NO_READING);
-    inner.add(form, holes);
-    match inner.into_text() {
-        Ok(text) => {
-            put_wrapped(&mut page.ink, text.as_str(), between, width);
-            drop(text);
-        }
-        Err(_) => page.ink.refuse(),
-    }
-}
-
-// Adds the text's pieces, words with a space between them and others with two, and a piece in a new line if it has no room in the last.
-fn put_wrapped(ink: &mut Ink, text: &str, between: char, width: usize) {
-    let gap = if between == ' ' { " " } else { "  " };
-    // Before the first piece there is no line, and so no room in it.
-    let mut used: usize = usize::MAX;
-    for piece in text.split(between) {
-        let wide = columns_of(piece);
-        let behind = used.saturating_add(gap.len()).saturating_add(wide);
-        let has_room = behind <= width;
-        let before = if has_room {
-            gap
-        } else if used < usize::MAX {
-            "\n"
-        } else {
-            ""
-        };
-        ink.put_all(&[Text(before), Text(piece)]);
-        used = if has_room { behind } else { wide };
-    }
-    ink.put("\n");
 }

@@ -111,12 +111,16 @@ pub(crate) fn grade(end: End) -> (usize, u64)
 fn joined(axis: &Axis, last: Bar, next: Bar) -> Option<Bar>
     ensures { IfSome result (λ bar. bar.runs ≡ last.runs + next.runs) }
 {
-    let (begin, end) = axis.edges(last.from, last.until);
-    let (next_begin, next_end) = axis.edges(next.from, next.until);
-    if begin != end || next_begin != begin || next_end != begin {
+    // All four moments lie in one place, if the first and the last of them do.
+    let first = last.from.min(next.from);
+    let until = last.until.max(next.until);
+    let (begin, end) = axis.edges(first, until.max(last.from).max(next.from));
+    if begin != end {
         return None;
     }
-    let runs = last.runs.checked_add(next.runs)?;
+    let Some(runs) = last.runs.checked_add(next.runs) else {
+        return None;
+    };
     let is_graver = grade(next.end).0 > grade(last.end).0;
     Some(Bar {
         from: last.from,
@@ -145,16 +149,14 @@ impl Row {
     pub fn add(&mut self, axis: &Axis, bar: Bar) -> Result<(), AllocError>
         ensures { OnOk result (runs_in self.new.bars.items ≡ runs_in self.old.bars.items + bar.runs) }
     {
-        let Some(last) = self.bars.pop() else {
-            return Ok(self.bars.push(bar)?);
-        };
-        match joined(axis, last, bar) {
-            Some(joined) => Ok(self.bars.push(joined)?),
-            None => {
-                self.bars.push(last)?;
-                Ok(self.bars.push(bar)?)
+        let mut next = bar;
+        if let Some(last) = self.bars.pop() {
+            match joined(axis, last, bar) {
+                Some(joined) => next = joined,
+                None => self.bars.push(last)?,
             }
         }
+        Ok(self.bars.push(next)?)
     }
 
     /// Adds a mark. Those of one kind and one place stand together.

@@ -3,7 +3,7 @@
 use crate::page::Hole::{Escaped, Moment, Number, Text};
 use crate::page::Page;
 use crate::picture::axis::Axis;
-use crate::picture::chart::{Bar, Chart, End, Mark, Row, grade};
+use crate::picture::chart::{Bar, Chart, Mark, Row, grade};
 use crate::picture::ticks::{Tick, ticks};
 use crate::picture::words::{cut, missing};
 
@@ -29,78 +29,10 @@ const LABEL: usize = 130;
 /// So many ticks are written at most.
 const MOST_TICKS: u64 = 9;
 
-/// What each colour and shape means, below the rows: how far below them a shape or its name stands, and that.
-const LEGEND: [(u64, &str); 18] = [
-    (
-        10,
-        "<rect class=\"well\" x=\"10\" y=\"$\" width=\"22\" height=\"12\"/>",
-    ),
-    (21, "<text class=\"faint\" x=\"44\" y=\"$\">code 0</text>\n"),
-    (
-        10,
-        "<rect class=\"code\" x=\"160\" y=\"$\" width=\"22\" height=\"12\"/><path class=\"code end\" d=\"M182 $m-2 -3h4v18h-4z\"/>\n",
-    ),
-    (
-        21,
-        "<text class=\"faint\" x=\"194\" y=\"$\">another code</text>\n",
-    ),
-    (
-        10,
-        "<rect class=\"signal\" x=\"310\" y=\"$\" width=\"22\" height=\"12\"/><path class=\"signal end\" d=\"M332 $m-2 -3l8 9l-8 9z\"/>\n",
-    ),
-    (
-        21,
-        "<text class=\"faint\" x=\"344\" y=\"$\">a signal</text>\n",
-    ),
-    (
-        10,
-        "<rect class=\"crash\" x=\"460\" y=\"$\" width=\"22\" height=\"12\"/><path class=\"crash open\" d=\"M482 $m-4 1l9 10m0 -10l-9 10\"/>\n",
-    ),
-    (
-        21,
-        "<text class=\"faint\" x=\"494\" y=\"$\">a crash</text>\n",
-    ),
-    (
-        10,
-        "<rect class=\"stopped\" x=\"610\" y=\"$\" width=\"22\" height=\"12\"/>",
-    ),
-    (
-        21,
-        "<text class=\"faint\" x=\"644\" y=\"$\">stopped</text>\n",
-    ),
-    (
-        10,
-        "<rect class=\"lives\" x=\"760\" y=\"$\" width=\"22\" height=\"12\"/><path class=\"lives open\" d=\"M782 $m0 -1l7 7l-7 7\"/>\n",
-    ),
-    (21, "<text class=\"faint\" x=\"794\" y=\"$\">lives</text>\n"),
-    (32, "<path class=\"demand\" d=\"M25 $m-5 0h10l-5 9z\"/>"),
-    (
-        41,
-        "<text class=\"faint\" x=\"44\" y=\"$\">a demand</text>\n",
-    ),
-    (
-        32,
-        "<path class=\"throttle\" d=\"M175 $m0 0l4.5 4.5l-4.5 4.5l-4.5 -4.5z\"/>",
-    ),
-    (
-        41,
-        "<text class=\"faint\" x=\"194\" y=\"$\">a throttle</text>\n",
-    ),
-    (
-        32,
-        "<path class=\"refusal\" d=\"M325 $m-4 0.5l8 8m0 -8l-8 8\"/>",
-    ),
-    (
-        41,
-        "<text class=\"faint\" x=\"344\" y=\"$\">a refusal</text>\n",
-    ),
-];
-
-/// The head: how large it is, its title, its colours, and the span. It has holes for the height, twice, for the span, for the height, and for
-/// the span.
+/// The head: how large it is, its title, its colours, and the span. Its holes are for the height, and the span.
 const OPENING: &str =
-    "<svg xmlns=\"http://www.w3.org/2000/svg\" class=\"runs\" viewBox=\"0 0 1000 $\" width=\"1000\" height=\"$\" role=\"img\">
-<title>Runs from $ to $</title>
+    r#"<svg xmlns="http://www.w3.org/2000/svg" class="runs" viewBox="0 0 1000 $0" width="1000" height="$0" role="img">
+<title>Runs from $1 to $2</title>
 <style>
 .runs { color-scheme: light dark; --ground: #ffffff; --ink: #1c2733; --faint: #5b6875; --line: #d9dfe5; --well: #2e7d5b; --code: #b86200; --signal: #7b4fb5; --crash: #c62828; --stopped: #4a6a8a; --lives: #1b76c4; }
 @media (prefers-color-scheme: dark) { .runs { --ground: #11171d; --ink: #e6ebf0; --faint: #9aa7b4; --line: #2c3742; --well: #56b88c; --code: #f0a040; --signal: #b794f0; --crash: #ff6b6b; --stopped: #8fb0d0; --lives: #5fb0f5; } }
@@ -121,51 +53,106 @@ const OPENING: &str =
 .runs .throttle { fill: var(--ground); stroke: var(--code); stroke-width: 1.5; }
 .runs .refusal { fill: none; stroke: var(--crash); stroke-width: 2; }
 </style>
-<rect class=\"ground\" width=\"1000\" height=\"$\"/>
-<text x=\"10\" y=\"18\">$ to $</text>
-";
+<rect class="ground" width="1000" height="$0"/>
+<text x="10" y="18">$1 to $2</text>
+"#;
 
+/// Its holes are for the place, the bottom of the rows, how the texts stand to the place, and the texts.
 const TICK: &str =
-    "<path class=\"tick\" d=\"M$ 58V$\"/><text class=\"faint\" x=\"$\" y=\"38\" text-anchor=\"$\">$</text><text class=\"faint\" x=\"$\" y=\"52\" text-anchor=\"$\">$</text>\n";
+    r#"<path class="tick" d="M$0 58V$1"/><text class="faint" x="$0" y="38" text-anchor="$2">$3</text><text class="faint" x="$0" y="52" text-anchor="$2">$4</text>
+"#;
 
 /// A label, cut if it is too wide and whole in its title, and the line on which the bars stand.
 const TOP: &str =
-    "<g><text class=\"label\" x=\"10\" y=\"$\">$$<title>$</title></text><path class=\"base\" d=\"M10 $h980\"/>\n";
+    r#"<g><text class="label" x="10" y="$">$$<title>$</title></text><path class="base" d="M10 $h980"/>
+"#;
 
-const BAR: &str = ": $ to $</title><rect x=\"$\" y=\"$\" width=\"$\" height=\"12\"/></g>\n";
+/// The beginning of a bar that stands for one run, and of one that stands for several, up to how they ended. The holes are for the class, the
+/// number of runs, and that of the first.
+const RUN: &str = r#"<g class="$0" data-runs="$1"><title>run $2 "#;
 
-const MARK: &str = "<path class=\"$\" data-count=\"$\" d=\"M$ $$\"><title>$: $</title></path>\n";
+const RUNS: &str = r#"<g class="$0" data-runs="$1"><title>$1 runs from run $2 on; the gravest "#;
 
-const MARKS: &str =
-    "<path class=\"$\" data-count=\"$\" d=\"M$ $$\"><title>$: $, and $ more beside it</title></path>\n";
+const BAR: &str = r#": $ to $</title><rect x="$" y="$" width="$" height="12"/></g>
+"#;
 
-/// The beginning of what tells what is not in the chart.
-const LEFT_OUT: &str = "<text class=\"faint\" x=\"10\" y=\"$\">";
-
-/// How the marks of a kind look: their class, their shape from the middle of the upper edge, and their name.
-struct Shape {
+/// How an end looks.
+struct Look {
+    /// The class of its bar.
     class: &'static str,
-    path: &'static str,
-    name: &'static str,
+    /// The end in words, with a hole for its code or signal.
+    words: &'static str,
+    /// What stands at its bar's upper corner, if something does.
+    corner: &'static str,
 }
 
-const DEMAND: Shape = Shape {
-    class: "demand",
-    path: "m-5 0h10l-5 9z",
-    name: "a demand",
-};
+/// The ends, by how grave they are.
+static LOOKS: [Look; 6] = [
+    Look {
+        class: "lives",
+        words: "lives",
+        corner: r#"<path class="lives open" d="M$ $m0 -1l7 7l-7 7"/>
+"#,
+    },
+    Look {
+        class: "well",
+        words: "ended with code $",
+        corner: "",
+    },
+    Look {
+        class: "stopped",
+        words: "was stopped",
+        corner: "",
+    },
+    Look {
+        class: "code",
+        words: "ended with code $",
+        corner: r#"<path class="code end" d="M$ $m-2 -3h4v18h-4z"/>
+"#,
+    },
+    Look {
+        class: "signal",
+        words: "ended by signal $",
+        corner: r#"<path class="signal end" d="M$ $m-2 -3l8 9l-8 9z"/>
+"#,
+    },
+    Look {
+        class: "crash",
+        words: "crashed by signal $",
+        corner: r#"<path class="crash open" d="M$ $m-4 1l9 10m0 -10l-9 10"/>
+"#,
+    },
+];
 
-const THROTTLE: Shape = Shape {
-    class: "throttle",
-    path: "m0 0l4.5 4.5l-4.5 4.5l-4.5 -4.5z",
-    name: "a throttle",
-};
+/// The marks of each kind, from the middle of their upper edge; the holes are for their number, their place, and the first one's moment.
+const DEMAND: &str =
+    r#"<path class="demand" data-count="$" d="M$ $m-5 0h10l-5 9z"><title>a demand: $"#;
 
-const REFUSAL: Shape = Shape {
-    class: "refusal",
-    path: "m-4 0.5l8 8m0 -8l-8 8",
-    name: "a refusal",
-};
+const THROTTLE: &str =
+    r#"<path class="throttle" data-count="$" d="M$ $m0 0l4.5 4.5l-4.5 4.5l-4.5 -4.5z"><title>a throttle: $"#;
+
+const REFUSAL: &str =
+    r#"<path class="refusal" data-count="$" d="M$ $m-4 0.5l8 8m0 -8l-8 8"><title>a refusal: $"#;
+
+/// What each colour and shape means, below the rows. The holes are for the heights of the bars, of their names, of the marks, and of theirs.
+const LEGEND: &str =
+    r#"<rect class="well" x="10" y="$0" width="22" height="12"/><text class="faint" x="44" y="$1">code 0</text>
+<rect class="code" x="160" y="$0" width="22" height="12"/><path class="code end" d="M182 $0m-2 -3h4v18h-4z"/>
+<text class="faint" x="194" y="$1">another code</text>
+<rect class="signal" x="310" y="$0" width="22" height="12"/><path class="signal end" d="M332 $0m-2 -3l8 9l-8 9z"/>
+<text class="faint" x="344" y="$1">a signal</text>
+<rect class="crash" x="460" y="$0" width="22" height="12"/><path class="crash open" d="M482 $0m-4 1l9 10m0 -10l-9 10"/>
+<text class="faint" x="494" y="$1">a crash</text>
+<rect class="stopped" x="610" y="$0" width="22" height="12"/><text class="faint" x="644" y="$1">stopped</text>
+<rect class="lives" x="760" y="$0" width="22" height="12"/><path class="lives open" d="M782 $0m0 -1l7 7l-7 7"/>
+<text class="faint" x="794" y="$1">lives</text>
+<path class="demand" d="M25 $2m-5 0h10l-5 9z"/><text class="faint" x="44" y="$3">a demand</text>
+<path class="throttle" d="M175 $2m0 0l4.5 4.5l-4.5 4.5l-4.5 -4.5z"/><text class="faint" x="194" y="$3">a throttle</text>
+<path class="refusal" d="M325 $2m-4 0.5l8 8m0 -8l-8 8"/><text class="faint" x="344" y="$3">a refusal</text>
+"#;
+
+/// The beginning of what tells what is not in the chart.
+const LEFT_OUT: &str = r#"<text class="faint" x="10" y="$">"#;
 
 /// Adds a piece of the chart as an element `svg`, from 0: its head, one for each row, its foot.
 pub(crate) fn put_figure(page: &mut Page<'_>, chart: &Chart, index: usize) {
@@ -195,22 +182,16 @@ fn put_head(page: &mut Page<'_>, chart: &Chart, bottom: u64) {
             height = height.saturating_add(LINE);
         }
     }
-    let height = Number(height);
-    let (from, until) = (Moment(axis.from), Moment(axis.until));
-    let holes = [height, height, from, until, height, from, until];
+    let holes = [Number(height), Moment(axis.from), Moment(axis.until)];
     page.add(OPENING, &holes);
-    match ticks(page.alloc, page.zone, axis, MOST_TICKS) {
-        Ok(ticks) => {
-            put_ticks(page, axis, ticks.as_slice(), bottom);
-            drop(ticks);
-        }
-        Err(_) => page.ink.refuse(),
-    }
+    let ticks = ticks(page, axis, MOST_TICKS);
+    put_ticks(page, axis, ticks.as_slice(), bottom);
+    drop(ticks);
 }
 
 // The ticks, with their texts above the rows. Near the edges they stand within the chart.
 fn put_ticks(page: &mut Page<'_>, axis: &Axis, ticks: &[Tick], bottom: u64) {
-    for (index, tick) in ticks.iter().enumerate() {
+    for tick in ticks {
         let place = u64::from(axis.place(tick.at));
         let anchor = if place < 50 {
             "start"
@@ -219,16 +200,12 @@ fn put_ticks(page: &mut Page<'_>, axis: &Axis, ticks: &[Tick], bottom: u64) {
         } else {
             "middle"
         };
-        let x = Number(LEFT + place);
-        let (text, below) = tick.parts(ticks.get(index.wrapping_sub(1)));
+        let (text, below) = tick.parts();
         let holes = [
-            x,
+            Number(LEFT + place),
             Number(bottom),
-            x,
             Text(anchor),
             Text(text),
-            x,
-            Text(anchor),
             Text(below),
         ];
         page.add(TICK, &holes);
@@ -248,45 +225,37 @@ fn put_row(page: &mut Page<'_>, axis: &Axis, row: &Row, top: u64) {
     page.add(TOP, &holes);
     put_bars(page, axis, row.bars.as_slice(), top.saturating_add(31));
     let above = top.saturating_add(18);
-    put_marks(page, axis, &DEMAND, row.demands.as_slice(), above);
-    put_marks(page, axis, &THROTTLE, row.throttles.as_slice(), above);
-    put_marks(page, axis, &REFUSAL, row.refusals.as_slice(), above);
+    put_marks(page, axis, DEMAND, row.demands.as_slice(), above);
+    put_marks(page, axis, THROTTLE, row.throttles.as_slice(), above);
+    put_marks(page, axis, REFUSAL, row.refusals.as_slice(), above);
     page.ink.put("</g>\n");
 }
 
-// The bars whose upper edge is there, and over them their ends, so that a bar which follows at once does not hide an end.
+// The bars whose upper edge is there, and over them their corners, so that a bar which follows at once does not hide an end.
 fn put_bars(page: &mut Page<'_>, axis: &Axis, bars: &[Bar], top: u64) {
     for bar in bars {
         put_bar(page, axis, bar, top);
     }
     for bar in bars {
-        let (class, own, shape, _) = look(bar.end);
-        if !shape.is_empty() {
-            let (_, end) = axis.edges(bar.from, bar.until);
-            let x = Number(LEFT + u64::from(end));
-            let holes = [Text(class), Text(own), x, Number(top), Text(shape)];
-            page.add("<path class=\"$ $\" d=\"M$ $$\"/>\n", &holes);
-        }
+        let (grave, _) = grade(bar.end);
+        let (_, end) = axis.edges(bar.from, bar.until);
+        let holes = [Number(LEFT + u64::from(end)), Number(top)];
+        page.add(LOOKS[grave].corner, &holes);
     }
 }
 
 // A bar. Its title says how its runs ended: of one its end, of several their number and the gravest end.
 fn put_bar(page: &mut Page<'_>, axis: &Axis, bar: &Bar, top: u64) {
-    let (_, number) = grade(bar.end);
-    let (class, _, _, words) = look(bar.end);
+    let (grave, number) = grade(bar.end);
+    let look = &LOOKS[grave];
     let (begin, end) = axis.edges(bar.from, bar.until);
-    let runs = Number(u64::from(bar.runs));
-    let run = Number(bar.run);
-    let (form, third) = if bar.runs == 1 {
-        ("<g class=\"$\" data-runs=\"$\"><title>run $ ", run)
-    } else {
-        (
-            "<g class=\"$\" data-runs=\"$\"><title>$ runs from run $ on; the gravest ",
-            runs,
-        )
-    };
-    page.add(form, &[Text(class), runs, third, run]);
-    page.add(words, &[Number(number)]);
+    let holes = [
+        Text(look.class),
+        Number(u64::from(bar.runs)),
+        Number(bar.run),
+    ];
+    page.add(if bar.runs == 1 { RUN } else { RUNS }, &holes);
+    page.add(look.words, &[Number(number)]);
     let holes = [
         Moment(bar.from),
         Moment(bar.until),
@@ -297,48 +266,35 @@ fn put_bar(page: &mut Page<'_>, axis: &Axis, bar: &Bar, top: u64) {
     page.add(BAR, &holes);
 }
 
-// How an end looks: the class of its bar, that of its own shape, and the shape from the bar's upper corner; and the end in words, with a
-// hole for its code or signal.
-fn look<'a>(end: End) -> (&'a str, &'a str, &'a str, &'a str) {
-    match end {
-        End::Lives => ("lives", "open", "m0 -1l7 7l-7 7", "lives"),
-        End::Code(0) => ("well", "", "", "ended with code $"),
-        End::Stopped => ("stopped", "", "", "was stopped"),
-        End::Code(_) => ("code", "end", "m-2 -3h4v18h-4z", "ended with code $"),
-        End::Signal(_) => ("signal", "end", "m-2 -3l8 9l-8 9z", "ended by signal $"),
-        End::Crash(_) => (
-            "crash",
-            "open",
-            "m-4 1l9 10m0 -10l-9 10",
-            "crashed by signal $",
-        ),
-    }
-}
-
 // The marks of a kind whose upper edge is there.
-fn put_marks(page: &mut Page<'_>, axis: &Axis, shape: &Shape, marks: &[Mark], top: u64) {
+fn put_marks(page: &mut Page<'_>, axis: &Axis, form: &str, marks: &[Mark], top: u64) {
     for mark in marks {
         let count = u64::from(mark.count);
         let holes = [
-            Text(shape.class),
             Number(count),
             Number(LEFT + u64::from(axis.place(mark.at))),
             Number(top),
-            Text(shape.path),
-            Text(shape.name),
             Moment(mark.at),
-            Number(count.saturating_sub(1)),
         ];
-        page.add(if count > 1 { MARKS } else { MARK }, &holes);
+        page.add(form, &holes);
+        let end = if count > 1 {
+            ", and $ more beside it</title></path>\n"
+        } else {
+            "</title></path>\n"
+        };
+        page.add(end, &[Number(count.saturating_sub(1))]);
     }
 }
 
 // What each colour and shape means, and what is not in the chart.
 fn put_foot(page: &mut Page<'_>, chart: &Chart, bottom: u64) {
-    for (below, form) in LEGEND.iter() {
-        let top = Number(bottom.saturating_add(*below));
-        page.add(*form, &[top, top]);
-    }
+    let holes = [
+        Number(bottom.saturating_add(10)),
+        Number(bottom.saturating_add(21)),
+        Number(bottom.saturating_add(32)),
+        Number(bottom.saturating_add(41)),
+    ];
+    page.add(LEGEND, &holes);
     let mut line = bottom.saturating_add(64);
     for (sentence, one, other) in missing(chart).iter() {
         if (*one | *other) > 0 {

@@ -1,10 +1,10 @@
 //! The ticks of an axis: round moments of a civil clock.
 
 use crate::moment::time_text;
+use crate::page::Page;
 use crate::picture::axis::Axis;
-use calendar_due::Zone;
 use history_model::CivilMinute;
-use std::alloc::{AllocError, Global};
+use std::alloc::AllocError;
 
 const HOUR: u64 = 3600;
 
@@ -20,9 +20,12 @@ const MOST_LOOKS: u32 = 100_000;
 #[derive(Drop)]
 pub(crate) struct Tick {
     pub(crate) at: u64,
-    /// The moment whole, and the step of the ticks.
+    /// The moment whole.
     moment: String,
-    step: Step,
+    /// Where in it begins and ends what is written at the tick, and where ends what stands below.
+    from: usize,
+    until: usize,
+    below: usize,
 }
 
 /// What lies between two ticks.
@@ -112,29 +115,28 @@ fn ahead(step: Step, at: &CivilMinute, second: u64) -> u64 {
     }
 }
 
-/// The round moments of the axis, so that not more than about `most` are written over it.
-pub(crate) fn ticks(
-    alloc: Global,
-    zone: &Zone,
-    axis: &Axis,
-    most: u64,
-) -> Result<Vec<Tick>, AllocError> {
+/// The round moments of the axis, so that not more than about `most` are written over it. If memory was refused for one, the page is refused.
+pub(crate) fn ticks(page: &mut Page<'_>, axis: &Axis, most: u64) -> Vec<Tick> {
     let step = step_for(axis.until - axis.from, most);
-    let mut ticks = Vec::new(alloc);
+    let mut ticks = Vec::new(page.alloc);
     let mut at = axis.from;
     for _ in 0..MOST_LOOKS {
         if at > axis.until {
             break;
         }
-        let shown = zone.civil_minute(at);
+        let shown = page.zone.civil_minute(at);
         if is_round(step, &shown, at) {
-            add_tick(&mut ticks, step, at, time_text(alloc, zone, at))?;
+            let moment = time_text(page.alloc, page.zone, at);
+            if add_tick(&mut ticks, step, at, moment).is_err() {
+                page.ink.refuse();
+            }
         }
         at = at.saturating_add(ahead(step, &shown, at));
     }
-    Ok(ticks)
+    ticks
 }
 
+// Adds the tick. What stands below the tick before it does not stand below it again.
 fn add_tick(
     ticks: &mut Vec<Tick>,
     step: Step,
@@ -142,31 +144,43 @@ fn add_tick(
     moment: Result<String, AllocError>,
 ) -> Result<(), AllocError> {
     match moment {
-        Ok(moment) => Ok(ticks.push(Tick { at, moment, step })?),
+        Ok(moment) => {
+            let (from, until, end) = written_of(step);
+            let below = end_below(ticks.as_slice(), moment.as_str(), end);
+            Ok(ticks.push(Tick {
+                at,
+                moment,
+                from,
+                until,
+                below,
+            })?)
+        }
         Err(error) => Err(error),
     }
 }
 
-// The parts of a tick's moment that are written at it, and below.
-fn parts_of(tick: &Tick) -> (&str, &str) {
-    let moment = tick.moment.as_str();
-    let (from, until, below) = match tick.step {
+// Where in a moment begins and ends what is written at a tick of the step, and where ends what stands below.
+fn written_of(step: Step) -> (usize, usize, usize) {
+    match step {
         Step::Seconds(length) => (15, if length < 60 { 23 } else { 20 }, 10),
         Step::Day | Step::Week => (5, 14, 4),
         Step::Months(count) => (0, if count < 12 { 7 } else { 4 }, 0),
-    };
-    let text = moment.get(from..until).unwrap_or(moment);
-    (text, moment.get(..below).unwrap_or(""))
+    }
+}
+
+// Where ends what stands below the next tick: at its beginning, if the same stands below the last one.
+fn end_below(ticks: &[Tick], moment: &str, end: usize) -> usize {
+    match ticks.last() {
+        Some(last) if last.moment.as_str().get(..end) == moment.get(..end) => 0,
+        _ => end,
+    }
 }
 
 impl Tick {
-    /// What is written at the tick, and what below: nothing, if the same stands below the tick before.
-    pub(crate) fn parts(&self, before: Option<&Tick>) -> (&str, &str) {
-        let (text, below) = parts_of(self);
-        let is_again = match before {
-            Some(before) => parts_of(before).1 == below,
-            None => false,
-        };
-        (text, if is_again { "" } else { below })
+    /// What is written at the tick, and what below.
+    pub(crate) fn parts(&self) -> (&str, &str) {
+        let moment = self.moment.as_str();
+        let text = moment.get(self.from..self.until).unwrap_or(moment);
+        (text, moment.get(..self.below).unwrap_or(""))
     }
 }
