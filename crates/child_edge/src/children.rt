@@ -2,16 +2,24 @@
 
 ghost use Rattle.std.specs.Prelude.{◌<◌, IfOk};
 
+use crate::failure::{Failure, culprit};
+use crate::maps::key_from;
 use crate::shell::KeptShell;
+use crate::start::Start;
 use history_model::{Ended, JobNo, Text};
 use std::alloc::Global;
 use std::collections::BTreeMap;
+use std::fs::Files;
 use std::io::ErrorKind;
 use std::net::Net;
 use std::os::unix::process::ExitStatusExt;
 use std::process::{Child, Command, ExitStatus, OpenProcess, Processes};
+use std::rt::Clock;
 use std::time::Instant;
 use std::{io, mem};
+
+/// A job and one of its runs.
+pub(crate) type RunKey = (JobNo, u64);
 
 /// What is kept of a run beside its child: the connection that it serves, its job's label if there was memory for it, and its
 /// start if that is to be told.
@@ -22,6 +30,21 @@ pub(crate) struct Kept {
     pub(crate) since: Option<Instant>,
 }
 
+impl Kept {
+    fn of<R: Clock>(rt: &R, alloc: Global, start: Start<'_>, is_timed: bool) -> Kept {
+        let since = if is_timed {
+            Instant::now(rt).ok()
+        } else {
+            None
+        };
+        Kept {
+            conn: start.conn,
+            label: Text::copy_of(alloc, start.def.label()).ok(),
+            since,
+        }
+    }
+}
+
 /// A run that has a child, or is about to get one.
 #[derive(Drop)]
 struct Run<P: OpenProcess + Drop> {
@@ -29,75 +52,91 @@ struct Run<P: OpenProcess + Drop> {
     kept: Kept,
 }
 
-/// A run's end, and what was kept of it.
-#[derive(Drop)]
-pub(crate) struct End {
-    pub(crate) ended: Ended,
-    pub(crate) kept: Kept,
+impl<P: OpenProcess + Drop> Run<P> {
+    // Starts the command as the run's child, and answers its process id. A number of 0 is no child's.
+    fn spawn<R: Processes<Started = P>>(&mut self, rt: &R, command: &mut Command) -> io::Result<u32>
+        ensures { IfOk result (λ pid. 0 < pid) }
+    {
+        let child = match command.spawn(rt) {
+            Ok(child) => child,
+            Err(error) => return Err(error),
+        };
+        let pid = child.id();
+        drop(mem::replace(&mut self.child, Some(child)));
+        if pid == 0 {
+            return Err(io::Error::from(ErrorKind::InvalidData));
+        }
+        Ok(pid)
+    }
 }
 
-/// The runs that have a child, by job and run. A child that was not waited for keeps its process id, so no signal can reach
-/// another process.
+/// The runs that have a child. A child that was not waited for keeps its process id, so no signal can reach another process.
 #[derive(Drop)]
 pub(crate) struct Children<P: OpenProcess + Drop> {
-    runs: BTreeMap<(JobNo, u64), Run<P>>,
-    shell: KeptShell<P>,
+    runs: BTreeMap<RunKey, Run<P>>,
 }
 
 impl<P: OpenProcess + Drop> Children<P> {
     pub(crate) fn new(alloc: Global) -> Children<P> {
         Children {
             runs: BTreeMap::new(alloc),
-            shell: KeptShell::new(alloc),
         }
     }
 
-    /// Starts the command for the run, and answers its process id. The room for the child is made first: a child that was
-    /// started is kept. A run that has a child is refused another.
-    pub(crate) fn start<R: Processes<Started = P>>(
+    /// Starts the command for the run, and answers its process id. When it began is kept if its end is to be timed.
+    pub(crate) fn start<R: Clock + Files + Processes<Started = P>>(
         &mut self,
         rt: &R,
-        job: JobNo,
-        run: u64,
+        alloc: Global,
+        start: Start<'_>,
+        is_timed: bool,
+        command: Command,
+    ) -> Result<u32, Failure>
+        ensures { IfOk result (λ pid. 0 < pid) }
+    {
+        let mut command = command;
+        let kept = Kept::of(rt, alloc, start, is_timed);
+        let answer = match self.spawn(rt, start.key, kept, &mut command) {
+            Ok(pid) => Ok(pid),
+            Err(error) => Err(culprit(rt, alloc, start.def, error)),
+        };
+        drop(command);
+        answer
+    }
+
+    // The room for the child is made first: a child that was started is kept. A run that has a child is refused another.
+    fn spawn<R: Processes<Started = P>>(
+        &mut self,
+        rt: &R,
+        key: RunKey,
         kept: Kept,
         command: &mut Command,
     ) -> io::Result<u32>
         ensures { IfOk result (λ pid. 0 < pid) }
     {
-        if self.runs.contains_key(&(job, run)) {
+        if self.runs.contains_key(&key) {
             drop(kept);
             return Err(io::Error::from(ErrorKind::AlreadyExists));
         }
-        match self.runs.insert((job, run), Run { child: None, kept }) {
-            Ok(other) => drop(other),
-            Err(failed) => {
-                drop(failed);
-                return Err(io::Error::from(ErrorKind::OutOfMemory));
-            }
+        let room = self.runs.insert(key, Run { child: None, kept });
+        let has_room = room.is_ok();
+        drop(room);
+        if !has_room {
+            return Err(io::Error::from(ErrorKind::OutOfMemory));
         }
-        match spawn(rt, command) {
-            Ok((pid, child)) => {
-                self.keep(job, run, child);
-                Ok(pid)
-            }
-            Err(error) => {
-                drop(self.runs.remove(&(job, run)));
-                Err(error)
-            }
+        let answer = match self.runs.get_mut(&key) {
+            Some(one) => one.spawn(rt, command),
+            None => Err(io::Error::from(ErrorKind::NotFound)),
+        };
+        if answer.is_err() {
+            drop(self.runs.remove(&key));
         }
-    }
-
-    // The run has this child from now on.
-    fn keep(&mut self, job: JobNo, run: u64, child: Child<P>) {
-        match self.runs.get_mut(&(job, run)) {
-            Some(one) => drop(mem::replace(&mut one.child, Some(child))),
-            None => drop(child),
-        }
+        answer
     }
 
     // The run's child, if it has one.
-    fn child(&mut self, job: JobNo, run: u64) -> io::Result<&mut Child<P>> {
-        match self.runs.get_mut(&(job, run)) {
+    fn child(&mut self, key: RunKey) -> io::Result<&mut Child<P>> {
+        match self.runs.get_mut(&key) {
             Some(
                 Run {
                     child: Some(child),
@@ -109,13 +148,18 @@ impl<P: OpenProcess + Drop> Children<P> {
     }
 
     /// The label of the run's job, if the run has a child.
-    pub(crate) fn label(&self, job: JobNo, run: u64) -> Option<&str> {
-        match self.runs.get(&(job, run)) {
-            Some(one) => match &one.kept.label {
-                Some(label) => Some(label.as_str()),
-                None => None,
-            },
-            None => None,
+    pub(crate) fn label(&self, key: RunKey) -> Option<&str> {
+        match self.runs.get(&key) {
+            Some(
+                Run {
+                    kept: Kept {
+                        label: Some(label),
+                        ..
+                    },
+                    ..
+                },
+            ) => Some(label.as_str()),
+            _ => None,
         }
     }
 
@@ -124,17 +168,15 @@ impl<P: OpenProcess + Drop> Children<P> {
     pub(crate) fn term<R: Net + Processes<Started = P>>(
         &mut self,
         rt: &R,
-        job: JobNo,
-        run: u64,
+        shell: &mut KeptShell<P>,
+        key: RunKey,
     ) -> io::Result<()> {
-        let child = match self.child(job, run) {
+        let child = match self.child(key) {
             Ok(child) => child,
             Err(error) => return Err(error),
         };
-        let end = child.try_wait();
-        let pid = child.id();
-        match end {
-            Ok(None) => self.shell.term(rt, pid),
+        match child.try_wait() {
+            Ok(None) => shell.term(rt, child.id()),
             Ok(Some(_)) => Ok(()),
             Err(_) => Err(io::Error::other(
                 "it can't be waited for, so its number may be another's",
@@ -142,14 +184,9 @@ impl<P: OpenProcess + Drop> Children<P> {
         }
     }
 
-    /// Ends the shell that is kept for TERM. One more TERM starts another.
-    pub(crate) fn end_shell(&mut self) {
-        self.shell.end();
-    }
-
     /// Gives the run's child KILL.
-    pub(crate) fn kill(&mut self, job: JobNo, run: u64) -> io::Result<()> {
-        match self.child(job, run) {
+    pub(crate) fn kill(&mut self, key: RunKey) -> io::Result<()> {
+        match self.child(key) {
             Ok(child) => child.kill(),
             Err(error) => Err(error),
         }
@@ -157,77 +194,53 @@ impl<P: OpenProcess + Drop> Children<P> {
 
     /// The first child, from the job of this number on, that has ended or whose wait the system refuses: its job and run. It
     /// stays until it is polled.
-    pub(crate) fn over_from(&mut self, job: JobNo) -> Option<(JobNo, u64)> {
+    pub(crate) fn over_from(&mut self, job: JobNo) -> Option<RunKey> {
         let mut next = (job, 0);
         for _ in 0..self.runs.len() {
-            let Some((found, _)) = self.runs.range(next..).next() else {
+            let Some(key) = key_from(&self.runs, next) else {
                 return None;
             };
-            let (job, run) = *found;
-            if self.is_over(job, run) {
-                return Some((job, run));
+            if !matches!(self.poll(key), Ok(None)) {
+                return Some(key);
             }
-            next = (job, run.saturating_add(1));
+            next = (key.0, key.1.saturating_add(1));
         }
         None
     }
 
-    // Whether a poll of the run's child would tell more than that it runs.
-    fn is_over(&mut self, job: JobNo, run: u64) -> bool {
-        match self.child(job, run) {
-            Ok(child) => !matches!(child.try_wait(), Ok(None)),
-            Err(_) => true,
-        }
-    }
-
-    /// How the run's child ended, if it did. It is then waited for, and gone.
-    pub(crate) fn poll(&mut self, job: JobNo, run: u64) -> io::Result<Option<End>> {
-        let child = match self.child(job, run) {
+    /// How the run's child ended, if it did. It stays until it is removed.
+    pub(crate) fn poll(&mut self, key: RunKey) -> io::Result<Option<Ended>> {
+        let child = match self.child(key) {
             Ok(child) => child,
             Err(error) => return Err(error),
         };
         match child.try_wait() {
             Ok(None) => Ok(None),
-            Ok(Some(status)) => match self.runs.remove(&(job, run)) {
-                Some(gone) => {
-                    let Run { child, kept } = gone;
-                    drop(child);
-                    let ended = end_of(status);
-                    Ok(Some(End { ended, kept }))
-                }
-                None => Err(io::Error::from(ErrorKind::NotFound)),
-            },
+            Ok(Some(status)) => Ok(Some(end_of(status))),
             Err(error) => Err(error),
         }
     }
-}
 
-fn spawn<R: Processes>(rt: &R, command: &mut Command) -> io::Result<(u32, Child<R::Started>)>
-    ensures { IfOk result (λ started. 0 < started.0) }
-{
-    let child = match command.spawn(rt) {
-        Ok(child) => child,
-        Err(error) => return Err(error),
-    };
-    let pid = child.id();
-    if pid == 0 {
-        drop(child);
-        return Err(io::Error::from(ErrorKind::InvalidData));
+    /// The run has no child from now on. What was kept of it is handed back.
+    pub(crate) fn remove(&mut self, key: RunKey) -> Option<Kept> {
+        match self.runs.remove(&key) {
+            Some(gone) => {
+                let Run { child, kept } = gone;
+                drop(child);
+                Some(kept)
+            }
+            None => None,
+        }
     }
-    Ok((pid, child))
 }
 
 // The system tells a code of 0 to 255, or the number of a signal.
 fn end_of(status: ExitStatus) -> Ended {
     match status.code() {
         Some(code) => Ended::Code((code & 0xff).unsigned_abs() as u8),
-        None => Ended::Signal(signal_number(status)),
-    }
-}
-
-fn signal_number(status: ExitStatus) -> u8 {
-    match status.signal() {
-        Some(signal) => u8::try_from(signal).unwrap_or(0),
-        None => 0,
+        None => {
+            let signal = status.signal().unwrap_or(0);
+            Ended::Signal(u8::try_from(signal).unwrap_or(0))
+        }
     }
 }

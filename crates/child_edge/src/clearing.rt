@@ -13,14 +13,7 @@ pub fn clear_spool<R: AllocGlobal + Clone + Drop + Files>(rt: &R, folder: &str) 
     };
     let mut answer = Ok(());
     for entry in listing {
-        answer = match entry {
-            Ok(entry) => {
-                let cleared = clear(rt, &entry);
-                drop(entry);
-                cleared
-            }
-            Err(error) => Err(error),
-        };
+        answer = clear(rt, entry);
         if answer.is_err() {
             break;
         }
@@ -28,22 +21,34 @@ pub fn clear_spool<R: AllocGlobal + Clone + Drop + Files>(rt: &R, folder: &str) 
     answer
 }
 
-fn clear<R: Files>(rt: &R, entry: &DirEntry<R>) -> io::Result<()> {
-    if is_spooled(entry.file_name()) && entry.file_type()?.is_file() {
-        fs::remove_file(rt, entry.path())?;
+fn clear<R: Drop + Files>(rt: &R, entry: io::Result<DirEntry<R>>) -> io::Result<()> {
+    let entry = match entry {
+        Ok(entry) => entry,
+        Err(error) => return Err(error),
+    };
+    let answer = if is_spooled(entry.file_name()) {
+        remove_file(rt, &entry)
+    } else {
+        Ok(())
+    };
+    drop(entry);
+    answer
+}
+
+// Removes what is a plain file.
+fn remove_file<R: Files>(rt: &R, entry: &DirEntry<R>) -> io::Result<()> {
+    match entry.file_type() {
+        Ok(kind) if kind.is_file() => fs::remove_file(rt, entry.path()),
+        Ok(_) => Ok(()),
+        Err(error) => Err(error),
     }
-    Ok(())
 }
 
 fn is_spooled(name: &str) -> bool {
-    match name.split_once('.') {
-        Some((numbers, "request" | "reply")) => are_numbers(numbers),
-        _ => false,
-    }
-}
-
-fn are_numbers(text: &str) -> bool {
-    match text.split_once('-') {
+    let Some((numbers, "request" | "reply")) = name.split_once('.') else {
+        return false;
+    };
+    match numbers.split_once('-') {
         Some((job, conn)) => is_number(job) && is_number(conn),
         None => false,
     }

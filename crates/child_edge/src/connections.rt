@@ -9,14 +9,17 @@
 //! third each.
 
 use crate::Client;
+use crate::children::{Kept, RunKey};
+use crate::command::command_of;
 use crate::connection::{Connection, Progress};
-use crate::failure::Failure;
-use crate::notices::{Asked, LetGo, Notices};
+use crate::failure::{Failure, culprit};
+use crate::maps::key_from;
+use crate::notices::{Asked, LetGo, Notices, OF_ROOM};
 use crate::spool::Spooled;
+use crate::start::Start;
 use crate::streams::{own_streams, served_streams};
 use crate::words::Hole::{Error, Text as Words};
-use definition_values::Def;
-use history_model::{JobNo, Text};
+use history_model::{Ended, JobNo, Text};
 use socket_demand::Exchange;
 use std::alloc::Global;
 use std::collections::BTreeMap;
@@ -39,15 +42,24 @@ const ROOM: usize = 256;
 /// As many milliseconds replies are forwarded at a time. Then those of the other connections are left for the next time.
 const LONGEST: u64 = 5;
 
-/// How many are held.
+/// A connection whose run is over, and since when its client has been still.
+#[derive(Clone, Copy)]
+struct Still {
+    key: Key,
+    since: Instant,
+}
+
+/// What is held, as one job sees it: how many, and of those whose run is over the one whose client has been still for longest.
 #[derive(Clone, Copy)]
 struct Tally {
     // Of one job, those whose run is still to come or goes on.
     served: usize,
     // Of that job, those whose run is over.
     over: usize,
+    stillest_of_job: Option<Still>,
     // Of all jobs, those whose run is still to come or goes on.
     of_all: usize,
+    stillest: Option<Still>,
 }
 
 #[derive(Drop)]
@@ -116,11 +128,9 @@ impl Connections {
                 Ok(())
             }
             Err(error) => {
-                if let Some(label) = label {
-                    let form = "a client was let go: cannot spool its request in $: $";
-                    let holes = [Words(self.folder.as_str()), Error(error)];
-                    notices.refused(key.0, Asked::Spool, label, None, form, &holes);
-                }
+                let form = "a client was let go: cannot spool its request in $: $";
+                let holes = [Words(self.folder.as_str()), Error(error)];
+                notices.refused(key.0, Asked::Spool, label, None, form, &holes);
                 Err(error)
             }
         }
@@ -135,10 +145,13 @@ impl Connections {
         client: Client,
         exchange: Exchange,
     ) -> io::Result<()> {
-        let label = copy_of(self.alloc, label);
         let folder = self.folder.as_str();
         match Spooled::make(rt, self.alloc, folder, key, exchange.request_bytes()) {
             Ok((files, reply)) => {
+                let label = match label {
+                    Some(label) => Text::copy_of(self.alloc, label).ok(),
+                    None => None,
+                };
                 let connection = Connection {
                     client,
                     exchange,
@@ -151,7 +164,7 @@ impl Connections {
                 self.put(rt, key, connection)
             }
             Err(error) => {
-                drop((client, exchange, label));
+                drop((client, exchange));
                 Err(error)
             }
         }
@@ -185,13 +198,13 @@ impl Connections {
         }
         if self.held.len() < self.room {
             if held.served == 0 && held.over == 0 {
-                notices.has_room(job);
+                notices.all_done(job, OF_ROOM);
             }
             return None;
         }
-        match self.stillest(0, JobNo::MAX) {
-            Some(key) => {
-                self.let_go(rt, notices, key, LetGo::Room(self.room));
+        match held.stillest {
+            Some(still) => {
+                self.close(rt, notices, still.key, Some(LetGo::Room(self.room)));
                 None
             }
             None => Some(LetGo::NoRoom(self.room)),
@@ -202,101 +215,126 @@ impl Connections {
         let mut tally = Tally {
             served: 0,
             over: 0,
+            stillest_of_job: None,
             of_all: 0,
+            stillest: None,
         };
         for (key, connection) in self.held.iter() {
-            let is_own = key.0 == job;
-            if connection.is_over {
-                tally.over = tally.over.saturating_add(usize::from(is_own));
-            } else {
-                tally.of_all = tally.of_all.saturating_add(1);
-                tally.served = tally.served.saturating_add(usize::from(is_own));
-            }
+            let still = Still {
+                key: *key,
+                since: connection.moved,
+            };
+            tally.add(job, connection.is_over, still);
         }
         tally
     }
 
-    // Of those whose run is over, of the jobs from this one to that one: the one whose client has been still for longest.
-    fn stillest(&self, first: JobNo, last: JobNo) -> Option<Key> {
-        let mut found = None;
-        let mut least = self.now;
-        for (key, connection) in self.held.iter() {
-            let is_of = connection.is_over && first <= key.0 && key.0 <= last;
-            if is_of && (found.is_none() || connection.moved < least) {
-                found = Some(*key);
-                least = connection.moved;
-            }
-        }
-        found
-    }
-
-    fn let_go<R: Files>(&mut self, rt: &R, notices: &mut Notices, key: Key, why: LetGo) {
-        if let Some(connection) = self.held.get(&key) {
-            notices.let_go(key.0, connection.label(), why);
-        }
-        self.close(rt, key.0, key.1);
-    }
-
-    // The connection's files, if it is held.
-    fn files(&self, job: JobNo, conn: u64) -> Option<&Spooled> {
-        let connection = self.held.get(&(job, conn))?;
-        Some(&connection.files)
-    }
-
-    /// Gives the command the streams of a run. One that serves a connection reads its request and writes its reply. If one of these
-    /// files is lost, the client is let go and the run is started without it, as one whose client said nothing and takes nothing:
-    /// what waits behind it is served.
-    pub(crate) fn give_streams<R: Files<File = File>>(
+    /// The command that the start's definition says, with its streams.
+    pub(crate) fn command_for<R: Files<File = File>>(
         &mut self,
         rt: &R,
         notices: &mut Notices,
-        job: JobNo,
-        run: u64,
-        def: &Def,
-        conn: Option<u64>,
+        start: Start<'_>,
+    ) -> Result<Command, Failure> {
+        let mut command = match command_of(self.alloc, start.def) {
+            Ok(command) => command,
+            Err(error) => {
+                let error = io::Error::from(error);
+                return Err(culprit(rt, self.alloc, start.def, error));
+            }
+        };
+        match self.give_streams(rt, notices, start, &mut command) {
+            Ok(()) => Ok(command),
+            Err(failure) => {
+                drop(command);
+                Err(failure)
+            }
+        }
+    }
+
+    // A run that serves a connection reads its request and writes its reply. If one of these files is lost, the client is let go and
+    // the run is started without it, as one whose client said nothing and takes nothing: what waits behind it is served.
+    fn give_streams<R: Files<File = File>>(
+        &mut self,
+        rt: &R,
+        notices: &mut Notices,
+        start: Start<'_>,
         command: &mut Command,
     ) -> Result<(), Failure> {
-        let Some(conn) = conn else {
-            return own_streams(rt, def, command);
+        let Some(conn) = start.conn else {
+            return own_streams(rt, start.def, command);
         };
-        match served_streams(rt, def, self.files(job, conn), command) {
+        let key = (start.key.0, conn);
+        let files = match self.held.get(&key) {
+            Some(connection) => Some(&connection.files),
+            None => None,
+        };
+        match served_streams(rt, start.def, files, command) {
             Err(failure) if failure.is_lost() => {
-                let (_, file) = failure.said(def);
-                let form = "a client was let go: cannot open $: $";
-                let holes = [Words(file), Error(failure.error)];
-                notices.refused(job, Asked::Spool, def.label(), Some(run), form, &holes);
-                self.close(rt, job, conn);
-                served_streams(rt, def, None, command)
+                notices.spool_lost(start, failure);
+                self.close(rt, notices, key, None);
+                served_streams(rt, start.def, None, command)
             }
             answer => answer,
         }
     }
 
-    /// The run that served the connection has ended. If the job then has more of these than it may, one is let go.
-    pub(crate) fn end<R: Files>(&mut self, rt: &R, notices: &mut Notices, job: JobNo, conn: u64) {
-        if let Some(connection) = self.held.get_mut(&(job, conn)) {
+    /// The run has ended so, of which this was kept.
+    pub(crate) fn run_ended<R: Clock + Files>(
+        &mut self,
+        rt: &R,
+        notices: &mut Notices,
+        key: RunKey,
+        ended: Ended,
+        kept: Option<Kept>,
+    ) {
+        notices.done(key.0, Asked::Wait);
+        let Some(kept) = kept else {
+            return;
+        };
+        if let Some(conn) = kept.conn {
+            self.end(rt, notices, (key.0, conn));
+        }
+        notices.ended(rt, key.1, ended, &kept);
+        drop(kept);
+    }
+
+    // The run that served the connection has ended. If the job then has more of these than it may, one is let go.
+    fn end<R: Files>(&mut self, rt: &R, notices: &mut Notices, key: Key) {
+        if let Some(connection) = self.held.get_mut(&key) {
             connection.is_over = true;
         }
-        if self.tally(job).over > OVER {
-            if let Some(key) = self.stillest(job, job) {
-                self.let_go(rt, notices, key, LetGo::Job(OVER));
+        let held = self.tally(key.0);
+        if held.over > OVER {
+            if let Some(still) = held.stillest_of_job {
+                self.close(rt, notices, still.key, Some(LetGo::Job(OVER)));
             }
         }
     }
 
-    /// Lets the connection go, if it is held, and removes its files.
-    pub(crate) fn close<R: Files>(&mut self, rt: &R, job: JobNo, conn: u64) {
-        if let Some(connection) = self.held.remove(&(job, conn)) {
-            connection.files.remove(rt);
-            drop(connection);
+    /// Lets the connection go, if it is held, and removes its files. Why its client was let go is told, if it was.
+    pub(crate) fn close<R: Files>(
+        &mut self,
+        rt: &R,
+        notices: &mut Notices,
+        key: Key,
+        why: Option<LetGo>,
+    ) {
+        let Some(connection) = self.held.remove(&key) else {
+            return;
+        };
+        if let Some(why) = why {
+            notices.let_go(key.0, connection.label(), why);
         }
+        connection.files.remove(rt);
+        drop(connection);
     }
 
     /// Lets each connection go, and removes its files.
-    pub(crate) fn close_all<R: Files>(&mut self, rt: &R) {
+    pub(crate) fn close_all<R: Files>(&mut self, rt: &R, notices: &mut Notices) {
         for _ in 0..self.held.len() {
-            if let Some((job, conn)) = self.next_from((0, 0)) {
-                self.close(rt, job, conn);
+            if let Some(key) = key_from(&self.held, (0, 0)) {
+                self.close(rt, notices, key, None);
             }
         }
     }
@@ -331,11 +369,10 @@ impl Connections {
 
     // The first from this one on, or the first of all.
     fn next_from(&self, from: Key) -> Option<Key> {
-        let (key, _) = match self.held.range(from..).next() {
-            Some(found) => found,
-            None => self.held.iter().next()?,
-        };
-        Some(*key)
+        match key_from(&self.held, from) {
+            Some(key) => Some(key),
+            None => key_from(&self.held, (0, 0)),
+        }
     }
 
     // It says whether this connection may go on at once.
@@ -345,25 +382,41 @@ impl Connections {
             Some(connection) => connection.forward(now),
             None => return false,
         };
-        match progress {
-            Progress::Waits => false,
-            Progress::MayGoOn => true,
+        let why = match progress {
+            Progress::Waits => return false,
+            Progress::MayGoOn => return true,
             Progress::Ended => {
                 notices.done(key.0, Asked::Client);
-                self.close(rt, key.0, key.1);
-                false
+                None
             }
-            Progress::Lost(why) => {
-                self.let_go(rt, notices, key, why);
-                false
+            Progress::Lost(why) => Some(why),
+        };
+        self.close(rt, notices, key, why);
+        false
+    }
+}
+
+impl Tally {
+    // One more is held, beside those of the job.
+    fn add(&mut self, job: JobNo, is_over: bool, still: Still) {
+        let is_own = still.key.0 == job;
+        if is_over {
+            self.stillest = Some(stiller(self.stillest, still));
+            if is_own {
+                self.over = self.over.saturating_add(1);
+                self.stillest_of_job = Some(stiller(self.stillest_of_job, still));
             }
+        } else {
+            self.of_all = self.of_all.saturating_add(1);
+            self.served = self.served.saturating_add(usize::from(is_own));
         }
     }
 }
 
-fn copy_of(alloc: Global, label: Option<&str>) -> Option<Text> {
-    match label {
-        Some(label) => Text::copy_of(alloc, label).ok(),
-        None => None,
+// The one that has been still for longer, the first of two that have been so for as long.
+fn stiller(stillest: Option<Still>, one: Still) -> Still {
+    match stillest {
+        Some(stillest) if stillest.since <= one.since => stillest,
+        _ => one,
     }
 }

@@ -1,8 +1,10 @@
 //! Why a start was refused: which part of it, and what the system said.
 
 use definition_values::Def;
-use std::io;
+use std::alloc::Global;
+use std::fs::Files;
 use std::io::ErrorKind;
+use std::{fs, io};
 
 /// A part of a start.
 #[derive(Clone, Copy)]
@@ -48,5 +50,31 @@ impl Failure {
             Part::Reply => ("cannot open $: $", Some("the spooled reply")),
         };
         (form, path.unwrap_or("/dev/null"))
+    }
+}
+
+/// Whose error a spawn's is: the system does not tell the folder's from the program's, so the folder is tried.
+pub(crate) fn culprit<R: Files>(rt: &R, alloc: Global, def: &Def, error: io::Error) -> Failure {
+    if let Some(folder) = def.working_directory() {
+        if let Err(error) = enter(rt, alloc, folder) {
+            let part = Part::Folder;
+            return Failure { part, error };
+        }
+    }
+    let part = Part::Program;
+    Failure { part, error }
+}
+
+// An error if the folder is none, or may not be entered.
+fn enter<R: Files>(rt: &R, alloc: Global, folder: &str) -> io::Result<()> {
+    let inside = match format!(in alloc; "{folder}/.") {
+        Ok(inside) => inside,
+        Err(error) => return Err(io::Error::from(error)),
+    };
+    let data = fs::metadata(rt, inside.as_str());
+    drop(inside);
+    match data {
+        Ok(_) => Ok(()),
+        Err(error) => Err(error),
     }
 }

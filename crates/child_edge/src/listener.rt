@@ -34,17 +34,7 @@ impl Listener {
         match &wanted.address {
             Address::Unix(path) => bind_unix(rt, alloc, path.as_str()),
             Address::Inet { host, port } => {
-                let place = SocketAddr::from((Ipv4Addr::from_octets(*host), *port));
-                match rt.bind(place) {
-                    Ok(socket) => match socket.set_nonblocking(true) {
-                        Ok(()) => Ok(Listener::Inet(TcpListener::from_std(socket))),
-                        Err(error) => {
-                            drop(socket);
-                            Err(error)
-                        }
-                    },
-                    Err(error) => Err(error),
-                }
+                bind_inet(rt, SocketAddr::from((Ipv4Addr::from_octets(*host), *port)))
             }
         }
     }
@@ -91,6 +81,23 @@ impl Listener {
         match self {
             Listener::Unix { socket, .. } => registry.register(socket, token, Interest::READABLE),
             Listener::Inet(socket) => registry.register(socket, token, Interest::READABLE),
+        }
+    }
+}
+
+fn bind_inet<R: Net<Listener = std::net::TcpListener, Stream = std::net::TcpStream>>(
+    rt: &R,
+    place: SocketAddr,
+) -> io::Result<Listener> {
+    let socket = match rt.bind(place) {
+        Ok(socket) => socket,
+        Err(error) => return Err(error),
+    };
+    match socket.set_nonblocking(true) {
+        Ok(()) => Ok(Listener::Inet(TcpListener::from_std(socket))),
+        Err(error) => {
+            drop(socket);
+            Err(error)
         }
     }
 }

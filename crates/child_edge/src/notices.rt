@@ -2,12 +2,16 @@
 
 ghost use Rattle.std.specs.Prelude.{◌≡◌};
 
+use crate::children::{Kept, RunKey};
+use crate::failure::Failure;
+use crate::start::Start;
 use crate::words::Hole::{Error, Number, Text as Words};
-use crate::words::{Hole, filled};
-use history_model::{Ended, JobNo, Text};
+use crate::words::{Hole, filled, refusal};
+use history_model::{Ended, JobNo, Obs, Text};
 use std::alloc::Global;
 use std::collections::{BTreeMap, VecDeque};
 use std::io;
+use std::rt::Clock;
 use std::time::Duration;
 
 /// What a notice is about.
@@ -111,8 +115,8 @@ impl LetGo {
 /// What a job's runs ask for: a job that is loaded anew begins with none of it told.
 const OF_RUNS: [Asked; 4] = [Asked::Start, Asked::Term, Asked::Kill, Asked::Wait];
 
-/// What the bounds on connections ask for.
-const OF_ROOM: [Asked; 4] = [Asked::Over, Asked::Room, Asked::NoRoom, Asked::Share];
+/// What the bounds on connections ask for: they are told anew once the job holds none.
+pub(crate) const OF_ROOM: [Asked; 4] = [Asked::Over, Asked::Room, Asked::NoRoom, Asked::Share];
 
 /// A job, and the number of what was asked of the system for it.
 type Call = (JobNo, u8);
@@ -160,28 +164,96 @@ impl Notices {
 
     /// Tells what became of a run, if runs are told.
     pub(crate) fn run(&mut self, form: &str, holes: &[Hole<'_>]) {
-        if self.tells_runs {
-            self.push(NoticeKind::Run, form, holes);
+        if self.tells_runs && self.has_place() {
+            let line = filled(self.alloc, form, holes);
+            self.add(NoticeKind::Run, line);
         }
     }
 
-    /// A run of the job of this label was given a signal, as the form says.
-    pub(crate) fn signalled(&mut self, label: &str, run: u64, form: &str) {
-        let holes = [Words(label), Number(run)];
-        self.run(form, &holes);
+    /// What became of a start. With its first run a job begins with none of what its runs ask for told.
+    pub(crate) fn started(&mut self, start: Start<'_>, answer: Result<u32, Failure>) {
+        let (job, run) = start.key;
+        if run <= 1 {
+            self.all_done(job, OF_RUNS);
+        }
+        match answer {
+            Ok(pid) => {
+                self.done(job, Asked::Start);
+                let holes = [
+                    Words(start.def.label()),
+                    Number(run),
+                    Number(u64::from(pid)),
+                ];
+                self.run("$: run $ started as $", &holes);
+            }
+            Err(failure) => {
+                let (form, path) = failure.said(start.def);
+                self.start_refused(start, Asked::Start, form, path, failure.error);
+            }
+        }
     }
 
-    /// A run has ended, after this time if it is known: seconds with one place. Nothing is told without its job's label.
-    pub(crate) fn ended(
+    /// A start found that a file of its connection is lost.
+    pub(crate) fn spool_lost(&mut self, start: Start<'_>, failure: Failure) {
+        let (_, file) = failure.said(start.def);
+        let form = "a client was let go: cannot open $: $";
+        self.start_refused(start, Asked::Spool, form, file, failure.error);
+    }
+
+    fn start_refused(
         &mut self,
-        label: Option<&Text>,
-        run: u64,
-        ended: Ended,
-        took: Option<Duration>,
+        start: Start<'_>,
+        asked: Asked,
+        form: &str,
+        path: &str,
+        error: io::Error,
     ) {
-        let Some(label) = label else {
-            return;
+        let (job, run) = start.key;
+        let label = Some(start.def.label());
+        let holes = [Words(path), Error(error)];
+        self.refused(job, asked, label, Some(run), form, &holes);
+    }
+
+    /// A run was given the signal of this name. Nothing is told without its job's label.
+    pub(crate) fn signalled<'x>(
+        &mut self,
+        (job, run): RunKey,
+        asked: Asked,
+        label: Option<&'x str>,
+        signal: &'x str,
+    ) {
+        self.done(job, asked);
+        if let Some(label) = label {
+            self.run("$: $ to run $", &[Words(label), Words(signal), Number(run)]);
+        }
+    }
+
+    /// What was asked for a run's child could not be done, for this reason.
+    pub(crate) fn run_refused(
+        &mut self,
+        (job, run): RunKey,
+        asked: Asked,
+        label: Option<&str>,
+        what: &str,
+        error: io::Error,
+    ) {
+        let holes = [Words(what), Error(error)];
+        self.refused(job, asked, label, Some(run), "cannot $: $", &holes);
+    }
+
+    /// A run has ended, of which this was kept: if its start was, its time is told too, in seconds with one place. Nothing is told
+    /// without its job's label.
+    pub(crate) fn ended<R: Clock>(&mut self, rt: &R, run: u64, ended: Ended, kept: &Kept) {
+        let took = match kept.since {
+            Some(since) => since.elapsed(rt).ok(),
+            None => None,
         };
+        if let Some(label) = &kept.label {
+            self.ended_after(label.as_str(), run, ended, took);
+        }
+    }
+
+    fn ended_after(&mut self, label: &str, run: u64, ended: Ended, took: Option<Duration>) {
         let (how, number) = match ended {
             Ended::Code(code) => ("ended with code", code),
             Ended::Signal(signal) => ("ended by signal", signal),
@@ -191,7 +263,7 @@ impl Notices {
             None => ("$: run $ $ $", Duration::ZERO),
         };
         let holes = [
-            Words(label.as_str()),
+            Words(label),
             Number(run),
             Words(how),
             Number(u64::from(number)),
@@ -201,57 +273,46 @@ impl Notices {
         self.run(form, &holes);
     }
 
-    /// The call for the job was refused, as the form says: that is told if it was not told last of this call.
+    /// The call for the job was refused, as the form says: that is told if it was not told last of this call. Nothing is told without
+    /// the job's label.
     pub(crate) fn refused(
         &mut self,
         job: JobNo,
         asked: Asked,
-        label: &str,
+        label: Option<&str>,
         run: Option<u64>,
         form: &str,
         holes: &[Hole<'_>],
     ) {
-        let Some(what) = filled(self.alloc, form, holes) else {
+        let Some(label) = label else {
             return;
         };
-        let words = [Words(label), Words(what.as_str())];
-        if let Some(reason) = filled(self.alloc, "$: $", &words) {
-            self.tell((job, asked as u8), reason, label, run, what.as_str());
-        }
-        drop(what);
-    }
-
-    // The line is told, if its reason was not told last of this call.
-    fn tell<'x>(
-        &mut self,
-        call: Call,
-        reason: String,
-        label: &'x str,
-        run: Option<u64>,
-        what: &'x str,
-    ) {
-        let is_known = match self.told.get(&call) {
-            Some(last) => last.as_str() == reason.as_str(),
-            None => false,
-        };
-        let (form, run) = match run {
-            Some(run) => ("$: run $: $", Number(run)),
-            None => ("$$: $", Words("")),
-        };
-        let holes = [Words(label), run, Words(what)];
-        if is_known || !self.push(NoticeKind::Refusal, form, &holes) {
-            drop(reason);
+        let Some(reason) = refusal(self.alloc, label, None, form, holes) else {
             return;
+        };
+        let call = (job, asked as u8);
+        if self.is_news(call, reason.as_str()) && self.has_place() {
+            let line = refusal(self.alloc, label, run, form, holes);
+            if self.add(NoticeKind::Refusal, line) {
+                drop(self.told.insert(call, reason));
+                return;
+            }
         }
-        drop(self.told.insert(call, reason));
+        drop(reason);
     }
 
-    /// A client of the job was let go. Nothing is told without the job's label.
+    // Whether another reason was told last of this call, or none.
+    fn is_news(&self, call: Call, reason: &str) -> bool {
+        match self.told.get(&call) {
+            Some(last) => last.as_str() != reason,
+            None => true,
+        }
+    }
+
+    /// A client of the job was let go.
     pub(crate) fn let_go(&mut self, job: JobNo, label: Option<&str>, why: LetGo) {
-        if let Some(label) = label {
-            let (asked, form, hole) = why.said();
-            self.refused(job, asked, label, None, form, &[hole]);
-        }
+        let (asked, form, hole) = why.said();
+        self.refused(job, asked, label, None, form, &[hole]);
     }
 
     /// The call for the job was done: the next refusal is told, whatever its reason.
@@ -261,22 +322,24 @@ impl Notices {
         }
     }
 
-    /// The job runs for the first time since it was loaded.
-    pub(crate) fn begin(&mut self, job: JobNo) {
-        for asked in OF_RUNS {
+    /// The same of each of these calls.
+    pub(crate) fn all_done(&mut self, job: JobNo, calls: [Asked; 4]) {
+        for asked in calls {
             self.done(job, asked);
         }
     }
 
-    /// There is room for a connection of the job, which had none.
-    pub(crate) fn has_room(&mut self, job: JobNo) {
-        for asked in OF_ROOM {
-            self.done(job, asked);
+    /// What became of a look at the path.
+    pub(crate) fn looked(&mut self, path: &str, answer: io::Result<Obs>) {
+        match answer {
+            Ok(_) if self.paths.is_empty() => {}
+            Ok(_) => drop(self.paths.remove(path)),
+            Err(error) => self.unseen(path, error),
         }
     }
 
-    /// A look at the path was refused, for this reason.
-    pub(crate) fn unseen(&mut self, path: &str, error: io::Error) {
+    // A look at the path was refused, for this reason.
+    fn unseen(&mut self, path: &str, error: io::Error) {
         let holes = [Words(path), Error(error)];
         let Some(reason) = filled(self.alloc, "cannot look at $: $", &holes) else {
             return;
@@ -285,7 +348,12 @@ impl Notices {
             Some(last) => last.as_str() == reason.as_str(),
             None => self.paths.len() >= PATHS,
         };
-        if is_told || !self.push(NoticeKind::Refusal, "cannot look at $: $", &holes) {
+        if is_told || !self.has_place() {
+            drop(reason);
+            return;
+        }
+        let line = String::from_str(self.alloc, reason.as_str()).ok();
+        if !self.add(NoticeKind::Refusal, line) {
             drop(reason);
             return;
         }
@@ -295,20 +363,18 @@ impl Notices {
         }
     }
 
-    /// The path was looked at.
-    pub(crate) fn seen(&mut self, path: &str) {
-        if !self.paths.is_empty() {
-            drop(self.paths.remove(path));
-        }
-    }
-
-    // Whether the line has room. Want of memory drops it.
-    fn push(&mut self, kind: NoticeKind, form: &str, holes: &[Hole<'_>]) -> bool {
+    // Whether a line more has room. One that has none is counted.
+    fn has_place(&mut self) -> bool {
         if self.dropped > 0 || self.waiting.len() >= ROOM {
             self.dropped = self.dropped.saturating_add(1);
             return false;
         }
-        match filled(self.alloc, form, holes) {
+        true
+    }
+
+    // Whether the line is told from now on. Want of memory drops it.
+    fn add(&mut self, kind: NoticeKind, line: Option<String>) -> bool {
+        match line {
             Some(line) => {
                 let text = Text::new(line);
                 self.waiting.push_back(Notice { kind, text }).is_ok()

@@ -3,30 +3,29 @@
 ghost use Rattle.std.specs.Prelude.{◌≡◌, ◌<◌, None, IfOk, OnOk, OnErr};
 ghost use Rattle.child_edge.specs.Calls.{one_more};
 
-use crate::children::{Children, End, Kept};
-use crate::command::command_of;
+use crate::children::{Children, RunKey};
 use crate::connections::Connections;
-use crate::failure::{Failure, Part};
+use crate::failure::Failure;
 use crate::fault::fault_of;
 use crate::notices::{Asked, Notices};
+use crate::shell::KeptShell;
 use crate::sockets::Sockets;
-use crate::words::Hole::{Error, Number, Text as Words};
+use crate::start::Start;
 use crate::{
     ChildEdge, Client, ClockEdge, Edge, EdgeFault, Notice, PathEdge, SocketEdge, clock, paths,
-    words,
 };
 use definition_values::Def;
-use history_model::{Ended, JobNo, Obs, Reading, Text};
+use history_model::{Ended, JobNo, Obs, Reading};
 use mio::{Registry, Token};
 use socket_demand::Exchange;
 use std::alloc::Global;
 use std::fs::{File, Files};
+use std::io;
 use std::marker::Model;
 use std::net::Net;
-use std::process::{Command, Processes};
+use std::process::Processes;
 use std::rt::Clock;
 use std::time::Instant;
-use std::{fs, io};
 
 /// Does what is asked by the system of its runtime, and counts what fails.
 pub struct OsEdge<R: Processes> {
@@ -34,6 +33,7 @@ pub struct OsEdge<R: Processes> {
     alloc: Global,
     made: Instant,
     children: Children<R::Started>,
+    shell: KeptShell<R::Started>,
     sockets: Sockets,
     connections: Connections,
     notices: Notices,
@@ -48,6 +48,7 @@ impl<R: Drop + Processes> Drop for OsEdge<R> {
             alloc: _,
             made: _,
             children: _,
+            shell: _,
             sockets: _,
             connections: _,
             notices: _,
@@ -76,6 +77,7 @@ impl<R: Clock + Drop + Processes> OsEdge<R> {
             alloc,
             made,
             children: Children::new(alloc),
+            shell: KeptShell::new(alloc),
             sockets: Sockets::new(alloc),
             connections: Connections::new(alloc, spool, made),
             notices: Notices::new(alloc),
@@ -172,23 +174,33 @@ impl<R: Processes> OsEdge<R> {
         }
     }
 
-    // What was asked for the run was refused, as the form says, whose hole is the error.
-    fn tell_refusal(&mut self, job: JobNo, run: u64, asked: Asked, form: &str, error: io::Error)
-        ensures { self.new ≡ self.old }
+    // What was asked for the run's child was refused: that is told and counted.
+    fn refuse(&mut self, key: RunKey, asked: Asked, what: &str, error: io::Error) -> EdgeFault
+        ensures { self.new ≡ one_more self.old }
     {
-        if let Some(label) = self.children.label(job, run) {
-            self.notices
-                .refused(job, asked, label, Some(run), form, &[Error(error)]);
-        }
+        let label = self.children.label(key);
+        self.notices.run_refused(key, asked, label, what, error);
+        self.fail(error)
     }
 
-    // The run's child was given the signal.
-    fn tell_signal(&mut self, job: JobNo, run: u64, asked: Asked, form: &str)
-        ensures { self.new ≡ self.old }
+    // What became of a signal for the run's child.
+    fn signalled(
+        &mut self,
+        key: RunKey,
+        asked: Asked,
+        signal: &str,
+        answer: io::Result<()>,
+    ) -> Result<(), EdgeFault>
+        ensures fault { OnErr result (self.new ≡ one_more self.old) }
+        ensures success { OnOk result (self.new ≡ self.old) }
     {
-        self.notices.done(job, asked);
-        if let Some(label) = self.children.label(job, run) {
-            self.notices.signalled(label, run, form);
+        match answer {
+            Ok(()) => {
+                let label = self.children.label(key);
+                self.notices.signalled(key, asked, label, signal);
+                Ok(())
+            }
+            Err(error) => Err(self.refuse(key, asked, signal, error)),
         }
     }
 }
@@ -232,77 +244,22 @@ impl<R: Clock + Files<File = File> + Processes> OsEdge<R> {
     pub fn let_all_go(&mut self)
         ensures { self.new ≡ self.old }
     {
-        self.connections.close_all(&self.rt);
-        self.children.end_shell();
+        self.connections.close_all(&self.rt, &mut self.notices);
+        self.shell.end();
     }
 
-    fn launch(&mut self, job: JobNo, run: u64, def: &Def, conn: Option<u64>) -> Result<u32, Failure>
+    fn launch(&mut self, start: Start<'_>) -> Result<u32, Failure>
         ensures pid { IfOk result (λ pid. 0 < pid) }
         ensures failures { self.new ≡ self.old }
     {
-        let mut command = match command_of(self.alloc, def) {
-            Ok(command) => command,
-            Err(error) => return Err(culprit(&self.rt, self.alloc, def, io::Error::from(error))),
-        };
-        let answer = self.start_with(job, run, def, conn, &mut command);
-        drop(command);
-        answer
-    }
-
-    fn start_with(
-        &mut self,
-        job: JobNo,
-        run: u64,
-        def: &Def,
-        conn: Option<u64>,
-        command: &mut Command,
-    ) -> Result<u32, Failure>
-        ensures pid { IfOk result (λ pid. 0 < pid) }
-        ensures failures { self.new ≡ self.old }
-    {
-        match self
-            .connections
-            .give_streams(&self.rt, &mut self.notices, job, run, def, conn, command)
-        {
-            Ok(()) => {}
-            Err(failure) => return Err(failure),
+        let notices = &mut self.notices;
+        let is_timed = notices.tells_runs;
+        match self.connections.command_for(&self.rt, notices, start) {
+            Ok(command) => self
+                .children
+                .start(&self.rt, self.alloc, start, is_timed, command),
+            Err(failure) => Err(failure),
         }
-        let kept = self.kept(def, conn);
-        match self.children.start(&self.rt, job, run, kept, command) {
-            Ok(pid) => Ok(pid),
-            Err(error) => Err(culprit(&self.rt, self.alloc, def, error)),
-        }
-    }
-
-    fn kept(&self, def: &Def, conn: Option<u64>) -> Kept {
-        let since = if self.notices.tells_runs {
-            Instant::now(&self.rt).ok()
-        } else {
-            None
-        };
-        Kept {
-            conn,
-            label: Text::copy_of(self.alloc, def.label()).ok(),
-            since,
-        }
-    }
-
-    // The run's child ended so.
-    fn end(&mut self, job: JobNo, run: u64, end: End) -> Ended
-        ensures { self.new ≡ self.old }
-    {
-        self.notices.done(job, Asked::Wait);
-        let End { ended, kept } = end;
-        if let Some(conn) = kept.conn {
-            self.connections.end(&self.rt, &mut self.notices, job, conn);
-        }
-        let took = match kept.since {
-            Some(since) => since.elapsed(&self.rt).ok(),
-            None => None,
-        };
-        self.notices.ended(kept.label.as_ref(), run, ended, took);
-        drop(kept);
-        ended
     }
 }
 
@@ -320,86 +277,51 @@ impl<R: Clock + Files<File = File> + Net + Processes> ChildEdge for OsEdge<R> {
         def: &Def,
         conn: Option<u64>,
     ) -> Result<u32, EdgeFault> {
-        if run <= 1 {
-            self.notices.begin(job);
-        }
-        match self.launch(job, run, def, conn) {
-            Ok(pid) => {
-                self.notices.done(job, Asked::Start);
-                let holes = [Words(def.label()), Number(run), Number(u64::from(pid))];
-                self.notices.run("$: run $ started as $", &holes);
-                Ok(pid)
-            }
-            Err(failure) => {
-                let (form, path) = failure.said(def);
-                let holes = [Words(path), Error(failure.error)];
-                self.notices
-                    .refused(job, Asked::Start, def.label(), Some(run), form, &holes);
-                Err(self.fail(failure.error))
-            }
+        let start = Start {
+            key: (job, run),
+            def,
+            conn,
+        };
+        let answer = self.launch(start);
+        self.notices.started(start, answer);
+        match answer {
+            Ok(pid) => Ok(pid),
+            Err(failure) => Err(self.fail(failure.error)),
         }
     }
 
     fn term(&mut self, job: JobNo, run: u64) -> Result<(), EdgeFault> {
-        let answer = self.children.term(&self.rt, job, run);
-        match answer {
-            Ok(()) => self.tell_signal(job, run, Asked::Term, "$: TERM to run $"),
-            Err(error) => self.tell_refusal(job, run, Asked::Term, "cannot TERM: $", error),
-        }
-        self.answered(answer)
+        let answer = self.children.term(&self.rt, &mut self.shell, (job, run));
+        self.signalled((job, run), Asked::Term, "TERM", answer)
     }
 
     fn kill(&mut self, job: JobNo, run: u64) -> Result<(), EdgeFault> {
-        let answer = self.children.kill(job, run);
-        match answer {
-            Ok(()) => self.tell_signal(job, run, Asked::Kill, "$: KILL to run $"),
-            Err(error) => self.tell_refusal(job, run, Asked::Kill, "cannot KILL: $", error),
-        }
-        self.answered(answer)
+        let answer = self.children.kill((job, run));
+        self.signalled((job, run), Asked::Kill, "KILL", answer)
     }
 
     fn poll(&mut self, job: JobNo, run: u64) -> Result<Option<Ended>, EdgeFault> {
-        match self.children.poll(job, run) {
+        let key = (job, run);
+        match self.children.poll(key) {
             Ok(None) => Ok(None),
-            Ok(Some(end)) => Ok(Some(self.end(job, run, end))),
-            Err(error) => {
-                self.tell_refusal(job, run, Asked::Wait, "cannot wait for its end: $", error);
-                Err(self.fail(error))
+            Ok(Some(ended)) => {
+                let kept = self.children.remove(key);
+                self.connections
+                    .run_ended(&self.rt, &mut self.notices, key, ended, kept);
+                Ok(Some(ended))
             }
+            Err(error) => Err(self.refuse(key, Asked::Wait, "wait for its end", error)),
         }
     }
-}
-
-// Whose error a spawn's is: the system does not tell the folder's from the program's, so the folder is tried.
-fn culprit<R: Files>(rt: &R, alloc: Global, def: &Def, error: io::Error) -> Failure {
-    if let Some(folder) = def.working_directory() {
-        if let Err(error) = enter(rt, alloc, folder) {
-            let part = Part::Folder;
-            return Failure { part, error };
-        }
-    }
-    let part = Part::Program;
-    Failure { part, error }
-}
-
-// An error if the folder is none, or may not be entered.
-fn enter<R: Files>(rt: &R, alloc: Global, folder: &str) -> io::Result<()> {
-    let inside = format!(in alloc; "{folder}/.")?;
-    fs::metadata(rt, inside.as_str())?;
-    Ok(())
 }
 
 impl<R: AllocGlobal + Clone + Drop + Files + Processes> PathEdge for OsEdge<R> {
     fn look(&mut self, path: &str) -> Result<Obs, EdgeFault> {
-        match paths::look(&self.rt, path) {
-            Ok(seen) => {
-                self.notices.seen(path);
-                Ok(seen)
-            }
-            Err(error) => {
-                self.notices.unseen(path, error);
-                Err(self.fail(error))
-            }
+        let answer = paths::look(&self.rt, path);
+        self.notices.looked(path, answer);
+        match answer {
+            Ok(seen) => Ok(seen),
+            Err(error) => Err(self.fail(error)),
         }
     }
 }
@@ -417,23 +339,13 @@ impl<
     R: Files + Net<Listener = std::net::TcpListener, Stream = std::net::TcpStream> + Processes,
 > SocketEdge for OsEdge<R> {
     fn bind(&mut self, job: JobNo, def: &Def) -> Result<(), EdgeFault> {
-        match self.sockets.bind(&self.rt, job, def) {
-            Ok(()) => {
-                self.notices.done(job, Asked::Bind);
-                Ok(())
-            }
-            Err(fault) => {
-                let socket = def.sockets().get(fault.socket);
-                let (form, holes) = words::cannot_bind(socket, fault.error);
-                self.notices
-                    .refused(job, Asked::Bind, def.label(), None, form, &holes);
-                Err(self.fail(fault.error))
-            }
-        }
+        let answer = self.sockets.bind(&self.rt, &mut self.notices, job, def);
+        self.answered(answer)
     }
 
     fn close(&mut self, job: JobNo, conn: u64) {
-        self.connections.close(&self.rt, job, conn);
+        self.connections
+            .close(&self.rt, &mut self.notices, (job, conn), None);
     }
 
     fn release(&mut self, job: JobNo) {

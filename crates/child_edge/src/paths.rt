@@ -3,7 +3,7 @@
 ghost use Rattle.std.specs.Prelude.{◌≡◌, ◌+◌, ◌-◌, ◌*◌, ◌^◌, min};
 
 use history_model::Obs;
-use std::fs::Files;
+use std::fs::{Files, Metadata};
 use std::io::ErrorKind;
 use std::os::unix::fs::MetadataExt;
 use std::{fs, io};
@@ -16,20 +16,34 @@ const ABSENT: Obs = Obs {
 
 /// Looks at the path. That nothing is there is an observation too, also if a folder above it is a file.
 pub(crate) fn look<R: Files + AllocGlobal + Clone + Drop>(rt: &R, path: &str) -> io::Result<Obs> {
-    let data = match fs::metadata(rt, path) {
-        Ok(data) => data,
-        Err(error) if is_absence(&error) => return Ok(ABSENT),
-        Err(error) => return Err(error),
-    };
+    match fs::metadata(rt, path) {
+        Ok(data) => sight_of(rt, path, &data),
+        Err(error) if is_absence(&error) => Ok(ABSENT),
+        Err(error) => Err(error),
+    }
+}
+
+fn sight_of<R: Files + AllocGlobal + Clone + Drop>(
+    rt: &R,
+    path: &str,
+    data: &Metadata,
+) -> io::Result<Obs> {
     let stamp = match u64::try_from(data.mtime()) {
         Ok(seconds) => stamp_of(seconds, data.mtime_nsec().unsigned_abs()),
         Err(_) => 0,
     };
-    Ok(Obs {
+    let mut seen = Obs {
         present: true,
-        nonempty_dir: data.is_dir() && has_entry(rt, path)?,
+        nonempty_dir: false,
         stamp,
-    })
+    };
+    if data.is_dir() {
+        match has_entry(rt, path) {
+            Ok(has_entry) => seen.nonempty_dir = has_entry,
+            Err(error) => return Err(error),
+        }
+    }
+    Ok(seen)
 }
 
 fn is_absence(error: &io::Error) -> bool {
@@ -43,14 +57,13 @@ fn has_entry<R: Files + AllocGlobal + Clone + Drop>(rt: &R, path: &str) -> io::R
     };
     let first = listing.next();
     drop(listing);
-    match first {
+    let answer = match &first {
         None => Ok(false),
-        Some(Ok(entry)) => {
-            drop(entry);
-            Ok(true)
-        }
-        Some(Err(error)) => Err(error),
-    }
+        Some(Ok(_)) => Ok(true),
+        Some(Err(error)) => Err(*error),
+    };
+    drop(first);
+    answer
 }
 
 // Nanoseconds of Unix time, or the greatest stamp if they are more.

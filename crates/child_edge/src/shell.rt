@@ -115,13 +115,14 @@ impl<P: OpenProcess + Drop> KeptShell<P> {
 
     // Whether no shell is left that was given up. It does not wait for that.
     fn is_gone(&mut self) -> bool {
-        if let Some(child) = &mut self.given_up {
-            if matches!(child.try_wait(), Ok(None)) {
-                return false;
-            }
+        let is_gone = match &mut self.given_up {
+            Some(child) => !matches!(child.try_wait(), Ok(None)),
+            None => true,
+        };
+        if is_gone {
+            drop(self.given_up.take());
         }
-        drop(self.given_up.take());
-        true
+        is_gone
     }
 }
 
@@ -134,12 +135,10 @@ fn answer_to(socket: &mut UnixStream, line: &str) -> Option<bool> {
     let Ok(count) = socket.read(&mut text) else {
         return None;
     };
-    let line = text.get(..count).unwrap_or(b"");
-    if line.ends_with(b"\n") {
-        Some(line == b"0\n".as_slice())
-    } else {
-        None
-    }
+    let answer = &text[..count];
+    answer
+        .ends_with(b"\n")
+        .then_some(answer == b"0\n".as_slice())
 }
 
 // A shell with nothing of the launcher but its own end of a socket. No other child gets the launcher's end.

@@ -2,8 +2,10 @@
 
 use crate::Client;
 use crate::listener::Listener;
+use crate::maps::key_from;
 use crate::notices::{Asked, Notices};
 use crate::words::Hole::Error;
+use crate::words::cannot_bind;
 use definition_values::{Address, Def, Socket};
 use history_model::{JobNo, MAX_JOBS, Text};
 use mio::{Registry, Token};
@@ -59,31 +61,59 @@ impl Sockets {
         }
     }
 
-    /// Binds each socket of the definition for the job, or none. A job that has sockets is refused.
+    /// Binds each socket of the definition for the job, or none, which is told. A job that has sockets is refused.
     pub(crate) fn bind<
         R: Files + Net<Listener = std::net::TcpListener, Stream = std::net::TcpStream>,
-    >(&mut self, rt: &R, job: JobNo, def: &Def) -> Result<(), BindFault> {
+    >(&mut self, rt: &R, notices: &mut Notices, job: JobNo, def: &Def) -> io::Result<()> {
+        match self.bind_new(rt, job, def) {
+            Ok(()) => {
+                notices.done(job, Asked::Bind);
+                Ok(())
+            }
+            Err(fault) => {
+                let socket = def.sockets().get(fault.socket);
+                let (form, holes) = cannot_bind(socket, fault.error);
+                let label = Some(def.label());
+                notices.refused(job, Asked::Bind, label, None, form, &holes);
+                Err(fault.error)
+            }
+        }
+    }
+
+    fn bind_new<R: Files + Net<Listener = std::net::TcpListener, Stream = std::net::TcpStream>>(
+        &mut self,
+        rt: &R,
+        job: JobNo,
+        def: &Def,
+    ) -> Result<(), BindFault> {
         if self.jobs.contains_key(&job) {
             return Err(BindFault::of_all(ErrorKind::AddrInUse));
         }
-        let mut socket = 0usize;
-        for wanted in def.sockets() {
-            if self.has(wanted) {
-                let error = io::Error::from(ErrorKind::AddrInUse);
-                return Err(BindFault { socket, error });
-            }
-            socket = socket.saturating_add(1);
+        if let Some(socket) = self.first_taken(def.sockets()) {
+            let error = io::Error::from(ErrorKind::AddrInUse);
+            return Err(BindFault { socket, error });
         }
-        let Ok(label) = Text::copy_of(self.alloc, def.label()) else {
-            return Err(BindFault::of_all(ErrorKind::OutOfMemory));
+        let label = match Text::copy_of(self.alloc, def.label()) {
+            Ok(label) => label,
+            Err(_) => return Err(BindFault::of_all(ErrorKind::OutOfMemory)),
         };
-        let listeners = match bind_all(rt, self.alloc, def.sockets()) {
-            Ok(listeners) => listeners,
+        match bind_all(rt, self.alloc, def.sockets()) {
+            Ok(listeners) => self.keep(rt, job, label, listeners),
             Err(fault) => {
                 drop(label);
-                return Err(fault);
+                Err(fault)
             }
-        };
+        }
+    }
+
+    // The job has these sockets from now on. After an `Err` they are given up.
+    fn keep<R: Files>(
+        &mut self,
+        rt: &R,
+        job: JobNo,
+        label: Text,
+        listeners: Vec<Listener>,
+    ) -> Result<(), BindFault> {
         let bound = Bound {
             label,
             listeners,
@@ -103,6 +133,18 @@ impl Sockets {
                 Err(BindFault::of_all(ErrorKind::OutOfMemory))
             }
         }
+    }
+
+    // The place of the first of these sockets that a job has already.
+    fn first_taken(&self, wanted: &[Socket]) -> Option<usize> {
+        let mut place = 0usize;
+        for socket in wanted {
+            if self.has(socket) {
+                return Some(place);
+            }
+            place = place.saturating_add(1);
+        }
+        None
     }
 
     // Whether a job has the Unix socket already. To ask at its path who listens there would be a client's call.
@@ -130,8 +172,10 @@ impl Sockets {
 
     /// The job's label, if it has sockets.
     pub(crate) fn label(&self, job: JobNo) -> Option<&str> {
-        let bound = self.jobs.get(&job)?;
-        Some(bound.label.as_str())
+        match self.jobs.get(&job) {
+            Some(bound) => Some(bound.label.as_str()),
+            None => None,
+        }
     }
 
     /// The next client that waits at one of the job's sockets, if there is one. An accept that the system refuses is told, and
@@ -147,8 +191,7 @@ impl Sockets {
                 }
                 Err(error) => {
                     let form = "cannot let a client in: $";
-                    let label = bound.label.as_str();
-                    notices.refused(job, Asked::Accept, label, None, form, &[Error(error)]);
+                    bound.refused(notices, job, Asked::Accept, form, error);
                 }
             }
         }
@@ -157,8 +200,7 @@ impl Sockets {
 
     /// The least number, this one or above it, of a job that has sockets.
     pub(crate) fn listener_from(&self, job: JobNo) -> Option<JobNo> {
-        let (number, _) = self.jobs.range(job..).next()?;
-        Some(*number)
+        key_from(&self.jobs, job)
     }
 
     /// Which bind gave the job its sockets, if it has some: each bind has a number of its own.
@@ -203,16 +245,12 @@ impl Sockets {
         let Some(bound) = self.jobs.get_mut(&job) else {
             return Ok(());
         };
-        if bound.registered >= bound.listeners.len() {
-            return Ok(());
-        }
         let answer = bound.register(registry, token);
         match answer {
             Ok(()) => notices.done(job, Asked::Watch),
             Err(error) => {
                 let form = "cannot wait for clients: $";
-                let label = bound.label.as_str();
-                notices.refused(job, Asked::Watch, label, None, form, &[Error(error)]);
+                bound.refused(notices, job, Asked::Watch, form, error);
             }
         }
         answer
@@ -220,12 +258,27 @@ impl Sockets {
 }
 
 impl Bound {
+    // The call for the job's sockets was refused, as the form says, whose hole is the error.
+    fn refused(
+        &self,
+        notices: &mut Notices,
+        job: JobNo,
+        asked: Asked,
+        form: &str,
+        error: io::Error,
+    ) {
+        let label = Some(self.label.as_str());
+        notices.refused(job, asked, label, None, form, &[Error(error)]);
+    }
+
     // Registers each socket that is not yet, up to the first that is refused.
     fn register(&mut self, registry: &Registry, token: Token) -> io::Result<()> {
-        for _ in self.registered..self.listeners.len() {
-            if let Some(listener) = self.listeners.get_mut(self.registered) {
-                listener.register(registry, token)?;
-                self.registered = self.registered.saturating_add(1);
+        for place in self.registered..self.listeners.len() {
+            if let Some(listener) = self.listeners.get_mut(place) {
+                match listener.register(registry, token) {
+                    Ok(()) => self.registered = place.saturating_add(1),
+                    Err(error) => return Err(error),
+                }
             }
         }
         Ok(())

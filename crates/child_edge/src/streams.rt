@@ -21,9 +21,14 @@ pub(crate) fn own_streams<R: Files<File = File>>(
     def: &Def,
     command: &mut Command,
 ) -> Result<(), Failure> {
-    give(rt, Part::Input, def.standard_in_path(), command)?;
-    give(rt, Part::Output, def.standard_out_path(), command)?;
-    give(rt, Part::Errors, def.standard_error_path(), command)
+    match give(rt, Part::Input, def.standard_in_path(), command) {
+        Ok(()) => {}
+        Err(failure) => return Err(failure),
+    }
+    match give(rt, Part::Output, def.standard_out_path(), command) {
+        Ok(()) => give(rt, Part::Errors, def.standard_error_path(), command),
+        Err(failure) => Err(failure),
+    }
 }
 
 /// Gives the command the streams of a run that serves a connection: it reads the request and writes the reply. Without a
@@ -36,8 +41,14 @@ pub(crate) fn served_streams<R: Files<File = File>>(
 ) -> Result<(), Failure> {
     match files {
         Some(files) => {
-            give_file(Part::Request, files.read_request(rt), command)?;
-            give_file(Part::Reply, files.write_reply(rt), command)?;
+            match give_file(Part::Request, files.read_request(rt), command) {
+                Ok(()) => {}
+                Err(failure) => return Err(failure),
+            }
+            match give_file(Part::Reply, files.write_reply(rt), command) {
+                Ok(()) => {}
+                Err(failure) => return Err(failure),
+            }
         }
         None => {
             command.stdin(Stdio::null());

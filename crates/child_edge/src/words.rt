@@ -1,10 +1,11 @@
 //! The lines that the edge has to tell: forms whose holes are filled. Each is absent where there was no memory for it.
 
-use Hole::{Error, Number, Text};
+use Hole::{Error, Host, Number, Text};
 use definition_values::{Address, Socket};
 use std::alloc::{AllocError, Global};
 use std::fmt::Write;
 use std::io;
+use std::net::Ipv4Addr;
 
 /// What stands in a hole.
 #[derive(Clone, Copy)]
@@ -12,12 +13,35 @@ pub(crate) enum Hole<'a> {
     Text(&'a str),
     Number(u64),
     Error(io::Error),
+    Host(Ipv4Addr),
 }
 
 /// The form, in which each `$` stands for the next of the holes. Holes for which there is no `$` are left out.
 pub(crate) fn filled(alloc: Global, form: &str, holes: &[Hole<'_>]) -> Option<String> {
     let mut line = String::new(alloc);
-    match fill(&mut line, form, holes) {
+    let answer = fill(&mut line, form, holes);
+    whole(line, answer)
+}
+
+/// The refusal that the form tells, behind the job's label and the run if it is one of a run.
+pub(crate) fn refusal(
+    alloc: Global,
+    label: &str,
+    run: Option<u64>,
+    form: &str,
+    holes: &[Hole<'_>],
+) -> Option<String> {
+    let mut line = String::new(alloc);
+    let answer = match begin(&mut line, label, run) {
+        Ok(()) => fill(&mut line, form, holes),
+        Err(error) => Err(error),
+    };
+    whole(line, answer)
+}
+
+// The line, if it found memory.
+fn whole(line: String, answer: Result<(), AllocError>) -> Option<String> {
+    match answer {
         Ok(()) => Some(line),
         Err(_) => {
             drop(line);
@@ -26,14 +50,31 @@ pub(crate) fn filled(alloc: Global, form: &str, holes: &[Hole<'_>]) -> Option<St
     }
 }
 
+fn begin(line: &mut String, label: &str, run: Option<u64>) -> Result<(), AllocError> {
+    match put_plain(line, label) {
+        Ok(()) => {}
+        Err(error) => return Err(error),
+    }
+    match run {
+        Some(run) => write!(line, ": run {run}: "),
+        None => line.push_str(": "),
+    }
+}
+
 fn fill(line: &mut String, form: &str, holes: &[Hole<'_>]) -> Result<(), AllocError> {
     let mut next = 0usize;
-    for part in form.split('$') {
-        if next > 0 {
-            put(line, holes.get(next - 1))?;
+    for letter in form.chars() {
+        let answer = if letter == '$' {
+            let hole = holes.get(next);
+            next = next.saturating_add(1);
+            put(line, hole)
+        } else {
+            line.push(letter)
+        };
+        match answer {
+            Ok(()) => {}
+            Err(error) => return Err(error),
         }
-        line.push_str(part)?;
-        next = next.saturating_add(1);
     }
     Ok(())
 }
@@ -43,6 +84,7 @@ fn put(line: &mut String, hole: Option<&Hole<'_>>) -> Result<(), AllocError> {
         Some(Text(text)) => put_plain(line, *text),
         Some(Number(number)) => write!(line, "{number}"),
         Some(Error(error)) => write!(line, "{error}"),
+        Some(Host(host)) => write!(line, "{host}"),
         None => Ok(()),
     }
 }
@@ -51,7 +93,11 @@ fn put(line: &mut String, hole: Option<&Hole<'_>>) -> Result<(), AllocError> {
 // of the launcher's own.
 fn put_plain(line: &mut String, text: &str) -> Result<(), AllocError> {
     for letter in text.chars() {
-        line.push(if letter.is_control() { '?' } else { letter })?;
+        let plain = if letter.is_control() { '?' } else { letter };
+        match line.push(plain) {
+            Ok(()) => {}
+            Err(error) => return Err(error),
+        }
     }
     Ok(())
 }
@@ -60,27 +106,17 @@ fn put_plain(line: &mut String, text: &str) -> Result<(), AllocError> {
 pub(crate) fn cannot_bind(
     socket: Option<&Socket>,
     error: io::Error,
-) -> (&'static str, [Hole<'_>; 6]) {
+) -> (&'static str, [Hole<'_>; 3]) {
     let fault = Error(error);
     let Some(socket) = socket else {
-        return ("cannot bind its sockets: $", [fault; 6]);
+        return ("cannot bind its sockets: $", [fault; 3]);
     };
     match &socket.address {
-        Address::Unix(path) => (
-            "cannot bind $: $",
-            [Text(path.as_str()), fault, fault, fault, fault, fault],
-        ),
+        Address::Unix(path) => ("cannot bind $: $", [Text(path.as_str()), fault, fault]),
         Address::Inet { host, port } => {
-            let [first, second, third, last] = *host;
-            let holes = [
-                Number(u64::from(first)),
-                Number(u64::from(second)),
-                Number(u64::from(third)),
-                Number(u64::from(last)),
-                Number(u64::from(*port)),
-                fault,
-            ];
-            ("cannot bind $.$.$.$ port $: $", holes)
+            let host = Ipv4Addr::from_octets(*host);
+            let holes = [Host(host), Number(u64::from(*port)), fault];
+            ("cannot bind $ port $: $", holes)
         }
     }
 }
