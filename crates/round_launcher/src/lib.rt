@@ -3,10 +3,12 @@
 #![tactic(auto)]
 
 mod news;
+mod round_edge;
 mod round_launcher;
 
 use child_edge::OsEdge;
 pub use news::is_news;
+pub use round_edge::RoundEdge;
 pub use round_launcher::RoundLauncher;
 
 /// A live loop over the real system, whose settings last in a `T`, and whose journal is a `W`.

@@ -1,7 +1,8 @@
 //! What a round of the live loop finds, handed to the launcher one by one.
 
 use crate::news::is_news;
-use child_edge::{ChildEdge, Client, ClockEdge, Notice, OsEdge, PathEdge, SocketEdge, System};
+use crate::round_edge::RoundEdge;
+use child_edge::{ChildEdge, Client, ClockEdge, Notice, PathEdge, SocketEdge};
 use control_socket::Answers;
 use history_model::{JobNo, Obs, Reading, Reply};
 use launcher::{Host, Input};
@@ -55,14 +56,19 @@ impl<T: SettingStore, E: ChildEdge + SocketEdge, W: Write> RoundLauncher<T, E, W
 
     // Hands in the reading of the round, unless it is the launcher's own already.
     fn hand_in_time(&mut self, alloc: Global) {
-        if self.host.table().reading() != self.at {
-            let reply = self.host.turn(alloc, Input::Clock(self.at));
-            self.is_refused = reply.refusal.is_some();
-            drop(reply);
-            if !self.is_refused {
-                self.is_active = true;
-            }
+        if self.host.table().reading() == self.at {
+            return;
         }
+        let reply = self.turn(alloc, Input::Clock(self.at));
+        let is_taken = reply.refusal.is_none();
+        drop(reply);
+        self.is_refused = !is_taken;
+        self.is_active = self.is_active | is_taken;
+    }
+
+    // for the proof: what the launcher's turn says of itself ends here
+    fn turn(&mut self, alloc: Global, input: Input<'_>) -> Reply {
+        self.host.turn(alloc, input)
     }
 
     /// Hands in what happened, after the reading of the round. A refused wait is told each round, so it is no reason to wait
@@ -74,7 +80,7 @@ impl<T: SettingStore, E: ChildEdge + SocketEdge, W: Write> RoundLauncher<T, E, W
             Input::WaitRefused(_, _) => was_active,
             _ => true,
         };
-        self.host.turn(alloc, input)
+        self.turn(alloc, input)
     }
 }
 
@@ -113,7 +119,7 @@ impl<T: SettingStore, E: ChildEdge + SocketEdge + PathEdge, W: Write> PathHost
     }
 }
 
-impl<T: SettingStore, R: System, W: Write> LoopHost for RoundLauncher<T, OsEdge<R>, W> {
+impl<T: SettingStore, E: RoundEdge, W: Write> LoopHost for RoundLauncher<T, E, W> {
     fn begin(&mut self, alloc: Global) {
         RoundLauncher::begin(self, alloc);
     }
@@ -152,7 +158,7 @@ impl<T: SettingStore, R: System, W: Write> LoopHost for RoundLauncher<T, OsEdge<
     }
 
     fn register(&mut self, registry: &Registry, token: Token) -> bool {
-        self.host.edge().register(registry, token).is_ok()
+        self.host.edge().register(registry, token)
     }
 
     fn listener_from(&mut self, job: JobNo) -> Option<Origin> {
@@ -182,15 +188,8 @@ impl<T: SettingStore, R: System, W: Write> LoopHost for RoundLauncher<T, OsEdge<
         conn: u64,
         caller: Caller,
     ) -> HandedIn {
-        let Caller {
-            origin,
-            client,
-            exchange,
-            ..
-        } = caller;
-        let job = origin.job;
-        let taken = self.host.edge().take(job, conn, client, exchange);
-        if taken.is_err() {
+        let job = caller.origin.job;
+        if !self.host.edge().take(conn, caller) {
             return HandedIn::Dropped;
         }
         room.copy(self.host.table().last_step().label(job));

@@ -3,11 +3,13 @@
 //! exit status is given. The list of the stored settings is here too, since it opens the same store.
 #![tactic(auto)]
 
+mod connections;
 mod journal;
 mod looking;
 mod overrides;
 mod places;
 mod plan;
+mod refusal;
 mod reporting;
 mod spool;
 mod standing;
@@ -17,9 +19,9 @@ mod zone;
 pub use journal::{begun, journal_at, tell_long_header};
 pub use overrides::list_store;
 pub use places::{bound, no_clock, system_of};
-pub use plan::{Places, Plan, Wishes, read_wishes};
-pub use reporting::{Level, refuse, report};
+pub use plan::{Places, Plan, plan_of};
+pub use reporting::report;
 pub use spool::hold_spool;
 pub use standing::{room_of, tell_standing};
-pub use store::{open_store, settle};
+pub use store::{StoreUser, with_store};
 pub use zone::zone_of;

@@ -1,8 +1,10 @@
 //! `jobd overrides`: a line for each label that has a stored setting, by rising bytes of the labels.
 
-use crate::looking::Found;
+use crate::connections::Task;
+use crate::looking::{Found, look};
+use crate::refusal::{StoreRefusal, refuse_store};
 use crate::reporting::Level;
-use crate::store::{connect, found, report_fault};
+use crate::store::over_store;
 use exit_status::STREAMS;
 use history_model::Setting;
 use override_store::{OverrideStore, StoreFault};
@@ -13,45 +15,55 @@ use std::io;
 /// Prints `LABEL`, `enabled` or `disabled`, and the second of Unix time in which that was set, with a tab between them.
 /// A store that is not there is not made: status 5, as for one that can't be read. A file that is no store is not written to.
 pub fn list_store(rt: &HostRuntime, alloc: Global, path: &str) -> u8 {
-    let listed = match found(rt, alloc, Level::NONE, path) {
-        Ok(Found::Store) => connect(rt, Level::NONE, path),
-        Ok(_) => return 0,
-        Err(status) => Err(status),
+    let read = match look(rt, alloc, path) {
+        Ok(Found::Store) => over_store(rt, path, Listing { alloc }),
+        Ok(Found::Empty) => return 0,
+        Err(refusal) => Err((refusal, Listing { alloc })),
     };
-    match listed {
-        Ok(conn) => list_on(rt, alloc, path, conn),
-        Err(status) => status,
-    }
-}
-
-// What lets a store go is proved for its whole type, so the rest is generic over what the store stands on.
-
-fn list_on<S: Alter + Drop>(
-    rt: &(impl Print + Eprint),
-    alloc: Global,
-    path: &str,
-    conn: Connection<S>,
-) -> u8 {
-    match OverrideStore::open_or_give(alloc, conn) {
-        Ok(mut store) => list_all(rt, alloc, path, &mut store),
-        Err((fault, _)) => report_fault(rt, Level::NONE, path, fault),
-    }
-}
-
-fn list_all<S: Alter>(
-    rt: &(impl Print + Eprint),
-    alloc: Global,
-    path: &str,
-    store: &mut OverrideStore<S>,
-) -> u8 {
-    match read_all(alloc, store) {
+    match read {
         Ok((all, changes)) => print_all(rt, all.as_slice(), changes.as_slice()),
-        Err(fault) => report_fault(rt, Level::NONE, path, fault),
+        Err((refusal, Listing { alloc: _ })) => { refuse_store(rt, Level::NONE, path, refusal) }
     }
 }
 
-/// The settings, and the second in which each was set.
-pub(crate) fn read_all<S: Alter>(
+/// Reads all settings, and lets the store go.
+struct Listing {
+    alloc: Global,
+}
+
+impl Task for Listing {
+    type Done = (Vec<Setting>, Vec<(String, u64)>);
+
+    fn over<S: Alter + Drop>(
+        self,
+        conn: Connection<S>,
+    ) -> Result<(Vec<Setting>, Vec<(String, u64)>), (StoreRefusal, Listing)> {
+        let Listing { alloc } = self;
+        match read_settings(alloc, conn) {
+            Ok(both) => Ok(both),
+            Err(refusal) => Err((refusal, Listing { alloc })),
+        }
+    }
+}
+
+/// The settings that the database has, and the second in which each was set. The database is then let go.
+pub(crate) fn read_settings<S: Alter + Drop>(
+    alloc: Global,
+    conn: Connection<S>,
+) -> Result<(Vec<Setting>, Vec<(String, u64)>), StoreRefusal> {
+    let mut store = match OverrideStore::open_on(alloc, conn) {
+        Ok(store) => store,
+        Err(fault) => return Err(StoreRefusal::Settings(fault)),
+    };
+    let read = read_all(alloc, &mut store);
+    drop(store);
+    match read {
+        Ok(both) => Ok(both),
+        Err(fault) => Err(StoreRefusal::Settings(fault)),
+    }
+}
+
+fn read_all<S: Alter>(
     alloc: Global,
     store: &mut OverrideStore<S>,
 ) -> Result<(Vec<Setting>, Vec<(String, u64)>), StoreFault> {

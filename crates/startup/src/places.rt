@@ -26,7 +26,9 @@ pub fn system_of<R: System>(
     alloc: Global,
     plan: &Plan,
 ) -> Result<(OsEdge<R>, Reading), u8> {
-    check_standing(rt, alloc, plan)?;
+    if let Err(status) = check_standing(rt, alloc, plan) {
+        return Err(status);
+    }
     let Ok((own, folder)) = spool_and_runtime(rt, alloc, plan.places.spool.as_str()) else {
         return Err(NO_MEMORY);
     };

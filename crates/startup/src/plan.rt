@@ -1,12 +1,14 @@
 //! What a start goes by: the places that the words name, what the environment asks for, and what the system says of this
 //! process.
 
-use crate::reporting::{Level, report};
-use files_and_process::own_process::Standing;
+use crate::reporting::{Level, refuse, report};
+use exit_status::{CLOCK_OR_WAITING, NO_MEMORY};
+use files_and_process::own_process::{Standing, open_null_streams};
 use history_model::Text;
-use std::alloc::AllocError;
+use std::alloc::{AllocError, Global};
 use std::env;
 use std::env::VarError;
+use std::fs::{File, Files};
 use std::rt::Env;
 
 /// The paths that the words name.
@@ -26,15 +28,41 @@ pub struct Wishes {
     pub level: Level,
 }
 
+/// What a start goes by, and what is held as long as the launcher lives.
 #[derive(Drop)]
 pub struct Plan {
     pub places: Places,
     pub wishes: Wishes,
     pub standing: Standing,
+    // The null device, in place of each standard stream that is missing.
+    _null_streams: Vec<File>,
 }
 
-/// What stands in `JOBD_LOG` and `JOURNAL_STREAM`. Another word than `runs` is told, and asks for nothing.
-pub fn read_wishes<R: AllocGlobal + Env + Eprint>(rt: &R) -> Result<Wishes, AllocError> {
+/// What is read before anything is opened. Status 1 for want of memory, 9 if the null device can't be opened.
+pub fn plan_of<R: AllocGlobal + Env + Eprint + Files<File = File>>(
+    rt: &R,
+    alloc: Global,
+    places: Places,
+) -> Result<Plan, u8> {
+    let Ok(wishes) = read_wishes(rt) else {
+        return Err(NO_MEMORY);
+    };
+    match open_null_streams(rt, alloc) {
+        Ok(held) => Ok(Plan {
+            places,
+            wishes,
+            standing: Standing::read(rt),
+            _null_streams: held,
+        }),
+        Err(error) => {
+            let (part, path) = ("null device", "/dev/null");
+            Err(refuse(rt, wishes.level, CLOCK_OR_WAITING, part, path, &error))
+        }
+    }
+}
+
+// What stands in `JOBD_LOG` and `JOURNAL_STREAM`. Another word than `runs` is told, and asks for nothing.
+fn read_wishes<R: AllocGlobal + Env + Eprint>(rt: &R) -> Result<Wishes, AllocError> {
     let level = match env::var(rt, "JOURNAL_STREAM") {
         Err(VarError::OutOfMemory) => return Err(AllocError),
         Err(VarError::NotPresent) => Level::NONE,

@@ -1,12 +1,14 @@
-//! The store of overrides, and why it can't be used.
+//! The store of a launcher: opened, served from, and settled once the launcher has let go of it.
 
-use crate::looking::{Found, LookFault, look};
-use crate::reporting::{Level, refuse, report};
-use exit_status::{NO_MEMORY, STORE};
+use crate::connections::{Task, close_files, over_files};
+use crate::looking::{Found, look};
+use crate::refusal::{StoreRefusal, refuse_store};
+use crate::reporting::Level;
 use files_and_process::own_files::make_private;
 use history_model::Setting;
-use override_store::{StoreFault, StoredSettings, opened};
-use sqlite::{Alter, Connection, Error, ErrorCode, File, FileStore, Options, Unknown};
+use outside::SettingStore;
+use override_store::opened;
+use sqlite::{Alter, Connection, File, Files, Options, Unknown};
 use sqlite_std_file::OpenError;
 use std::alloc::Global;
 use std::hash::{BuildHasher, RandomState};
@@ -17,152 +19,104 @@ const CACHE_PAGES: usize = 64;
 /// The log beside the store is moved into the store once it has so many pages, which is a megabyte.
 const LOG_PAGES: usize = 256;
 
-/// Why a store was not opened.
-#[derive(Clone, Copy)]
-enum OpenFault {
-    Files(OpenError),
-    Database(Error),
+/// What is done with a store that was opened, and with the settings that it holds.
+pub trait StoreUser {
+    /// Uses the store, and gives the status. Err: nothing was set in it.
+    fn use_store<T: SettingStore + Drop>(self, store: T, settings: Vec<Setting>) -> Result<u8, u8>;
 }
 
-impl From<OpenError> for OpenFault {
-    fn from(error: OpenError) -> OpenFault {
-        OpenFault::Files(error)
-    }
-}
-
-/// What the file at the path is. Status 5 if it is no store, or can't be read; it is not written to.
-pub fn found(rt: &HostRuntime, alloc: Global, level: Level, path: &str) -> Result<Found, u8> {
-    match look(rt, alloc, path) {
-        Ok(Found::Foreign) => {
-            report(
-                rt,
-                level,
-                "store",
-                path,
-                &"a database, but no store of overrides",
-            );
-            Err(STORE)
-        }
-        Ok(found) => Ok(found),
-        Err(LookFault::System(error)) => Err(refuse(rt, level, STORE, "store", path, &error)),
-        Err(LookFault::Log(error)) => Err(refuse(
-            rt,
-            level,
-            STORE,
-            "log of the store",
-            path,
-            &error,
-        )),
-        Err(LookFault::Database(error)) => Err(report_error(rt, level, path, &error)),
-        Err(LookFault::Store(fault)) => Err(report_fault(rt, level, path, fault)),
-    }
-}
-
-/// The store at the path, which is made, for this user alone, if it is not there, and its settings. Status 5 if it is no store or
-/// can't be opened, as while another launcher has it open, or if its tables or its settings are refused.
-pub fn open_store(
+/// Opens the store at the path, which is made, for this user alone, if it is not there, and has it used. Then what the log beside it
+/// holds is moved into the store's file, unless nothing was set; that this is refused is told, unless another launcher has the store by
+/// then. Status 5, with the user given back, if it is no store or can't be opened, as while another launcher has it open, or if its
+/// tables or its settings are refused.
+pub fn with_store<U: StoreUser>(
     rt: &HostRuntime,
     alloc: Global,
     level: Level,
     path: &str,
-) -> Result<(StoredSettings<FileStore<File>>, Vec<Setting>), u8> {
-    if let Err(error) = make_private(rt, path) {
-        return Err(refuse(rt, level, STORE, "store", path, &error));
+    user: U,
+) -> Result<u8, (u8, U)> {
+    if let Err(refusal) = look_at_own(rt, alloc, path) {
+        return Err((refuse_store(rt, level, path, refusal), user));
     }
-    match found(rt, alloc, level, path) {
-        Ok(_) => match connect(rt, level, path) {
-            Ok(conn) => stored(rt, alloc, level, path, conn),
-            Err(status) => Err(status),
-        },
-        Err(status) => Err(status),
+    match over_store(rt, path, Opening { alloc, user }) {
+        Ok(Ok(status)) => {
+            settle(rt, level, path);
+            Ok(status)
+        }
+        Ok(Err(status)) => Ok(status),
+        Err((refusal, Opening { alloc: _, user })) => {
+            Err((refuse_store(rt, level, path, refusal), user))
+        }
     }
 }
 
-/// A connection to the database at the path. Status 5 if it can't be opened.
-pub fn connect(
+// The file at the path is for this user alone, and may be a store.
+fn look_at_own(rt: &HostRuntime, alloc: Global, path: &str) -> Result<Found, StoreRefusal> {
+    match make_private(rt, path) {
+        Ok(()) => look(rt, alloc, path),
+        Err(error) => Err(StoreRefusal::System("store", error)),
+    }
+}
+
+/// Opens the settings of a database, and hands them to who uses them.
+struct Opening<U> {
+    alloc: Global,
+    user: U,
+}
+
+impl<U: StoreUser> Task for Opening<U> {
+    type Done = Result<u8, u8>;
+
+    fn over<S: Alter + Drop>(
+        self,
+        conn: Connection<S>,
+    ) -> Result<Result<u8, u8>, (StoreRefusal, Opening<U>)> {
+        let Opening { alloc, user } = self;
+        match opened(alloc, conn) {
+            Ok((store, settings)) => Ok(user.use_store(store, settings)),
+            Err((fault, _)) => Err((StoreRefusal::Settings(fault), Opening { alloc, user })),
+        }
+    }
+}
+
+/// Does the task over the database in the file at the path.
+pub(crate) fn over_store<T: Task>(
     rt: &HostRuntime,
-    level: Level,
     path: &str,
-) -> Result<Connection<FileStore<File>>, u8> {
-    match open_files(rt, path) {
-        Ok(conn) => Ok(conn),
-        Err(fault) => Err(report_open(rt, level, path, fault)),
+    task: T,
+) -> Result<T::Done, (StoreRefusal, T)> {
+    match files_at(rt, path) {
+        Ok((files, options)) => over_files(rt.alloc(), files, options, task),
+        Err(error) => Err((refused(error), task)),
     }
 }
 
-fn open_files(rt: &HostRuntime, path: &str) -> Result<Connection<FileStore<File>>, OpenFault> {
+fn refused(error: OpenError) -> StoreRefusal {
+    match error {
+        OpenError::Io(error) => StoreRefusal::System("store", error),
+        error => StoreRefusal::Files(error),
+    }
+}
+
+fn files_at(rt: &HostRuntime, path: &str) -> Result<(Files<File>, Options), OpenError> {
+    let state = RandomState::new(rt)?;
+    let files = sqlite_std_file::open(rt, path, Unknown)?;
     let options = Options {
         cache_pages: CACHE_PAGES,
         checkpoint_frames: LOG_PAGES,
-        ..Options::new(seed(rt)?)
+        ..Options::new(state.hash_one(&0u8))
     };
-    let files = sqlite_std_file::open(rt, path, Unknown)?;
-    match Connection::open_files(rt.alloc(), files, options) {
-        Ok(conn) => Ok(conn),
-        Err((error, _)) => Err(OpenFault::Database(error)),
-    }
+    Ok((files, options))
 }
 
-fn seed(rt: &HostRuntime) -> Result<u64, OpenError> {
-    let state = RandomState::new(rt)?;
-    Ok(state.hash_one(&0u8))
-}
-
-fn report_open(rt: &impl Eprint, level: Level, path: &str, fault: OpenFault) -> u8 {
-    match fault {
-        OpenFault::Files(OpenError::OutOfMemory) => NO_MEMORY,
-        OpenFault::Files(OpenError::Io(error)) => refuse(rt, level, STORE, "store", path, &error),
-        OpenFault::Files(error) => {
-            report(rt, level, "store", path, &error);
-            STORE
-        }
-        OpenFault::Database(error) => report_error(rt, level, path, &error),
-    }
-}
-
-fn report_error(rt: &impl Eprint, level: Level, path: &str, error: &Error) -> u8 {
-    if let Error::SqliteFailure(ErrorCode::OutOfMemory) = error {
-        return NO_MEMORY;
-    }
-    report(rt, level, "store", path, error);
-    STORE
-}
-
-/// The status of a store's fault, which is told unless memory was wanting.
-pub fn report_fault(rt: &impl Eprint, level: Level, path: &str, fault: StoreFault) -> u8 {
-    match fault {
-        StoreFault::NoMemory => return NO_MEMORY,
-        StoreFault::Refused => report(rt, level, "store", path, &"the database refused"),
-        StoreFault::Foreign => report(rt, level, "store", path, &"a stored name is no label"),
-    }
-    STORE
-}
-
-// The store on the connection, and its settings.
-fn stored<S: Alter + Drop>(
-    rt: &impl Eprint,
-    alloc: Global,
-    level: Level,
-    path: &str,
-    conn: Connection<S>,
-) -> Result<(StoredSettings<S>, Vec<Setting>), u8> {
-    match opened(alloc, conn) {
-        Ok(both) => Ok(both),
-        Err((fault, _)) => Err(report_fault(rt, level, path, fault)),
-    }
-}
-
-/// Moves what the log beside the store holds into the store's file, once the launcher has let go of both. A refusal is told,
-/// unless another launcher has the store by then; the log then keeps what it holds.
-pub fn settle(rt: &HostRuntime, level: Level, path: &str) {
-    let answer = match open_files(rt, path) {
-        Ok(conn) => conn.close().map_err(OpenFault::Database),
-        Err(fault) => Err(fault),
+fn settle(rt: &HostRuntime, level: Level, path: &str) {
+    let settled = match files_at(rt, path) {
+        Ok((files, options)) => close_files(rt.alloc(), files, options),
+        Err(OpenError::Busy) => return,
+        Err(error) => Err(refused(error)),
     };
-    match answer {
-        Ok(()) | Err(OpenFault::Files(OpenError::Busy)) => {}
-        Err(fault) => {
-            let _status = report_open(rt, level, path, fault);
-        }
+    if let Err(refusal) = settled {
+        let _status = refuse_store(rt, level, path, refusal);
     }
 }

@@ -1,0 +1,81 @@
+//! What the rounds of a live loop ask of an edge beside what a launcher's turns ask of it. The launcher of a loop is over any such edge,
+//! so that only the few lines below are proved for all that the edge of the system holds.
+
+use child_edge::{ChildEdge, Client, ClockEdge, Notice, OsEdge, PathEdge, SocketEdge, System};
+use history_model::JobNo;
+use live_loop::Caller;
+use mio::{Registry, Token};
+
+/// An edge as rounds ask it. Each call is that of `OsEdge`.
+pub trait RoundEdge: ChildEdge + ClockEdge + PathEdge + SocketEdge {
+    /// The least job, this one or above it, whose child is over, with the child's run.
+    fn over_from(&mut self, job: JobNo) -> Option<(JobNo, u64)>;
+
+    /// Has clients that come to jobs' sockets wake the poll under the token. False: the poll refuses.
+    fn register(&mut self, registry: &Registry, token: Token) -> bool;
+
+    /// The least job, this one or above it, that has sockets.
+    fn listener_from(&self, job: JobNo) -> Option<JobNo>;
+
+    /// Which bind gave the job its sockets.
+    fn bind_of(&self, job: JobNo) -> Option<u64>;
+
+    /// The next client that waits at one of the job's sockets.
+    fn accept(&mut self, job: JobNo) -> Option<Client>;
+
+    /// Holds the connection of a client whose request came whole, under a number that it has had for no other. False: it is let go.
+    fn take(&mut self, conn: u64, caller: Caller) -> bool;
+
+    /// Sends clients what their runs have written. True: one may go on at once.
+    fn forward(&mut self) -> bool;
+
+    /// Lets each connection go that is held.
+    fn let_all_go(&mut self);
+
+    /// The oldest of what is to be told and was not.
+    fn next_notice(&mut self) -> Option<Notice>;
+}
+
+impl<R: System> RoundEdge for OsEdge<R> {
+    fn over_from(&mut self, job: JobNo) -> Option<(JobNo, u64)> {
+        OsEdge::over_from(self, job)
+    }
+
+    fn register(&mut self, registry: &Registry, token: Token) -> bool {
+        OsEdge::register(self, registry, token).is_ok()
+    }
+
+    fn listener_from(&self, job: JobNo) -> Option<JobNo> {
+        OsEdge::listener_from(self, job)
+    }
+
+    fn bind_of(&self, job: JobNo) -> Option<u64> {
+        OsEdge::bind_of(self, job)
+    }
+
+    fn accept(&mut self, job: JobNo) -> Option<Client> {
+        OsEdge::accept(self, job)
+    }
+
+    fn take(&mut self, conn: u64, caller: Caller) -> bool {
+        let Caller {
+            origin,
+            client,
+            exchange,
+            ..
+        } = caller;
+        OsEdge::take(self, origin.job, conn, client, exchange).is_ok()
+    }
+
+    fn forward(&mut self) -> bool {
+        OsEdge::forward(self)
+    }
+
+    fn let_all_go(&mut self) {
+        OsEdge::let_all_go(self);
+    }
+
+    fn next_notice(&mut self) -> Option<Notice> {
+        OsEdge::next_notice(self)
+    }
+}

@@ -1,0 +1,53 @@
+//! What is done over the connection to a database, whatever its files are. A type parameter that becomes a real store is proved for all
+//! that lies below the store, so this happens once, in `over_files`.
+
+use crate::refusal::StoreRefusal;
+use sqlite::{Alter, Connection, Error, ErrorCode, Files, Options};
+use sqlite_disk::Disk;
+use std::alloc::Global;
+
+/// What is done over a connection, with what it gives. If it is refused, or nothing was done, it is given back.
+pub(crate) trait Task {
+    type Done;
+
+    fn over<S: Alter + Drop>(self, conn: Connection<S>) -> Result<Self::Done, (StoreRefusal, Self)>;
+}
+
+/// Opens the database of these files, and does the task over it.
+pub(crate) fn over_files<D: Disk + Drop, T: Task>(
+    alloc: Global,
+    files: Files<D>,
+    options: Options,
+    task: T,
+) -> Result<T::Done, (StoreRefusal, T)> {
+    if !files.may_be_used() {
+        return Err((no_memory(), task));
+    }
+    match Connection::open_files(alloc, files, options) {
+        Ok(conn) => task.over(conn),
+        Err((error, _)) => Err((StoreRefusal::Database(error), task)),
+    }
+}
+
+/// Opens the database of these files, and closes it, so that the log's pages are moved into it.
+pub(crate) fn close_files<D: Disk + Drop>(
+    alloc: Global,
+    files: Files<D>,
+    options: Options,
+) -> Result<(), StoreRefusal> {
+    if !files.may_be_used() {
+        return Err(no_memory());
+    }
+    match Connection::open_files(alloc, files, options) {
+        Ok(conn) => match conn.close() {
+            Ok(()) => Ok(()),
+            Err(error) => Err(StoreRefusal::Database(error)),
+        },
+        Err((error, _)) => Err(StoreRefusal::Database(error)),
+    }
+}
+
+// Only a copy in memory that found no memory may not be used.
+fn no_memory() -> StoreRefusal {
+    StoreRefusal::Database(Error::SqliteFailure(ErrorCode::OutOfMemory))
+}
