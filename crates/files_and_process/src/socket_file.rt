@@ -27,8 +27,10 @@ pub struct SocketMark {
 pub fn bind<R: Files + Net>(rt: &R, path: &str) -> io::Result<(UnixListener, SocketMark)> {
     match bind_new(rt, path) {
         Err(error) if error.kind() == ErrorKind::AddrInUse => {
-            give_way(rt, path)?;
-            bind_new(rt, path)
+            match give_way(rt, path) {
+                Ok(()) => bind_new(rt, path),
+                Err(error) => Err(error),
+            }
         }
         answer => answer,
     }
@@ -45,7 +47,10 @@ pub fn remove<R: Files>(rt: &R, path: &str, mark: SocketMark) {
 }
 
 fn bind_new<R: Files + Net>(rt: &R, path: &str) -> io::Result<(UnixListener, SocketMark)> {
-    let listener = UnixListener::bind(rt, path)?;
+    let listener = match UnixListener::bind(rt, path) {
+        Ok(listener) => listener,
+        Err(error) => return Err(error),
+    };
     match mark_at(rt, path) {
         Ok(Some(mark)) => match make_private(rt, path, &listener) {
             Ok(()) => Ok((listener, mark)),
@@ -69,7 +74,10 @@ fn bind_new<R: Files + Net>(rt: &R, path: &str) -> io::Result<(UnixListener, Soc
 
 // Closes the file to others, and turns away who came before that.
 fn make_private<R: Files>(rt: &R, path: &str, listener: &UnixListener) -> io::Result<()> {
-    fs::set_permissions(rt, path, Permissions::from_mode(0o600))?;
+    match fs::set_permissions(rt, path, Permissions::from_mode(0o600)) {
+        Ok(()) => {}
+        Err(error) => return Err(error),
+    }
     for _ in 0..WAITING {
         match listener.accept() {
             Ok(client) => drop(client),
@@ -103,10 +111,14 @@ fn give_way<R: Files + Net>(rt: &R, path: &str) -> io::Result<()> {
 
 // The mark of the file at the path, if it is a socket's. A link is not followed.
 fn mark_at<R: Files>(rt: &R, path: &str) -> io::Result<Option<SocketMark>> {
-    let data = fs::symlink_metadata(rt, path)?;
-    let mark = SocketMark {
-        device: data.dev(),
-        inode: data.ino(),
-    };
-    Ok(data.file_type().is_socket().then_some(mark))
+    match fs::symlink_metadata(rt, path) {
+        Ok(data) => {
+            let mark = SocketMark {
+                device: data.dev(),
+                inode: data.ino(),
+            };
+            Ok(data.file_type().is_socket().then_some(mark))
+        }
+        Err(error) => Err(error),
+    }
 }
