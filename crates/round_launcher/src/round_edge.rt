@@ -3,7 +3,7 @@
 
 use child_edge::{ChildEdge, Client, ClockEdge, Notice, OsEdge, PathEdge, SocketEdge, System};
 use history_model::JobNo;
-use live_loop::Caller;
+use live_loop::{Caller, Origin};
 use mio::{Registry, Token};
 
 /// An edge as rounds ask it. Each call is that of `OsEdge`.
@@ -14,11 +14,11 @@ pub trait RoundEdge: ChildEdge + ClockEdge + PathEdge + SocketEdge {
     /// Has clients that come to jobs' sockets wake the poll under the token. False: the poll refuses.
     fn register(&mut self, registry: &Registry, token: Token) -> bool;
 
-    /// The least job, this one or above it, that has sockets.
-    fn listener_from(&self, job: JobNo) -> Option<JobNo>;
+    /// The least job, this one or above it, that has sockets, with the bind that gave it these.
+    fn listener_from(&self, job: JobNo) -> Option<Origin>;
 
-    /// Which bind gave the job its sockets.
-    fn bind_of(&self, job: JobNo) -> Option<u64>;
+    /// Whether the job has the sockets of this bind still.
+    fn listens_at(&self, origin: Origin) -> bool;
 
     /// The next client that waits at one of the job's sockets.
     fn accept(&mut self, job: JobNo) -> Option<Client>;
@@ -45,12 +45,14 @@ impl<R: System> RoundEdge for OsEdge<R> {
         OsEdge::register(self, registry, token).is_ok()
     }
 
-    fn listener_from(&self, job: JobNo) -> Option<JobNo> {
-        OsEdge::listener_from(self, job)
+    fn listener_from(&self, job: JobNo) -> Option<Origin> {
+        let job = OsEdge::listener_from(self, job)?;
+        let bind = OsEdge::bind_of(self, job)?;
+        Some(Origin { job, bind })
     }
 
-    fn bind_of(&self, job: JobNo) -> Option<u64> {
-        OsEdge::bind_of(self, job)
+    fn listens_at(&self, origin: Origin) -> bool {
+        OsEdge::bind_of(self, origin.job) == Some(origin.bind)
     }
 
     fn accept(&mut self, job: JobNo) -> Option<Client> {

@@ -4,7 +4,7 @@ use crate::news::is_news;
 use crate::round_edge::RoundEdge;
 use child_edge::{ChildEdge, Client, ClockEdge, Notice, PathEdge, SocketEdge};
 use control_socket::Answers;
-use history_model::{JobNo, Obs, Reading, Reply};
+use history_model::{JobNo, Obs, Reading, Refusal, Reply};
 use launcher::{Host, Input};
 use live_loop::{Caller, HandedIn, LabelRoom, LoopHost, Origin, PathHost, Standing};
 use mio::{Registry, Token};
@@ -82,6 +82,27 @@ impl<T: SettingStore, E: ChildEdge + SocketEdge, W: Write> RoundLauncher<T, E, W
         };
         self.turn(alloc, input)
     }
+
+    // Hands in what happened, and gives why it was refused.
+    fn tell(&mut self, alloc: Global, input: Input<'_>) -> Option<Refusal> {
+        let reply = self.give(alloc, input);
+        let refusal = reply.refusal;
+        drop(reply);
+        refusal
+    }
+
+    // Hands in how the run of the job ended, or that the wait for it was refused. The table can't lend the label while the child is
+    // polled.
+    fn poll(&mut self, alloc: Global, room: &mut LabelRoom, job: JobNo, run: u64) {
+        room.copy(self.host.table().last_step().label(job));
+        let label = room.as_str();
+        let input = match self.host.edge().poll(job, run) {
+            Ok(None) => return,
+            Ok(Some(how)) => Input::Ended(label, run, how),
+            Err(_) => Input::WaitRefused(label, run),
+        };
+        let _refusal = self.tell(alloc, input);
+    }
 }
 
 impl<T: SettingStore, E: ChildEdge + SocketEdge, W: Write> Answers for RoundLauncher<T, E, W> {
@@ -115,7 +136,7 @@ impl<T: SettingStore, E: ChildEdge + SocketEdge + PathEdge, W: Write> PathHost
     }
 
     fn saw(&mut self, alloc: Global, path: &str, obs: Obs) {
-        drop(self.give(alloc, Input::Saw(path, obs)));
+        let _refusal = self.tell(alloc, Input::Saw(path, obs));
     }
 }
 
@@ -143,18 +164,14 @@ impl<T: SettingStore, E: RoundEdge, W: Write> LoopHost for RoundLauncher<T, E, W
         }
     }
 
-    // The table can't lend the label while the child is polled.
     fn poll_from(&mut self, alloc: Global, room: &mut LabelRoom, first: JobNo) -> Option<JobNo> {
-        let (job, run) = self.host.edge().over_from(first)?;
-        room.copy(self.host.table().last_step().label(job));
-        let label = room.as_str();
-        let input = match self.host.edge().poll(job, run) {
-            Ok(None) => return Some(job),
-            Ok(Some(how)) => Input::Ended(label, run, how),
-            Err(_) => Input::WaitRefused(label, run),
-        };
-        drop(self.give(alloc, input));
-        Some(job)
+        match self.host.edge().over_from(first) {
+            Some((job, run)) => {
+                self.poll(alloc, room, job, run);
+                Some(job)
+            }
+            None => None,
+        }
     }
 
     fn register(&mut self, registry: &Registry, token: Token) -> bool {
@@ -162,15 +179,11 @@ impl<T: SettingStore, E: RoundEdge, W: Write> LoopHost for RoundLauncher<T, E, W
     }
 
     fn listener_from(&mut self, job: JobNo) -> Option<Origin> {
-        let edge = self.host.edge();
-        let job = edge.listener_from(job)?;
-        let bind = edge.bind_of(job)?;
-        Some(Origin { job, bind })
+        self.host.edge().listener_from(job)
     }
 
     fn label_at(&mut self, origin: Origin) -> Option<&str> {
-        let bind = self.host.edge().bind_of(origin.job);
-        if bind == Some(origin.bind) {
+        if self.host.edge().listens_at(origin) {
             Some(self.host.table().last_step().label(origin.job))
         } else {
             None
@@ -193,10 +206,7 @@ impl<T: SettingStore, E: RoundEdge, W: Write> LoopHost for RoundLauncher<T, E, W
             return HandedIn::Dropped;
         }
         room.copy(self.host.table().last_step().label(job));
-        let reply = self.give(alloc, Input::Came(room.as_str(), conn));
-        let refusal = reply.refusal;
-        drop(reply);
-        match refusal {
+        match self.tell(alloc, Input::Came(room.as_str(), conn)) {
             None => HandedIn::Heard,
             Some(refusal) => {
                 self.host.edge().close(job, conn);
