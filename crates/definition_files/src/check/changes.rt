@@ -70,21 +70,22 @@ fn add_changes(
         let after = shown_at(zone, from.saturating_add(60_u64.saturating_mul(k)));
         let ahead = jump(&before, &after, 1);
         if ahead != 0 && after.year == year {
-            changes.push(change_at(alloc, &before, &after, ahead)?)?;
+            add_change(alloc, changes, &before, &after, ahead)?;
         }
         before = after;
     }
     Ok(())
 }
 
-// The change of a clock that showed `before`, and a minute later `after`: it was put on by so many minutes, or, if they are more than
+// Adds the change of a clock that showed `before`, and a minute later `after`: it was put on by so many minutes, or, if they are more than
 // half a day, back by what they lack of a day.
-fn change_at(
+fn add_change(
     alloc: Global,
+    changes: &mut Vec<Change>,
     before: &CivilMinute,
     after: &CivilMinute,
     ahead: u32,
-) -> Result<Change, AllocError> {
+) -> Result<(), AllocError> {
     let is_skipped = ahead <= DAY / 2;
     let shown = minute_of_day(after).saturating_add(DAY);
     let (first, count) = if is_skipped {
@@ -96,10 +97,10 @@ fn change_at(
     for k in 0..count {
         minutes.push(minute_at(before, after, first.saturating_add(k)))?;
     }
-    Ok(Change {
+    Ok(changes.push(Change {
         is_skipped,
         minutes,
-    })
+    })?)
 }
 
 // The civil minute that is so many after the midnight one day before that of `after`; on another day than `after` it is on that of

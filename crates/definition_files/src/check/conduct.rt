@@ -30,7 +30,7 @@ pub(crate) fn remarks_on(
     }
     add_starts(def, &mut remarks);
     add_entries(def.calendar(), changes, &mut remarks);
-    add_command(def, &mut remarks);
+    add_command(def.program(), def.arguments().is_empty(), &mut remarks);
     add_paths(def, &mut remarks);
     add_variables(&mut remarks);
     remarks.into_list()
@@ -64,7 +64,7 @@ fn add_starts(def: &Def, remarks: &mut Remarks<'_>) {
     let told =
         "KeepAlive: one of its conditions suffices to keep the job running; they need not hold together";
     remarks.add_if(conditions(def) > 1, KeyName::KeepAlive, told);
-    add_interval(def, remarks);
+    add_interval(def.start_interval(), def.throttle_interval(), remarks);
     if def.has_sockets() {
         add_slow(remarks);
     }
@@ -83,29 +83,25 @@ fn add_slow(remarks: &mut Remarks<'_>) {
     }
 }
 
-fn add_interval(def: &Def, remarks: &mut Remarks<'_>) {
-    let throttle = u64::from(def.throttle_interval());
-    let interval = u64::from(def.start_interval().unwrap_or(u32::MAX));
+fn add_interval(start: Option<u32>, throttle: u32, remarks: &mut Remarks<'_>) {
+    let throttle = u64::from(throttle);
+    let interval = u64::from(start.unwrap_or(u32::MAX));
     if interval < throttle {
         let mut ink = Ink::new(remarks.alloc);
-        ink.put_all(&[
-            Text("StartInterval is "),
-            Number(interval),
-            Text(", less than ThrottleInterval: starts are "),
-            Number(throttle),
-            Text(" s apart at least"),
-        ]);
+        ink.fill(
+            "StartInterval is $, less than ThrottleInterval: starts are $ s apart at least",
+            &[Number(interval), Number(throttle)],
+        );
         remarks.add_made(KeyName::StartInterval, ink.into_text());
     }
 }
 
-// A program that looks like a command line: behind a blank comes an option or a path, or the first word is no whole path. Else one that
-// is no whole path.
-fn add_command(def: &Def, remarks: &mut Remarks<'_>) {
-    let program = def.program();
+// A program without arguments that looks like a command line: behind a blank comes an option or a path, or the first word is no whole
+// path. Else one that is no whole path.
+fn add_command(program: &str, is_alone: bool, remarks: &mut Remarks<'_>) {
     let is_whole = program.starts_with('/');
     let is_line = program.contains(" -") || program.contains(" /");
-    if def.arguments().is_empty() && (is_line || (!is_whole && program.contains(' '))) {
+    if is_alone && (is_line || (!is_whole && program.contains(' '))) {
         let mut ink = Ink::new(remarks.alloc);
         ink.put("the program is the one word ");
         ink.put_quoted(program);
@@ -143,7 +139,7 @@ fn add_tilde(key: KeyName, path: Option<&str>, remarks: &mut Remarks<'_>) {
     let path = path.unwrap_or("");
     if path.starts_with('~') {
         let mut ink = Ink::new(remarks.alloc);
-        ink.put_all(&[Text(key_name(key)), Text(": ")]);
+        ink.fill("$: ", &[Text(key_name(key))]);
         ink.put_quoted(path);
         ink.put(" begins with ~, which nothing expands here; write the whole path");
         remarks.add_made(key, ink.into_text());

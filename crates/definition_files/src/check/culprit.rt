@@ -125,15 +125,14 @@ fn in_sockets<'a>(whole: Culprit<'a>, inside: &Inside) -> Culprit<'a> {
 fn fits(fit: Fit, value: &Value) -> bool {
     let text = value.as_str().unwrap_or("");
     let size = text.len();
+    // Beyond each bound, if it is no whole number.
+    let number = value.as_u64().unwrap_or(u64::MAX);
     match fit {
         Fit::Any => true,
         Fit::Nothing => false,
         Fit::Flag => value.is_boolean(),
         Fit::True => value.as_bool().unwrap_or(false),
-        Fit::Number(low, high) => match value.as_u64() {
-            Some(n) => low <= n && n <= high,
-            None => false,
-        },
+        Fit::Number(low, high) => low <= number && number <= high,
         Fit::Text(low, high) => {
             value.is_string() && low <= size && size <= high && !text.as_bytes().contains(&0)
         }
@@ -148,10 +147,10 @@ fn fits(fit: Fit, value: &Value) -> bool {
         },
         Fit::Address => value.get(PATH_NAME).is_some() || value.get(SERVICE_NAME).is_some(),
         Fit::Host => is_host(text),
-        Fit::Port => match value.as_u64() {
-            Some(port) => 1 <= port && port <= 65_535,
-            None => is_number(text, 5, 65_535) && !is_number(text, 5, 0),
-        },
+        Fit::Port => {
+            let is_text = is_number(text, 5, 65_535) && !is_number(text, 5, 0);
+            is_text || (1 <= number && number <= 65_535)
+        }
     }
 }
 

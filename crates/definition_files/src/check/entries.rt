@@ -7,7 +7,7 @@ use calendar_due::Calendar;
 use history_model::{CivilMinute, Entry, KeyName};
 use json_kinds::key_name;
 use run_times::Ink;
-use run_times::Piece::{Number, Text};
+use run_times::Piece::{Number, Text, TwoDigits};
 use std::alloc::{AllocError, Global};
 
 const MONTHS: &[&str] = &[
@@ -64,13 +64,10 @@ fn day_that_never_comes(entry: &Entry) -> Option<(u8, u8)> {
 
 fn told_never(alloc: Global, month: u8, day: u8) -> Result<String, AllocError> {
     let mut ink = Ink::new(alloc);
-    ink.put_all(&[
-        Text("StartCalendarInterval: "),
-        Text(month_name(month)),
-        Text(" has no day "),
-        Number(u64::from(day)),
-        Text(", so this entry never matches"),
-    ]);
+    ink.fill(
+        "StartCalendarInterval: $ has no day $, so this entry never matches",
+        &[Text(month_name(month)), Number(u64::from(day))],
+    );
     ink.into_text()
 }
 
@@ -97,27 +94,18 @@ fn told_change(
     is_skipped: bool,
     minute: &CivilMinute,
 ) -> Result<String, AllocError> {
-    let (shows, times, matches) = if is_skipped {
-        ("skips ", "", ": this entry does not match then")
+    let form = if is_skipped {
+        "StartCalendarInterval: this year the clock skips $:$ on $ $: this entry does not match then"
     } else {
-        ("shows ", " twice", ": this entry matches twice")
+        "StartCalendarInterval: this year the clock shows $:$ twice on $ $: this entry matches twice"
     };
-    let (hour, at) = (u64::from(minute.hour), u64::from(minute.minute));
-    let mut ink = Ink::new(alloc);
-    ink.put_all(&[
-        Text("StartCalendarInterval: this year the clock "),
-        Text(shows),
-        Number(hour / 10),
-        Number(hour % 10),
-        Text(":"),
-        Number(at / 10),
-        Number(at % 10),
-        Text(times),
-        Text(" on "),
+    let pieces = [
+        TwoDigits(u64::from(minute.hour)),
+        TwoDigits(u64::from(minute.minute)),
         Text(month_name(minute.month)),
-        Text(" "),
         Number(u64::from(minute.day)),
-        Text(matches),
-    ]);
+    ];
+    let mut ink = Ink::new(alloc);
+    ink.fill(form, &pieces);
     ink.into_text()
 }

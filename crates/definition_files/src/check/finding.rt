@@ -38,23 +38,16 @@ pub fn finding_line(
     grade: Grade,
     text: &str,
 ) -> Result<String, AllocError> {
-    let graded = match grade {
-        Grade::Error => ": error: ",
-        Grade::Warning => ": warning: ",
-        Grade::Note => ": note: ",
+    let form = match grade {
+        Grade::Error => ": error: $\n",
+        Grade::Warning => ": warning: $\n",
+        Grade::Note => ": note: $\n",
     };
     let mut ink = Ink::new(alloc);
     ink.put(file);
     if let Some(Place { line, column }) = place {
-        ink.put_all(&[
-            Text(":"),
-            Number(line as u64),
-            Text(":"),
-            Number(column as u64),
-        ]);
+        ink.fill(":$:$", &[Number(line as u64), Number(column as u64)]);
     }
-    ink.put(graded);
-    ink.put(text);
-    ink.put("\n");
+    ink.fill(form, &[Text(text)]);
     ink.into_text()
 }

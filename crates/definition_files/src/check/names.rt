@@ -36,9 +36,9 @@ const INNER: &[&str] = &[
 pub(crate) fn add_ignored(remarks: &mut Remarks<'_>, name: &str) {
     let nearest = nearest_to(remarks.alloc, name);
     let mut ink = Ink::new(remarks.alloc);
-    ink.put_all(&[Text(name), Text(": nothing acts on this key")]);
+    ink.fill("$: nothing acts on this key", &[Text(name)]);
     if !name.as_bytes().ends_with(nearest.key.as_bytes()) {
-        ink.put_all(&[Text("; is "), Text(nearest.key), Text(" meant?")]);
+        ink.fill("; is $ meant?", &[Text(nearest.key)]);
     }
     ink.is_refused = ink.is_refused || nearest.is_refused;
     let place = key_place(remarks.alloc, remarks.text, name);

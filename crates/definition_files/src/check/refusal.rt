@@ -43,22 +43,15 @@ pub(crate) fn put_refusal(
 
 fn put_missing(ink: &mut Ink, reason: Reason, key: KeyName) {
     let name = key_name(key);
-    let (name, told) = match (reason, key) {
-        (Reason::NotObject, _) => (
-            "",
-            "the text is no object: a definition stands between { and }",
-        ),
-        (_, KeyName::ProgramArguments) => (
-            name,
-            " is missing: a definition has Program or ProgramArguments",
-        ),
-        (_, KeyName::InetdCompatibility) => (
-            name,
-            " is missing: beside Sockets it has to be {\"Wait\": false}",
-        ),
-        _ => (name, " is missing: each definition has one"),
+    let form = match (reason, key) {
+        (Reason::NotObject, _) => "the text is no object: a definition stands between { and }",
+        (_, KeyName::ProgramArguments) =>
+            "$ is missing: a definition has Program or ProgramArguments",
+        (_, KeyName::InetdCompatibility) =>
+            "$ is missing: beside Sockets it has to be {\"Wait\": false}",
+        _ => "$ is missing: each definition has one",
     };
-    ink.put_all(&[Text(name), Text(told)]);
+    ink.fill(form, &[Text(name)]);
 }
 
 // Adds what is wrong with the value of a key, and answers its place.
@@ -113,17 +106,13 @@ fn put_culprit(alloc: Global, ink: &mut Ink, culprit: &Culprit<'_>) {
     match culprit.steps {
         1 => {}
         2 => {
-            ink.put(": member ");
-            ink.put_number(culprit.member.saturating_add(1) as u64);
+            let member = culprit.member.saturating_add(1);
+            ink.fill(": member $", &[Number(member as u64)]);
         }
-        _ => {
-            ink.put(": ");
-            ink.put(culprit.inside);
-        }
+        _ => ink.fill(": $", &[Text(culprit.inside)]),
     }
     if culprit.steps == 5 && !culprit.rule.name.is_empty() {
-        ink.put(": ");
-        ink.put(culprit.rule.name);
+        ink.fill(": $", &[Text(culprit.rule.name)]);
     }
     ink.put(" is ");
     put_shown(alloc, ink, culprit.value);
@@ -140,13 +129,13 @@ const SHOWN: usize = 40;
 
 // Adds what a value is: a number, a word or a short text itself, of others the kind and the size.
 fn put_shown(alloc: Global, ink: &mut Ink, value: &Value) {
-    let (front, count, behind) = match value {
+    let (form, count) = match value {
         Value::String(text) if text.is_empty() => return ink.put("an empty text"),
         Value::String(text) if text.len() <= SHOWN => return ink.put_quoted(text.as_str()),
-        Value::String(text) => ("a text of ", text.len(), " bytes"),
-        Value::Array(items) => ("an array of ", items.len(), ""),
-        Value::Object(members) => ("a dictionary of ", members.len(), ""),
+        Value::String(text) => ("a text of $ bytes", text.len()),
+        Value::Array(items) => ("an array of $", items.len()),
+        Value::Object(members) => ("a dictionary of $", members.len()),
         _ => return ink.put_made(value.to_string(alloc)),
     };
-    ink.put_all(&[Text(front), Number(count as u64), Text(behind)]);
+    ink.fill(form, &[Number(count as u64)]);
 }

@@ -68,7 +68,7 @@ const ARGUMENT: Rule = Rule {
 };
 
 /// What a variable of the environment is to be.
-pub(crate) const VARIABLE: Rule = Rule {
+pub(crate) static VARIABLE: Rule = Rule {
     name: "",
     fit: Fit::Text(0, 4096),
     wanted: "a name of 1 to 255 bytes without = and a text of at most 4096 bytes, no byte of them 0",
@@ -238,14 +238,18 @@ pub(crate) fn rule_of(key: KeyName) -> Rule {
 
 /// What is to stand within the value of a key; of `Sockets`, within a value under a name.
 pub(crate) fn inside_of(key: KeyName) -> Inside {
-    let (most, first, others) = match key {
-        KeyName::StartCalendarInterval => (64, ENTRY, ENTRY),
-        KeyName::Sockets => (8, SOCKET, SOCKET),
-        KeyName::KeepAlive => (0, CONDITIONS, CONDITIONS),
-        KeyName::InetdCompatibility => (0, INETD, INETD),
-        KeyName::ProgramArguments => (256, PROGRAM_FIRST, ARGUMENTS),
-        KeyName::WatchPaths | KeyName::QueueDirectories => (64, PATHS, PATHS),
-        _ => (0, NONE, NONE),
+    let (most, others) = match key {
+        KeyName::StartCalendarInterval => (64, ENTRY),
+        KeyName::Sockets => (8, SOCKET),
+        KeyName::KeepAlive => (0, CONDITIONS),
+        KeyName::InetdCompatibility => (0, INETD),
+        KeyName::ProgramArguments => (256, ARGUMENTS),
+        KeyName::WatchPaths | KeyName::QueueDirectories => (64, PATHS),
+        _ => (0, NONE),
+    };
+    let first = match key {
+        KeyName::ProgramArguments => PROGRAM_FIRST,
+        _ => others,
     };
     Inside {
         most,

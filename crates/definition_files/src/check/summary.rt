@@ -13,27 +13,22 @@ pub fn summary_of(alloc: Global, def: &Def) -> Result<String, AllocError> {
     } else {
         ""
     };
-    let (each, seconds, unit) = match def.start_interval() {
-        Some(seconds) => (", starts each ", Number(u64::from(seconds)), " s"),
-        None => ("", Text(""), ""),
-    };
-    let by_calendar = if def.calendar().is_empty() {
-        ""
-    } else {
-        ", starts by the calendar"
-    };
     let mut ink = Ink::new(alloc);
-    ink.put_all(&[
-        Text(def.label()),
-        Text(": ok"),
-        Text(at_load),
-        Text(keep_text(def)),
-        Text(each),
-        seconds,
-        Text(unit),
-        Text(by_calendar),
-    ]);
-    add_counts(def, &mut ink);
+    let pieces = [Text(def.label()), Text(at_load), Text(keep_text(def))];
+    ink.fill("$: ok$$", &pieces);
+    if let Some(seconds) = def.start_interval() {
+        ink.fill(", starts each $ s", &[Number(u64::from(seconds))]);
+    }
+    if !def.calendar().is_empty() {
+        ink.put(", starts by the calendar");
+    }
+    add_count(&mut ink, ", watches $ path$", def.watch_paths().len());
+    add_count(
+        &mut ink,
+        ", serves $ queue folder$",
+        def.queue_directories().len(),
+    );
+    add_count(&mut ink, ", listens at $ socket$", def.sockets().len());
     if def.launch_only_once() {
         ink.put(", once in each load");
     }
@@ -51,22 +46,10 @@ fn keep_text(def: &Def) -> &'static str {
     }
 }
 
-// Adds what the job watches and listens at.
-fn add_counts(def: &Def, ink: &mut Ink) {
-    let counts = [
-        (", watches ", def.watch_paths().len(), " path"),
-        (", serves ", def.queue_directories().len(), " queue folder"),
-        (", listens at ", def.sockets().len(), " socket"),
-    ];
-    for (verb, count, noun) in counts.iter() {
-        if *count > 0 {
-            let plural = if *count == 1 { "" } else { "s" };
-            ink.put_all(&[
-                Text(*verb),
-                Number(*count as u64),
-                Text(*noun),
-                Text(plural),
-            ]);
-        }
+// Adds how many there are of what the form tells, if there is one.
+fn add_count(ink: &mut Ink, form: &str, count: usize) {
+    if count > 0 {
+        let plural = if count == 1 { "" } else { "s" };
+        ink.fill(form, &[Number(count as u64), Text(plural)]);
     }
 }

@@ -35,11 +35,9 @@ fn add_from(found: &Value, remarks: &mut Remarks<'_>) {
 fn add_unset(name: &str, remarks: &mut Remarks<'_>) {
     let key = key_name(KeyName::EnvironmentVariables);
     let mut ink = Ink::new(remarks.alloc);
-    ink.put_all(&[
-        Text(key),
-        Text(": the value of "),
-        Text(name),
-        Text(" is no text, so it is not set"),
-    ]);
+    ink.fill(
+        "$: the value of $ is no text, so it is not set",
+        &[Text(key), Text(name)],
+    );
     remarks.add_at(&[Step::Key(key), Step::Key(name)], ink.into_text());
 }

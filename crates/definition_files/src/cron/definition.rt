@@ -53,24 +53,23 @@ fn put_json(alloc: Global, ink: &mut Ink, text: Result<String, AllocError>) {
 // A dot and the name of the program that the command begins with: what stands behind the last `/` of its first word, without letters
 // that are no part of a plain name. Nothing, if no letter is left.
 fn name_in(alloc: Global, command: &str) -> Result<String, AllocError> {
-    let mut name = String::new(alloc);
+    let mut ink = Ink::new(alloc);
     for letter in command.chars() {
-        match letter {
-            '/' => name.clear(),
-            '0'..='9' | 'A'..='Z' | 'a'..='z' | '.' | '_' | '-' => {
-                if name.is_empty() {
-                    name.push('.')?;
-                }
-                name.push(letter)?;
-            }
-            ' ' | '\t' => break,
-            _ => {}
-        }
-        if name.len() > LONGEST_NAME {
+        let is_mark = letter == '.' || letter == '_' || letter == '-';
+        let is_blank = letter == ' ' || letter == '\t';
+        if is_blank || ink.text.len() > LONGEST_NAME {
             break;
         }
+        if letter == '/' {
+            ink.text.clear();
+        } else if letter.is_ascii_alphanumeric() || is_mark {
+            if ink.text.is_empty() {
+                ink.put_char('.');
+            }
+            ink.put_char(letter);
+        }
     }
-    Ok(name)
+    ink.into_text()
 }
 
 // Adds what starts the job, and the definition's end; or says why nothing does.
@@ -93,20 +92,18 @@ fn put_start(alloc: Global, ink: &mut Ink, when: &When) -> Option<LineFault> {
 }
 
 fn fault_of(alloc: Global, fault: EntriesFault) -> LineFault {
-    let (front, count, behind) = match fault {
+    let (form, count) = match fault {
         EntriesFault::NoMemory => return LineFault::NoMemory,
         EntriesFault::TooMany(count) => (
-            "its fields make ",
-            Number(count as u64),
-            " entries, wanted at most 64; split the line in several",
+            "its fields make $ entries, wanted at most 64; split the line in several",
+            count,
         ),
         EntriesFault::BothDays => (
             "day and weekday must both suit, as one begins with *, and of an entry's either suffices; wanted one of them as *",
-            Text(""),
-            "",
+            0,
         ),
     };
-    told(alloc, &[Text(front), count, Text(behind)])
+    told(alloc, form, &[Number(count as u64)])
 }
 
 fn put_calendar(ink: &mut Ink, entries: &[Entry]) {

@@ -17,10 +17,10 @@ impl From<AllocError> for LineFault {
     }
 }
 
-/// The fault that these pieces tell, if there is memory for it.
-pub(crate) fn told(alloc: Global, pieces: &[Piece<'_>]) -> LineFault {
+/// The fault that the form tells, whose holes the pieces fill, if there is memory for it.
+pub(crate) fn told(alloc: Global, form: &str, pieces: &[Piece<'_>]) -> LineFault {
     let mut ink = Ink::new(alloc);
-    ink.put_all(pieces);
+    ink.fill(form, pieces);
     refused(ink)
 }
 

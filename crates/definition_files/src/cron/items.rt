@@ -1,10 +1,31 @@
 //! The items of a field's text: `*`, a value, a range, each with a step or without.
 
-use crate::cron::fault::{LineFault, refused, told};
+use crate::cron::fault::{LineFault, refused};
 use crate::cron::kinds::{Kind, number_of, value_of};
 use run_times::Ink;
 use run_times::Piece::{Number, Text};
 use std::alloc::Global;
+
+/// The values from the first to the last by this step, which is 1 at least.
+#[derive(Clone, Copy)]
+struct Item {
+    first: u8,
+    last: u8,
+    step: u8,
+}
+
+/// What is wrong with an item.
+#[derive(Clone, Copy)]
+enum Wrong<'a> {
+    /// This is no value of the field.
+    Value(&'a str),
+    /// The range runs backwards.
+    Backwards(&'a str),
+    /// The single value has this step.
+    NoRange(&'a str, &'a str),
+    /// The step is none.
+    Step(&'a str),
+}
 
 /// Marks the values that the items of a field's text name, each at its place. Refused: an item is none, is out of the field's bounds, runs
 /// backwards, or has a step and no range.
@@ -15,88 +36,91 @@ pub(crate) fn mark_named(
     named: &mut [bool],
 ) -> Option<LineFault> {
     for part in text.split(',') {
-        match mark_item(alloc, kind, part, named) {
-            None => {}
-            fault => return fault,
+        match item_of(kind, part) {
+            Ok(item) => mark(item, named),
+            Err(wrong) => return Some(fault_of(alloc, kind, wrong)),
         }
     }
     None
 }
 
-fn mark_item(alloc: Global, kind: &Kind, text: &str, named: &mut [bool]) -> Option<LineFault> {
-    let (span, step) = parted(text, '/');
-    let (from, to) = parted(span, '-');
-    let until = to.unwrap_or(from);
-    let is_every = span == "*";
-    let (first, last) = if is_every {
-        (Some(kind.low), Some(kind.high))
-    } else {
-        (value_of(kind, from), value_of(kind, until))
-    };
-    let is_one = !is_every & to.is_none();
-    let (is, between, wanted) = match (first, last, step) {
-        (None, _, _) => (from, ", wanted ", kind.wanted),
-        (_, None, _) => (until, ", wanted ", kind.wanted),
-        (Some(first), Some(last), _) if last < first => (span, ", which runs backwards", ""),
-        (_, _, Some(step)) if is_one => return Some(no_range(alloc, kind, span, step)),
-        (Some(first), Some(last), step) => {
-            return mark_steps(alloc, kind, first, last, step.unwrap_or("1"), named);
-        }
-    };
-    let shown = if is.is_empty() { "empty" } else { is };
-    let pieces = [
-        Text(kind.name),
-        Text(" is "),
-        Text(shown),
-        Text(between),
-        Text(wanted),
-    ];
-    Some(told(alloc, &pieces))
-}
-
-fn no_range<'a>(alloc: Global, kind: &Kind, span: &'a str, step: &'a str) -> LineFault {
-    let pieces = [
-        Text(kind.name),
-        Text(" is "),
-        Text(span),
-        Text("/"),
-        Text(step),
-        Text(", wanted a range before the step, as "),
-        Text(span),
-        Text("-"),
-        Number(u64::from(kind.high)),
-        Text("/"),
-        Text(step),
-    ];
-    told(alloc, &pieces)
-}
-
-// Marks the values from the first to the last by this step.
-fn mark_steps(
-    alloc: Global,
-    kind: &Kind,
-    first: u8,
-    last: u8,
-    text: &str,
-    named: &mut [bool],
-) -> Option<LineFault> {
-    let most = kind.high.saturating_sub(kind.low).saturating_add(1);
-    let step = number_of(text).unwrap_or(0);
-    if step < 1 || most < step {
-        let mut ink = Ink::new(alloc);
-        ink.put_all(&[Text(kind.name), Text(" has the step ")]);
-        ink.put_quoted(text);
-        ink.put_all(&[Text(", wanted 1 to "), Number(u64::from(most))]);
-        return Some(refused(ink));
-    }
-    for value in first..=last {
-        if value.saturating_sub(first) % step == 0 {
+fn mark(item: Item, named: &mut [bool]) {
+    for value in item.first..=item.last {
+        if value.saturating_sub(item.first) % item.step.max(1) == 0 {
             if let Some(place) = named.get_mut(usize::from(value)) {
                 *place = true;
             }
         }
     }
-    None
+}
+
+fn item_of<'a>(kind: &Kind, text: &'a str) -> Result<Item, Wrong<'a>> {
+    let (span, step) = parted(text, '/');
+    let (from, to) = parted(span, '-');
+    let is_every = span == "*";
+    let is_one = !is_every & to.is_none();
+    let until = to.unwrap_or(from);
+    let (first, last) = if is_every {
+        (Some(kind.low), Some(kind.high))
+    } else {
+        (value_of(kind, from), value_of(kind, until))
+    };
+    let Some(first) = first else {
+        return Err(Wrong::Value(from));
+    };
+    let Some(last) = last else {
+        return Err(Wrong::Value(until));
+    };
+    if last < first {
+        return Err(Wrong::Backwards(span));
+    }
+    let Some(text) = step else {
+        return Ok(Item {
+            first,
+            last,
+            step: 1,
+        });
+    };
+    if is_one {
+        return Err(Wrong::NoRange(span, text));
+    }
+    match number_of(text) {
+        Some(step) if 1 <= step && step <= most_of(kind) => Ok(Item { first, last, step }),
+        _ => Err(Wrong::Step(text)),
+    }
+}
+
+// The greatest step: as many as the field has numbers.
+fn most_of(kind: &Kind) -> u8 {
+    kind.high.saturating_sub(kind.low).saturating_add(1)
+}
+
+fn fault_of(alloc: Global, kind: &Kind, wrong: Wrong<'_>) -> LineFault {
+    let mut ink = Ink::new(alloc);
+    ink.put(kind.name);
+    match wrong {
+        Wrong::Value(text) => {
+            let shown = if text.is_empty() { "empty" } else { text };
+            ink.fill(" is $, wanted $", &[Text(shown), Text(kind.wanted)]);
+        }
+        Wrong::Backwards(span) => ink.fill(" is $, which runs backwards", &[Text(span)]),
+        Wrong::NoRange(span, step) => ink.fill(
+            " is $/$, wanted a range before the step, as $-$/$",
+            &[
+                Text(span),
+                Text(step),
+                Text(span),
+                Number(u64::from(kind.high)),
+                Text(step),
+            ],
+        ),
+        Wrong::Step(step) => {
+            ink.put(" has the step ");
+            ink.put_quoted(step);
+            ink.fill(", wanted 1 to $", &[Number(u64::from(most_of(kind)))]);
+        }
+    }
+    refused(ink)
 }
 
 // What stands before the first such letter, and what behind it.

@@ -17,7 +17,7 @@ const MONTHS: &[&str] = &[
 
 const WEEKDAYS: &[&str] = &["sun", "mon", "tue", "wed", "thu", "fri", "sat"];
 
-pub(crate) const MINUTE: Kind = Kind {
+pub(crate) static MINUTE: Kind = Kind {
     name: "minute",
     low: 0,
     high: 59,
@@ -26,7 +26,7 @@ pub(crate) const MINUTE: Kind = Kind {
     wanted: "0 to 59",
 };
 
-pub(crate) const HOUR: Kind = Kind {
+pub(crate) static HOUR: Kind = Kind {
     name: "hour",
     low: 0,
     high: 23,
@@ -35,7 +35,7 @@ pub(crate) const HOUR: Kind = Kind {
     wanted: "0 to 23",
 };
 
-pub(crate) const DAY: Kind = Kind {
+pub(crate) static DAY: Kind = Kind {
     name: "day",
     low: 1,
     high: 31,
@@ -44,7 +44,7 @@ pub(crate) const DAY: Kind = Kind {
     wanted: "1 to 31",
 };
 
-pub(crate) const MONTH: Kind = Kind {
+pub(crate) static MONTH: Kind = Kind {
     name: "month",
     low: 1,
     high: 12,
@@ -54,7 +54,7 @@ pub(crate) const MONTH: Kind = Kind {
 };
 
 /// Both 0 and 7 are Sunday.
-pub(crate) const WEEKDAY: Kind = Kind {
+pub(crate) static WEEKDAY: Kind = Kind {
     name: "weekday",
     low: 0,
     high: 7,

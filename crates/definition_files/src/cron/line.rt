@@ -41,7 +41,7 @@ pub fn read_line<'a>(alloc: Global, text: &'a str) -> Result<Line<'a>, LineFault
         drop(when);
         let text =
             "% ends a command and begins its input, which no definition has; wanted \\% for the sign";
-        return Err(told(alloc, &[Text(text)]));
+        return Err(told(alloc, text, &[]));
     }
     Ok(Line::Command { when, command })
 }
@@ -77,16 +77,10 @@ fn timed<'a>(alloc: Global, text: &'a str) -> Result<(When, &'a str), LineFault>
     let command = if is_named { behind } else { rest };
     let is_boot = name == "@reboot";
     let is_none = texts.minute.is_empty() & !is_boot;
-    let (front, behind) = if command.is_empty() {
-        (
-            "wanted five fields and a command, or a name as @daily and a command",
-            "",
-        )
+    let form = if command.is_empty() {
+        "wanted five fields and a command, or a name as @daily and a command"
     } else if is_none {
-        (
-            name,
-            " is no name of a time, wanted @reboot, @yearly, @annually, @monthly, @weekly, @daily, @midnight or @hourly",
-        )
+        "$ is no name of a time, wanted @reboot, @yearly, @annually, @monthly, @weekly, @daily, @midnight or @hourly"
     } else if is_boot {
         return Ok((When::Boot, command));
     } else {
@@ -95,7 +89,7 @@ fn timed<'a>(alloc: Global, text: &'a str) -> Result<(When, &'a str), LineFault>
             Err(fault) => Err(fault),
         };
     };
-    Err(told(alloc, &[Text(front), Text(behind)]))
+    Err(told(alloc, form, &[Text(name)]))
 }
 
 fn texts_of(text: &str) -> (Texts<'_>, &str) {
