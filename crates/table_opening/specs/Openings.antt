@@ -7,6 +7,8 @@ use Rattle.history_model.specs.Labels.{is_label}
 use Rattle.history_model.specs.Machine.{State, opened}
 use Rattle.history_model.specs.Refusals.{is_clock_refused}
 use Rattle.calendar_due.specs.declared.zone.Zone.{Zone}
+use Rattle.calendar_due.specs.declared.zone.ZoneFault.{ZoneFault}
+use Rattle.calendar_due.specs.declared.zone.ZoneFault.TheVariants as zone_fault
 use Rattle.calendar_due.specs.Offsets.{Offsets, always, shown_by}
 use Rattle.calendar_due.specs.ZoneRules.{offsets}
 use Rattle.calendar_due.specs.Zone.{IsOfRule, IsOfTable, IsBadFile}
@@ -32,20 +34,11 @@ IsNoZone (Posix text) = read_whole text ≡ None
 IsNoZone (Offset seconds) = ¬ IsWithin 86_399 seconds
 IsNoZone (File bytes) = IsBadFile bytes
 
--- the zone of a rule, if it is one
-abbrev pub IsPosixZone : List ℕ → Option Zone → Type 0
-IsPosixZone text None = read_whole text ≡ None
-IsPosixZone text (Some zone) = IsOfRule text (offsets zone)
-
--- the zone of an offset, if it is one
-abbrev pub IsFixedZone : ℤ → Option Zone → Type 0
-IsFixedZone seconds None = ¬ IsWithin 86_399 seconds
-IsFixedZone seconds (Some zone) = IsWithin 86_399 seconds × (offsets zone ≡ always seconds)
-
--- the zone of a zone file's bytes, if they are one
-abbrev pub IsFileZone : List ℕ → Option Zone → Type 0
-IsFileZone bytes None = IsBadFile bytes
-IsFileZone bytes (Some zone) = (length bytes ≤ LONGEST_FILE) × IsOfTable bytes (offsets zone)
+-- the zone that the header tells, or why there is none
+abbrev pub IsTold : ZoneText → Result Zone ZoneFault → Type 0
+IsTold text (Ok zone) = Describes text (offsets zone)
+IsTold text (Err zone_fault.NoMemory) = Unit {0}
+IsTold text (Err zone_fault.BadZone) = IsNoZone text
 
 -- the zone that the header tells, if it tells one
 abbrev pub IsZoneOf : ZoneText → Option Zone → Type 0

@@ -1,6 +1,6 @@
 //! The zone of a header, and its table.
 ghost use Rattle.std.specs.Prelude.{IfOk};
-ghost use Rattle.table_opening.specs.Openings.{IsPosixZone, IsFixedZone, IsFileZone, IsZoneOf, Describes, OpensAs};
+ghost use Rattle.table_opening.specs.Openings.{IsTold, IsZoneOf, Describes, OpensAs};
 ghost use Rattle.calendar_due.specs.ZoneRules.{offsets};
 
 use calendar_due::{Zone, ZoneFault};
@@ -22,37 +22,17 @@ pub enum OpeningFault {
     BadReading,
 }
 
-/// The zone that a rule text tells.
-fn posix_zone(text: &str) -> Option<Zone>
-    ensures { IsPosixZone text.now result }
+/// The zone that a header tells, or why there is none.
+fn told(alloc: Global, zone: &ZoneText) -> Result<Zone, ZoneFault>
+    ensures { IsTold zone.now result }
 {
-    match Zone::posix(text) {
-        Ok(zone) => Some(zone),
-        Err(_) => None,
-    }
-}
-
-/// The zone so many seconds east of UTC.
-fn fixed_zone(seconds: i64) -> Option<Zone>
-    ensures { IsFixedZone seconds result }
-{
-    let Ok(seconds) = i32::try_from(seconds) else {
-        return None;
-    };
-    match Zone::fixed(seconds) {
-        Ok(zone) => Some(zone),
-        Err(_) => None,
-    }
-}
-
-/// The zone of a zone file.
-fn file_zone(alloc: Global, bytes: &[u8]) -> Result<Option<Zone>, AllocError>
-    ensures { IfOk result (IsFileZone bytes.now) }
-{
-    match Zone::tzif(alloc, bytes) {
-        Ok(zone) => Ok(Some(zone)),
-        Err(ZoneFault::NoMemory) => Err(AllocError),
-        Err(ZoneFault::BadZone) => Ok(None),
+    match zone {
+        ZoneText::Posix(text) => Zone::posix(text.as_str()),
+        ZoneText::Offset(seconds) => match i32::try_from(*seconds) {
+            Ok(seconds) => Zone::fixed(seconds),
+            Err(_) => Err(ZoneFault::BadZone),
+        },
+        ZoneText::File(file) => Zone::tzif(alloc, file.as_slice()),
     }
 }
 
@@ -60,10 +40,10 @@ fn file_zone(alloc: Global, bytes: &[u8]) -> Result<Option<Zone>, AllocError>
 pub fn zone_of(alloc: Global, zone: &ZoneText) -> Result<Option<Zone>, AllocError>
     ensures { IfOk result (IsZoneOf zone.now) }
 {
-    match zone {
-        ZoneText::Posix(text) => Ok(posix_zone(text.as_str())),
-        ZoneText::Offset(seconds) => Ok(fixed_zone(*seconds)),
-        ZoneText::File(file) => file_zone(alloc, file.as_slice()),
+    match told(alloc, zone) {
+        Ok(zone) => Ok(Some(zone)),
+        Err(ZoneFault::NoMemory) => Err(AllocError),
+        Err(ZoneFault::BadZone) => Ok(None),
     }
 }
 
@@ -85,9 +65,9 @@ fn table_in(alloc: Global, header: Header, zone: Zone) -> Result<JobTable, Openi
 pub fn table_of(alloc: Global, header: Header) -> Result<JobTable, OpeningFault>
     ensures { OpensAs header result }
 {
-    match zone_of(alloc, &header.zone) {
-        Ok(Some(zone)) => table_in(alloc, header, zone),
-        Ok(None) => Err(OpeningFault::BadZone),
-        Err(_) => Err(OpeningFault::NoMemory),
+    match told(alloc, &header.zone) {
+        Ok(zone) => table_in(alloc, header, zone),
+        Err(ZoneFault::NoMemory) => Err(OpeningFault::NoMemory),
+        Err(ZoneFault::BadZone) => Err(OpeningFault::BadZone),
     }
 }
