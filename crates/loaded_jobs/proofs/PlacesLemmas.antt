@@ -17,6 +17,7 @@ use Rattle.job_defs.specs.Definitions.{definition}
 use Rattle.loaded_jobs.specs.StandsFor.{KeepsJob, KeepsJobs}
 use Rattle.loaded_jobs.specs.Seats.{row, name, rows, gone, AllStay, has_label, is_loaded_under}
 use Rattle.loaded_jobs.specs.declared.seat.Seat.{Seat}
+use Rattle.loaded_jobs.specs.Here.{IsFound}
 use Rattle.loaded_jobs.proofs.ListLemmas.{set-map}
 use Rattle.loaded_jobs.proofs.FirstLemmas.{IsFirstWhere, NonePasses, first-where, none-where, within-where}
 
@@ -49,15 +50,7 @@ module _ (at : Reading) (label : Label) where
       past_in (first (filter (is_of label) jobs)) ≡ None
   is-absent es jobs stay keeps none = ap (λ found. past_in (first found)) (absent es jobs (subst (λ rs. KeepsJobs at rs jobs) (rows-all es stay) keeps) (none-where (has_label label) es none))
 
-  -- the job with the label, in the machine
-  pub record IsFound (e : Seat) (jobs : List Job) : Type 0 where
-    pub past : History
-    pub keeps : Keeps e.core.facts past
-    pub present : at ≡ now past
-    pub described : definition e.def ≡ definition_of past
-    pub is : past_in (first (filter (is_of label) jobs)) ≡ Some past
-
-  found : (es : List Seat) (k : ℕ) (d : Seat) (jobs : List Job) → KeepsJobs at (map row es) jobs → IsFirstAt label es k → IsFound (get_or es k d) jobs
+  found : (es : List Seat) (k : ℕ) (d : Seat) (jobs : List Job) → KeepsJobs at (map row es) jobs → IsFirstAt label es k → IsFound at label (get_or es k d) jobs
   found [] k d jobs keeps first = absurd first
   found (e ∷ es) k d [] keeps first = absurd keeps
   found (e ∷ es) zero d (job ∷ jobs) keeps here =
@@ -79,7 +72,7 @@ module _ (at : Reading) (label : Label) where
       }
 
   pub is-found : (es : List Seat) (k : ℕ) (d : Seat) (jobs : List Job) → AllStay es → KeepsJobs at (rows es) jobs →
-      Some k ≡ position (has_label label) es → IsFound (get_or es k d) jobs
+      Some k ≡ position (has_label label) es → IsFound at label (get_or es k d) jobs
   is-found es k d jobs stay keeps here = found es k d jobs (subst (λ rs. KeepsJobs at rs jobs) (rows-all es stay) keeps) (first-where (has_label label) es k here)
 
 -- ---- what an event to the job leaves

@@ -18,6 +18,7 @@ pub mod Loads
 pub mod SettingChanges
 pub mod Leaving
 pub mod Listed
+pub mod Here
 pub mod Nearest
 pub mod Visiting
 pub mod Visits

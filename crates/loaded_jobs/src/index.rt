@@ -67,8 +67,12 @@ pub fn grow(
     let Some(above) = number.checked_add(1) else {
         return Err(AllocError);
     };
-    index.timers.reserve(alloc, above)?;
-    index.ready.reserve(seats.len() as u32 + 1)?;
+    let Ok(()) = index.timers.reserve(alloc, above) else {
+        return Err(AllocError);
+    };
+    let Ok(()) = index.ready.reserve(seats.len() as u32 + 1) else {
+        return Err(AllocError);
+    };
     if index.places.len() > number as usize {
         return Ok(());
     }

@@ -36,12 +36,13 @@ use crate::index::{grow, place_all};
 use crate::jobs::Jobs;
 use crate::places::place_of;
 use crate::seat::{ORDERS, Seat};
-use crate::settings::{is_disabled, set_if};
-use crate::trigger::{Trigger, triggers_of};
+use crate::settings::{Settings, is_disabled, set_if};
+use crate::trigger::{Listed, Trigger, triggers_of};
 use crate::triggers::enlist;
-use history_model::{JobNo, MAX_JOBS, Reading, Refusal, Setting, Text};
+use history_model::{JobNo, MAX_JOBS, Order, Reading, Refusal, Setting, Text};
 use job_core::JobCore;
 use job_defs::{Def, DefFault, read_def};
+use slab::Slab;
 use std::alloc::{AllocError, Global};
 
 /// A job that is about to be loaded, and its label's new setting.
@@ -176,29 +177,23 @@ impl Jobs {
         ensures zone { self.new.zone ≡ self.old.zone }
         ensures shutdown { self.new.is_shutting_down ≡ self.old.is_shutting_down }
     {
-        if self.seats.reserve(1).is_err() {
+        let Ok(()) = reserve_beside(
+            &mut self.seats,
+            &mut self.orders,
+            &mut self.numbers,
+            &mut self.settings,
+            &mut self.triggers,
+            triggers,
+        ) else {
             return Err(Refusal::NoMemory);
-        }
-        let all = ORDERS * (self.seats.len() + 1);
-        if self.orders.reserve(all).is_err() {
-            return Err(Refusal::NoMemory);
-        }
-        if self.numbers.reserve(1).is_err() {
-            return Err(Refusal::NoMemory);
-        }
-        if self.settings.reserve(1).is_err() {
-            return Err(Refusal::NoMemory);
-        }
-        if self.triggers.reserve(triggers).is_err() {
-            return Err(Refusal::NoMemory);
-        }
+        };
         let Ok(number) = u32::try_from(self.numbers.vacant_key()) else {
             return Err(Refusal::NoMemory);
         };
-        if grow(&mut self.index, alloc, number, &self.seats).is_err() {
-            return Err(Refusal::NoMemory);
+        match grow(&mut self.index, alloc, number, &self.seats) {
+            Ok(()) => Ok(()),
+            Err(_) => Err(Refusal::NoMemory),
         }
-        Ok(())
     }
 
     /// Makes the job and its label's setting.
@@ -323,6 +318,44 @@ impl Jobs {
     }
 }
 
+/// Takes the memory that one more job with so many triggers needs in the lists of the table: all but the index.
+fn reserve_beside(
+    seats: &mut Vec<Seat>,
+    orders: &mut Vec<Order>,
+    numbers: &mut Slab<()>,
+    settings: &mut Settings,
+    listed: &mut Vec<Listed>,
+    triggers: usize,
+) -> Result<(), AllocError>
+    requires { vec_len seats.old < MAX_JOBS }
+    ensures seats { seats.new.items ≡ seats.old.items }
+    ensures count { vec_len seats.new ≡ vec_len seats.old }
+    ensures places { OnOk result (vec_len seats.new < vec_capacity seats.new) }
+    ensures orders { orders.new.items ≡ orders.old.items }
+    ensures more_orders { vec_capacity orders.old ≤ vec_capacity orders.new }
+    ensures room { OnOk result (ORDERS * (vec_len seats.new + 1) ≤ vec_capacity orders.new) }
+    ensures slots { numbers.new.slots ≡ numbers.old.slots }
+    ensures numbers { OnOk result (HasRoomFor numbers.new 1) }
+    ensures settings { settings.new.items ≡ settings.old.items }
+    ensures setting { OnOk result (vec_len settings.new < vec_capacity settings.new) }
+    ensures listed { listed.new.items ≡ listed.old.items }
+    ensures triggers { OnOk result (vec_len listed.new + triggers ≤ vec_capacity listed.new) }
+{
+    let Ok(()) = seats.reserve(1) else {
+        return Err(AllocError);
+    };
+    let Ok(()) = orders.reserve(ORDERS * (seats.len() + 1)) else {
+        return Err(AllocError);
+    };
+    let Ok(()) = numbers.reserve(1) else {
+        return Err(AllocError);
+    };
+    let Ok(()) = settings.reserve(1) else {
+        return Err(AllocError);
+    };
+    listed.reserve(triggers)
+}
+
 /// The interval of a definition that was read is above 0, if it has one.
 fn has_period(def: &Def)
     ensures { HasPositivePeriod def.now }
@@ -344,8 +377,10 @@ fn core_of(alloc: Global, def: &Def, at: Reading) -> Result<HeldCore, AllocError
         Keeps core.facts (Loaded (definition def.now) at ∷ [])) }
     ensures fresh { IfOk result (λ core. core.decided ≡ 0) }
 {
-    let core = JobCore::new(alloc, def, at)?;
-    HeldCore::new(alloc, core)
+    match JobCore::new(alloc, def, at) {
+        Ok(core) => HeldCore::new(alloc, core),
+        Err(e) => Err(e),
+    }
 }
 
 /// The setting that enables the label, if one is wanted.

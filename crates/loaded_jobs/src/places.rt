@@ -7,6 +7,9 @@ ghost use Rattle.history_model.specs.MachineLaws.{AreInOrder};
 ghost use Rattle.loaded_jobs.specs.Tables.{label_of, definition_of_number, labels_in};
 ghost use Rattle.loaded_jobs.specs.Seats.{name, has_number, has_label, is_loaded_under, is_above, place_for};
 ghost use Rattle.loaded_jobs.specs.Index.{ArePlaced};
+ghost use Rattle.history_model.specs.Machine.{State};
+ghost use Rattle.loaded_jobs.specs.StandsFor.{KeepsState};
+ghost use Rattle.loaded_jobs.specs.Here.{IsHere};
 
 use crate::byte_order::is_before;
 use crate::jobs::Jobs;
@@ -15,6 +18,19 @@ use history_model::JobNo;
 use job_defs::Def;
 
 impl Jobs {
+    ghost use Rattle.loaded_jobs.specs.Sound.{seen_table, IsSound};
+
+    /// The job with this label that is not gone.
+    pub fn here(&self, label: &str) -> Option<&Seat>
+        requires { IsSound self.now }
+        ensures { (s : State) → KeepsState (seen_table self.now) s → IsHere s label.now result }
+    {
+        match place_here(&self.seats, label) {
+            None => None,
+            Some(place) => Some(&self.seats[place]),
+        }
+    }
+
     /// The label of the job with this number, or the empty text.
     pub fn label(&self, job: JobNo) -> &str
         requires { ArePlaced self.now.index.places.items self.now.seats.items }

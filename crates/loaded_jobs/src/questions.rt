@@ -15,7 +15,6 @@ ghost use Rattle.loaded_jobs.specs.StandsFor.{KeepsJobs, KeepsState};
 ghost use Rattle.loaded_jobs.specs.Seats.{rows};
 
 use crate::jobs::Jobs;
-use crate::places::place_here;
 use crate::seat::Seat;
 use crate::settings::is_disabled;
 use crate::texts::{job, line};
@@ -52,10 +51,9 @@ impl Jobs {
         if !is_label(label) {
             return Err(Refusal::BadRequest);
         }
-        let Some(place) = place_here(&self.seats, label) else {
+        let Some(seat) = self.here(label) else {
             return Err(Refusal::NoSuchJob);
         };
-        let seat = &self.seats[place];
         let disabled = is_disabled(&self.settings, label, seat.def.disabled());
         match job(alloc, seat.core.shown(), label, disabled) { // for the proof
             Ok(text) => Ok(text),

@@ -8,7 +8,6 @@ ghost use Rattle.loaded_jobs.specs.StandsFor.{KeepsState};
 ghost use Rattle.loaded_jobs.specs.Waking.{waking, spawning, demanding, holding};
 
 use crate::jobs::Jobs;
-use crate::places::place_here;
 use history_model::{DemandKind, Reasons};
 
 impl Jobs {
@@ -20,9 +19,9 @@ impl Jobs {
         ensures { (s : State) → KeepsState (seen_table self.now) s →
             result ≡ option_map reasons_of (past_of s label.now) }
     {
-        match place_here(&self.seats, label) { // for the proof
+        match self.here(label) { // for the proof
             None => None,
-            Some(place) => Some(self.seats[place].core.reasons(self.reading)),
+            Some(seat) => Some(seat.core.reasons(self.reading)),
         }
     }
 
@@ -32,9 +31,9 @@ impl Jobs {
         ensures { (s : State) → KeepsState (seen_table self.now) s →
             result ≡ waking (past_of s label.now) }
     {
-        match place_here(&self.seats, label) { // for the proof
+        match self.here(label) { // for the proof
             None => None,
-            Some(place) => self.seats[place].core.next_moment(self.reading),
+            Some(seat) => seat.core.next_moment(self.reading),
         }
     }
 
@@ -44,9 +43,9 @@ impl Jobs {
         ensures { (s : State) → KeepsState (seen_table self.now) s →
             result ≡ spawning (past_of s label.now) }
     {
-        match place_here(&self.seats, label) { // for the proof
+        match self.here(label) { // for the proof
             None => None,
-            Some(place) => self.seats[place].core.spawns_from(self.reading),
+            Some(seat) => seat.core.spawns_from(self.reading),
         }
     }
 
@@ -56,9 +55,9 @@ impl Jobs {
         ensures { (s : State) → KeepsState (seen_table self.now) s →
             result ≡ demanding (past_of s label.now) }
     {
-        match place_here(&self.seats, label) { // for the proof
+        match self.here(label) { // for the proof
             None => None,
-            Some(place) => self.seats[place].core.latest_demand(),
+            Some(seat) => seat.core.latest_demand(),
         }
     }
 
@@ -68,9 +67,9 @@ impl Jobs {
         ensures { (s : State) → KeepsState (seen_table self.now) s →
             option_map (λ path. path.now) result ≡ holding (past_of s label.now) }
     {
-        match place_here(&self.seats, label) { // for the proof
+        match self.here(label) { // for the proof
             None => None,
-            Some(place) => self.seats[place].core.path_that_holds(),
+            Some(seat) => seat.core.path_that_holds(),
         }
     }
 }

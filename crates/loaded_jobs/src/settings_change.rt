@@ -62,11 +62,13 @@ impl Jobs {
         }
         self.begin();
         if unload {
-            self.admit_unload(label)?;
+            if let Err(refusal) = self.admit_unload(label) {
+                return Err(refusal);
+            }
         }
-        if self.settings.reserve(1).is_err() {
+        let Ok(()) = self.settings.reserve(1) else {
             return Err(Refusal::NoMemory);
-        }
+        };
         match Text::copy_of(alloc, label) {
             Ok(label) => {
                 let setting = Setting {

@@ -1,33 +1,12 @@
 -- What made the demand is that of the one job with the label.
-use Rattle.std.proofs.Common.{ap, sym, ◌∙◌, subst, map}
-use Rattle.std.specs.List.{position}
-use Rattle.history_model.specs.Search.{first}
-use Rattle.history_model.specs.FactsOfPast.{Keeps}
-use Rattle.history_model.specs.Machine.{past_in}
+use Rattle.std.proofs.Common.{ap, sym, ◌∙◌}
 use Rattle.loaded_jobs.specs.Waking.{demanding}
-use Rattle.history_model.specs.MachineLaws.{AreInOrder}
-use Rattle.loaded_jobs.specs.Tables.{labels_in}
-use Rattle.loaded_jobs.specs.Seats.{name, is_loaded_under}
-use Rattle.loaded_jobs.proofs.FirstLemmas.{first-where, none-where}
-use Rattle.loaded_jobs.proofs.PlacesLemmas.{no-one-here, someone-here}
 use Rattle.loaded_jobs.proofs.jobs.Jobs.latest_demand.Goals as goal
 
-pub place_here-requires : goal.place_here-requires
-place_here-requires c = subst (λ es. AreInOrder (labels_in (map name es))) (sym c.deref.ensures.value) c.requires.order
-
 pub returns-in-None : goal.returns-in-None
-returns-in-None c = λ s keeps.
-    let es = c.args.self.now.seats.items in
-    let label = c.args.label.now in
-    let none = none-where (is_loaded_under label) es (c.in-None.ensures ∙ ap (position (is_loaded_under label)) c.deref.ensures.value) in
-    λ i. demanding (past_in (first (sym (no-one-here s.reading label es s.jobs keeps.jobs none) i)))
+returns-in-None c = λ s keeps. ap demanding (sym (c.in-None.ensures s keeps))
 
 pub returns-in-Some : goal.returns-in-Some
 returns-in-Some c = λ s keeps.
-    let es = c.args.self.now.seats.items in
-    let label = c.args.label.now in
-    let e = c.index.result.now in
-    let at = c.in-Some.ensures ∙ ap (position (is_loaded_under label)) c.deref.ensures.value in
-    let there = someone-here s.reading label es c.in-Some.place e s.jobs keeps.jobs (first-where (is_loaded_under label) es c.in-Some.place at) in
-    let row = c.latest_demand.ensures there.past (subst (λ x. Keeps x.core.facts there.past) (sym c.index.ensures) there.keeps) in
-    row ∙ ap demanding (sym there.is)
+    let there = c.in-Some.ensures s keeps in
+    c.latest_demand.ensures there.past there.keeps ∙ ap demanding (sym there.is)
