@@ -1,7 +1,7 @@
 -- The words of the control program as a command of clap, and what they mean. They follow
 -- launchctl(1).
-use Rattle.history_model.specs.Search.{is_same_text, or_else}
-use Rattle.std.specs.Prelude.{List, false, Option, Some, None, codes, if◌then◌else◌, unwrap_or, option_and_then}
+use Rattle.history_model.specs.Search.{is_same_text}
+use Rattle.std.specs.Prelude.{List, Bool, ◌||◌, false, Option, Some, None, codes, if◌then◌else◌, unwrap_or, option_and_then}
 use Rattle.std.specs.Option.{option_map}
 use Rattle.clap.specs.Words.{App, Rule, Row, Text, new_app, with_rule, with_subcommand, first_of, all_of, fault_of, matches_of, subcommand_of}
 use Rattle.event_reader.specs.Targets.{if_label, label_named}
@@ -84,53 +84,42 @@ label_in rows = option_and_then if_label (first_of (codes "label") rows)
 -- what load and unload mean
 abbrev pub files_meant : Text → List Row → Option Command
 files_meant name rows =
-    if is_same_text name (codes "load")
-    then option_map (command.Load (is_set (codes "write") rows) (is_set (codes "force") rows))
+    option_map
+    (if is_same_text name (codes "load")
+    then command.Load (is_set (codes "write") rows) (is_set (codes "force") rows)
+    else command.Unload (is_set (codes "write") rows))
     (all_of (codes "paths") rows)
-    else if is_same_text name (codes "unload")
-    then option_map (command.Unload (is_set (codes "write") rows)) (all_of (codes "paths") rows)
-    else None
-
--- what start and stop mean
-abbrev pub labels_meant : Text → List Row → Option Command
-labels_meant name rows =
-    if is_same_text name (codes "start") then option_map command.Start (label_in rows)
-    else if is_same_text name (codes "stop") then option_map command.Stop (label_in rows)
-    else None
 
 -- the label that the target under an argument names
 abbrev pub target_in : List Row → Option Text
 target_in rows = option_and_then label_named (first_of (codes "target") rows)
 
--- what enable and disable mean
-abbrev pub settings_meant : Text → List Row → Option Command
-settings_meant name rows =
-    if is_same_text name (codes "enable") then option_map command.Enable (target_in rows)
-    else if is_same_text name (codes "disable") then option_map command.Disable (target_in rows)
-    else None
+-- the label of the job that a subcommand is for: start and stop take a label, the others a target
+abbrev pub job_in : Text → List Row → Option Text
+job_in name rows =
+    if is_same_text name (codes "start") || is_same_text name (codes "stop")
+    then label_in rows
+    else target_in rows
 
--- what kickstart and print mean
-abbrev pub targets_meant : Text → List Row → Option Command
-targets_meant name rows =
-    if is_same_text name (codes "kickstart")
-    then option_map (command.Kickstart (is_set (codes "kill") rows)) (target_in rows)
-    else if is_same_text name (codes "print") then option_map command.Print (target_in rows)
-    else None
-
--- what list and shutdown mean
-abbrev pub bare_meant : Text → Option Command
-bare_meant name =
-    if is_same_text name (codes "list") then Some command.List
-    else if is_same_text name (codes "shutdown") then Some command.Shutdown
+-- what a subcommand means for the job with this label; with `kills_first` kickstart kills first
+abbrev pub job_meant : Text → Bool → Text → Option Command
+job_meant name kills_first label =
+    if is_same_text name (codes "start") then Some (command.Start label)
+    else if is_same_text name (codes "stop") then Some (command.Stop label)
+    else if is_same_text name (codes "enable") then Some (command.Enable label)
+    else if is_same_text name (codes "disable") then Some (command.Disable label)
+    else if is_same_text name (codes "kickstart") then Some (command.Kickstart kills_first label)
+    else if is_same_text name (codes "print") then Some (command.Print label)
     else None
 
 -- what a subcommand and its values mean
 abbrev pub command_meant : Text → List Row → Option Command
 command_meant name rows =
-    or_else (files_meant name rows)
-    (or_else (labels_meant name rows)
-    (or_else (settings_meant name rows)
-    (or_else (targets_meant name rows) (bare_meant name))))
+    if is_same_text name (codes "load") || is_same_text name (codes "unload")
+    then files_meant name rows
+    else if is_same_text name (codes "list") then Some command.List
+    else if is_same_text name (codes "shutdown") then Some command.Shutdown
+    else option_and_then (job_meant name (is_set (codes "kill") rows)) (job_in name rows)
 
 -- the socket that was named, or the default one
 abbrev pub socket_in : Text → List Row → Text

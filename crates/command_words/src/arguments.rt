@@ -128,7 +128,10 @@ pub fn value_of(alloc: Global, found: &ArgMatches<'_>, id: &str) -> Result<Optio
     ensures { IfOk result (λ value. value ≡ first_of id.now (rows_in found.now)) }
 {
     match found.get_str(id) {
-        Some(text) => Ok(Some(Text::copy_of(alloc, text)?)),
+        Some(text) => match Text::copy_of(alloc, text) {
+            Ok(copy) => Ok(Some(copy)),
+            Err(e) => Err(e),
+        },
         None => Ok(None),
     }
 }
@@ -142,7 +145,10 @@ pub fn values_of(
     ensures { IfOk result (λ values. values ≡ all_of id.now (rows_in found.now)) }
 {
     match found.get_strs(id) {
-        Some(texts) => Ok(Some(copies_of(alloc, texts)?)),
+        Some(texts) => match copies_of(alloc, texts) {
+            Ok(copies) => Ok(Some(copies)),
+            Err(e) => Err(e),
+        },
         None => Ok(None),
     }
 }

@@ -1,7 +1,6 @@
 //! What the control program's words mean.
 ghost use Rattle.std.specs.Prelude.{◌≡◌, IfOk, map, string_bytes};
 ghost use Rattle.clap.specs.Words.{subcommand_rows_of};
-ghost use Rattle.command_words.specs.Jobctl.{files_meant};
 ghost use Rattle.command_words.specs.Meaning.{rows_in};
 ghost use Rattle.command_words.specs.Jobctl as spec;
 
@@ -15,36 +14,33 @@ use history_model::Text;
 use job_defs::is_label;
 use std::alloc::{AllocError, Global};
 
-/// What load and unload mean; none if the words are no such command.
+/// What load and unload mean; none if no path was given.
 fn read_files(
     alloc: Global,
     name: &str,
     found: &ArgMatches<'_>,
 ) -> Result<Option<Command>, AllocError>
-    ensures { IfOk result (λ command. command ≡ files_meant name.now (rows_in found.now)) }
+    ensures { IfOk result (λ command. command ≡ spec.files_meant name.now (rows_in found.now)) }
 {
-    if name == "load" {
-        let writes_setting = is_set(found, "write");
-        let force = is_set(found, "force");
-        match values_of(alloc, found, "paths")? {
-            Some(paths) => Ok(Some(Command::Load {
-                writes_setting,
-                force,
-                paths,
-            })),
-            None => Ok(None),
+    let writes_setting = is_set(found, "write");
+    let force = is_set(found, "force");
+    match values_of(alloc, found, "paths") {
+        Ok(Some(paths)) => {
+            if name == "load" {
+                Ok(Some(Command::Load {
+                    writes_setting,
+                    force,
+                    paths,
+                }))
+            } else {
+                Ok(Some(Command::Unload {
+                    writes_setting,
+                    paths,
+                }))
+            }
         }
-    } else if name == "unload" {
-        let writes_setting = is_set(found, "write");
-        match values_of(alloc, found, "paths")? {
-            Some(paths) => Ok(Some(Command::Unload {
-                writes_setting,
-                paths,
-            })),
-            None => Ok(None),
-        }
-    } else {
-        Ok(None)
+        Ok(None) => Ok(None),
+        Err(e) => Err(e),
     }
 }
 
@@ -52,38 +48,16 @@ fn read_files(
 fn label_in(alloc: Global, found: &ArgMatches<'_>) -> Result<Option<Text>, AllocError>
     ensures { IfOk result (λ label. label ≡ spec.label_in (rows_in found.now)) }
 {
-    match value_of(alloc, found, "label")? {
-        Some(label) => {
+    match value_of(alloc, found, "label") {
+        Ok(Some(label)) => {
             if is_label(label.as_str()) {
                 Ok(Some(label))
             } else {
                 Ok(None)
             }
         }
-        None => Ok(None),
-    }
-}
-
-/// What start and stop mean; none if the words are no such command.
-fn read_labels(
-    alloc: Global,
-    name: &str,
-    found: &ArgMatches<'_>,
-) -> Result<Option<Command>, AllocError>
-    ensures { IfOk result (λ command. command ≡ spec.labels_meant name.now (rows_in found.now)) }
-{
-    if name == "start" {
-        match label_in(alloc, found)? {
-            Some(label) => Ok(Some(Command::Start { label })),
-            None => Ok(None),
-        }
-    } else if name == "stop" {
-        match label_in(alloc, found)? {
-            Some(label) => Ok(Some(Command::Stop { label })),
-            None => Ok(None),
-        }
-    } else {
-        Ok(None)
+        Ok(None) => Ok(None),
+        Err(e) => Err(e),
     }
 }
 
@@ -91,71 +65,44 @@ fn read_labels(
 fn target_in(alloc: Global, found: &ArgMatches<'_>) -> Result<Option<Text>, AllocError>
     ensures { IfOk result (λ label. label ≡ spec.target_in (rows_in found.now)) }
 {
-    match value_of(alloc, found, "target")? {
-        Some(target) => match read_target(alloc, target.as_str()) {
+    match value_of(alloc, found, "target") {
+        Ok(Some(target)) => match read_target(alloc, target.as_str()) {
             Ok(label) => Ok(Some(label)),
             Err(ReadFault::BadRequest) => Ok(None),
             Err(ReadFault::NoMemory) => Err(AllocError),
         },
-        None => Ok(None),
+        Ok(None) => Ok(None),
+        Err(e) => Err(e),
     }
 }
 
-/// What enable and disable mean; none if the words are no such command.
-fn read_settings(
-    alloc: Global,
-    name: &str,
-    found: &ArgMatches<'_>,
-) -> Result<Option<Command>, AllocError>
-    ensures { IfOk result (λ command. command ≡ spec.settings_meant name.now (rows_in found.now)) }
+/// The label of the job that a subcommand is for: start and stop take a label, the others a target.
+fn job_in(alloc: Global, name: &str, found: &ArgMatches<'_>) -> Result<Option<Text>, AllocError>
+    ensures { IfOk result (λ label. label ≡ spec.job_in name.now (rows_in found.now)) }
 {
-    if name == "enable" {
-        match target_in(alloc, found)? {
-            Some(label) => Ok(Some(Command::Enable { label })),
-            None => Ok(None),
-        }
+    if name == "start" || name == "stop" {
+        label_in(alloc, found)
+    } else {
+        target_in(alloc, found)
+    }
+}
+
+/// What a subcommand means for the job with this label; none if the word is no such subcommand.
+fn job_command(name: &str, kills_first: bool, label: Text) -> Option<Command>
+    ensures { result ≡ spec.job_meant name.now kills_first label }
+{
+    if name == "start" {
+        Some(Command::Start { label })
+    } else if name == "stop" {
+        Some(Command::Stop { label })
+    } else if name == "enable" {
+        Some(Command::Enable { label })
     } else if name == "disable" {
-        match target_in(alloc, found)? {
-            Some(label) => Ok(Some(Command::Disable { label })),
-            None => Ok(None),
-        }
-    } else {
-        Ok(None)
-    }
-}
-
-/// What kickstart and print mean; none if the words are no such command.
-fn read_targets(
-    alloc: Global,
-    name: &str,
-    found: &ArgMatches<'_>,
-) -> Result<Option<Command>, AllocError>
-    ensures { IfOk result (λ command. command ≡ spec.targets_meant name.now (rows_in found.now)) }
-{
-    if name == "kickstart" {
-        let kills_first = is_set(found, "kill");
-        match target_in(alloc, found)? {
-            Some(label) => Ok(Some(Command::Kickstart { kills_first, label })),
-            None => Ok(None),
-        }
+        Some(Command::Disable { label })
+    } else if name == "kickstart" {
+        Some(Command::Kickstart { kills_first, label })
     } else if name == "print" {
-        match target_in(alloc, found)? {
-            Some(label) => Ok(Some(Command::Print { label })),
-            None => Ok(None),
-        }
-    } else {
-        Ok(None)
-    }
-}
-
-/// What list and shutdown mean; none if the words are no such command.
-fn read_bare(name: &str) -> Option<Command>
-    ensures { result ≡ spec.bare_meant name.now }
-{
-    if name == "list" {
-        Some(Command::List)
-    } else if name == "shutdown" {
-        Some(Command::Shutdown)
+        Some(Command::Print { label })
     } else {
         None
     }
@@ -169,42 +116,31 @@ fn read_command(
 ) -> Result<Option<Command>, AllocError>
     ensures { IfOk result (λ command. command ≡ spec.command_meant name.now (rows_in found.now)) }
 {
-    if let Some(command) = read_files(alloc, name, found)? {
-        return Ok(Some(command));
+    if name == "load" || name == "unload" {
+        return read_files(alloc, name, found);
     }
-    if let Some(command) = read_labels(alloc, name, found)? {
-        return Ok(Some(command));
+    if name == "list" {
+        return Ok(Some(Command::List));
     }
-    if let Some(command) = read_settings(alloc, name, found)? {
-        return Ok(Some(command));
+    if name == "shutdown" {
+        return Ok(Some(Command::Shutdown));
     }
-    if let Some(command) = read_targets(alloc, name, found)? {
-        return Ok(Some(command));
+    let kills_first = is_set(found, "kill");
+    match job_in(alloc, name, found) {
+        Ok(Some(label)) => Ok(job_command(name, kills_first, label)),
+        Ok(None) => Ok(None),
+        Err(e) => Err(e),
     }
-    Ok(read_bare(name))
 }
 
 /// The socket that was named, or the default one.
 fn socket_in(alloc: Global, matches: &ArgMatches<'_>, default: &str) -> Result<Text, AllocError>
     ensures { IfOk result (λ socket. socket ≡ spec.socket_in default.now (rows_in matches.now)) }
 {
-    match value_of(alloc, matches, "socket")? {
-        Some(socket) => Ok(socket),
-        None => Text::copy_of(alloc, default),
-    }
-}
-
-/// What a subcommand among the words means; none if they are no command.
-fn read_subcommand(alloc: Global, matches: &ArgMatches<'_>) -> Result<Option<Command>, AllocError>
-    ensures { IfOk result (λ command. command
-        ≡ spec.command_found (subcommand_rows_of matches.now)) }
-{
-    match matches.subcommand() {
-        Some((name, found)) => match read_command(alloc, name, found) {
-            Ok(command) => Ok(command),
-            Err(e) => Err(e),
-        },
-        None => Ok(None),
+    match value_of(alloc, matches, "socket") {
+        Ok(Some(socket)) => Ok(socket),
+        Ok(None) => Text::copy_of(alloc, default),
+        Err(e) => Err(e),
     }
 }
 
@@ -216,10 +152,16 @@ fn read_matches(
     ensures { IfOk result (λ words. words
         ≡ spec.found_meant default.now (rows_in matches.now) (subcommand_rows_of matches.now)) }
 {
-    let socket = socket_in(alloc, matches, default)?;
-    match read_subcommand(alloc, matches)? {
-        Some(command) => Ok(Some(Words { socket, command })),
-        None => Ok(None),
+    let Some((name, found)) = matches.subcommand() else {
+        return Ok(None);
+    };
+    match socket_in(alloc, matches, default) {
+        Ok(socket) => match read_command(alloc, name, found) {
+            Ok(Some(command)) => Ok(Some(Words { socket, command })),
+            Ok(None) => Ok(None),
+            Err(e) => Err(e),
+        },
+        Err(e) => Err(e),
     }
 }
 
@@ -237,7 +179,11 @@ pub fn control_command(
         return Err(AllocError);
     };
     match parse(command, words) {
-        Ok(matches) => read_matches(alloc, &matches, default),
+        Ok(matches) => {
+            let meant = read_matches(alloc, &matches, default);
+            drop(matches);
+            meant
+        }
         Err(WordFault::Usage) => Ok(None),
         Err(WordFault::NoMemory) => Err(AllocError),
     }

@@ -174,14 +174,12 @@ fn read_command(
     if name == "replay" {
         Ok(Some(DaemonCommand::Replay))
     } else if name == "serve" {
-        match read_serve(alloc, found) {
-            Ok(command) => Ok(command),
-            Err(e) => Err(e),
-        }
+        read_serve(alloc, found)
     } else if name == "overrides" {
-        match value_of(alloc, found, "store")? {
-            Some(store) => Ok(Some(DaemonCommand::Overrides { store })),
-            None => Ok(None),
+        match value_of(alloc, found, "store") {
+            Ok(Some(store)) => Ok(Some(DaemonCommand::Overrides { store })),
+            Ok(None) => Ok(None),
+            Err(e) => Err(e),
         }
     } else {
         Ok(None)
@@ -196,10 +194,7 @@ fn read_matches(
         ≡ spec.daemon_found_meant (subcommand_rows_of matches.now)) }
 {
     match matches.subcommand() {
-        Some((name, found)) => match read_command(alloc, name, found) {
-            Ok(command) => Ok(command),
-            Err(e) => Err(e),
-        },
+        Some((name, found)) => read_command(alloc, name, found),
         None => Ok(None),
     }
 }
@@ -213,7 +208,11 @@ pub fn daemon_command(alloc: Global, words: &[String]) -> Result<Option<DaemonCo
         return Err(AllocError);
     };
     match parse(command, words) {
-        Ok(matches) => read_matches(alloc, &matches),
+        Ok(matches) => {
+            let meant = read_matches(alloc, &matches);
+            drop(matches);
+            meant
+        }
         Err(WordFault::Usage) => Ok(None),
         Err(WordFault::NoMemory) => Err(AllocError),
     }

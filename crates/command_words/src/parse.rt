@@ -24,7 +24,11 @@ pub fn parse<'a>(
 {
     match command.try_get_matches_from(words) {
         Ok(matches) => Ok(matches),
-        Err(error) => Err(fault_in(&error)),
+        Err(error) => {
+            let fault = fault_in(&error);
+            drop(error);
+            Err(fault)
+        }
     }
 }
 
@@ -55,11 +59,8 @@ pub fn explain_by<'a>(
 ) -> Result<Explanation, AllocError> {
     match command {
         Ok(mut command) => {
-            let explanation = match said_of(alloc, command.try_get_matches_from_mut(words)) {
-                Ok(Some(explanation)) => Ok(explanation),
-                Ok(None) => whole_help(&mut command),
-                Err(e) => Err(e),
-            };
+            let said = said_of(alloc, command.try_get_matches_from_mut(words));
+            let explanation = said_or_help(said, &mut command);
             drop(command);
             explanation
         }
@@ -80,12 +81,21 @@ fn said_of(
     said
 }
 
-fn whole_help(command: &mut clap::Command<'_>) -> Result<Explanation, AllocError> {
-    let text = command.render_help()?;
-    Ok(Explanation {
-        text,
-        is_help: false,
-    })
+fn said_or_help(
+    said: Result<Option<Explanation>, AllocError>,
+    command: &mut clap::Command<'_>,
+) -> Result<Explanation, AllocError> {
+    match said {
+        Ok(Some(explanation)) => Ok(explanation),
+        Ok(None) => match command.render_help() {
+            Ok(text) => Ok(Explanation {
+                text,
+                is_help: false,
+            }),
+            Err(e) => Err(e),
+        },
+        Err(e) => Err(e),
+    }
 }
 
 fn fault_text(alloc: Global, error: &Error) -> Result<Option<Explanation>, AllocError> {

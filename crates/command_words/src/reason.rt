@@ -23,52 +23,74 @@ pub fn reason_in(
     let Some((name, found)) = matches.subcommand() else {
         return Ok(None);
     };
-    if let Some(word) = found.get_str("label") {
-        return word_reason(alloc, name, "label", word);
-    }
-    if let Some(word) = found.get_str("target") {
-        return word_reason(alloc, name, "target", word);
-    }
-    if name == "serve" && found.get_str("zone").is_some() && found.get_str("zone-file").is_some() {
-        let text = String::from_str(alloc, BOTH_ZONES)?;
-        return Ok(Some(Explanation {
+    match reason_of(alloc, name, found) {
+        Ok(Some(text)) => Ok(Some(Explanation {
             text,
             is_help: false,
-        }));
+        })),
+        Ok(None) => Ok(None),
+        Err(e) => Err(e),
     }
-    Ok(None)
 }
 
-// Of a subcommand's word that is to be of the kind, a label or a target.
-fn word_reason(
+// The same of a subcommand's own words.
+fn reason_of(
     alloc: Global,
     name: &str,
-    kind: &str,
-    word: &str,
-) -> Result<Option<Explanation>, AllocError> {
-    let is_label_wanted = kind == "label";
-    let is_target = is_target(alloc, word)?;
-    let is_taken = if is_label_wanted {
-        is_label(word)
-    } else {
-        is_target
-    };
-    if is_taken {
+    found: &ArgMatches<'_>,
+) -> Result<Option<String>, AllocError> {
+    if let Some(word) = found.get_str("label") {
+        return label_reason(alloc, name, word);
+    }
+    if let Some(word) = found.get_str("target") {
+        return target_reason(alloc, word);
+    }
+    let has_both_zones = name == "serve"
+        && found.get_str("zone").is_some()
+        && found.get_str("zone-file").is_some();
+    if !has_both_zones {
         return Ok(None);
     }
-    let (front, why) = if is_target {
-        (name, NO_TARGET_HERE)
-    } else if is_label_wanted {
-        ("", A_LABEL)
-    } else {
-        ("", A_TARGET)
+    match String::from_str(alloc, BOTH_ZONES) {
+        Ok(text) => Ok(Some(text)),
+        Err(e) => Err(e),
+    }
+}
+
+fn label_reason(alloc: Global, name: &str, word: &str) -> Result<Option<String>, AllocError> {
+    if is_label(word) {
+        return Ok(None);
+    }
+    match is_target(alloc, word) {
+        Ok(true) => reason(alloc, word, "label", name, NO_TARGET_HERE),
+        Ok(false) => reason(alloc, word, "label", "", A_LABEL),
+        Err(e) => Err(e),
+    }
+}
+
+fn target_reason(alloc: Global, word: &str) -> Result<Option<String>, AllocError> {
+    match is_target(alloc, word) {
+        Ok(true) => Ok(None),
+        Ok(false) => reason(alloc, word, "target", "", A_TARGET),
+        Err(e) => Err(e),
+    }
+}
+
+// The line that says why a word is none of its kind. `subcommand` stands before `why`; it is empty, if the reason does not name it.
+fn reason(
+    alloc: Global,
+    word: &str,
+    kind: &str,
+    subcommand: &str,
+    why: &str,
+) -> Result<Option<String>, AllocError> {
+    let Ok(shown) = shown(alloc, word) else {
+        return Err(AllocError);
     };
-    let shown = shown(alloc, word)?;
-    let text = format!(in alloc; "jobctl: {shown} is no {kind} ({front}{why})\n")?;
-    Ok(Some(Explanation {
-        text,
-        is_help: false,
-    }))
+    match format!(in alloc; "jobctl: {shown} is no {kind} ({subcommand}{why})\n") {
+        Ok(text) => Ok(Some(text)),
+        Err(e) => Err(e),
+    }
 }
 
 fn is_target(alloc: Global, word: &str) -> Result<bool, AllocError> {

@@ -4,9 +4,9 @@ use Rattle.clap.specs.Words.{found_of}
 use Rattle.clap.proofs.WalkLemmas.{raw_values-rows}
 use Rattle.command_words.proofs.arguments.values_of.Goals as goal
 
-pub returns-in_ok-copies_of-in-Some : goal.returns-in_ok-copies_of-in-Some
-returns-in_ok-copies_of-in-Some c =
-    ap Some c.in_ok-copies_of-in-Some.ensures ∙ sym (ap (option_map (λ s. map (λ t. t.now) s.now)) c.in-Some.is) ∙ c.get_strs.ensures
+pub returns-in-Ok : goal.returns-in-Ok
+returns-in-Ok c =
+    ap Some c.in-Ok.ensures ∙ sym (ap (option_map (λ s. map (λ t. t.now) s.now)) c.in-Some.is) ∙ c.get_strs.ensures
     ∙ raw_values-rows (found_of c.args.found.now) c.args.id.now
 
 pub returns-in-None : goal.returns-in-None

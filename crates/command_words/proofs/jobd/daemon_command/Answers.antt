@@ -4,7 +4,7 @@ use Rattle.command_words.proofs.MeaningLemmas.{daemon_meant_found, daemon_meant_
 use Rattle.command_words.proofs.jobd.daemon_command.Goals as goal
 
 pub returns-in-Ok-parse : goal.returns-in-Ok-parse
-returns-in-Ok-parse c = rw (daemon_meant_found _ _ c.in-Ok-parse.matches c.in-Ok.ensures.app c.in-Ok-parse.ensures.found) c.read_matches.ensures
+returns-in-Ok-parse c = rw (daemon_meant_found _ _ c.in-Ok-parse.matches c.in-Ok.ensures.app c.in-Ok-parse.ensures.found) c.read_matches-meant.ensures
 
 pub returns-in-Err-Usage : goal.returns-in-Err-Usage
 returns-in-Err-Usage c = sym (daemon_meant_faulty _ _ c.in-Ok.ensures.app (λ simple. c.in-Err-Usage.ensures.usage simple c.in-Err-Usage.field-0-is))

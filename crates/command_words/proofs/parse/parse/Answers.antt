@@ -11,6 +11,6 @@ returns-in-Ok-clause-found c = λ simple.
 
 pub returns-in-Err-clause-usage : goal.returns-in-Err-clause-usage
 returns-in-Err-clause-usage c = λ simple is_usage. elim (c.in-Err.ensures.kinds simple) [
-  | inl memory ↦ absurd (c.fault_in.ensures is_usage memory)
+  | inl memory ↦ absurd (c.fault_in-fault.ensures is_usage memory)
   | inr among ↦ some_more _ _ among
 ]
