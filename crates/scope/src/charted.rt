@@ -6,7 +6,6 @@ ghost use Rattle.scope.specs.RunBars.{run_bar_end};
 use crate::journal::hearing::{News, What};
 use crate::journal::job::Asked;
 use crate::journal::past::Past;
-use crate::journal::reader::Journal;
 use crate::journal::run::{Run, RunEnd};
 use crate::texts::log::is_named;
 use history_model::Text;
@@ -41,27 +40,39 @@ pub(crate) struct Heard<'a> {
 }
 
 impl Heard<'_> {
-    /// Takes in what the journal's last line gave.
-    pub(crate) fn hear(&mut self, journal: &Journal) -> Result<(), AllocError> {
-        let at = journal.table.reading().wall;
+    /// Nothing is heard yet of the jobs with these labels, or of all.
+    pub(crate) fn new(alloc: Global, labels: &[Text]) -> Heard<'_> {
+        Heard {
+            labels,
+            marks: VecDeque::new(alloc),
+            dropped: 0,
+            rowless: 0,
+            ended: 0,
+            from: u64::MAX,
+            until: 0,
+        }
+    }
+
+    /// Takes in what the journal's last line gave at this second.
+    pub(crate) fn hear(&mut self, at: u64, news: &[News]) -> Result<(), AllocError> {
         self.from = self.from.min(at);
         self.until = self.until.max(at);
-        for news in &journal.news {
+        for news in news {
             if is_named(self.labels, news.label.as_str()) {
-                self.hear_news(&journal.past, news, at)?;
+                self.hear_news(news, at)?;
             }
         }
         Ok(())
     }
 
-    fn hear_news(&mut self, past: &Past, news: &News, at: u64) -> Result<(), AllocError> {
+    fn hear_news(&mut self, news: &News, at: u64) -> Result<(), AllocError> {
         if let What::Ended { .. } = news.what {
             self.ended = self.ended.saturating_add(1);
         }
         let Some(kind) = mark_of(&news.what) else {
             return Ok(());
         };
-        let Some(job) = past.jobs.get(news.label.as_str()) else {
+        let Some(job) = news.serial else {
             self.rowless = self.rowless.saturating_add(1);
             return Ok(());
         };
@@ -69,7 +80,6 @@ impl Heard<'_> {
             let _oldest = self.marks.pop_front();
             self.dropped = self.dropped.saturating_add(1);
         }
-        let job = job.record.serial;
         Ok(self.marks.push_back(Kept { job, kind, at })?)
     }
 }
@@ -167,15 +177,6 @@ impl Rows {
         Ok(self.chart.rows.push(row)?)
     }
 
-    // Where the row of the job stands.
-    fn place_of(&self, serial: u64) -> Option<usize> {
-        let (Ok(at) | Err(at)) = self.places.binary_search(&(serial, 0));
-        match self.places.get(at) {
-            Some((job, place)) if *job == serial => Some(*place),
-            _ => None,
-        }
-    }
-
     // The runs that are over and kept, and those that live.
     fn add_runs(&mut self, past: &Past, heard: &Heard<'_>) -> Result<(), AllocError> {
         let mut drawn: u64 = 0;
@@ -196,7 +197,10 @@ impl Rows {
     // Whether the run began and has a row.
     fn add_run(&mut self, run: &Run) -> Result<bool, AllocError> {
         let axis = self.chart.axis;
-        let (Some(place), Some(bar)) = (self.place_of(run.job), bar_of(&axis, run)) else {
+        let (Some(place), Some(bar)) = (
+            place_of(self.places.as_slice(), run.job),
+            bar_of(&axis, run),
+        ) else {
             return Ok(false);
         };
         match self.chart.rows.get_mut(place) {
@@ -211,7 +215,7 @@ impl Rows {
     // The mark of a job that was forgotten meanwhile counts among those that are missing.
     fn add_mark(&mut self, mark: &Kept) -> Result<(), AllocError> {
         let axis = self.chart.axis;
-        let Some(place) = self.place_of(mark.job) else {
+        let Some(place) = place_of(self.places.as_slice(), mark.job) else {
             self.chart.missing_marks = self.chart.missing_marks.saturating_add(1);
             return Ok(());
         };
@@ -219,5 +223,14 @@ impl Rows {
             Some(row) => row.mark(&axis, mark.kind, mark.at),
             None => Ok(()),
         }
+    }
+}
+
+// Where the row of the job stands.
+fn place_of(places: &[(u64, usize)], serial: u64) -> Option<usize> {
+    let (Ok(at) | Err(at)) = places.binary_search(&(serial, 0));
+    match places.get(at) {
+        Some((job, place)) if *job == serial => Some(*place),
+        _ => None,
     }
 }

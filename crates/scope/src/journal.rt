@@ -2,9 +2,10 @@
 //! job, what was asked of it, and how long it was up.
 
 pub(crate) mod fault;
-pub(crate) mod feeding;
 pub(crate) mod hearing;
 pub(crate) mod job;
+pub(crate) mod lines;
+mod noting;
 pub(crate) mod past;
 pub(crate) mod reader;
 pub(crate) mod run;

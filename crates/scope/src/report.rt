@@ -1,11 +1,12 @@
 //! What is told of a journal: its events, as they are read or as they come, and once it was read to its end why each job stands as it
 //! does, what its runs came to, and their picture.
 
-use crate::charted::chart_of;
-use crate::journal::feeding::JournalReader;
+use crate::charted::{Heard, chart_of};
+use crate::journal::fault::tell_fault;
+use crate::journal::lines::Lines;
 use crate::journal::reader::Journal;
-use crate::journal::source::{journal_path, read_journal};
-use crate::listener::Listener;
+use crate::journal::source::{INPUT, journal_path, read_journal, tell_bad};
+use crate::listener::{Listener, zone_shown};
 use crate::log::follow;
 use crate::page::coming_of;
 use crate::telling::{put_made, tell_of};
@@ -13,10 +14,8 @@ use crate::texts::runs::runs_table;
 use crate::texts::why::why_text;
 use crate::words::command::{ScopeCommand, Task};
 use calendar_due::Zone;
-use exit_status::BAD_FILE;
 use history_model::Text;
 use run_times::picture::{Beside, Chart, blocks_text, picture_piece};
-use run_times::utc;
 use std::alloc::Global;
 use std::io::IsTerminal;
 use std::sync::Wait;
@@ -35,31 +34,16 @@ pub(crate) fn report<W: Wait>(
     of: &ScopeCommand,
 ) -> io::Result<u8> {
     let path = journal_path(host, of)?;
-    let mut reader = JournalReader::new(alloc);
+    let mut lines = Lines::new(alloc);
     let mut listener = Listener::new(alloc, of);
     let status = match &path {
         Some(path) if of.follows => {
-            follow(
-                host,
-                waits,
-                alloc,
-                path.as_str(),
-                &mut reader,
-                &mut listener,
-            )
+            follow(host, waits, alloc, path.as_str(), &mut lines, &mut listener)
         }
-        Some(path) => report_by(
-            host,
-            alloc,
-            of,
-            Some(path.as_str()),
-            &mut reader,
-            &mut listener,
-        ),
-        None => report_by(host, alloc, of, None, &mut reader, &mut listener),
+        path => report_by(host, alloc, path, &mut lines, &mut listener),
     };
     drop(listener);
-    drop(reader);
+    drop(lines);
     drop(path);
     status
 }
@@ -67,29 +51,36 @@ pub(crate) fn report<W: Wait>(
 fn report_by(
     host: &HostRuntime,
     alloc: Global,
-    of: &ScopeCommand,
-    path: Option<&str>,
-    reader: &mut JournalReader,
+    path: &Option<String>,
+    lines: &mut Lines,
     listener: &mut Listener<'_>,
 ) -> io::Result<u8> {
-    let Some(status) = read_journal(host, alloc, path, reader, listener)? else {
-        return Ok(BAD_FILE);
+    let path = match path {
+        Some(path) => Some(path.as_str()),
+        None => None,
     };
-    if let Some(journal) = &reader.journal {
-        write_report(host, alloc, journal, listener, of)?;
+    let name = path.unwrap_or(INPUT);
+    let is_quiet = match listener.of.task {
+        Task::Log => false,
+        _ => true,
+    };
+    match read_journal(host, path, is_quiet, lines, listener) {
+        Ok(()) => {
+            let status = tell_bad(host, name, lines);
+            write_report(host, alloc, listener)?;
+            Ok(status)
+        }
+        Err(fault) => tell_fault(host, name, fault),
     }
-    Ok(status)
 }
 
 // What the journal's end says. A log was written as it was read.
-fn write_report(
-    host: &HostRuntime,
-    alloc: Global,
-    journal: &Journal,
-    listener: &Listener<'_>,
-    of: &ScopeCommand,
-) -> io::Result<()> {
-    let zone = listener.zone_of(journal);
+fn write_report(host: &HostRuntime, alloc: Global, listener: &Listener<'_>) -> io::Result<()> {
+    let Some(journal) = &listener.journal else {
+        return Ok(());
+    };
+    let of = listener.of;
+    let zone = zone_shown(of, &listener.utc, &journal.zone);
     let labels = of.words.as_slice();
     match of.task {
         Task::Why => put_made(host, why_text(alloc, journal, zone, labels)),
@@ -97,7 +88,7 @@ fn write_report(
             let now = journal.table.reading();
             put_made(host, runs_table(alloc, &journal.past, now, labels))
         }
-        Task::Picture => paint(host, alloc, journal, zone, listener, of),
+        Task::Picture => paint(host, alloc, journal, zone, &listener.heard, of),
         _ => Ok(()),
     }
 }
@@ -108,7 +99,7 @@ fn paint(
     alloc: Global,
     journal: &Journal,
     zone: &Zone,
-    listener: &Listener<'_>,
+    heard: &Heard<'_>,
     of: &ScopeCommand,
 ) -> io::Result<()> {
     let labels = of.words.as_slice();
@@ -118,7 +109,7 @@ fn paint(
             tell_of(host, label, &"the journal has no load of it");
         }
     }
-    let chart = chart_of(alloc, &journal.past, &listener.heard)?;
+    let chart = chart_of(alloc, &journal.past, heard)?;
     let painted = if of.is_page {
         paint_page(host, alloc, journal, zone, &chart, labels)
     } else if host.stdout().is_terminal() {

@@ -1,9 +1,9 @@
 //! The texts that are written of a journal: why each job stands as it does, what its runs came to, and the journal for people.
 
+pub(crate) mod causes;
 pub(crate) mod coming;
 pub(crate) mod log;
 pub(crate) mod runs;
 pub(crate) mod told;
-pub(crate) mod wants;
 pub(crate) mod why;
 pub(crate) mod words;

@@ -9,6 +9,7 @@ use run_times::Piece::Text;
 use run_times::{Ink, Piece};
 use std::alloc::{AllocError, Global};
 use std::fs::metadata;
+use std::io;
 use std::io::ErrorKind;
 use std::os::unix::fs::PermissionsExt;
 
@@ -16,7 +17,7 @@ use std::os::unix::fs::PermissionsExt;
 const FRONT: usize = 255;
 
 /// What is to stand at a path.
-#[derive(Clone, Copy, Drop)]
+#[derive(Clone, Copy)]
 enum Wanted {
     /// A plain file that can be executed; of a script the interpreter too.
     Program,
@@ -29,14 +30,15 @@ enum Wanted {
 }
 
 /// What stands at a path.
-#[derive(Drop)]
+#[derive(Clone, Copy)]
 enum Found {
     Folder,
-    File { is_executable: bool },
+    /// A plain file that can be executed.
+    Program,
+    /// Another plain file.
+    File,
     Other,
     Nothing,
-    /// It can't be looked at: what the system says, behind a colon.
-    Failed(String),
 }
 
 /// Adds a remark for each file or folder that the definition names by a path from the root, and that is not there, or is not what it
@@ -72,7 +74,9 @@ pub(crate) fn add_missing(
         ),
     ];
     for (key, path, wanted) in keys.iter() {
-        let told = told_of(host, alloc, path.unwrap_or(""), *wanted)?;
+        let mut ink = Ink::new(alloc);
+        add_wrong(host, alloc, path.unwrap_or(""), *wanted, &mut ink);
+        let told = ink.into_text()?;
         if !told.is_empty() {
             let (name, behind) = match key {
                 KeyName::Program => ("the program", " "),
@@ -105,91 +109,74 @@ pub(crate) fn add_warning(
     }
 }
 
-// What is wrong with the path; empty if nothing is, or if it is no path from the root.
-fn told_of(
-    host: &HostRuntime,
-    alloc: Global,
-    path: &str,
-    wanted: Wanted,
-) -> Result<String, AllocError> {
+// Adds what is wrong with the path, if something is; of what is no path from the root nothing is known.
+fn add_wrong(host: &HostRuntime, alloc: Global, path: &str, wanted: Wanted, ink: &mut Ink) {
     if !path.starts_with('/') {
-        return Ok(String::new(alloc));
+        return;
     }
-    let found = found_at(host, alloc, path)?;
-    match (wanted, &found) {
-        (
-            Wanted::Program,
-            Found::File {
-                is_executable: true,
-            },
-        ) => told_script(host, alloc, path),
-        (Wanted::Output, Found::Nothing | Found::Failed(_)) => told_folder(host, alloc, path),
-        _ => told_found(alloc, path, wanted, &found),
+    match (wanted, found_at(host, path)) {
+        (Wanted::Program, Ok(Found::Program)) => add_script(host, alloc, path, ink),
+        (Wanted::Output, Ok(Found::Nothing) | Err(_)) => add_folder(host, alloc, path, ink),
+        (wanted, found) => add_found(alloc, path, wanted, found, ink),
     }
 }
 
-fn found_at(host: &HostRuntime, alloc: Global, path: &str) -> Result<Found, AllocError> {
+fn found_at(host: &HostRuntime, path: &str) -> io::Result<Found> {
     match metadata(host, path) {
         Ok(data) if data.is_dir() => Ok(Found::Folder),
-        Ok(data) if data.is_file() => Ok(Found::File {
-            is_executable: data.permissions().mode() & 0o111 != 0,
-        }),
-        Ok(_) => Ok(Found::Other),
+        Ok(data) if !data.is_file() => Ok(Found::Other),
+        Ok(data) if data.permissions().mode() & 0o111 != 0 => Ok(Found::Program),
+        Ok(_) => Ok(Found::File),
         Err(error) if error.kind() == ErrorKind::NotFound => Ok(Found::Nothing),
-        Err(error) => Ok(Found::Failed(format!(in alloc; ": {error}")?)),
+        Err(error) => Err(error),
     }
 }
 
-fn told_found(
-    alloc: Global,
-    path: &str,
-    wanted: Wanted,
-    found: &Found,
-) -> Result<String, AllocError> {
+// Adds what is wrong with what was found at the path; if it can't be looked at, what the system says.
+fn add_found(alloc: Global, path: &str, wanted: Wanted, found: io::Result<Found>, ink: &mut Ink) {
     let wrong = match (found, wanted) {
-        (Found::Failed(error), _) => error.as_str(),
-        (Found::Nothing, _) => " is not there",
-        (
-            Found::File {
-                is_executable: false,
-            },
-            Wanted::Program,
-        ) => " is not executable",
-        (Found::Folder | Found::Other, Wanted::Program) => " is no plain file",
-        (Found::File { .. } | Found::Other, Wanted::Folder) => " is no folder",
-        (Found::Folder, Wanted::Input | Wanted::Output) => " is a folder",
-        _ => return Ok(String::new(alloc)),
+        (Err(error), _) => {
+            ink.put_made(format!(in alloc; "{path}: {error}"));
+            return;
+        }
+        (Ok(Found::Nothing), _) => " is not there",
+        (Ok(Found::File), Wanted::Program) => " is not executable",
+        (Ok(Found::Folder | Found::Other), Wanted::Program) => " is no plain file",
+        (Ok(Found::Program | Found::File | Found::Other), Wanted::Folder) => " is no folder",
+        (Ok(Found::Folder), Wanted::Input | Wanted::Output) => " is a folder",
+        _ => return,
     };
-    format!(in alloc; "{path}{wrong}")
+    ink.put(path);
+    ink.put(wrong);
 }
 
-// What is wrong with the folder in which the path's file is made.
-fn told_folder(host: &HostRuntime, alloc: Global, path: &str) -> Result<String, AllocError> {
+// Adds what is wrong with the folder in which the path's file is made.
+fn add_folder(host: &HostRuntime, alloc: Global, path: &str, ink: &mut Ink) {
     match path.rsplit_once('/') {
         Some((folder, _)) if !folder.is_empty() => {
-            let found = found_at(host, alloc, folder)?;
-            told_found(alloc, folder, Wanted::Folder, &found)
+            add_found(alloc, folder, Wanted::Folder, found_at(host, folder), ink);
         }
-        _ => Ok(String::new(alloc)),
+        _ => {}
     }
 }
 
-// What is wrong with the interpreter that a script names behind #!; empty if it is no script, or can't be read.
-fn told_script(host: &HostRuntime, alloc: Global, path: &str) -> Result<String, AllocError> {
+// Adds what is wrong with the interpreter that a script names behind #!. Nothing is if it is no script, or can't be read.
+fn add_script(host: &HostRuntime, alloc: Global, path: &str, ink: &mut Ink) {
     let mut front = Vec::new(alloc);
     if read_front(host, path, FRONT, &mut front).is_err() {
-        return Ok(String::new(alloc));
+        return;
     }
     let Some(interpreter) = interpreter_in(front.as_slice()) else {
-        return Ok(String::new(alloc));
+        return;
     };
-    match found_at(host, alloc, interpreter)? {
-        Found::File {
-            is_executable: true,
-        } => Ok(String::new(alloc)),
-        _ => format!(in alloc;
-            "{path} is a script whose interpreter {interpreter} is not there, or not executable"
-        ),
+    match found_at(host, interpreter) {
+        Ok(Found::Program) => {}
+        _ => {
+            ink.put(path);
+            ink.put(" is a script whose interpreter ");
+            ink.put(interpreter);
+            ink.put(" is not there, or not executable");
+        }
     }
 }
 

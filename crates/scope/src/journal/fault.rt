@@ -21,12 +21,15 @@ pub(crate) enum JournalFault {
     LongLine(u64),
     /// A read failed.
     Read(io::Error),
+    /// What is to be shown of it can't be written.
+    Write(io::Error),
 }
 
-/// Tells what keeps the journal from being read, and answers the exit status. An error for want of memory.
+/// Tells what keeps the journal from being read, and answers the exit status. An error for want of memory, or of a write.
 pub(crate) fn tell_fault(host: &HostRuntime, name: &str, fault: JournalFault) -> io::Result<u8> {
     let words = match fault {
         JournalFault::NoMemory => return Err(io::Error::from(ErrorKind::OutOfMemory)),
+        JournalFault::Write(error) => return Err(error),
         JournalFault::Read(error) => {
             tell_of(host, name, &error);
             drop(error);

@@ -67,6 +67,8 @@ pub(crate) enum What {
 #[derive(Drop)]
 pub(crate) struct News {
     pub(crate) label: String,
+    /// The serial number of the job, if it is or was loaded.
+    pub(crate) serial: Option<u64>,
     pub(crate) what: What,
 }
 

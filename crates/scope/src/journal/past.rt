@@ -1,5 +1,6 @@
 //! What is kept of all jobs: by their labels, and the runs that are over.
 
+use crate::journal::hearing::News;
 use crate::journal::job::{Asked, Job, Record};
 use crate::journal::run::Run;
 use history_model::Reading;
@@ -20,9 +21,10 @@ pub(crate) struct Past {
     pub(crate) jobs: BTreeMap<String, Job>,
     /// The runs that are over, in the order of their ends.
     pub(crate) runs: VecDeque<Run>,
-    /// How many labels were forgotten.
-    pub(crate) forgotten: u64,
-    next: u64,
+    /// What the last line gave, in order.
+    pub(crate) news: Vec<News>,
+    /// The serial number of the job that was last new.
+    serial: u64,
     /// How many questions were kept, and which of them asked for the last shutdown, and when.
     asks: u64,
     shut_down: Option<(u64, Reading)>,
@@ -33,8 +35,8 @@ impl Past {
         Past {
             jobs: BTreeMap::new(alloc),
             runs: VecDeque::new(alloc),
-            forgotten: 0,
-            next: 0,
+            news: Vec::new(alloc),
+            serial: 0,
             asks: 0,
             shut_down: None,
         }
@@ -48,8 +50,8 @@ impl Past {
             Some(job) => job.record.loaded_again(at),
             None => {
                 is_room = self.make_room().is_ok();
-                self.next = self.next.saturating_add(1);
-                Record::new(self.next, at)
+                self.serial = self.serial.saturating_add(1);
+                Record::new(self.serial, at)
             }
         };
         let job = Job {
@@ -86,7 +88,6 @@ impl Past {
         };
         drop(self.jobs.remove(label.as_str()));
         drop(label);
-        self.forgotten = self.forgotten.saturating_add(1);
         Ok(())
     }
 

@@ -1,18 +1,18 @@
 //! A journal that words name: where it is, and its reading.
 
-use crate::journal::fault::{JournalFault, tell_fault};
-use crate::journal::feeding::JournalReader;
-use crate::listener::Listener;
+use crate::journal::fault::JournalFault;
+use crate::journal::lines::{Hears, Lines};
+use crate::telling::put;
 use crate::words::command::ScopeCommand;
 use exit_status::BAD_FILE;
-use std::alloc::{AllocError, Global};
+use std::alloc::AllocError;
 use std::env::VarError;
 use std::fs::File;
 use std::io::{ErrorKind, IsTerminal, Read};
 use std::{env, io};
 
 /// How faults name standard input.
-const INPUT: &str = "standard input";
+pub(crate) const INPUT: &str = "standard input";
 
 /// How many bytes are read at once.
 const PIECE: usize = 16_384;
@@ -38,12 +38,12 @@ fn read(host: &HostRuntime, source: &mut Source, piece: &mut [u8]) -> io::Result
 fn take_piece(
     host: &HostRuntime,
     source: &mut Source,
-    reader: &mut JournalReader,
+    lines: &mut Lines,
 ) -> Result<bool, JournalFault> {
     let mut piece = [0u8; PIECE];
     match read(host, source, &mut piece) {
         Ok(0) => Ok(false),
-        Ok(count) => match reader.take(piece.get(..count).unwrap_or(&[])) {
+        Ok(count) => match lines.take(piece.get(..count).unwrap_or(&[])) {
             Ok(()) => Ok(true),
             Err(fault) => Err(fault),
         },
@@ -52,26 +52,69 @@ fn take_piece(
     }
 }
 
-// Takes the next piece of the source, and the listener hears each line that is whole now. It says whether there was a piece.
-fn take_lines(
+// Takes the next piece of the source, and each line that is whole now is heard. It says whether there was a piece.
+fn take_lines<H: Hears>(
     host: &HostRuntime,
-    alloc: Global,
     source: &mut Source,
-    reader: &mut JournalReader,
-    listener: &mut Listener<'_>,
+    lines: &mut Lines,
+    hearer: &mut H,
 ) -> Result<bool, JournalFault> {
-    let is_there = take_piece(host, source, reader)?;
+    let is_there = take_piece(host, source, lines)?;
     for _ in 0..u64::MAX {
-        if !reader.next(alloc)? {
+        if !lines.hand_on(hearer)? {
             break;
-        }
-        if let Some(journal) = &reader.journal {
-            if listener.hear(alloc, journal, reader.lines == 1).is_err() {
-                return Err(JournalFault::NoMemory);
-            }
         }
     }
     Ok(is_there)
+}
+
+// The same, and what is to be shown is written, also if a line is at fault.
+fn take_and_show<H: Hears>(
+    host: &HostRuntime,
+    source: &mut Source,
+    lines: &mut Lines,
+    hearer: &mut H,
+) -> Result<bool, JournalFault> {
+    let taken = take_lines(host, source, lines, hearer);
+    match put(host, lines.shown.as_str()) {
+        Ok(()) => {
+            lines.shown.clear();
+            taken
+        }
+        Err(error) => {
+            drop(taken);
+            Err(JournalFault::Write(error))
+        }
+    }
+}
+
+/// Reads the source to its end. What is to be shown is written as it comes. If nothing is, a line of progress stands on standard error
+/// meanwhile, if that is a terminal.
+pub(crate) fn read_source<H: Hears>(
+    host: &HostRuntime,
+    source: &mut Source,
+    is_quiet: bool,
+    lines: &mut Lines,
+    hearer: &mut H,
+) -> Result<(), JournalFault> {
+    let is_seen = is_quiet && host.stderr().is_terminal();
+    let mut is_told = false;
+    for count in 1..u64::MAX {
+        match take_and_show(host, source, lines, hearer) {
+            Ok(true) => {}
+            Ok(false) => break,
+            Err(fault) => return Err(fault),
+        }
+        if is_seen && count % STRIDE == 0 {
+            let count = lines.count;
+            let _written = eprint!(host; "\r{count} lines");
+            is_told = true;
+        }
+    }
+    if is_told {
+        let _written = eprint!(host; "\r\x1b[K");
+    }
+    Ok(())
 }
 
 /// The journal's path: that of the words, else that of `JOBD_JOURNAL`. None: it comes on standard input.
@@ -98,11 +141,11 @@ pub(crate) fn open_journal(host: &HostRuntime, path: &str) -> io::Result<File> {
     File::open(host, path)
 }
 
-/// Tells the lines that are no event, if there are some, and answers the exit status.
-pub(crate) fn tell_bad(host: &HostRuntime, name: &str, reader: &JournalReader) -> u8 {
-    let first = reader.first_bad;
-    let more = reader.bad.saturating_sub(1);
-    if reader.bad == 0 {
+/// Tells the lines that are no event, which were left out, if there are some. It answers the exit status, which is 65 then.
+pub(crate) fn tell_bad(host: &HostRuntime, name: &str, lines: &Lines) -> u8 {
+    let first = lines.first_bad;
+    let more = lines.bad.saturating_sub(1);
+    if lines.bad == 0 {
         return 0;
     }
     if more == 0 {
@@ -115,75 +158,25 @@ pub(crate) fn tell_bad(host: &HostRuntime, name: &str, reader: &JournalReader) -
     BAD_FILE
 }
 
-/// Reads the source to its end; what the listener has to show is written. Else a line of progress stands on standard error meanwhile, if
-/// that is a terminal. `Some`: what kept the source from being read.
-pub(crate) fn read_source(
+/// Reads the journal of the path, or that of standard input, up to its last whole line.
+pub(crate) fn read_journal<H: Hears>(
     host: &HostRuntime,
-    alloc: Global,
-    source: &mut Source,
-    reader: &mut JournalReader,
-    listener: &mut Listener<'_>,
-) -> io::Result<Option<JournalFault>> {
-    let is_seen = listener.is_quiet() && host.stderr().is_terminal();
-    let mut is_told = false;
-    for count in 1..u64::MAX {
-        let taken = take_lines(host, alloc, source, reader, listener);
-        listener.write(host)?;
-        match taken {
-            Ok(true) => {}
-            Ok(false) => break,
-            Err(fault) => return Ok(Some(fault)),
-        }
-        if is_seen && count % STRIDE == 0 {
-            let lines = reader.lines;
-            let _written = eprint!(host; "\r{lines} lines");
-            is_told = true;
-        }
-    }
-    if is_told {
-        let _written = eprint!(host; "\r\x1b[K");
-    }
-    Ok(None)
-}
-
-/// Reads the journal of the path up to its last whole line. `Some`: the exit status, which is 65 if a line is no event; such a line is
-/// told and left out. None: the journal can't be read, and this was told.
-pub(crate) fn read_journal(
-    host: &HostRuntime,
-    alloc: Global,
     path: Option<&str>,
-    reader: &mut JournalReader,
-    listener: &mut Listener<'_>,
-) -> io::Result<Option<u8>> {
-    let name = path.unwrap_or(INPUT);
-    match read_path(host, alloc, path, reader, listener) {
-        Ok(None) => Ok(Some(tell_bad(host, name, reader))),
-        Ok(Some(fault)) => match tell_fault(host, name, fault) {
-            Ok(_) => Ok(None),
-            Err(error) => Err(error),
-        },
-        Err(error) => Err(error),
-    }
-}
-
-fn read_path(
-    host: &HostRuntime,
-    alloc: Global,
-    path: Option<&str>,
-    reader: &mut JournalReader,
-    listener: &mut Listener<'_>,
-) -> io::Result<Option<JournalFault>> {
+    is_quiet: bool,
+    lines: &mut Lines,
+    hearer: &mut H,
+) -> Result<(), JournalFault> {
     let mut source = match path {
         Some(path) => match open_journal(host, path) {
             Ok(file) => Source::File(file),
-            Err(error) => return Ok(Some(JournalFault::Read(error))),
+            Err(error) => return Err(JournalFault::Read(error)),
         },
         None => Source::Input,
     };
-    let read = read_source(host, alloc, &mut source, reader, listener);
+    let read = read_source(host, &mut source, is_quiet, lines, hearer);
     drop(source);
     match read {
-        Ok(None) if reader.journal.is_none() => Ok(Some(JournalFault::NoHeader)),
+        Ok(()) if lines.count == 0 => Err(JournalFault::NoHeader),
         read => read,
     }
 }

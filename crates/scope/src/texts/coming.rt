@@ -1,56 +1,102 @@
-//! What will want a job that nothing wants, in words.
+//! By what a job that nothing wants will be wanted, in words.
 
 use crate::journal::job::Record;
 use crate::journal::run::RunEnd;
-use crate::texts::told::Told;
+use crate::texts::told::{Keys, Told, add_words};
 use calendar_due::{Calendar, Zone};
-use history_model::{MAX_WALL, Reasons};
-use job_defs::Def;
-use run_times::Hole::{Coming, Minute, Number};
+use history_model::{Entry, MAX_WALL, Reading, Reasons};
+use run_times::Hole::{Coming, Minute, Number, Text};
 use run_times::Page;
 
 /// How far is looked ahead, in seconds: 400 days.
 pub(crate) const FARTHEST: u64 = 34_560_000;
 
-/// That nothing wants it, why its conditions do not, and the ways by which it comes to be wanted.
-pub(crate) fn add_not_wanted(page: &mut Page<'_>, told: &Told<'_>) {
-    page.ink.put("Nothing wants it.");
+/// Why its conditions do not want it, and the ways by which it comes to be wanted. The entries are those of its calendar, and the zone
+/// is that in which they are matched.
+pub(crate) fn add_ways(page: &mut Page<'_>, told: &Told<'_>, entries: &[Entry], zone: &Zone) {
     if told.reasons.is_removing {
         return;
     }
-    add_conditions(page, told.job, told.def);
-    page.ink.put(" It will be wanted");
+    let (by_exit, by_crash) = condition_words(told.job, &told.keys);
+    page.add("$$ It will be wanted", &[Text(by_exit), Text(by_crash)]);
     let before = page.ink.text.len();
-    add_calendar(page, told.zone, told.def);
-    add_interval(page, told.job, told.def);
-    add_events(page, told.def);
+    let (form, wall) = calendar_words(entries, zone, told.now.wall);
+    page.add(form, &[Minute(wall)]);
+    let (form, up, seconds) = interval_words(told.keys.start_interval, told.job.loaded, told.now);
+    page.add(form, &[Coming(up), Number(seconds)]);
+    add_words(&mut page.ink, &event_words(&told.keys));
     let has_way = page.ink.text.len() > before;
-    page.ink.put(if has_way { " or by " } else { " by " });
-    page.ink.put(asking_words(&told.reasons));
+    let by = if has_way { " or by " } else { " by " };
+    page.add("$$", &[Text(by), Text(asking_words(&told.reasons))]);
 }
 
-fn add_events(page: &mut Page<'_>, def: &Def) {
-    let ways = [
-        (
-            !def.watch_paths().is_empty(),
-            " once a path of WatchPaths changes,",
+// Why the conditions of its last end do not want it.
+fn condition_words(job: &Record, keys: &Keys<'_>) -> (&'static str, &'static str) {
+    let Some(last) = &job.last else {
+        return ("", "");
+    };
+    let by_exit = match (keys.successful_exit, last.end) {
+        (Some(true), _) => {
+            " KeepAlive SuccessfulExit is true, and its last run did not end with code 0."
+        }
+        (Some(false), RunEnd::Code(0)) => {
+            " KeepAlive SuccessfulExit is false, and its last run ended with code 0."
+        }
+        _ => "",
+    };
+    let by_crash = match (keys.crashed, last.is_crash) {
+        (Some(true), false) => " KeepAlive Crashed is true, and its last run did not crash.",
+        (Some(false), true) => " KeepAlive Crashed is false, and its last run crashed.",
+        _ => "",
+    };
+    (by_exit, by_crash)
+}
+
+// The next minute of its calendar.
+fn calendar_words(entries: &[Entry], zone: &Zone, after: u64) -> (&'static str, u64) {
+    if entries.is_empty() {
+        return ("", 0);
+    }
+    let until = after.saturating_add(FARTHEST).min(MAX_WALL);
+    match Calendar::next(entries, zone, after, until) {
+        Some(wall) => (" at $ (StartCalendarInterval),", wall),
+        None => (
+            " in no minute of the next 400 days (StartCalendarInterval),",
+            0,
         ),
+    }
+}
+
+// The `up` at which its interval, which is counted from the load, is over, and its seconds.
+fn interval_words(
+    interval: Option<u32>,
+    loaded: Reading,
+    now: Reading,
+) -> (&'static str, u64, u64) {
+    let Some(seconds) = interval else {
+        return ("", 0, 0);
+    };
+    let seconds = u64::from(seconds);
+    let length = seconds.saturating_mul(1000).max(1);
+    let gone = now.up.saturating_sub(loaded.up) / length;
+    let next = gone.saturating_add(1).saturating_mul(length);
+    let up = loaded.up.saturating_add(next);
+    (" at $ (StartInterval is $),", up, seconds)
+}
+
+fn event_words(keys: &Keys<'_>) -> [(bool, &'static str); 4] {
+    [
+        (keys.has_watch_paths, " once a path of WatchPaths changes,"),
         (
-            !def.queue_directories().is_empty(),
+            keys.has_queue_directories,
             " once a folder of QueueDirectories has an entry,",
         ),
         (
-            !def.path_state().is_empty(),
+            !keys.path_state.is_empty(),
             " once a path of KeepAlive PathState is as it says,",
         ),
-        (
-            def.has_sockets(),
-            " once a connection comes to its sockets,",
-        ),
-    ];
-    for (is_there, words) in ways.iter() {
-        page.ink.put(if *is_there { *words } else { "" });
-    }
+        (keys.has_sockets, " once a connection comes to its sockets,"),
+    ]
 }
 
 // What a client can ask. A start is no demand of a job that runs and is not being stopped.
@@ -60,56 +106,4 @@ fn asking_words(reasons: &Reasons) -> &'static str {
         (Some(child), _) if child.is_stopped => "`jobctl start`.",
         _ => "`jobctl kickstart -k`.",
     }
-}
-
-// Why the conditions of its last end do not want it.
-fn add_conditions(page: &mut Page<'_>, job: &Record, def: &Def) {
-    let Some(last) = &job.last else {
-        return;
-    };
-    let by_exit = match (def.successful_exit(), last.end) {
-        (Some(true), _) => {
-            " KeepAlive SuccessfulExit is true, and its last run did not end with code 0."
-        }
-        (Some(false), RunEnd::Code(0)) => {
-            " KeepAlive SuccessfulExit is false, and its last run ended with code 0."
-        }
-        _ => "",
-    };
-    let by_crash = match (def.crashed(), last.is_crash) {
-        (Some(true), false) => " KeepAlive Crashed is true, and its last run did not crash.",
-        (Some(false), true) => " KeepAlive Crashed is false, and its last run crashed.",
-        _ => "",
-    };
-    page.ink.put(by_exit);
-    page.ink.put(by_crash);
-}
-
-fn add_calendar(page: &mut Page<'_>, zone: &Zone, def: &Def) {
-    if def.calendar().is_empty() {
-        return;
-    }
-    let after = page.now.wall;
-    let until = after.saturating_add(FARTHEST).min(MAX_WALL);
-    let (form, wall) = match Calendar::next(def.calendar(), zone, after, until) {
-        Some(wall) => (" at $ (StartCalendarInterval),", wall),
-        None => (
-            " in no minute of the next 400 days (StartCalendarInterval),",
-            0,
-        ),
-    };
-    page.add(form, &[Minute(wall)]);
-}
-
-// An interval is counted from the load.
-fn add_interval(page: &mut Page<'_>, job: &Record, def: &Def) {
-    let Some(seconds) = def.start_interval() else {
-        return;
-    };
-    let seconds = u64::from(seconds);
-    let length = seconds.saturating_mul(1000).max(1);
-    let gone = page.now.up.saturating_sub(job.loaded.up) / length;
-    let next = gone.saturating_add(1).saturating_mul(length);
-    let moment = Coming(job.loaded.up.saturating_add(next));
-    page.add(" at $ (StartInterval is $),", &[moment, Number(seconds)]);
 }

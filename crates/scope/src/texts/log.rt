@@ -21,7 +21,7 @@ pub(crate) fn is_named(labels: &[history_model::Text], label: &str) -> bool {
 /// Adds what the last line of the journal gave, a line each, of the labels that are named, or of all if none is. What has no label is of
 /// each.
 pub(crate) fn add_lines(page: &mut Page<'_>, journal: &Journal, labels: &[history_model::Text]) {
-    for news in &journal.news {
+    for news in &journal.past.news {
         let label = news.label.as_str();
         if label.is_empty() || is_named(labels, label) {
             let path = match &news.what {
@@ -41,30 +41,17 @@ fn add_news(page: &mut Page<'_>, news: &News, path: Option<&str>) {
     match &news.what {
         What::Ordered {
             run,
-            connection,
+            connection: None,
             demand,
             wants,
         } => {
             let (form, cause) = order_words(*demand, path, wants);
-            match connection {
-                Some(number) => {
-                    let form = "run $ was ordered: connection $ waits";
-                    page.add(form, &[Number(*run), Number(*number)]);
-                }
-                None => page.add(form, &[Number(*run), Text(cause)]),
-            }
+            page.add(form, &[Number(*run), Text(cause)]);
         }
-        What::NotBegun { run, wait } => {
-            page.add("run $ was refused", &[Number(*run)]);
-            add_wait(page, wait);
-        }
-        What::Ended { run, wait } => {
-            add_ended(page, run);
-            add_wait(page, wait);
-        }
+        What::Ended { run, .. } => add_ended(page, run),
         what => add_what(page, what),
     }
-    page.ink.put("\n");
+    add_wait(page, &news.what);
 }
 
 // What is told by one form with two holes.
@@ -85,6 +72,16 @@ fn add_what(page: &mut Page<'_>, what: &What) {
             Number(number),
             none,
         ),
+        What::Ordered {
+            run,
+            connection: Some(number),
+            ..
+        } => (
+            "run $ was ordered: connection $ waits",
+            Number(run),
+            Number(number),
+        ),
+        What::NotBegun { run, .. } => ("run $ was refused", Number(run), none),
         What::Lost { run } => (
             "run $: the system refused to wait for it, its end is not seen",
             Number(run),
@@ -123,14 +120,21 @@ fn add_ended(page: &mut Page<'_>, run: &Run) {
     page.add("run $ ended $$$ after $", &holes);
 }
 
-// The wait that follows.
-fn add_wait(page: &mut Page<'_>, wait: &Wait) {
-    let (form, until) = match (wait.is_wanted, wait.throttled_until) {
-        (false, _) => ("; nothing wants it", 0),
-        (true, Some(up)) => ("; it waits until $ (throttled)", up),
-        (true, None) => ("", 0),
+// The wait that follows, and the line's end.
+fn add_wait(page: &mut Page<'_>, what: &What) {
+    let (form, until) = match what {
+        What::NotBegun { wait, .. } | What::Ended { wait, .. } => wait_words(wait),
+        _ => ("\n", 0),
     };
     page.add(form, &[Coming(until)]);
+}
+
+fn wait_words(wait: &Wait) -> (&'static str, u64) {
+    match (wait.is_wanted, wait.throttled_until) {
+        (false, _) => ("; nothing wants it\n", 0),
+        (true, Some(up)) => ("; it waits until $ (throttled)\n", up),
+        (true, None) => ("\n", 0),
+    }
 }
 
 // An order of a start, with holes for its run and its cause, and the cause.

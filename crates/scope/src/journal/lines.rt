@@ -1,0 +1,101 @@
+//! The lines of a journal that comes in pieces.
+
+use crate::journal::fault::JournalFault;
+use ctl_protocol::{LINE_LIMIT, LineFault, LineFeed};
+use std::alloc::Global;
+
+/// How many bytes of a journal's beginning are kept, to know it by.
+const HEAD: usize = 256;
+
+/// What hears a journal line by line.
+pub(crate) trait Hears {
+    /// Takes in the next line, of which the first is the header, and adds what is to be shown of it. It says whether the line is an event,
+    /// or the header; one that is not is left out.
+    fn hear(
+        &mut self,
+        line: &[u8],
+        is_header: bool,
+        shown: &mut String,
+    ) -> Result<bool, JournalFault>;
+}
+
+/// The lines of a journal that comes in pieces, and what was counted of them.
+#[derive(Drop)]
+pub(crate) struct Lines {
+    feed: LineFeed,
+    is_long: bool,
+    /// How many lines were read, the header too.
+    pub(crate) count: u64,
+    /// How many of them are no event, and the number of the first of these.
+    pub(crate) bad: u64,
+    pub(crate) first_bad: u64,
+    /// How many bytes came, and the first of them.
+    pub(crate) offset: u64,
+    pub(crate) head: Vec<u8>,
+    /// What is to be shown of them, and is not written yet.
+    pub(crate) shown: String,
+}
+
+impl Lines {
+    /// No line was read.
+    pub(crate) fn new(alloc: Global) -> Lines {
+        Lines {
+            feed: LineFeed::new(alloc, LINE_LIMIT),
+            is_long: false,
+            count: 0,
+            bad: 0,
+            first_bad: 0,
+            offset: 0,
+            head: Vec::new(alloc),
+            shown: String::new(alloc),
+        }
+    }
+
+    /// Takes the next piece.
+    pub(crate) fn take(&mut self, piece: &[u8]) -> Result<(), JournalFault> {
+        let room = HEAD.saturating_sub(self.head.len()).min(piece.len());
+        let front = piece.get(..room).unwrap_or(&[]);
+        let is_kept = self.head.extend_from_slice(front).is_ok();
+        self.offset = self.offset.saturating_add(piece.len() as u64);
+        match self.feed.feed(piece) {
+            Ok(()) if is_kept => Ok(()),
+            Err(LineFault::TooLong) if is_kept => {
+                self.is_long = true;
+                Ok(())
+            }
+            _ => Err(JournalFault::NoMemory),
+        }
+    }
+
+    /// Hands the next whole line on, and says whether there was one.
+    pub(crate) fn hand_on<H: Hears>(&mut self, hearer: &mut H) -> Result<bool, JournalFault> {
+        match self.feed.next_line() {
+            Ok(Some(line)) => {
+                let is_header = self.count == 0;
+                self.count = self.count.saturating_add(1);
+                let heard = hearer.hear(line.as_slice(), is_header, &mut self.shown);
+                drop(line);
+                match heard {
+                    Ok(is_event) => {
+                        self.count_line(is_event);
+                        Ok(true)
+                    }
+                    Err(fault) => Err(fault),
+                }
+            }
+            Ok(None) if self.is_long => Err(JournalFault::LongLine(self.count.saturating_add(1))),
+            Ok(None) => Ok(false),
+            Err(_) => Err(JournalFault::NoMemory),
+        }
+    }
+
+    fn count_line(&mut self, is_event: bool) {
+        if is_event {
+            return;
+        }
+        self.bad = self.bad.saturating_add(1);
+        if self.bad == 1 {
+            self.first_bad = self.count;
+        }
+    }
+}
