@@ -5,7 +5,8 @@
 
 First: `rm -r crates/CRATE/out/incremental; python3 check_crate.py CRATE`. The check keeps what it proved as files in out/incremental,
 one for each module, written as it goes. So the time between two files is what the later one took, by the clock. The NUMBER (25) dearest
-modules are listed, then what each kind of module took together. If the crate's library was built too (`rt lib`), a line of an Lts ends with
+modules are listed, then what each kind of module took together, and how large its files are. Seconds grow with what else the machine does; sizes
+don't, and those of the Lts go with their time (their correlation was 0.8 to 0.9 in each sixth of a check of child_edge). So compare forms of a function by size. If the crate's library was built too (`rt lib`), a line of an Lts ends with
 how many values are let go within the function, part by part: each is a step, on each way out (docs/ARCHITECTURE.md, "Cheap to prove").
 
     F.Lts        the steps of the function F: grows with its calls, and with each way out that lets values go
@@ -33,7 +34,8 @@ def modules_of(crate):
     """The modules that the last check of the crate wrote, with the moment of each, in order."""
     found = []
     for folder, _, files in os.walk(f"{TOP}/crates/{crate}/out/incremental"):
-        found += [(os.stat(f"{folder}/{it}").st_mtime, it.removesuffix(".oantt")) for it in files if it.endswith(".oantt")]
+        states = [(os.stat(f"{folder}/{it}"), it.removesuffix(".oantt")) for it in files if it.endswith(".oantt")]
+        found += [(state.st_mtime, name, state.st_size / 1e6) for state, name in states]
     return sorted(found)
 
 
@@ -63,15 +65,17 @@ def main(crate, number="25"):
     modules = modules_of(crate)
     if len(modules) < 2:
         sys.exit(f"crates/{crate}/out/incremental has no modules: check the crate first, with --jobs 1")
-    spent = [(later - earlier, name) for (earlier, _), (later, name) in zip(modules, modules[1:])]
+    spent = [(later - earlier, name, size) for (earlier, *_), (later, name, size) in zip(modules, modules[1:])]
     let_go = let_go_in(crate)
-    for seconds, name in sorted(spent, reverse=True)[: int(number)]:
+    for seconds, name, size in sorted(spent, reverse=True)[: int(number)]:
         count = let_go.get(name.removesuffix(".decls"), 0)
-        print(f"{seconds:8.1f} {name}{f', {count} let go' if count else ''}")
-    sums = collections.Counter()
-    for seconds, name in spent:
+        print(f"{seconds:8.1f} {size:6.2f} MB {name}{f', {count} let go' if count else ''}")
+    sums, sizes = collections.Counter(), collections.Counter()
+    for seconds, name, size in spent:
         sums[kind_of(name, crate)] += seconds
-    print(f"{sum(sums.values()):8.1f} in all, {len(modules)} modules: " + ", ".join(f"{kind} {s:.1f}" for kind, s in sums.most_common()))
+        sizes[kind_of(name, crate)] += size
+    kinds = ", ".join(f"{kind} {s:.1f} ({sizes[kind]:.1f} MB)" for kind, s in sums.most_common())
+    print(f"{sum(sums.values()):8.1f} in all, {len(modules)} modules: {kinds}")
 
 
 if __name__ == "__main__":
