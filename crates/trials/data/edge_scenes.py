@@ -394,6 +394,29 @@ def clients_that_never_read(stage):
     launcher.shut_down()
 
 
+def a_client_still_for_a_minute(stage):
+    """A client that takes nothing of its reply is let go after a minute, with both files, and not before; one that takes is served meanwhile."""
+    launcher = stage.serve()
+    launcher.load(socket_job(stage, "big", ["/bin/sh", "-c", "exec head -c 400000 /dev/zero"]))
+    with begin(stage.at("big")) as still:
+        launcher.tells("big", "runs = 1")
+        launcher.tells("big", "last exit = code 0")
+        begun = time.monotonic()
+        names = sorted(name for name in os.listdir(stage.at("spool")) if name.endswith((".request", ".reply")))
+        check(len(names) == 2, f"one client holds the files {names}")
+        got = len(call(stage.at("big")))
+        check(got == 400000, f"a second client got {got} bytes")
+        text = "jobd: big: a client was let go: it took nothing of its reply for a minute"
+        wait_for(lambda: text in launcher.said().splitlines(), lambda: f"after 70 s it said {launcher.said()!r}", 70)
+        took = time.monotonic() - begun
+        check(took > 55, f"it is let go after {took:.0f} s")
+        check(launcher.said() == text + "\n", f"it said {launcher.said()!r}")
+        left = [name for name in os.listdir(stage.at("spool")) if name.endswith((".request", ".reply"))]
+        check(not left, f"of a client that was let go are left {left}")
+        check(len(read_all(still)) < 400000, "one who took nothing got all")
+    launcher.shut_down()
+
+
 def clients_of_a_slow_job(stage):
     """Many clients wait for a slow job: another job's client is served, as long as there is room for one, and those that were held
     are answered in the end."""
@@ -1040,8 +1063,9 @@ def end_all(launcher):
     check(launcher.ends() == 0, "no clean end")
 
 
+# The longest is begun first.
 SCENES = [
-    a_stream_at_a_fifo, clients_that_never_read, clients_of_a_slow_job, silent_clients_of_one_port, ends_that_cannot_be_seen, a_second_launcher,
+    a_client_still_for_a_minute, a_stream_at_a_fifo, clients_that_never_read, clients_of_a_slow_job, silent_clients_of_one_port, ends_that_cannot_be_seen, a_second_launcher,
     a_start_that_fails, spool_links_and_fifos, a_spool_that_others_may_write, another_ones_socket, many_at_a_stale_socket,
     a_lost_spool_file, closed_standard_streams, pipelined_settings, silent_clients_of_the_control_socket, no_descriptor_left,
     settings_in_the_log, settings_of_the_first_version, limits_and_ignored_signals, private_files, a_journal_at_a_fifo,

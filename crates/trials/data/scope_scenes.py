@@ -7,10 +7,12 @@ A case begins with a line `=== NAME`; its parts follow, each behind a line of it
 
 `edge_scenes.py` plays them beside its own, and has what they share.
 """
+import json
 import os
+import re
 import subprocess
 
-from edge_scenes import BOUND, HERE, check, text_at
+from edge_scenes import BOUND, HERE, check, make, text_at
 
 # A case may look through years minute by minute.
 LONGEST = 6 * BOUND
@@ -89,4 +91,142 @@ def jobscope_next(stage):
     play_cases(stage, "next")
 
 
-SCENES = [jobscope_check, jobscope_cron, jobscope_journal, jobscope_next]
+# ---- clocks
+
+# Files of zones, in hexadecimal digits: that of Asia/Pyongyang, as the database of 2025 has it, and one of the shortest kind, with no change.
+PYONGYANG = (
+    "545a69663200000000000000000000000000000000000000000000000000000000000005000000040000000c8bd7f19c92e616f8d22f617055ce0270"
+    "5aec75700102030103000075e4000000007788000400007e90000800007e9000044c4d54004b5354004a535400545a69663200000000000000000000"
+    "000000000000000000000000000000000000000005000000040000000cffffffff8bd7f19cffffffff92e616f8ffffffffd22f61700000000055ce02"
+    "70000000005aec75700102030103000075e4000000007788000400007e90000800007e9000044c4d54004b5354004a5354000a4b53542d390a"
+)
+UTC = (
+    "545a69663200000000000000000000000000000000000000000000000000000000000000000000010000000400000000000055544300545a69663200"
+    "0000000000000000000000000000000000000000000000000000000000000000000100000004000000000000555443000a555443300a"
+)
+
+# A zone, seconds of Unix time, and the year, month, day, hour, minute and weekday that its clock shows then. Those of rules were computed by the C
+# library's `localtime` (glibc 2.36, by Python's `time.localtime` under `TZ`, and the same by `TZ=.. date -d @SECONDS`), those of the files by
+# Python's `zoneinfo`: a clock in Asia/Pyongyang was set back by half an hour on 15 August 2015 and forward again on 5 May 2018. The last ones are
+# of an offset: the crossed minute of `offset_of_an_hour` in `data/` of `try_replay`, and the greatest offsets.
+SHOWN = """\
+UTC0 0 1970 1 1 0 0 4
+UTC0 59 1970 1 1 0 0 4
+UTC0 68255999 1972 2 29 23 59 2
+UTC0 951825600 2000 2 29 12 0 2
+UTC0 4107542340 2100 2 28 23 59 0
+UTC0 4107542400 2100 3 1 0 0 1
+UTC0 13574563200 2400 2 29 0 0 2
+UTC0 946684799 1999 12 31 23 59 5
+UTC0 1735689540 2024 12 31 23 59 2
+UTC0 250000000000 9892 3 8 12 26 2
+EST5EDT,M3.2.0,M11.1.0 0 1969 12 31 19 0 3
+EST5EDT,M3.2.0,M11.1.0 1699162200 2023 11 5 1 30 0
+EST5EDT,M3.2.0,M11.1.0 1699165800 2023 11 5 1 30 0
+EST5EDT,M3.2.0,M11.1.0 1710053999 2024 3 10 1 59 0
+EST5EDT,M3.2.0,M11.1.0 1710054000 2024 3 10 3 0 0
+EST5EDT,M3.2.0,M11.1.0 1709182740 2024 2 28 23 59 3
+EST5EDT,M3.2.0,M11.1.0 1709182800 2024 2 29 0 0 4
+EST5EDT,M3.2.0,M11.1.0 250000000000 9892 3 8 7 26 2
+CET-1CEST,M3.5.0,M10.5.0/3 1711846740 2024 3 31 1 59 0
+CET-1CEST,M3.5.0,M10.5.0/3 1711846800 2024 3 31 3 0 0
+CET-1CEST,M3.5.0,M10.5.0/3 1729989000 2024 10 27 2 30 0
+CET-1CEST,M3.5.0,M10.5.0/3 1729992600 2024 10 27 2 30 0
+CET-1CEST,M3.5.0,M10.5.0/3 1735686000 2025 1 1 0 0 3
+IST-5:30 1704047340 2023 12 31 23 59 0
+IST-5:30 1704047400 2024 1 1 0 0 1
+NST3:30NDT,M3.2.0,M11.1.0 1719800940 2024 6 30 23 59 0
+NST3:30NDT,M3.2.0,M11.1.0 1704079800 2024 1 1 0 0 1
+<+0545>-5:45 1709144100 2024 2 29 0 0 4
+AEST-10AEDT,M10.1.0,M4.1.0/3 1712419140 2024 4 7 2 59 0
+AEST-10AEDT,M10.1.0,M4.1.0/3 1712419200 2024 4 7 2 0 0
+AEST-10AEDT,M10.1.0,M4.1.0/3 1728143940 2024 10 6 1 59 0
+AEST-10AEDT,M10.1.0,M4.1.0/3 1728144000 2024 10 6 3 0 0
+AEST-10AEDT,M10.1.0,M4.1.0/3 1735650000 2025 1 1 0 0 3
+<+1030>-10:30<+11>-11,M10.1.0,M4.1.0 1712415540 2024 4 7 1 59 0
+<+1030>-10:30<+11>-11,M10.1.0,M4.1.0 1712415600 2024 4 7 1 30 0
+<+1030>-10:30<+11>-11,M10.1.0,M4.1.0 1728142200 2024 10 6 2 30 0
+NZST-12NZDT,M9.5.0,M4.1.0/3 1704020340 2023 12 31 23 59 0
+NZST-12NZDT,M9.5.0,M4.1.0/3 1719748800 2024 7 1 0 0 1
+<+1245>-12:45<+1345>,M9.5.0/2:45,M4.1.0/3:45 1727531940 2024 9 29 2 44 0
+<+1245>-12:45<+1345>,M9.5.0/2:45,M4.1.0/3:45 1727532000 2024 9 29 3 45 0
+<-04>4<-03>,M9.1.6/24,M4.1.6/24 1712458740 2024 4 6 23 59 6
+<-04>4<-03>,M9.1.6/24,M4.1.6/24 1712458800 2024 4 6 23 0 6
+<-04>4<-03>,M9.1.6/24,M4.1.6/24 1725767940 2024 9 7 23 59 6
+<-04>4<-03>,M9.1.6/24,M4.1.6/24 1725768000 2024 9 8 1 0 0
+<-02>2<-01>,M3.5.0/-1,M10.5.0/0 1711846740 2024 3 30 22 59 6
+<-02>2<-01>,M3.5.0/-1,M10.5.0/0 1711846800 2024 3 31 0 0 0
+PST8PDT,M3.2.0,M11.1.0 1704095940 2023 12 31 23 59 0
+<-12>12 1709294340 2024 2 29 23 59 4
+<+14>-14 1709200740 2024 2 29 23 59 4
+<+14>-14 1709200800 2024 3 1 0 0 5
+IST-1GMT0,M10.5.0,M3.5.0/1 1719835200 2024 7 1 13 0 1
+IST-1GMT0,M10.5.0,M3.5.0/1 1704110400 2024 1 1 12 0 1
+EET-2EEST,M3.4.4/50,M10.4.4/50 1711756800 2024 3 30 3 0 6
+EET-2EEST,M3.4.4/50,M10.4.4/50 1711756740 2024 3 30 1 59 6
+AAA3BBB,J60/0,J300/0 1709261940 2024 2 29 23 59 4
+AAA3BBB,J60/0,J300/0 1709262000 2024 3 1 1 0 5
+AAA3BBB,J60/0,J300/0 1677639600 2023 3 1 1 0 3
+AAA-3BBB,59/0,300/0 1709153940 2024 2 28 23 59 3
+AAA-3BBB,59/0,300/0 1709154000 2024 2 29 1 0 4
+AAA-3BBB,59/0,300/0 1677618000 2023 3 1 1 0 3
+PYONGYANG 0 1970 1 1 9 0 4
+PYONGYANG 1439564340 2015 8 14 23 59 5
+PYONGYANG 1439564400 2015 8 14 23 30 5
+PYONGYANG 1439566200 2015 8 15 0 0 6
+PYONGYANG 1525445940 2018 5 4 23 29 5
+PYONGYANG 1525446000 2018 5 5 0 0 6
+PYONGYANG 1700000040 2023 11 15 7 14 3
+PYONGYANG 250000000000 9892 3 8 21 26 2
+UTC 1700000040 2023 11 14 22 14 2
+3600 1700000040 2023 11 14 23 14 2
+86399 1700000040 2023 11 15 22 13 3
+-86399 1700000040 2023 11 13 22 14 1
+"""
+
+# Members of a header that give no zone: texts that are no rule, offsets of a day and more, and bytes that are no zone's file.
+NO_ZONES = [
+    *({"zone": text} for text in (
+        "", "UTC", "0", "UTC0 ", " UTC0", ":UTC0", "UT0", "UTC25", "EST5EDT", "EST5EDT,M3.2.0", "EST5EDT,M13.2.0,M11.1.0",
+        "EST5EDT,M3.6.0,M11.1.0", "EST5EDT,M3.2.7,M11.1.0", "EST5EDT,J0,J300", "Europe/Paris", "UTC0\u00e9",
+    )),
+    *({"offset": seconds} for seconds in (-86400, 86400, -(1 << 31), (1 << 31) - 1)),
+    *({"zonefile": text} for text in ("", "545a69", PYONGYANG[: 2 * 236], "00" * 65537)),
+]
+
+
+def zone_of(word):
+    """The member of a header that a word of a row stands for."""
+    if re.fullmatch("-?[0-9]+", word):
+        return {"offset": int(word)}
+    return {"zonefile": globals()[word]} if word in ("PYONGYANG", "UTC") else {"zone": word}
+
+
+def log_of(stage, zone, wall):
+    """What `jobscope log` says of a journal that has a header alone."""
+    make(stage.at("journal"), json.dumps({"up": 0, "wall": wall, **zone}) + "\n")
+    words = [*stage.given.jobscope, "log", "--journal", stage.at("journal")]
+    return subprocess.run(words, capture_output=True, timeout=BOUND, text=True)
+
+
+def times_as_the_c_library_shows_them(stage):
+    """`jobscope log` shows each moment as the C library does, by a zone's rule, its file, or an offset."""
+    for row in SHOWN.splitlines():
+        word, wall, *numbers = row.split(" ")
+        year, month, day, hour, minute, weekday = map(int, numbers)
+        name = ("Sun", "Mon", "Tue", "Wed", "Thu", "Fri", "Sat")[weekday]
+        run = log_of(stage, zone_of(word), int(wall))
+        wanted = f"{year}-{month:02}-{day:02} {name} {hour:02}:{minute:02}:"
+        check(run.returncode == 0 and run.stdout.startswith(wanted), f"for {wanted}.. of {row} came {run.stdout!r} {run.stderr!r}")
+
+
+def zones_that_are_none(stage):
+    """A header whose zone is none opens no journal, for `jobscope` and for a replay."""
+    for zone in NO_ZONES:
+        log = log_of(stage, zone, 0)
+        replay = stage.replay("journal")
+        check(log.returncode == 65 and "header" in log.stderr and not log.stdout, f"{zone} got {log.returncode} {log.stdout!r} {log.stderr!r}")
+        check(replay.returncode == 2 and not replay.stdout, f"a replay with {zone} ended with {replay.returncode}, {replay.stdout!r}")
+
+
+SCENES = [jobscope_check, jobscope_cron, jobscope_journal, jobscope_next, times_as_the_c_library_shows_them, zones_that_are_none]

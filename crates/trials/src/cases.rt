@@ -1,7 +1,8 @@
 //! All cases of calls, and the one function that tries each. A line of what is shown stands for one case or more.
 
-use crate::edges::{control_stage, further_clients, memory, refused, silent_client, system};
-use crate::parts::{calendars, definitions, exchange, heap, lines};
+use crate::edges::{control_stage, further_clients, memory, refused, system};
+use crate::memory_stage::Stage;
+use crate::parts::{definitions, exchange, heap, lines};
 use crate::rounds::{pair, refusals, step};
 use crate::stores::{files, on_disks, stops};
 use crate::tables::{rows, visits};
@@ -10,11 +11,6 @@ use anyhow::Result;
 
 /// One case, by what tries it.
 pub enum Case {
-    Times(&'static str),
-    Crossing,
-    NoRules(&'static str),
-    Offsets(&'static [i32], usize),
-    NoFile(&'static [u8], usize, usize),
     Definition(&'static definitions::Read),
     Exchange(&'static [exchange::Step]),
     Heap(&'static [heap::Step]),
@@ -26,13 +22,12 @@ pub enum Case {
     Further(&'static further_clients::Further),
     Scripted(&'static memory::Script),
     Refusing(&'static refused::Refused),
-    SilentClient,
     System(&'static system::Scene),
     RefusedRounds,
     Spared(&'static step::Stream),
-    Stored(&'static on_disks::Listed),
+    Stored(&'static on_disks::Listed<'static>),
     ManyStored,
-    Lasting(files::Begin, &'static [files::Round]),
+    Lasting(files::Begin, &'static [on_disks::Listed<'static>]),
     Stopping(stops::Run, bool),
     Opening(&'static openings::Opening),
     Launched(&'static launchers::Turns),
@@ -47,13 +42,6 @@ pub type Line = (&'static str, &'static [Case]);
 fn goes(rt: &HostRuntime, case: &Case) -> bool {
     let alloc = rt.alloc();
     match *case {
-        Case::Times(lines) => calendars::are_shown(alloc, lines),
-        Case::Crossing => calendars::crosses_one(alloc) == Some(true),
-        Case::NoRules(lines) => calendars::are_no_rules(lines),
-        Case::Offsets(offsets, zones) => calendars::zones_of(offsets) == Some(zones),
-        Case::NoFile(bytes, count, zeros) => {
-            calendars::is_no_file(alloc, bytes, count, zeros) == Some(true)
-        }
         Case::Definition(read) => definitions::is_read(alloc, read),
         Case::Exchange(steps) => exchange::all_go(alloc, steps) == Some(true),
         Case::Heap(steps) => heap::all_go(alloc, steps) == Some(true),
@@ -67,16 +55,15 @@ fn goes(rt: &HostRuntime, case: &Case) -> bool {
         Case::Further(further) => further_clients::is_placed(further),
         Case::Scripted(script) => memory::is_so(alloc, script) == Some(true),
         Case::Refusing(refused) => refused::is_so(rt, refused) == Some(true),
-        Case::SilentClient => silent_client::is_let_go(rt) == Some(true),
         Case::System(scene) => system::is_played(rt, scene) == Some(true),
         Case::RefusedRounds => refusals::are_taken(rt) == Some(true),
         Case::Spared(stream) => pair::is_spared(alloc, stream) == Some(true),
-        Case::Stored(listed) => on_disks::is_listed(alloc, listed) == Some(true),
+        Case::Stored(listed) => on_disks::is_listed(alloc, listed),
         Case::ManyStored => on_disks::has_many(alloc) == Some(true),
         Case::Lasting(begin, rounds) => files::do_last(alloc, begin, rounds),
         Case::Stopping(run, is_log) => stops::are_followed(alloc, run, is_log),
-        Case::Opening(opening) => openings::is_so(alloc, opening) == Some(true),
-        Case::Launched(turns) => launchers::is_so(alloc, turns) == Some(true),
+        Case::Opening(opening) => openings::is_so::<Stage>(alloc, opening) == Some(true),
+        Case::Launched(turns) => launchers::is_so::<Stage>(alloc, turns) == Some(true),
         Case::Journal(row) => journals::become_so(alloc, row) == Some(true),
         Case::NoJournal => journals::is_silent(alloc) == Some(true),
     }

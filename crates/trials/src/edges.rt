@@ -9,7 +9,6 @@ pub mod memory;
 pub mod places;
 pub mod refused;
 pub mod refusing;
-pub mod silent_client;
 pub mod system;
 mod system_cases;
 
@@ -46,10 +45,6 @@ static LINES: &[Line] = &[
             Case::Refusing(refused::A_LOST_CHILD),
             Case::Refusing(refused::CHILD_0),
         ],
-    ),
-    (
-        "one_who_takes_nothing_is_let_go_after_a_minute",
-        &[Case::SilentClient],
     ),
     ("the_edge_answers_as_its_system_does", system_cases::CASES),
 ];

@@ -34,7 +34,6 @@ use std::sync::Wait;
 /// A list of cases.
 #[derive(Clone, Copy)]
 enum List {
-    Times,
     Jobs,
     Lines,
     Tables,
@@ -48,7 +47,6 @@ enum List {
 
 fn lines_of(list: List) -> &'static [Line] {
     match list {
-        List::Times => parts::times_list(),
         List::Jobs => parts::job_list(),
         List::Lines => parts::lines_list(),
         List::Tables => tables::list(),
@@ -63,7 +61,6 @@ fn lines_of(list: List) -> &'static [Line] {
 
 /// All lists, in order.
 const CALLS: &[List] = &[
-    List::Times,
     List::Jobs,
     List::Lines,
     List::Tables,
@@ -86,10 +83,7 @@ enum Task {
 static TASKS: &[(&str, Task)] = &[
     ("trials", Task::All),
     ("calls", Task::Calls(CALLS)),
-    (
-        "parts",
-        Task::Calls(&[List::Times, List::Jobs, List::Lines]),
-    ),
+    ("parts", Task::Calls(&[List::Jobs, List::Lines])),
     ("tables", Task::Calls(&[List::Tables])),
     ("edges", Task::Calls(&[List::Edges])),
     ("rounds", Task::Calls(&[List::Rounds])),

@@ -1,22 +1,16 @@
-//! What is read, and one job's parts: calendars, definitions, exchanges, the heap of moments, and lines.
+//! What is read, and one job's parts: definitions, exchanges, the heap of moments, and lines.
 
-pub mod calendars;
 pub mod definitions;
 pub mod exchange;
 pub mod heap;
 pub mod lines;
 
 use crate::cases::{Case, Line};
-use crate::parts::calendars::cases as times;
 use crate::parts::lines::Kind::{Event, Header, Request, Target};
 use crate::parts::lines::cases as texts;
 
-/// The cases of clocks and zones. Nothing else names the list: a function is proved over all of a list that it names.
-pub fn times_list() -> &'static [Line] {
-    TIMES
-}
-
-/// The cases of one job's parts: its definition, the bytes of an exchange, its moments.
+/// The cases of one job's parts: its definition, the bytes of an exchange, its moments. Nothing else names the list: a function is proved over all of
+/// a list that it names.
 pub fn job_list() -> &'static [Line] {
     JOBS
 }
@@ -25,26 +19,6 @@ pub fn job_list() -> &'static [Line] {
 pub fn lines_list() -> &'static [Line] {
     LINES
 }
-
-static TIMES: &[Line] = &[
-    (
-        "shows_what_the_c_library_shows",
-        &[Case::Times(times::SHOWN), Case::Times(times::SHOWN_BY_FILE)],
-    ),
-    (
-        "zones_are_made_or_refused",
-        &[
-            Case::Crossing,
-            Case::Offsets(&[-86_400, 86_400, i32::MIN, i32::MAX], 0),
-            Case::Offsets(&[-86_399, 86_399], 2),
-            Case::NoFile(b"", 0, 65_537),
-            Case::NoFile(b"", 0, 0),
-            Case::NoFile(b"TZi", 3, 0),
-            Case::NoFile(times::PYONGYANG, 236, 0),
-            Case::NoRules(times::NO_RULES),
-        ],
-    ),
-];
 
 static JOBS: &[Line] = &[
     (

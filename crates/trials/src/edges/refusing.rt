@@ -20,8 +20,6 @@ pub enum Grants {
     Nothing,
     /// Files are opened, and a socket is bound at which nobody can be let in.
     Openings,
-    /// Files are opened, looked at and removed, sockets are bound, and the clock goes a hundred times as fast.
-    FastClock,
 }
 
 /// A child that starts, by its process id, and how many waits for it are refused; after them it has ended with code 3.
@@ -74,10 +72,7 @@ impl Alloc for Refusing {
 
 impl Clock for Refusing {
     fn monotonic(&self) -> io::Result<Duration> {
-        match self.grants {
-            Grants::FastClock => Ok(self.host.monotonic()?.saturating_mul(100)),
-            _ => Ok(Duration::from_secs(7)),
-        }
+        Ok(Duration::from_secs(7))
     }
 
     fn since_1970(&self) -> io::Result<Duration> {
@@ -166,7 +161,7 @@ impl Files for Refusing {
     fn open_file(&self, how: &OpenOptions, path: &str) -> io::Result<File> {
         match self.grants {
             Grants::Nothing => refused(self.kind),
-            _ => self.host.open_file(how, path),
+            Grants::Openings => self.host.open_file(how, path),
         }
     }
 
@@ -178,11 +173,8 @@ impl Files for Refusing {
         refused(self.kind)
     }
 
-    fn symlink_metadata(&self, path: &str) -> io::Result<Metadata> {
-        match self.grants {
-            Grants::FastClock => self.host.symlink_metadata(path),
-            _ => refused(self.kind),
-        }
+    fn symlink_metadata(&self, _path: &str) -> io::Result<Metadata> {
+        refused(self.kind)
     }
 
     fn copy(&self, _from: &str, _to: &str) -> io::Result<u64> {
@@ -193,11 +185,8 @@ impl Files for Refusing {
         refused(self.kind)
     }
 
-    fn remove_file(&self, path: &str) -> io::Result<()> {
-        match self.grants {
-            Grants::FastClock => self.host.remove_file(path),
-            _ => refused(self.kind),
-        }
+    fn remove_file(&self, _path: &str) -> io::Result<()> {
+        refused(self.kind)
     }
 
     fn create_dir(&self, _path: &str) -> io::Result<()> {
@@ -218,12 +207,11 @@ impl Net for Refusing {
 
     type Listener = TcpListener;
 
-    fn bind(&self, addr: SocketAddr) -> io::Result<TcpListener> {
+    fn bind(&self, _addr: SocketAddr) -> io::Result<TcpListener> {
         match self.grants {
             Grants::Nothing => refused(self.kind),
             // It was never told to listen.
             Grants::Openings => Ok(TcpListener::from(self.host.unix_socket()?)),
-            Grants::FastClock => self.host.bind(addr),
         }
     }
 

@@ -70,7 +70,7 @@ fn job_text(alloc: Global, folder: &str, port: u16, script: &str) -> Result<Stri
 }
 
 /// Whether the edge takes the client under number 1, for job 0.
-pub fn takes<R: System>(alloc: Global, edge: &mut OsEdge<R>, client: Client) -> Option<bool> {
+fn takes<R: System>(alloc: Global, edge: &mut OsEdge<R>, client: Client) -> Option<bool> {
     match Exchange::new(alloc) {
         Ok(exchange) => Some(edge.take(0, 1, client, exchange).is_ok()),
         Err(_) => {

@@ -7,7 +7,6 @@ ghost use Rattle.std.specs.Prelude.{◌≤◌};
 use crate::little_memory::hoard::Hoard;
 use crate::little_memory::trial::{Answer, Trial, tried};
 use crate::little_memory::{feeding, replaying};
-use crate::parts::calendars::cases::PYONGYANG;
 use crate::parts::lines::{Kind, again};
 use anyhow::{Result, bail};
 use calendar_due::{Zone, ZoneFault};
@@ -99,6 +98,15 @@ const WORDS: &str = "jobctl load -w one.json two.json";
 
 const DAEMON_WORDS: &str =
     "jobd serve --socket jobd.sock --store set.db --spool runs --zone UTC0 --journal day.log";
+
+/// The file of Asia/Pyongyang, as the database of 2025 has it.
+const PYONGYANG: &[u8] =
+    b"TZif2\0\0\0\0\0\0\0\0\0\0\0\0\0\0\0\0\0\0\0\0\0\0\0\0\0\0\0\0\0\0\x05\0\0\0\x04\0\0\0\x0c\x8b\
+\xd7\xf1\x9c\x92\xe6\x16\xf8\xd2/apU\xce\x02pZ\xecup\x01\x02\x03\x01\x03\0\0u\xe4\0\0\0\0w\x88\
+\0\x04\0\0~\x90\0\x08\0\0~\x90\0\x04LMT\0KST\0JST\0TZif2\0\0\0\0\0\0\0\0\0\0\0\0\0\0\0\0\0\0\
+\0\0\0\0\0\0\0\0\0\0\0\0\x05\0\0\0\x04\0\0\0\x0c\xff\xff\xff\xff\x8b\xd7\xf1\x9c\xff\xff\xff\
+\xff\x92\xe6\x16\xf8\xff\xff\xff\xff\xd2/ap\0\0\0\0U\xce\x02p\0\0\0\0Z\xecup\x01\x02\x03\x01\
+\x03\0\0u\xe4\0\0\0\0w\x88\0\x04\0\0~\x90\0\x08\0\0~\x90\0\x04LMT\0KST\0JST\0\x0aKST-9\x0a";
 
 /// The minute before clocks in Pyongyang were set back by half an hour: 23:59 of 14 August 2015.
 const BEFORE_THE_CHANGE: u64 = 1_439_564_340;

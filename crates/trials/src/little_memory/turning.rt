@@ -2,7 +2,7 @@
 
 use crate::little_memory::hoard::Hoard;
 use crate::little_memory::trial::{Answer, Trial, tried};
-use crate::memory_stage::{Launched, Parts, asked, parts_of};
+use crate::memory_stage::{LINES, Launched, Parts, asked, parts_of};
 use anyhow::Result;
 use child_edge::{EdgeCall, Scripted};
 use history_model::{JobNo, Reading};
@@ -177,7 +177,7 @@ fn is_undone<H: Launched>(alloc: Global, host: &mut H, turn: &Turn, calls: usize
 /// A launcher that has the turn's first job, if it took that.
 fn ready<H: Launched + Drop>(alloc: Global, turn: &Turn) -> Option<H> {
     let parts = parts_of(alloc, "UTC0", 0, &[], turn.answers)?;
-    let mut host = H::open(alloc, parts).ok()?;
+    let mut host = H::open(alloc, parts, LINES).ok()?;
     if asked(alloc, &mut host, Input::Line(turn.before), "") == (0, true) {
         Some(host)
     } else {
@@ -192,7 +192,7 @@ impl<H: Launched + Drop> Turning<H> {
         let Some(parts) = self.parts.take() else {
             return Answer::Other;
         };
-        match H::open(alloc, parts) {
+        match H::open(alloc, parts, LINES) {
             Ok(host) => {
                 drop(mem::replace(&mut self.host, Some(host)));
                 Answer::Made

@@ -91,16 +91,10 @@ pub fn parts_of(
     }
 }
 
-/// A launcher of the parts, whose journal takes so many writes.
-pub fn opened(alloc: Global, parts: Parts, writes: usize) -> Result<Stage, HostFault> {
-    let (header, store, edge) = parts;
-    Host::new(alloc, header, store, edge, Some(new_sink(alloc, writes)))
-}
-
 /// A launcher, whatever it is made of.
 pub trait Launched {
-    /// A launcher of the parts.
-    fn open(alloc: Global, parts: Parts) -> Result<Self, HostFault>;
+    /// A launcher of the parts, whose journal takes so many writes.
+    fn open(alloc: Global, parts: Parts, writes: usize) -> Result<Self, HostFault>;
 
     /// What it replies to the input.
     fn reply_to(&mut self, alloc: Global, input: Input<'_>) -> Reply;
@@ -110,11 +104,24 @@ pub trait Launched {
 
     /// Whether its journal was closed, and that was not told yet.
     fn has_closed(&mut self) -> bool;
+
+    /// What is left of it.
+    fn into_left(self) -> Left;
+}
+
+/// What is left of a launcher: whether it had a job, its store and its edge, and its journal, if that was not closed.
+#[derive(Drop)]
+pub struct Left {
+    pub has_job: bool,
+    pub store: MemoryStore,
+    pub edge: HandedEdge,
+    pub journal: Option<Sink>,
 }
 
 impl Launched for Stage {
-    fn open(alloc: Global, parts: Parts) -> Result<Stage, HostFault> {
-        opened(alloc, parts, LINES)
+    fn open(alloc: Global, parts: Parts, writes: usize) -> Result<Stage, HostFault> {
+        let (header, store, edge) = parts;
+        Host::new(alloc, header, store, edge, Some(new_sink(alloc, writes)))
     }
 
     fn reply_to(&mut self, alloc: Global, input: Input<'_>) -> Reply {
@@ -127,6 +134,18 @@ impl Launched for Stage {
 
     fn has_closed(&mut self) -> bool {
         self.report_journal_closing()
+    }
+
+    fn into_left(self) -> Left {
+        let (table, store, edge, journal) = self.into_parts();
+        let has_job = !table.is_empty();
+        drop(table);
+        Left {
+            has_job,
+            store,
+            edge,
+            journal,
+        }
     }
 }
 

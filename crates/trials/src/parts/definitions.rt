@@ -200,44 +200,67 @@ pub const SOCKET: &Read = &Read {
     ..ABSENT
 };
 
+/// Whether the texts are these. No example has more than two of a kind.
 fn are_texts(items: &[Text], wanted: &[&str]) -> bool {
-    let mut are_so = items.len() == wanted.len();
-    for (item, text) in items.iter().zip(wanted.iter()) {
-        are_so &= item.as_str() == *text;
+    match (items, wanted) {
+        ([], []) => true,
+        ([one], [text]) => one.as_str() == *text,
+        ([one, other], [text, next]) => {
+            let is_first = one.as_str() == *text;
+            let is_second = other.as_str() == *next;
+            is_first && is_second
+        }
+        _ => false,
     }
-    are_so
+}
+
+fn is_variable(variable: &Variable, wanted: (&str, &str)) -> bool {
+    let is_name = variable.name.as_str() == wanted.0;
+    let is_value = variable.value.as_str() == wanted.1;
+    is_name && is_value
 }
 
 fn are_variables(items: &[Variable], wanted: &[(&str, &str)]) -> bool {
-    let mut are_so = items.len() == wanted.len();
-    for (variable, (name, value)) in items.iter().zip(wanted.iter()) {
-        are_so &= variable.name.as_str() == *name;
-        are_so &= variable.value.as_str() == *value;
+    match (items, wanted) {
+        ([], []) => true,
+        ([one, other], [variable, next]) => {
+            let is_first = is_variable(one, *variable);
+            is_variable(other, *next) && is_first
+        }
+        _ => false,
     }
-    are_so
 }
 
 fn are_states(items: &[PathState], wanted: &[(&str, bool)]) -> bool {
-    let mut are_so = items.len() == wanted.len();
-    for (state, (path, present)) in items.iter().zip(wanted.iter()) {
-        are_so &= state.path.as_str() == *path;
-        are_so &= state.present == *present;
+    match (items, wanted) {
+        ([], []) => true,
+        ([state], [(path, present)]) => {
+            let is_path = state.path.as_str() == *path;
+            is_path && state.present == *present
+        }
+        _ => false,
     }
-    are_so
+}
+
+fn is_at(socket: &Socket, wanted: &Place) -> bool {
+    match (&socket.address, wanted) {
+        (Address::Unix(path), Place::Path(wanted)) => path.as_str() == *wanted,
+        (Address::Inet { host, port }, Place::Port(bytes, number)) => {
+            *host == *bytes && *port == *number
+        }
+        _ => false,
+    }
 }
 
 fn are_at(items: &[Socket], wanted: &[Place]) -> bool {
-    let mut are_so = items.len() == wanted.len();
-    for (socket, place) in items.iter().zip(wanted.iter()) {
-        are_so &= match (&socket.address, place) {
-            (Address::Unix(path), Place::Path(wanted)) => path.as_str() == *wanted,
-            (Address::Inet { host, port }, Place::Port(bytes, number)) => {
-                *host == *bytes && *port == *number
-            }
-            _ => false,
-        };
+    match (items, wanted) {
+        ([], []) => true,
+        ([first, second], [place, next]) => {
+            let is_first = is_at(first, place);
+            is_at(second, next) && is_first
+        }
+        _ => false,
     }
-    are_so
 }
 
 /// Whether the definition has this.

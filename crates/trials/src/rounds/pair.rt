@@ -2,8 +2,7 @@
 //! told everything.
 
 use crate::memory_stage::{
-    ABSENT, Handed, HandedEdge, LINES, Launched, MemoryStore, PATHS, START, Sights as Seen, Sink,
-    Stage, parts_of,
+    ABSENT, Handed, LINES, Launched, PATHS, START, Sights as Seen, Stage, parts_of,
 };
 use crate::rounds::step::{Step, Stream};
 use control_socket::Answers;
@@ -88,46 +87,45 @@ impl<T: SettingStore, E: Handed, W: Write> Pair<T, E, W> {
 }
 
 /// A launcher whose edge gives the answers beside these calls.
-fn staged(alloc: Global, stream: &Stream) -> Option<Stage> {
+fn staged<H: Launched + Drop>(alloc: Global, stream: &Stream) -> Option<H> {
     let parts = parts_of(alloc, "UTC0", 0, &[], stream.orders)?;
-    Stage::open(alloc, parts).ok()
+    H::open(alloc, parts, LINES).ok()
 }
 
 // How many lines the launcher's journal took.
-fn lines_of(host: Stage) -> usize {
-    let (table, store, edge, journal) = host.into_parts();
-    drop(table);
-    drop(store);
-    drop(edge);
-    match journal {
+fn lines_of<H: Launched>(host: H) -> usize {
+    let left = host.into_left();
+    let lines = match &left.journal {
         Some(sink) => LINES.saturating_sub(sink.writes),
         None => LINES,
-    }
+    };
+    drop(left);
+    lines
 }
 
-fn set_pair(alloc: Global, stream: &Stream) -> Option<Pair<MemoryStore, HandedEdge, Sink>> {
-    let host = staged(alloc, stream)?;
-    match (staged(alloc, stream), Sights::new(alloc)) {
-        (Some(whole), Ok(looks)) => Some(Pair {
-            spared: RoundLauncher::new(host),
-            looks,
-            whole,
-            at: START,
-            seen: [ABSENT, ABSENT],
-        }),
-        (whole, looks) => {
+/// Whether the two launchers answer each step of the stream alike, have ordered the same after each, and in the end what stands beside the steps;
+/// and both launchers again.
+fn played<T: SettingStore + Drop, E: Handed + Drop, W: Write + Drop>(
+    alloc: Global,
+    host: Host<T, E, W>,
+    whole: Host<T, E, W>,
+    stream: &Stream,
+) -> Option<(bool, Host<T, E, W>, Host<T, E, W>)> {
+    let looks = match Sights::new(alloc) {
+        Ok(looks) => looks,
+        Err(_) => {
             drop(host);
             drop(whole);
-            drop(looks);
-            None
+            return None;
         }
-    }
-}
-
-/// Says whether both launchers answer each step of the stream alike, have ordered the same after each step, and in the end what
-/// stands beside the steps, and whether the journal of the one is shorter by so many lines.
-pub fn is_spared(alloc: Global, stream: &Stream) -> Option<bool> {
-    let mut pair = set_pair(alloc, stream)?;
+    };
+    let mut pair = Pair {
+        spared: RoundLauncher::new(host),
+        looks,
+        whole,
+        at: START,
+        seen: [ABSENT, ABSENT],
+    };
     let are_alike = pair.play_all(alloc, stream);
     let Pair {
         spared,
@@ -137,6 +135,21 @@ pub fn is_spared(alloc: Global, stream: &Stream) -> Option<bool> {
     } = pair;
     drop(looks);
     let RoundLauncher { host, .. } = spared;
-    let lines = lines_of(host).saturating_add(stream.left_out);
+    Some((are_alike, host, whole))
+}
+
+/// Says whether both launchers answer each step of the stream alike, have ordered the same after each step, and in the end what
+/// stands beside the steps, and whether the journal of the one is shorter by so many lines.
+pub fn is_spared(alloc: Global, stream: &Stream) -> Option<bool> {
+    let host: Stage = staged(alloc, stream)?;
+    let whole: Stage = match staged(alloc, stream) {
+        Some(whole) => whole,
+        None => {
+            drop(host);
+            return None;
+        }
+    };
+    let (are_alike, spared, whole) = played(alloc, host, whole, stream)?;
+    let lines = lines_of(spared).saturating_add(stream.left_out);
     Some(are_alike && lines == lines_of(whole))
 }

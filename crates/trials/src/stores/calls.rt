@@ -3,8 +3,7 @@
 use history_model::Setting;
 use job_defs::is_label;
 use override_store::{OverrideStore, StoreFault};
-use sqlite::{Alter, Connection, FileStore, Files, Options};
-use sqlite_disk::Disk;
+use sqlite::{Alter, Connection};
 use std::alloc::Global;
 
 /// A label's setting and its second.
@@ -15,19 +14,6 @@ pub const FIRST_VERSION: &str =
     "CREATE TABLE overrides (label TEXT NOT NULL PRIMARY KEY, disabled INTEGER NOT NULL CHECK (disabled IN (0, 1))) STRICT; INSERT INTO overrides VALUES ('a', 1), ('b', 0)";
 
 pub const SECOND: u64 = 1_700_000_000;
-
-/// The connection over these files, unless they can't be used.
-pub fn connected<D: Disk + Drop>(
-    alloc: Global,
-    files: Files<D>,
-    number: u64,
-) -> Option<Connection<FileStore<D>>> {
-    if !files.may_be_used() {
-        drop(files);
-        return None;
-    }
-    Connection::open_files(alloc, files, Options::new(number)).ok()
-}
 
 pub fn runs<S: Alter>(conn: &mut Connection<S>, sql: &str) -> bool {
     conn.execute_batch(sql).is_ok()

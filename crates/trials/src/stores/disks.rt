@@ -41,3 +41,10 @@ pub fn copies(alloc: Global, from: &Disks, log: u64, db: u64) -> Option<Disks> {
         }
     }
 }
+
+/// Whether there are any. They are let go.
+pub fn are_there(disks: Option<Disks>) -> bool {
+    let are_there = disks.is_some();
+    drop(disks);
+    are_there
+}

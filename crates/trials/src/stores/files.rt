@@ -1,98 +1,50 @@
 //! Stores over files that are closed and opened again, on disks in memory: each acknowledged setting is there.
 
-use crate::stores::calls::{FIRST_VERSION, Row, SECOND, connected, has, opened, set_all};
-use crate::stores::disks::{Disks, new_disks};
-use crate::stores::over_files::{Task, done_over};
-use override_store::OverrideStore;
-use override_store::again::on_files;
-use sqlite::{Alter, Connection, Files, Options};
-use sqlite_disk::Disk;
+use crate::stores::calls::{FIRST_VERSION, SECOND};
+use crate::stores::disks::{Disks, are_there, new_disks};
+use crate::stores::on_disks::{Listed, NOTHING};
+use crate::stores::over_files::{Task, so_over};
 use std::alloc::Global;
 
-/// What is set between an opening of the files and their closing, and what a store over the files lists after that.
-pub struct Round {
-    sets: &'static [Row<'static>],
-    want: &'static [Row<'static>],
-}
-
-/// Nothing is set, and nothing is there.
-pub const NOTHING: Round = Round {
-    sets: &[],
-    want: &[],
-};
-
-/// Files that hold nothing yet.
-pub const NEW: &[Round] = &[
+/// Files that hold nothing yet: what is set between an opening and the closing, and then listed.
+pub const NEW: &[Listed<'static>] = &[
     NOTHING,
-    Round {
+    Listed {
         sets: &[("b", true, SECOND), ("a", true, SECOND)],
-        want: &[("a", true, SECOND), ("b", true, SECOND)],
+        want: Some(&[("a", true, SECOND), ("b", true, SECOND)]),
+        ..NOTHING
     },
-    Round {
+    Listed {
         sets: &[("a", false, SECOND + 60), ("z", true, SECOND + 61)],
-        want: &[
+        want: Some(&[
             ("a", false, SECOND + 60),
             ("b", true, SECOND),
             ("z", true, SECOND + 61),
-        ],
+        ]),
+        ..NOTHING
     },
-    Round {
-        sets: &[],
-        want: &[
+    Listed {
+        want: Some(&[
             ("a", false, SECOND + 60),
             ("b", true, SECOND),
             ("z", true, SECOND + 61),
-        ],
+        ]),
+        ..NOTHING
     },
 ];
 
 /// Files of the first version.
-pub const OLD: &[Round] = &[
-    Round {
-        sets: &[],
-        want: &[("a", true, 0), ("b", false, 0)],
+pub const OLD: &[Listed<'static>] = &[
+    Listed {
+        want: Some(&[("a", true, 0), ("b", false, 0)]),
+        ..NOTHING
     },
-    Round {
+    Listed {
         sets: &[("b", true, SECOND)],
-        want: &[("a", true, 0), ("b", true, SECOND)],
+        want: Some(&[("a", true, 0), ("b", true, SECOND)]),
+        ..NOTHING
     },
 ];
-
-/// The store on the connection, and whether all of these settings are made.
-fn set_on<S: Alter + Drop>(
-    alloc: Global,
-    conn: Connection<S>,
-    rows: &[Row<'_>],
-) -> Option<(OverrideStore<S>, bool)> {
-    let mut store = opened(alloc, conn)?;
-    let is_set = set_all(&mut store, rows);
-    Some((store, is_set))
-}
-
-/// The store's connection, and whether it has these settings.
-fn listed<S: Alter + Drop>(
-    alloc: Global,
-    store: OverrideStore<S>,
-    want: &[Row<'_>],
-) -> (Connection<S>, bool) {
-    let mut store = store;
-    let is_there = has(alloc, &mut store, want);
-    (store.close_on(), is_there)
-}
-
-/// The files after one round, if it passes.
-fn played<D: Disk + Drop>(alloc: Global, files: Files<D>, round: &Round) -> Option<Files<D>> {
-    let (store, is_set) = set_on(alloc, connected(alloc, files, 5)?, round.sets)?;
-    let again = on_files(alloc, store, Options::new(6))?;
-    let (conn, is_there) = listed(alloc, again, round.want);
-    let files = conn.close_files().ok()?;
-    if is_set && is_there {
-        Some(files)
-    } else {
-        drop(files);
-        None
-    }
-}
 
 /// What files hold at first.
 #[derive(Clone, Copy)]
@@ -108,34 +60,25 @@ fn first_files(alloc: Global, begin: Begin) -> Option<Disks> {
     let disks = new_disks(alloc);
     match begin {
         Begin::New => Some(disks),
-        Begin::Old => {
-            let (done, files) = done_over(alloc, disks, 3, Task::Execute(FIRST_VERSION))?;
-            if done.is_so {
-                Some(files)
-            } else {
-                drop(files);
-                None
-            }
-        }
+        Begin::Old => so_over(alloc, disks, 3, Task::Execute(FIRST_VERSION)),
     }
 }
 
-/// The files after the rounds, if each of them passes.
-pub fn left_by(alloc: Global, begin: Begin, rounds: &[Round]) -> Option<Disks> {
+/// The files after each of these was set and listed, closed, and listed again by a store over them, if all of them go as they say.
+pub fn left_by(alloc: Global, begin: Begin, rounds: &[Listed<'_>]) -> Option<Disks> {
     let mut files = first_files(alloc, begin)?;
     for round in rounds {
-        files = played(alloc, files, round)?;
+        files = so_over(alloc, files, 5, Task::List(round))?;
+        let again = Listed {
+            sets: &[],
+            ..*round
+        };
+        files = so_over(alloc, files, 6, Task::List(&again))?;
     }
     Some(files)
 }
 
 /// Whether the settings of all rounds last.
-pub fn do_last(alloc: Global, begin: Begin, rounds: &[Round]) -> bool {
-    match left_by(alloc, begin, rounds) {
-        Some(files) => {
-            drop(files);
-            true
-        }
-        None => false,
-    }
+pub fn do_last(alloc: Global, begin: Begin, rounds: &[Listed<'_>]) -> bool {
+    are_there(left_by(alloc, begin, rounds))
 }

@@ -1,67 +1,71 @@
 //! Stores over new disks in memory, the settings that are made over them, and what is then listed.
 
 use crate::stores::calls::{
-    FIRST_VERSION, Row, SECOND, all_of, changes_of, connected, has, opened, runs, set_all, show_all,
+    FIRST_VERSION, Row, SECOND, all_of, changes_of, has, opened, runs, set_all, show_all,
 };
-use crate::stores::disks::new_disks;
+use crate::stores::disks::{are_there, new_disks};
+use crate::stores::over_files::{Task, so_over};
 use override_store::again::all_again;
 use override_store::{OverrideStore, StoreFault};
 use sqlite::{Alter, Connection};
 use std::alloc::{AllocError, Global};
 
 /// What is done, and what is listed after it.
-pub struct Listed {
+#[derive(Clone, Copy)]
+pub struct Listed<'a> {
     /// What the database was made by.
-    made: &'static str,
+    pub made: &'static str,
     /// What a first store's connection runs before a second is opened on it; empty if there is no second.
-    between: &'static str,
-    sets: &'static [Row<'static>],
+    pub between: &'static str,
+    pub sets: &'a [Row<'a>],
     /// None if nothing can be listed, since a row is none of ours.
-    want: Option<&'static [Row<'static>]>,
+    pub want: Option<&'a [Row<'a>]>,
 }
 
-const EMPTY: &str = "";
+/// Nothing is set, and nothing is there.
+pub const NOTHING: Listed<'static> = Listed {
+    made: "",
+    between: "",
+    sets: &[],
+    want: Some(&[]),
+};
 
 /// The last setting of each label stands, by rising bytes of the labels.
-pub const LAST: &Listed = &Listed {
-    made: EMPTY,
-    between: EMPTY,
+pub const LAST: &Listed<'static> = &Listed {
     sets: &[
         ("b", true, SECOND),
         ("a", true, SECOND),
         ("a", false, SECOND + 60),
     ],
     want: Some(&[("a", false, SECOND + 60), ("b", true, SECOND)]),
+    ..NOTHING
 };
 
-pub const MOVED: &Listed = &Listed {
+pub const MOVED: &Listed<'static> = &Listed {
     made: FIRST_VERSION,
-    between: EMPTY,
-    sets: &[],
     want: Some(&[("a", true, 0), ("b", false, 0)]),
+    ..NOTHING
 };
 
-pub const MOVED_AND_SET: &Listed = &Listed {
+pub const MOVED_AND_SET: &Listed<'static> = &Listed {
     made: FIRST_VERSION,
-    between: EMPTY,
     sets: &[("a", false, SECOND + 60)],
     want: Some(&[("a", false, SECOND + 60), ("b", false, 0)]),
+    ..NOTHING
 };
 
 /// A program of the first version wrote beside the new table.
-pub const OLD_BESIDE_NEW: &Listed = &Listed {
-    made: EMPTY,
+pub const OLD_BESIDE_NEW: &Listed<'static> = &Listed {
     between: "INSERT INTO settings VALUES ('a', 0, 5); INSERT INTO overrides VALUES ('a', 1)",
-    sets: &[],
     want: Some(&[("a", true, 0)]),
+    ..NOTHING
 };
 
 /// A store over a database of the first version with a name that is no label.
-pub const FOREIGN: &Listed = &Listed {
+pub const FOREIGN: &Listed<'static> = &Listed {
     made: "CREATE TABLE overrides (label TEXT NOT NULL PRIMARY KEY, disabled INTEGER NOT NULL CHECK (disabled IN (0, 1))) STRICT; INSERT INTO overrides VALUES ('a', 1), ('b', 0), ('a/b', 1)",
-    between: EMPTY,
-    sets: &[],
     want: None,
+    ..NOTHING
 };
 
 /// The store on the connection, or the second one if a text is run between the two.
@@ -84,49 +88,51 @@ fn store_on<S: Alter + Drop>(
     }
 }
 
-/// Whether a store that is opened again on its connection has these settings.
-fn has_again<S: Alter + Drop>(alloc: Global, store: OverrideStore<S>, want: &[Row<'_>]) -> bool {
+/// Whether a store that is opened again on its connection has these settings; and its connection.
+fn has_again<S: Alter + Drop>(
+    alloc: Global,
+    store: OverrideStore<S>,
+    want: &[Row<'_>],
+) -> Option<(bool, Connection<S>)> {
     match all_again(alloc, store) {
-        Ok((store, all)) => {
-            drop(store);
-            show_all(&all, want)
-        }
-        Err(_) => false,
+        Ok((store, all)) => Some((show_all(&all, want), store.close_on())),
+        Err(_) => None,
     }
 }
 
-/// Whether the store can't list its settings, since a row is none of ours. It is let go.
-fn is_foreign<S: Alter + Drop>(alloc: Global, store: OverrideStore<S>) -> bool {
-    let mut store = store;
-    let all = all_of(alloc, &mut store).err();
-    let changes = changes_of(alloc, &mut store).err();
-    drop(store);
+/// Whether the store can't list its settings, since a row is none of ours.
+fn is_foreign<S: Alter>(alloc: Global, store: &mut OverrideStore<S>) -> bool {
+    let all = all_of(alloc, store).err();
+    let changes = changes_of(alloc, store).err();
     all == Some(StoreFault::Foreign) && changes == Some(StoreFault::Foreign)
 }
 
-/// Whether the settings are made, and then listed, also by a store that is opened again.
-fn is_listed_on<S: Alter + Drop>(
+/// Whether the settings are made, and then listed, also by a store that is opened again; and the connection.
+pub fn is_listed_on<S: Alter + Drop>(
     alloc: Global,
     conn: Connection<S>,
-    listed: &Listed,
-) -> Option<bool> {
+    listed: &Listed<'_>,
+) -> Option<(bool, Connection<S>)> {
     let mut conn = conn;
     let is_made = runs(&mut conn, listed.made);
     let mut store = store_on(alloc, conn, listed.between)?;
-    let is_set = set_all(&mut store, listed.sets);
-    let is_listed = match listed.want {
+    let is_set = set_all(&mut store, listed.sets) && is_made;
+    match listed.want {
         Some(want) => {
             let is_listed = has(alloc, &mut store, want);
-            has_again(alloc, store, want) && is_listed
+            let (is_again, conn) = has_again(alloc, store, want)?;
+            Some((is_listed && is_again && is_set, conn))
         }
-        None => is_foreign(alloc, store),
-    };
-    Some(is_made && is_set && is_listed)
+        None => {
+            let is_foreign = is_foreign(alloc, &mut store);
+            Some((is_foreign && is_set, store.close_on()))
+        }
+    }
 }
 
 /// The same, over new disks.
-pub fn is_listed(alloc: Global, listed: &Listed) -> Option<bool> {
-    is_listed_on(alloc, connected(alloc, new_disks(alloc), 1)?, listed)
+pub fn is_listed(alloc: Global, listed: &Listed<'_>) -> bool {
+    are_there(so_over(alloc, new_disks(alloc), 1, Task::List(listed)))
 }
 
 const LABELS: u64 = 1_000;
@@ -158,25 +164,15 @@ fn rows_of(alloc: Global, labels: &[String], first: u64, step: u64) -> Option<Ve
     Some(rows)
 }
 
-/// Whether a store on the connection lists these rows once those are set.
-fn has_all<S: Alter + Drop>(
-    alloc: Global,
-    conn: Connection<S>,
-    sets: &[Row<'_>],
-    want: &[Row<'_>],
-) -> Option<bool> {
-    let mut store = opened(alloc, conn)?;
-    let is_set = set_all(&mut store, sets);
-    let is_listed = has(alloc, &mut store, want);
-    drop(store);
-    Some(is_set && is_listed)
-}
-
 /// Whether a store lists a thousand labels once each was set, in no order.
 pub fn has_many(alloc: Global) -> Option<bool> {
     let labels = long_labels(alloc).ok()?;
     let sets = rows_of(alloc, labels.as_slice(), 500, 7)?;
     let want = rows_of(alloc, labels.as_slice(), 0, 1)?;
-    let conn = connected(alloc, new_disks(alloc), 1)?;
-    has_all(alloc, conn, sets.as_slice(), want.as_slice())
+    let listed = Listed {
+        sets: sets.as_slice(),
+        want: Some(want.as_slice()),
+        ..NOTHING
+    };
+    Some(is_listed(alloc, &listed))
 }

@@ -2,7 +2,7 @@
 //! found by the store that is opened again, and one that was refused is not made.
 
 use crate::memory_stage::{HandedEdge, Sink, edge, header};
-use history_model::Setting;
+use crate::stores::stops::{NO_LAUNCHER, Said};
 use launcher::{Host, Input};
 use outside::SettingStore;
 use override_store::opened;
@@ -13,9 +13,6 @@ const DISABLE: &[u8] = b"{\"req\":\"disable\",\"job\":\"a\"}";
 
 const LOAD: &[u8] =
     b"{\"req\":\"load\",\"def\":\"{\\\"Label\\\":\\\"a\\\",\\\"ProgramArguments\\\":[\\\"/bin/a\\\"]}\"}";
-
-/// The codes that `a`'s disabling and then a load of it were answered.
-pub type Codes = (u8, u8);
 
 /// A launcher over this store; none if the store refused.
 fn launched<T: SettingStore + Drop>(alloc: Global, store: T) -> Option<Host<T, HandedEdge, Sink>> {
@@ -38,7 +35,7 @@ fn code<T: SettingStore>(alloc: Global, host: &mut Host<T, HandedEdge, Sink>, li
 }
 
 /// The store once `a` was disabled and loaded.
-fn turned<T: SettingStore + Drop>(alloc: Global, host: Host<T, HandedEdge, Sink>) -> (Codes, T) {
+fn turned<T: SettingStore + Drop>(alloc: Global, host: Host<T, HandedEdge, Sink>) -> (Said, T) {
     let mut host = host;
     let disabled = code(alloc, &mut host, DISABLE);
     let loaded = code(alloc, &mut host, LOAD);
@@ -46,22 +43,17 @@ fn turned<T: SettingStore + Drop>(alloc: Global, host: Host<T, HandedEdge, Sink>
     drop(table);
     drop(edge);
     drop(journal);
-    ((disabled, loaded), store)
+    (Said::Turns { disabled, loaded }, store)
 }
 
-/// What stays of the connection, closed as far as that goes; none if a disk stopped before the launcher was made.
-pub fn turned_over<S: Alter + Drop>(alloc: Global, conn: Connection<S>) -> Option<(Codes, S)> {
-    let (settings, all) = opened(alloc, conn).ok()?;
-    drop(all);
-    let (codes, settings) = turned(alloc, launched(alloc, settings)?);
-    Some((codes, settings.store.close_on().into_store()))
-}
-
-/// Whether a store may have these settings if those codes were answered: that of `a` alone, which disables it, or none if it was refused.
-pub fn may_follow_turns(codes: Codes, all: &[Setting]) -> bool {
-    match (codes, all) {
-        ((0, 5) | (9, 0), [one]) => one.label.as_str() == "a" && one.disabled,
-        ((9, 0), []) => true,
-        _ => false,
+/// What was acknowledged, and what stays of the connection, closed as far as that goes; none if a disk stopped in the making of the launcher.
+pub fn turned_over<S: Alter + Drop>(alloc: Global, conn: Connection<S>) -> Option<(Said, S)> {
+    match opened(alloc, conn) {
+        Ok((settings, all)) => {
+            drop(all);
+            let (said, settings) = turned(alloc, launched(alloc, settings)?);
+            Some((said, settings.store.close_on().into_store()))
+        }
+        Err((_, store)) => Some((NO_LAUNCHER, store)),
     }
 }

@@ -2,9 +2,10 @@
 //! settings, or from the opening of a new one through a launcher's turns: what was acknowledged is found again.
 
 use crate::stores::calls::{Row, SECOND, sets, show_all};
-use crate::stores::disks::{Disks, MANY, copies};
-use crate::stores::files::{Begin, NOTHING as EMPTY, left_by};
-use crate::stores::over_files::{Task, done_over};
+use crate::stores::disks::{Disks, MANY, are_there, copies};
+use crate::stores::files::{Begin, left_by};
+use crate::stores::on_disks::NOTHING;
+use crate::stores::over_files::{Task, done_on_disks, so_over};
 use history_model::Setting;
 use override_store::OverrideStore;
 use sqlite::{Alter, Connection};
@@ -16,16 +17,31 @@ const OFF: Row<'static> = ("c", false, SECOND);
 
 /// What was acknowledged.
 #[derive(Clone, Copy)]
-pub struct Said {
-    pub opened: bool,
-    pub first: bool,
-    pub second: bool,
+pub enum Said {
+    /// Whether a store was opened, and whether each of two settings was made.
+    Settings {
+        opened: bool,
+        first: bool,
+        second: bool,
+    },
+    /// The codes that a launcher answered to `a`'s disabling and then to a load of it.
+    Turns {
+        disabled: u8,
+        loaded: u8,
+    },
 }
 
-pub const NOTHING: Said = Said {
+/// No store was opened.
+const NO_STORE: Said = Said::Settings {
     opened: false,
     first: false,
     second: false,
+};
+
+/// No launcher was made, so `a` was not disabled.
+pub const NO_LAUNCHER: Said = Said::Turns {
+    disabled: 9,
+    loaded: 0,
 };
 
 /// A store is opened and two settings are made.
@@ -35,45 +51,45 @@ pub fn set_over<S: Alter + Drop>(alloc: Global, conn: Connection<S>) -> (Said, S
             let mut store = store;
             let first = sets(&mut store, ON);
             let second = sets(&mut store, OFF);
-            let said = Said {
+            let said = Said::Settings {
                 opened: true,
                 first,
                 second,
             };
             (said, store.close_on().into_store())
         }
-        Err((_, store)) => (NOTHING, store),
+        Err((_, store)) => (NO_STORE, store),
     }
 }
 
-/// Whether what is found may follow what was acknowledged.
+/// Whether what is found may follow what was acknowledged: the last setting, or one that was made and not acknowledged. A launcher's setting
+/// disables `a`; it may be there also if it was refused, and a load of `a` is refused once it was made.
 pub fn may_follow(said: Said, all: &[Setting]) -> bool {
-    let old = show_all(all, &[("a", true, 0), ("b", false, 0)]);
-    let on = show_all(all, &[("a", true, 0), ("b", false, 0), ON]);
-    let off = show_all(all, &[("a", true, 0), ("b", false, 0), OFF]);
-    if said.second {
-        off
-    } else if said.first {
-        on || off
-    } else if said.opened {
-        old || on || off
-    } else {
-        old
+    match said {
+        Said::Settings {
+            opened,
+            first,
+            second,
+        } => {
+            let old = show_all(all, &[("a", true, 0), ("b", false, 0)]) && !first && !second;
+            let on = show_all(all, &[("a", true, 0), ("b", false, 0), ON]) && opened && !second;
+            let off = show_all(all, &[("a", true, 0), ("b", false, 0), OFF]) && opened;
+            old || on || off
+        }
+        Said::Turns { disabled, loaded } => match (disabled, loaded, all) {
+            (0, 5, [one]) | (9, 0, [one]) => one.label.as_str() == "a" && one.disabled,
+            (9, 0, []) => true,
+            _ => false,
+        },
     }
 }
 
-/// Whether a store over copies of these files, on disks that do not stop, lists what the task says. The files are let go.
-fn is_so_over(alloc: Global, files: Disks, task: Task) -> bool {
+/// Whether a store over copies of these files, on disks that do not stop, lists what may follow. The files are let go.
+fn is_followed(alloc: Global, files: Disks, said: Said) -> bool {
     let left = copies(alloc, &files, MANY, MANY);
     drop(files);
-    let Some(left) = left else {
-        return false;
-    };
-    match done_over(alloc, left, 9, task) {
-        Some((done, files)) => {
-            drop(files);
-            done.is_so
-        }
+    match left {
+        Some(left) => are_there(so_over(alloc, left, 9, Task::Follows(said))),
         None => false,
     }
 }
@@ -85,30 +101,31 @@ pub enum Run {
     Turns,
 }
 
-/// Whether the run was acknowledged whole; none if what is found does not follow. A launcher that is not made acknowledges nothing.
+/// Whether the run was acknowledged whole; none if what is found does not follow. A launcher that is not made acknowledges nothing, and what its
+/// store stood on may be lost.
 fn stops(alloc: Global, run: Run, from: &Disks, log: u64, db: u64) -> Option<bool> {
-    let task = match run {
-        Run::Settings => Task::SetTwice,
-        Run::Turns => Task::Turn,
+    let (task, nothing) = match run {
+        Run::Settings => (Task::SetTwice, NO_STORE),
+        Run::Turns => (Task::Turn, NO_LAUNCHER),
     };
-    let done = done_over(alloc, copies(alloc, from, log, db)?, 7, task);
-    match (run, done) {
-        (Run::Settings, Some((done, files))) => {
-            let is_so = is_so_over(alloc, files, Task::Follows(done.said));
-            if is_so { Some(done.said.second) } else { None }
+    match (
+        done_on_disks(alloc, copies(alloc, from, log, db)?, 7, task),
+        run,
+    ) {
+        (Some((done, files)), _) => {
+            let said = done.said.unwrap_or(nothing);
+            let is_whole = matches!(
+                said,
+                Said::Settings { second: true, .. } | Said::Turns { disabled: 0, .. }
+            );
+            if is_followed(alloc, files, said) {
+                Some(is_whole)
+            } else {
+                None
+            }
         }
-        (Run::Turns, Some((done, files))) => match done.codes {
-            Some(codes) => {
-                let is_so = is_so_over(alloc, files, Task::FollowsTurns(codes));
-                if is_so { Some(codes.0 == 0) } else { None }
-            }
-            None => {
-                drop(files);
-                Some(false)
-            }
-        },
-        (Run::Turns, None) => Some(false),
-        (Run::Settings, None) => None,
+        (None, Run::Turns) => Some(false),
+        (None, Run::Settings) => None,
     }
 }
 
@@ -129,7 +146,7 @@ fn each_is_followed(alloc: Global, run: Run, from: &Disks, is_log: bool) -> bool
 pub fn are_followed(alloc: Global, run: Run, is_log: bool) -> bool {
     let from = match run {
         Run::Settings => left_by(alloc, Begin::Old, &[]),
-        Run::Turns => left_by(alloc, Begin::New, &[EMPTY]),
+        Run::Turns => left_by(alloc, Begin::New, &[NOTHING]),
     };
     match from {
         Some(from) => {

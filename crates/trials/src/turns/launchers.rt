@@ -4,7 +4,7 @@
 
 use crate::cases::{Case, Line};
 use crate::little_memory::turning::{LIST, LOAD, LOAD_LISTENING};
-use crate::memory_stage::{Handed, Launched, MemoryStore, Sink, Stage, asked, opened, parts_of};
+use crate::memory_stage::{Handed, Launched, Left, asked, parts_of};
 use child_edge::{EdgeCall, Scripted};
 use history_model::{Ended, JobNo, Reading};
 use launcher::Input;
@@ -405,39 +405,30 @@ fn answers<H: Launched>(alloc: Global, host: &mut H, turns: &Turns) -> bool {
     are_so && !was_told && is_told == turns.is_closed && !is_told_again
 }
 
-/// Whether the store has the one setting, or none, and the journal holds what is looked at.
-fn has_kept(store: &MemoryStore, journal: Option<&Sink>, turns: &Turns) -> bool {
-    let is_held = match (turns.disabled, store.held.as_slice()) {
+/// Whether the calls were made, the store has the one setting, or none, and the journal holds what is looked at.
+fn is_left(left: &Left, turns: &Turns) -> bool {
+    let is_called = left.edge.orders() == turns.calls && left.has_job == turns.has_job;
+    let is_held = match (turns.disabled, left.store.held.as_slice()) {
         (Some(label), [setting]) => setting.label.as_str() == label && setting.disabled,
         (None, []) => true,
         _ => false,
     };
-    let is_noted = match (turns.journal, journal) {
+    let is_noted = match (turns.journal, &left.journal) {
         (Some(wanted), Some(sink)) => sink.taken.as_slice() == wanted,
         (Some(_), None) => false,
         (None, _) => true,
     };
-    is_held && store.asked == turns.asked && is_noted
-}
-
-/// Whether the launcher leaves what is said. It is let go here alone, since each place that lets it go is proved for its whole type.
-fn leaves(stage: Stage, turns: &Turns) -> bool {
-    let (table, store, edge, journal) = stage.into_parts();
-    let is_left = edge.orders() == turns.calls && table.is_empty() != turns.has_job;
-    let has_kept = has_kept(&store, journal.as_ref(), turns);
-    drop(table);
-    drop(store);
-    drop(edge);
-    drop(journal);
-    is_left && has_kept
+    is_called && is_held && left.store.asked == turns.asked && is_noted
 }
 
 /// Whether the launcher answers, calls, stores and writes as it is said.
-pub fn is_so(alloc: Global, turns: &Turns) -> Option<bool> {
+pub fn is_so<H: Launched + Drop>(alloc: Global, turns: &Turns) -> Option<bool> {
     let (header, mut store, edge) = parts_of(alloc, "UTC0", 0, turns.held, turns.calls)?;
     store.answer = turns.answer;
-    let mut stage = opened(alloc, (header, store, edge), turns.writes).ok()?;
-    let answers = answers(alloc, &mut stage, turns);
-    let leaves = leaves(stage, turns);
-    Some(answers && leaves)
+    let mut launcher = H::open(alloc, (header, store, edge), turns.writes).ok()?;
+    let answers = answers(alloc, &mut launcher, turns);
+    let left = launcher.into_left();
+    let is_left = is_left(&left, turns);
+    drop(left);
+    Some(answers && is_left)
 }

@@ -1,7 +1,7 @@
 //! Launchers over a store that gives its settings or does not, with a header that is right or not: which are made, and why others are not.
 
 use crate::cases::Case;
-use crate::memory_stage::{opened, parts_of};
+use crate::memory_stage::{Launched, parts_of};
 use launcher::HostFault;
 use outside::StoreFault;
 use std::alloc::Global;
@@ -107,10 +107,10 @@ pub const ORDERS: &[Case] = &[
 ];
 
 /// Whether the launcher of this is made, or is refused as it says.
-pub fn is_so(alloc: Global, opening: &Opening) -> Option<bool> {
+pub fn is_so<H: Launched + Drop>(alloc: Global, opening: &Opening) -> Option<bool> {
     let (header, mut store, edge) = parts_of(alloc, opening.zone, opening.up, opening.held, &[])?;
     store.fault = opening.fault;
-    let number = match opened(alloc, (header, store, edge), 10) {
+    let number = match H::open(alloc, (header, store, edge), 10) {
         Ok(host) => {
             drop(host);
             0
