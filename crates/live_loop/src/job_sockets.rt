@@ -29,17 +29,14 @@ pub(crate) struct JobSockets {
     // The next round hears the client of this key first, or the next above it.
     first_key: usize,
     // A client or some bytes came in this round.
-    is_stirred: bool,
+    pub(crate) is_stirred: bool,
     // A request came whole in this round.
-    is_whole: bool,
+    pub(crate) is_whole: bool,
 }
 
 impl JobSockets {
     pub(crate) fn new(alloc: Global) -> Result<JobSockets, AllocError> {
-        let callers = match Callers::new(alloc) {
-            Ok(callers) => callers,
-            Err(fault) => return Err(fault),
-        };
+        let callers = Callers::new(alloc)?;
         Ok(JobSockets {
             callers,
             losses: Losses::new(alloc),
@@ -129,22 +126,14 @@ impl JobSockets {
             Place::Of(key) => self.let_go(host, key, Some(Loss::Displaced)),
             Place::Nowhere => {
                 drop(client);
-                tell(&mut self.losses, host, origin, Loss::Crowded);
+                self.tell(host, origin, Loss::Crowded);
                 return;
             }
         }
         let up = host.up();
         if let Err(loss) = self.callers.welcome(registry, origin, client, up) {
-            tell(&mut self.losses, host, origin, loss);
+            self.tell(host, origin, loss);
         }
-    }
-
-    /// Whether a client or some bytes came in the round that ends, and whether a request came whole.
-    pub(crate) fn end_round(&mut self) -> (bool, bool) {
-        let came = (self.is_stirred, self.is_whole);
-        self.is_stirred = false;
-        self.is_whole = false;
-        came
     }
 
     fn let_go<H: LoopHost>(&mut self, host: &mut H, key: usize, loss: Option<Loss>) {
@@ -154,7 +143,15 @@ impl JobSockets {
         let origin = caller.origin;
         drop(caller);
         if let Some(loss) = loss {
-            tell(&mut self.losses, host, origin, loss);
+            self.tell(host, origin, loss);
+        }
+    }
+
+    // A loss is told of a job that has its sockets still.
+    fn tell<H: LoopHost>(&mut self, host: &mut H, origin: Origin, loss: Loss) {
+        let up = host.up();
+        if let Some(label) = host.label_at(origin) {
+            self.losses.note(origin, label, loss, up);
         }
     }
 
@@ -225,17 +222,9 @@ impl JobSockets {
             HandedIn::Heard => self.losses.came_through(origin.job, host.up()),
             HandedIn::Refused(refusal) => {
                 if let Some(loss) = Loss::of_refusal(refusal) {
-                    tell(&mut self.losses, host, origin, loss);
+                    self.tell(host, origin, loss);
                 }
             }
         }
-    }
-}
-
-// A loss is told of a job that has its sockets still.
-fn tell<H: LoopHost>(losses: &mut Losses, host: &mut H, origin: Origin, loss: Loss) {
-    let up = host.up();
-    if let Some(label) = host.label_at(origin) {
-        losses.note(origin, label, loss, up);
     }
 }

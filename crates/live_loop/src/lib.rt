@@ -9,7 +9,6 @@ mod job_sockets;
 mod label_room;
 mod live;
 mod loop_host;
-mod pace;
 mod paths;
 mod round_time;
 mod rounds;

@@ -6,9 +6,9 @@ use crate::fault::ServeFault;
 use crate::job_sockets::JobSockets;
 use crate::label_room::LabelRoom;
 use crate::loop_host::LoopHost;
-use crate::pace::Pace;
 use crate::paths::Sights;
 use crate::voice::Voice;
+use crate::waiting::SHORTEST;
 use child_edge::{Notice, System};
 use control_socket::ControlSocket;
 use history_model::JobNo;
@@ -33,9 +33,16 @@ pub struct Live<H> {
     pub(crate) untold: Option<Notice>,
     // The journal was closed, and this was not told.
     pub(crate) has_journal_closed: bool,
+    // The longest wait of the next round, in milliseconds.
+    pub(crate) pause: u64,
+    // As many of the next rounds are quick.
+    pub(crate) quick: u32,
     // The next round asks about the child of this job first, or of the next above it.
     pub(crate) next_child: JobNo,
-    pub(crate) pace: Pace,
+    // A client may go on at once, or a child was left.
+    pub(crate) is_busy: bool,
+    // The reading's `up` at which no job was left after a shutdown.
+    pub(crate) ended_at: Option<u64>,
 }
 
 /// What the rounds keep.
@@ -49,10 +56,7 @@ pub(crate) struct Rooms {
 }
 
 fn make_rooms(net: &impl Net, alloc: Global) -> Result<Rooms, AllocError> {
-    let label = match LabelRoom::new(alloc) {
-        Ok(label) => label,
-        Err(fault) => return Err(fault),
-    };
+    let label = LabelRoom::new(alloc)?;
     let events = match Events::with_capacity(alloc, EVENTS) {
         Ok(events) => events,
         Err(fault) => {
@@ -83,10 +87,7 @@ fn make_rooms(net: &impl Net, alloc: Global) -> Result<Rooms, AllocError> {
 }
 
 fn senses(alloc: Global) -> Result<(Sights, JobSockets), AllocError> {
-    let sights = match Sights::new(alloc) {
-        Ok(sights) => sights,
-        Err(fault) => return Err(fault),
-    };
+    let sights = Sights::new(alloc)?;
     match JobSockets::new(alloc) {
         Ok(sockets) => Ok((sights, sockets)),
         Err(fault) => {
@@ -135,8 +136,11 @@ impl<H: LoopHost + Drop> Live<H> {
                 rooms,
                 untold: None,
                 has_journal_closed: false,
+                pause: SHORTEST,
+                quick: 0,
                 next_child: 0,
-                pace: Pace::first(),
+                is_busy: false,
+                ended_at: None,
             }),
             Err(_) => {
                 drop((host, control, poll));

@@ -26,15 +26,13 @@ pub struct Sights {
 
 impl Sights {
     pub fn new(alloc: Global) -> Result<Sights, AllocError> {
-        match String::with_capacity(alloc, LONGEST_PATH) {
-            Ok(path) => Ok(Sights {
-                alloc,
-                seen: BTreeMap::new(alloc),
-                path,
-                next: 0,
-            }),
-            Err(fault) => Err(fault),
-        }
+        let path = String::with_capacity(alloc, LONGEST_PATH)?;
+        Ok(Sights {
+            alloc,
+            seen: BTreeMap::new(alloc),
+            path,
+            next: 0,
+        })
     }
 
     /// The moment of `up` of the next look, if a path is listed.

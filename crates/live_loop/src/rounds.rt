@@ -2,18 +2,22 @@
 
 use crate::children::poll_children;
 use crate::fault::ServeFault;
-use crate::job_sockets::JobSockets;
-use crate::live::{Live, Rooms};
+use crate::live::Live;
 use crate::loop_host::LoopHost;
 use crate::round_time::RoundTime;
 use crate::telling::tell;
+use crate::waiting::{next_pause, quick_rounds, round_wait};
 use child_edge::System;
-use control_socket::{ControlSocket, Limit};
-use mio::{Events, Poll, Registry};
+use control_socket::Limit;
+use history_model::SECOND;
 use std::alloc::Global;
 use std::sync::Wait;
 use std::thread;
 use std::time::Duration;
+
+/// As many milliseconds of `up` a launcher with no job left waits for clients that don't take their reply, or ask on and on, and
+/// for a standard error that takes nothing.
+const PATIENCE: u64 = SECOND;
 
 /// As many microseconds a quick round waits.
 const QUICK_WAIT: u64 = 200;
@@ -35,10 +39,7 @@ pub fn round<R: System, H: LoopHost>(
     alloc: Global,
     live: &mut Live<H>,
 ) -> Result<bool, ServeFault> {
-    match wait(rt, live) {
-        Ok(()) => {}
-        Err(fault) => return Err(fault),
-    }
+    wait(rt, live)?;
     live.host.begin(alloc);
     let mut time = RoundTime::begin(rt, live.host.up());
     live.next_child = poll_children(
@@ -86,89 +87,71 @@ pub fn serve<L: Wait, R: System, H: LoopHost + Drop>(
 // Waits for readiness, no longer than until the next moment of the table and the next look. The poll knows whole milliseconds alone,
 // so a quick round sleeps before it.
 fn wait<R: System, H: LoopHost>(rt: &R, live: &mut Live<H>) -> Result<(), ServeFault> {
-    let rooms = &mut live.rooms;
-    let mut wait = live.pace.next_wait(&mut live.host, &rooms.sights);
-    if live.pace.is_quick() && wait > 0 {
+    let mut wait = next_wait(live);
+    if live.quick > 0 && wait > 0 {
         thread::sleep(rt, Duration::from_micros(QUICK_WAIT));
         wait = 0;
     }
-    wait_for(&mut live.poll, &mut rooms.events, &mut rooms.sockets, wait)
-}
-
-fn wait_for(
-    poll: &mut Poll,
-    events: &mut Events,
-    sockets: &mut JobSockets,
-    wait: u64,
-) -> Result<(), ServeFault> {
-    match poll.poll(events, Some(Duration::from_millis(wait))) {
+    match live
+        .poll
+        .poll(&mut live.rooms.events, Some(Duration::from_millis(wait)))
+    {
         Ok(()) => {}
         Err(_) => return Err(ServeFault::Poll),
     }
-    for event in events.iter() {
-        sockets.wake_by(event.token());
+    for event in live.rooms.events.iter() {
+        live.rooms.sockets.wake_by(event.token());
     }
     Ok(())
 }
 
+fn next_wait<H: LoopHost>(live: &mut Live<H>) -> u64 {
+    if live.is_busy {
+        return 0;
+    }
+    let up = live.host.up_now();
+    let look = live.rooms.sights.next_look(&live.host);
+    round_wait(live.pause, up, live.host.standing().next_moment, look)
+}
+
 fn serve_clients<R: System, H: LoopHost>(rt: &R, alloc: Global, live: &mut Live<H>) {
-    let registry = live.poll.registry();
-    let mut is_asking = serve_control(rt, alloc, registry, &mut live.host, &mut live.control);
-    let served = serve_jobs(rt, alloc, registry, &mut live.host, &mut live.rooms);
-    if !served.has_time {
-        is_asking = serve_control(rt, alloc, registry, &mut live.host, &mut live.control);
+    let mut is_asking = serve_control(rt, alloc, live);
+    let mut time = RoundTime::begin(rt, live.host.up());
+    live.rooms
+        .sockets
+        .accept(live.poll.registry(), &mut live.host, &mut time);
+    let is_sending = live
+        .rooms
+        .sockets
+        .gather(alloc, &mut live.host, &mut live.rooms.label, &mut time);
+    if !time.has_time() {
+        is_asking = serve_control(rt, alloc, live);
     }
     let is_taking = live.host.forward();
-    live.pace.is_busy = is_asking || served.is_sending || is_taking || live.next_child > 0;
+    live.is_busy = is_asking || is_sending || is_taking || live.next_child > 0;
 }
 
 // Takes new control clients and serves all. True: one of them may go on at once.
-fn serve_control<R: System, H: LoopHost>(
-    rt: &R,
-    alloc: Global,
-    registry: &Registry,
-    host: &mut H,
-    control: &mut ControlSocket,
-) -> bool {
-    control.accept(rt, registry);
-    let mut time = RoundTime::begin(rt, host.up());
-    control.serve(alloc, host, &mut time)
+fn serve_control<R: System, H: LoopHost>(rt: &R, alloc: Global, live: &mut Live<H>) -> bool {
+    live.control.accept(rt, live.poll.registry());
+    let mut time = RoundTime::begin(rt, live.host.up());
+    live.control.serve(alloc, &mut live.host, &mut time)
 }
 
-/// How the clients of jobs' sockets were served: whether one may go on at once, and whether there was time for all.
-#[derive(Clone, Copy)]
-struct Served {
-    is_sending: bool,
-    has_time: bool,
-}
-
-// Takes new clients of jobs' sockets, and what all have sent.
-fn serve_jobs<R: System, H: LoopHost>(
-    rt: &R,
-    alloc: Global,
-    registry: &Registry,
-    host: &mut H,
-    rooms: &mut Rooms,
-) -> Served {
-    let mut time = RoundTime::begin(rt, host.up());
-    rooms.sockets.accept(registry, host, &mut time);
-    let is_sending = rooms
-        .sockets
-        .gather(alloc, host, &mut rooms.label, &mut time);
-    Served {
-        is_sending,
-        has_time: time.has_time(),
-    }
-}
-
-// Says how the next rounds wait, and whether this was the last.
+// Says how the next rounds wait, and whether this was the last. A quick round is none that is quiet: the pauses begin behind it.
 fn ends<H: LoopHost>(live: &mut Live<H>) -> bool {
     let standing = live.host.standing();
-    let (is_stirred, is_whole) = live.rooms.sockets.end_round();
-    live.pace.follow(standing, is_stirred, is_whole);
+    let is_active = standing.is_active || live.rooms.sockets.is_stirred || live.quick > 0;
+    live.pause = next_pause(is_active, live.pause);
+    live.quick = quick_rounds(live.rooms.sockets.is_whole, live.quick);
+    live.rooms.sockets.is_stirred = false;
+    live.rooms.sockets.is_whole = false;
     if !standing.has_ended {
         return false;
     }
-    let is_quiet = live.untold.is_none() && live.control.is_quiet();
-    live.pace.ends(live.host.up(), is_quiet)
+    let up = live.host.up();
+    let ended_at = live.ended_at.unwrap_or(up);
+    live.ended_at = Some(ended_at);
+    let is_quiet = !live.is_busy && live.untold.is_none() && live.control.is_quiet();
+    is_quiet || ended_at.saturating_add(PATIENCE) <= up
 }
