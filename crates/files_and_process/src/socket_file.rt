@@ -27,10 +27,8 @@ pub struct SocketMark {
 pub fn bind<R: Files + Net>(rt: &R, path: &str) -> io::Result<(UnixListener, SocketMark)> {
     match bind_new(rt, path) {
         Err(error) if error.kind() == ErrorKind::AddrInUse => {
-            match give_way(rt, path) {
-                Ok(()) => bind_new(rt, path),
-                Err(error) => Err(error),
-            }
+            give_way(rt, path)?;
+            bind_new(rt, path)
         }
         answer => answer,
     }
@@ -47,10 +45,7 @@ pub fn remove<R: Files>(rt: &R, path: &str, mark: SocketMark) {
 }
 
 fn bind_new<R: Files + Net>(rt: &R, path: &str) -> io::Result<(UnixListener, SocketMark)> {
-    let listener = match UnixListener::bind(rt, path) {
-        Ok(listener) => listener,
-        Err(error) => return Err(error),
-    };
+    let listener = UnixListener::bind(rt, path)?;
     match mark_at(rt, path) {
         Ok(Some(mark)) => match make_private(rt, path, &listener) {
             Ok(()) => Ok((listener, mark)),
@@ -74,10 +69,7 @@ fn bind_new<R: Files + Net>(rt: &R, path: &str) -> io::Result<(UnixListener, Soc
 
 // Closes the file to others, and turns away who came before that.
 fn make_private<R: Files>(rt: &R, path: &str, listener: &UnixListener) -> io::Result<()> {
-    match fs::set_permissions(rt, path, Permissions::from_mode(0o600)) {
-        Ok(()) => {}
-        Err(error) => return Err(error),
-    }
+    fs::set_permissions(rt, path, Permissions::from_mode(0o600))?;
     for _ in 0..WAITING {
         match listener.accept() {
             Ok(client) => drop(client),
@@ -111,14 +103,10 @@ fn give_way<R: Files + Net>(rt: &R, path: &str) -> io::Result<()> {
 
 // The mark of the file at the path, if it is a socket's. A link is not followed.
 fn mark_at<R: Files>(rt: &R, path: &str) -> io::Result<Option<SocketMark>> {
-    match fs::symlink_metadata(rt, path) {
-        Ok(data) => {
-            let mark = SocketMark {
-                device: data.dev(),
-                inode: data.ino(),
-            };
-            Ok(data.file_type().is_socket().then_some(mark))
-        }
-        Err(error) => Err(error),
-    }
+    let data = fs::symlink_metadata(rt, path)?;
+    let mark = SocketMark {
+        device: data.dev(),
+        inode: data.ino(),
+    };
+    Ok(data.file_type().is_socket().then_some(mark))
 }

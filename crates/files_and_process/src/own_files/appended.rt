@@ -22,10 +22,7 @@ pub fn open_appended<R: Files<File = File>>(rt: &R, path: &str) -> io::Result<Fi
         }
         Err(error) => return Err(error),
     }
-    let file = match options.open(rt, path) {
-        Ok(file) => file,
-        Err(error) => return Err(error),
-    };
+    let file = options.open(rt, path)?;
     match take(&file) {
         Ok(()) => Ok(file),
         Err(error) => {
@@ -37,9 +34,8 @@ pub fn open_appended<R: Files<File = File>>(rt: &R, path: &str) -> io::Result<Fi
 
 // Locks the file, if it is a plain one.
 fn take(file: &File) -> io::Result<()> {
-    match file.metadata() {
-        Ok(data) if data.is_file() => lock(file),
-        Ok(_) => Err(no_plain_file()),
-        Err(error) => Err(error),
+    if !file.metadata()?.is_file() {
+        return Err(no_plain_file());
     }
+    lock(file)
 }

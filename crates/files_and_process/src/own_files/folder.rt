@@ -11,10 +11,7 @@ const OTHERS_WRITE: u32 = 0o022;
 /// Refuses a folder in which others may write, as its mode says, or which another user owns: it has to be this user's, if its
 /// number is known, or root's. `InvalidInput`: it is refused. Any other error is that of the system's call.
 pub fn check_folder<R: Files>(rt: &R, folder: &str, user: Option<u32>) -> io::Result<()> {
-    let data = match fs::metadata(rt, folder) {
-        Ok(data) => data,
-        Err(error) => return Err(error),
-    };
+    let data = fs::metadata(rt, folder)?;
     let owner = data.uid();
     let is_own = owner == 0 || user.is_none_or(|user| user == owner);
     if !data.is_dir() {

@@ -21,16 +21,13 @@ impl LockFile {
     /// the system's call.
     pub fn take<R: Files<File = File>>(rt: &R, path: String) -> io::Result<LockFile> {
         for _ in 0..TRIES {
-            match take_once(rt, path.as_str()) {
-                Ok(Some(file)) => return Ok(LockFile { file, path }),
-                Ok(None) => {}
-                Err(error) => {
-                    drop(path);
-                    return Err(error);
+            if let Some(file) = open(rt, path.as_str())? {
+                lock(&file)?;
+                if is_at(rt, path.as_str(), &file) {
+                    return Ok(LockFile { file, path });
                 }
             }
         }
-        drop(path);
         Err(busy())
     }
 
@@ -39,24 +36,6 @@ impl LockFile {
         if is_at(rt, self.path.as_str(), &self.file) {
             let _left = fs::remove_file(rt, self.path.as_str());
         }
-    }
-}
-
-// The file at the path, if it is still there once it is locked. None: somebody else has just made or removed it.
-fn take_once<R: Files<File = File>>(rt: &R, path: &str) -> io::Result<Option<File>> {
-    let file = match open(rt, path) {
-        Ok(Some(file)) => file,
-        Ok(None) => return Ok(None),
-        Err(error) => return Err(error),
-    };
-    let answer = lock(&file);
-    if answer.is_ok() && is_at(rt, path, &file) {
-        return Ok(Some(file));
-    }
-    drop(file);
-    match answer {
-        Ok(()) => Ok(None),
-        Err(error) => Err(error),
     }
 }
 

@@ -16,13 +16,8 @@ pub fn make_private<R: Files>(rt: &R, path: &str) -> io::Result<()> {
         Err(error) if error.kind() == ErrorKind::NotFound => {
             let mut options = OpenOptions::new();
             options.write(true).create_new(true).mode(0o600);
-            match options.open(rt, path) {
-                Ok(made) => {
-                    drop(made);
-                    Ok(())
-                }
-                Err(error) => Err(error),
-            }
+            let _made = options.open(rt, path)?;
+            Ok(())
         }
         Err(error) => Err(error),
     }

@@ -34,15 +34,11 @@ fn refuse(host: &HostRuntime, fault: &io::Error) -> u8 {
     if fault.kind() == io::ErrorKind::OutOfMemory {
         return NO_MEMORY;
     }
-    let name = match own_program(host) {
-        Ok(Program::Jobd) => {
-            let _written = eprintln!(host; "jobd: a word is not UTF-8");
-            return USAGE;
-        }
-        Ok(Program::Jobctl) => "jobctl",
-        Ok(Program::Jobscope) => "jobscope",
+    let _written = match own_program(host) {
+        Ok(Program::Jobd) => eprintln!(host; "jobd: a word is not UTF-8"),
+        Ok(Program::Jobctl) => eprintln!(host; "jobctl: {fault}"),
+        Ok(Program::Jobscope) => eprintln!(host; "jobscope: {fault}"),
         Err(_) => return NO_MEMORY,
     };
-    let _written = eprintln!(host; "{name}: {fault}");
     USAGE
 }

@@ -8,10 +8,7 @@ use std::process::{Command, Processes, Stdio};
 /// Starts `/bin/sh -c :` and waits for its end. False: the system does not tell the end, as in a process whose starter ignores
 /// SIGCHLD. An `Err` if the shell can't be started.
 pub fn sees_children<R: Processes>(rt: &R, alloc: Global) -> io::Result<bool> {
-    let mut command = match Command::new(alloc, "/bin/sh") {
-        Ok(command) => command,
-        Err(error) => return Err(io::Error::from(error)),
-    };
+    let mut command = Command::new(alloc, "/bin/sh")?;
     let has_flag = command.arg("-c").is_ok();
     let has_script = command.arg(":").is_ok();
     if !(has_flag && has_script) {
@@ -23,13 +20,8 @@ pub fn sees_children<R: Processes>(rt: &R, alloc: Global) -> io::Result<bool> {
     command.stderr(Stdio::null());
     let started = command.spawn(rt);
     drop(command);
-    match started {
-        Ok(child) => {
-            let mut child = child;
-            let end = child.wait();
-            drop(child);
-            Ok(end.is_ok())
-        }
-        Err(error) => Err(error),
-    }
+    let mut child = started?;
+    let end = child.wait();
+    drop(child);
+    Ok(end.is_ok())
 }

@@ -35,21 +35,13 @@ impl Standing {
             user: None,
             ignored: 0,
         };
-        // The first word is the limit that holds: a number, or `unlimited`.
         if let Ok(limits) = fs::read_to_string(rt, "/proc/self/limits") {
-            standing.descriptors = number_behind(limits.as_str(), "Max open files", 0);
-            standing.file_size = number_behind(limits.as_str(), "Max file size", 0);
+            standing.descriptors = limit_in(limits.as_str(), "Max open files");
+            standing.file_size = limit_in(limits.as_str(), "Max file size");
         }
-        // The second number is the user whose rights the process has.
         if let Ok(status) = fs::read_to_string(rt, "/proc/self/status") {
-            standing.user = match number_behind(status.as_str(), "Uid:", 1) {
-                Some(user) => u32::try_from(user).ok(),
-                None => None,
-            };
-            standing.ignored = match word_behind(status.as_str(), "SigIgn:", 0) {
-                Some(word) => u64::from_str_radix(word, 16).unwrap_or(0),
-                None => 0,
-            };
+            standing.user = user_in(status.as_str());
+            standing.ignored = ignored_in(status.as_str());
         }
         standing
     }
@@ -70,21 +62,6 @@ fn bit_of(signal: Signal) -> u64 {
     }
 }
 
-// The decimal number that is the word of this place behind the name, in the line that begins with the name.
-fn number_behind(text: &str, name: &str, place: usize) -> Option<u64> {
-    match word_behind(text, name, place) {
-        Some(word) => word.parse::<u64>().ok(),
-        None => None,
-    }
-}
-
-fn word_behind<'a>(text: &'a str, name: &str, place: usize) -> Option<&'a str> {
-    match behind(text, name) {
-        Some(words) => words.split_whitespace().nth(place),
-        None => None,
-    }
-}
-
 // What follows the name in the line that begins with it.
 fn behind<'a>(text: &'a str, name: &str) -> Option<&'a str> {
     for line in text.lines() {
@@ -93,4 +70,23 @@ fn behind<'a>(text: &'a str, name: &str) -> Option<&'a str> {
         }
     }
     None
+}
+
+// The first word is the limit that holds: a number, or `unlimited`.
+fn limit_in(limits: &str, name: &str) -> Option<u64> {
+    let word = behind(limits, name)?.split_whitespace().next()?;
+    word.parse::<u64>().ok()
+}
+
+// The second number is the user whose rights the process has.
+fn user_in(status: &str) -> Option<u32> {
+    let word = behind(status, "Uid:")?.split_whitespace().nth(1)?;
+    word.parse::<u32>().ok()
+}
+
+fn ignored_in(status: &str) -> u64 {
+    match behind(status, "SigIgn:") {
+        Some(word) => u64::from_str_radix(word.trim(), 16).unwrap_or(0),
+        None => 0,
+    }
 }

@@ -3,7 +3,6 @@
 use std::alloc::Global;
 use std::fs::{File, Files};
 use std::io;
-use std::io::ErrorKind;
 use std::os::fd::AsRawFd;
 
 /// Opens the null device as each of the descriptors 0 to 2 that is not open. While what this gives lives, no other file can
@@ -11,21 +10,11 @@ use std::os::fd::AsRawFd;
 pub fn open_null_streams<R: Files<File = File>>(rt: &R, alloc: Global) -> io::Result<Vec<File>> {
     let mut held = Vec::new(alloc);
     for _ in 0..3 {
-        let file = match File::open(rt, "/dev/null") {
-            Ok(file) => file,
-            Err(error) => {
-                drop(held);
-                return Err(error);
-            }
-        };
+        let file = File::open(rt, "/dev/null")?;
         if file.as_raw_fd() > 2 {
-            drop(file);
             break;
         }
-        if held.push(file).is_err() {
-            drop(held);
-            return Err(io::Error::from(ErrorKind::OutOfMemory));
-        }
+        held.push(file)?;
     }
     Ok(held)
 }

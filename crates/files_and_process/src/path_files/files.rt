@@ -2,7 +2,7 @@
 
 use history_model::Text;
 use std::alloc::{AllocError, Global};
-use std::fs::{DirEntry, Files};
+use std::fs::Files;
 use std::io::ErrorKind;
 use std::{fs, io};
 
@@ -32,24 +32,14 @@ pub fn files_at<R: Files + AllocGlobal + Clone + Drop>(
     paths: &[Text],
 ) -> Result<Vec<Found>, AllocError> {
     let mut found = Vec::new(rt.alloc());
-    let mut answer = Ok(());
     for path in paths {
-        answer = if is_folder(rt, path.as_str()) {
-            add_folder(rt, path.as_str(), &mut found)
+        if is_folder(rt, path.as_str()) {
+            add_folder(rt, path.as_str(), &mut found)?;
         } else {
-            add(rt.alloc(), path.as_str(), Kind::File, &mut found)
-        };
-        if answer.is_err() {
-            break;
+            add(rt.alloc(), path.as_str(), Kind::File, &mut found)?;
         }
     }
-    match answer {
-        Ok(()) => Ok(found),
-        Err(error) => {
-            drop(found);
-            Err(error)
-        }
-    }
+    Ok(found)
 }
 
 fn is_folder<R: Files>(rt: &R, path: &str) -> bool {
@@ -60,14 +50,9 @@ fn is_folder<R: Files>(rt: &R, path: &str) -> bool {
 }
 
 fn add(alloc: Global, path: &str, kind: Kind, found: &mut Vec<Found>) -> Result<(), AllocError> {
-    let path = match String::from_str(alloc, path) {
-        Ok(path) => path,
-        Err(error) => return Err(error),
-    };
-    match found.push(Found { path, kind }) {
-        Ok(()) => Ok(()),
-        Err(_) => Err(AllocError),
-    }
+    let path = String::from_str(alloc, path)?;
+    found.push(Found { path, kind })?;
+    Ok(())
 }
 
 fn add_folder<R: Files + AllocGlobal + Clone + Drop>(
@@ -76,30 +61,16 @@ fn add_folder<R: Files + AllocGlobal + Clone + Drop>(
     found: &mut Vec<Found>,
 ) -> Result<(), AllocError> {
     let mut names = Vec::new(rt.alloc());
-    let behind = match list(rt, folder, &mut names) {
-        Ok(()) if names.is_empty() => Some(Kind::Empty),
-        Ok(()) => None,
-        Err(error) => Some(Kind::Unlisted(error.kind())),
-    };
-    let answer = match names.sort() {
-        Ok(()) => add_files(rt.alloc(), names.as_slice(), found),
-        Err(_) => Err(AllocError),
-    };
-    drop(names);
-    match (answer, behind) {
-        (Ok(()), Some(kind)) => add(rt.alloc(), folder, kind, found),
-        (answer, _) => answer,
+    let listed = list(rt, folder, &mut names);
+    names.sort()?;
+    for name in names.iter() {
+        add(rt.alloc(), name.as_str(), Kind::File, found)?;
     }
-}
-
-fn add_files(alloc: Global, names: &[String], found: &mut Vec<Found>) -> Result<(), AllocError> {
-    for name in names {
-        match add(alloc, name.as_str(), Kind::File, found) {
-            Ok(()) => {}
-            Err(error) => return Err(error),
-        }
+    match listed {
+        Ok(()) if names.is_empty() => add(rt.alloc(), folder, Kind::Empty, found),
+        Ok(()) => Ok(()),
+        Err(error) => add(rt.alloc(), folder, Kind::Unlisted(error.kind()), found),
     }
-    Ok(())
 }
 
 // Adds the paths of the folder's definitions, as far as it can be listed.
@@ -108,50 +79,14 @@ fn list<R: Files + AllocGlobal + Clone + Drop>(
     folder: &str,
     names: &mut Vec<String>,
 ) -> io::Result<()> {
-    let listing = match fs::read_dir(rt, folder) {
-        Ok(listing) => listing,
-        Err(error) => return Err(error),
-    };
-    let mut answer = Ok(());
-    for entry in listing {
-        answer = list_entry(rt, entry, names);
-        if answer.is_err() {
-            break;
+    for entry in fs::read_dir(rt, folder)? {
+        let entry = entry?;
+        let path = entry.path().as_str();
+        if is_named_so(path) && !is_folder(rt, path) {
+            names.push(String::from_str(rt.alloc(), path)?)?;
         }
     }
-    answer
-}
-
-fn list_entry<R: Files + AllocGlobal + Clone + Drop>(
-    rt: &R,
-    entry: io::Result<DirEntry<R>>,
-    names: &mut Vec<String>,
-) -> io::Result<()> {
-    let entry = match entry {
-        Ok(entry) => entry,
-        Err(error) => return Err(error),
-    };
-    let path = entry.path().as_str();
-    let answer = if is_named_so(path) && !is_folder(rt, path) {
-        add_name(rt.alloc(), path, names)
-    } else {
-        Ok(())
-    };
-    drop(entry);
-    match answer {
-        Ok(()) => Ok(()),
-        Err(error) => Err(io::Error::from(error)),
-    }
-}
-
-fn add_name(alloc: Global, path: &str, names: &mut Vec<String>) -> Result<(), AllocError> {
-    match String::from_str(alloc, path) {
-        Ok(name) => match names.push(name) {
-            Ok(()) => Ok(()),
-            Err(_) => Err(AllocError),
-        },
-        Err(error) => Err(error),
-    }
+    Ok(())
 }
 
 fn is_named_so(path: &str) -> bool {
