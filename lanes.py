@@ -58,7 +58,8 @@ class Lanes:
             name = ready.pop(0)
             if free < 1:
                 break
-            jobs = self.jobs(free, len(ready))
+            # rt looks for the tests of each crate beside its proof, which takes no time if it has none
+            jobs = self.jobs(free, sum(self.seconds[it] >= 1 for it in ready))
             room = self.room - sum(memory for _, _, memory in at_work)
             while jobs > 1 and self.memory[name] * (1 + MORE_MEMORY * (jobs - 1)) > room:
                 jobs -= 1
