@@ -1,20 +1,30 @@
 //! The program `jobd` by its words: the launcher, the replay of a journal, and the list of the stored overrides. What the launcher is
-//! made of is had from here too: the host of its turns, its inputs, the loop of its rounds, and the replay.
+//! made of is had from here too: the host of its turns, its inputs, the loop of its rounds, and the replay. What a round finds is handed to
+//! the turns by `RoundLauncher`.
 #![tactic(auto)]
 
+mod news;
+mod round_edge;
+mod round_launcher;
 mod serving;
 mod words;
 
+use child_edge::OsEdge;
 use exit_status::NO_MEMORY;
 use launchctl_words::{DaemonCommand, WordFault, read_daemon_words};
 pub use launcher::{Host, HostFault, Input};
 pub use live_loop::{ServeFault, round, serve};
+pub use news::is_news;
 use replay::replay_input;
 pub use replay::{ReplayFault, replay};
-pub use round_launcher::Live;
+pub use round_edge::RoundEdge;
+pub use round_launcher::RoundLauncher;
 use startup::{Places, list_store};
 use std::alloc::Global;
 use std::sync::Wait;
+
+/// A live loop over the real system, whose settings last in a `T`, and whose journal is a `W`.
+pub type Live<R, T, W> = live_loop::Live<RoundLauncher<T, OsEdge<R>, W>>;
 
 /// Does what the words ask for, the program's own name being the first, and gives the exit status. Both `host` and `waits` are
 /// the runtime of `main`: only what takes it as `waits` may wait.

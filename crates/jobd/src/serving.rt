@@ -1,6 +1,8 @@
 //! `jobd serve`: what the launcher stands on is opened step by step, and then it serves. What opens holds the edge and the store as
 //! type parameters, so that only `serve_by` is proved for all that the edge of the system holds, and only `startup` for the store's files.
 
+use crate::round_edge::RoundEdge;
+use crate::round_launcher::RoundLauncher;
 use control_socket::ControlSocket;
 use ctl_protocol::{Header, Settings, ZoneText};
 use exit_status::{CLOCK_OR_WAITING, NO_MEMORY, STORE};
@@ -10,7 +12,6 @@ use launchctl_words::ZoneWords;
 use launcher::{Host, HostFault};
 use live_loop::{Live, LoopHost, ServeFault, System, serve};
 use outside::SettingStore;
-use round_launcher::{RoundEdge, RoundLauncher};
 use startup::{
     Places, Plan, StoreUser, begun, bound, hold_spool, journal_at, no_clock, plan_of, report,
     room_of, system_of, tell_long_header, tell_standing, with_store, zone_of,

@@ -7,10 +7,10 @@ use crate::memory_stage::{
 use crate::rounds::step::{Step, Stream};
 use control_socket::Answers;
 use history_model::{Reading, Reply};
+use jobd::RoundLauncher;
 use launcher::{Host, Input};
 use live_loop::Sights;
 use outside::SettingStore;
-use round_launcher::RoundLauncher;
 use std::alloc::Global;
 use std::io::Write;
 

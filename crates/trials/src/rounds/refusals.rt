@@ -5,9 +5,9 @@ use crate::edges::refusing::{Found, Grants, Refusing, new_refusing};
 use crate::memory_stage::{LINES, MemoryStore, Sink, header, new_sink};
 use child_edge::OsEdge;
 use control_socket::ControlSocket;
+use jobd::RoundLauncher;
 use launcher::{Host, Input};
 use live_loop::{Live, LoopHost, System, round};
-use round_launcher::RoundLauncher;
 use std::fs;
 use std::io::ErrorKind;
 

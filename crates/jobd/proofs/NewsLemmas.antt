@@ -10,7 +10,7 @@ use Rattle.history_model.specs.Machine.{Job}
 use Rattle.history_model.specs.Calendar.{minutes_above, last_before, crossed}
 use Rattle.history_model.proofs.BooleanLemmas.{or-second}
 use Rattle.job_table.specs.NextMoments.{is_moment, IsNextUp}
-use Rattle.round_launcher.specs.News.{is_moment_reached, is_any_minute_crossed}
+use Rattle.jobd.specs.News.{is_moment_reached, is_any_minute_crossed}
 
 module _ (up : ℕ) where
   abbrev are_reached : List Job → Bool

@@ -1,8 +1,8 @@
 -- The answers to the goals of `news::is_reached`.
 use Rattle.std.proofs.Common.{sym, ap, ◌∙◌}
-use Rattle.round_launcher.specs.News.{is_moment_reached as has_reached}
-use Rattle.round_launcher.proofs.NewsLemmas.{reached}
-use Rattle.round_launcher.proofs.news.is_reached.Goals as goal
+use Rattle.jobd.specs.News.{is_moment_reached as has_reached}
+use Rattle.jobd.proofs.NewsLemmas.{reached}
+use Rattle.jobd.proofs.news.is_reached.Goals as goal
 
 pub returns-in-None : goal.returns-in-None
 returns-in-None c = λ jobs next. sym (ap (has_reached c.args.up) c.in-None.is) ∙ reached c.args.up c.args.moment jobs next
