@@ -4,7 +4,7 @@ use Rattle.history_model.specs.Search.{is_same_text}
 use Rattle.std.specs.Prelude.{List, Bool, ◌||◌, false, Option, Some, None, codes, if◌then◌else◌, unwrap_or, option_and_then}
 use Rattle.std.specs.Option.{option_map}
 use Rattle.clap.specs.Words.{App, Rule, Row, Text, new_app, with_rule, with_subcommand, first_of, all_of, fault_of, matches_of, subcommand_of}
-use Rattle.event_reader.specs.Targets.{if_label, label_named}
+use Rattle.ctl_protocol.specs.Targets.{if_label, label_named}
 use Rattle.command_words.specs.Rules.{flag_rule, option_rule, word_rule, words_rule, one_word_app}
 use Rattle.command_words.specs.Meaning.{is_set, needs_subcommand, is_empty_list}
 use Rattle.command_words.specs.declared.command.Command.{Command}

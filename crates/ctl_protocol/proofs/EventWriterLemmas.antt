@@ -13,10 +13,10 @@ use Rattle.history_model.specs.declared.event.Event.TheVariants as events
 use Rattle.history_model.specs.declared.event.JobItem.TheVariants as happens
 use Rattle.history_model.specs.declared.Ask.TheVariants as asks
 use Rattle.history_model.specs.declared.Answer.TheVariants as answers
-use Rattle.event_reader.specs.declared.members.Form.TheVariants as forms
-use Rattle.event_reader.specs.Targets.{is_slash, behind_domain, label_named}
-use Rattle.event_reader.specs.Members.{◌>>=◌, text_key, number_key, flag_key, flag_or, label_key, target_key, has_only}
-use Rattle.event_reader.specs.EventLines.{load_shape, unload_shape, job_shape, target_shape, setting_shape, kickstart_shape, bare_shape, asked_shape, clock_shape, sight_keys, has_saw_keys, saw_shape, connection_shape, pid_key, spawned_shape, run_shape, answer_shape, byte_key, end_key, ended_shape, journal_shape, event_shape, request_shape_of, event_at, request_at}
+use Rattle.ctl_protocol.specs.declared.members.Form.TheVariants as forms
+use Rattle.ctl_protocol.specs.Targets.{is_slash, behind_domain, label_named}
+use Rattle.ctl_protocol.specs.Members.{◌>>=◌, text_key, number_key, flag_key, flag_or, label_key, target_key, has_only}
+use Rattle.ctl_protocol.specs.EventLines.{load_shape, unload_shape, job_shape, target_shape, setting_shape, kickstart_shape, bare_shape, asked_shape, clock_shape, sight_keys, has_saw_keys, saw_shape, connection_shape, pid_key, spawned_shape, run_shape, answer_shape, byte_key, end_key, ended_shape, journal_shape, event_shape, request_shape_of, event_at, request_at}
 use Rattle.ctl_protocol.specs.EventWriter.{name_of, line_members, answer_members, event_object, is_writable, is_request}
 use Rattle.ctl_protocol.proofs.ObjectsLemmas.{line_depth}
 use Rattle.history_model.proofs.BooleanLemmas.{and-left, and-right, false-or, not-true, or-false-first, or-false-second}

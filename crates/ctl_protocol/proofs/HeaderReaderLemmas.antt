@@ -15,7 +15,7 @@ use Rattle.history_model.specs.MachineLaws.{AreInOrder}
 use Rattle.ctl_protocol.specs.declared.header.Header.{Header}
 use Rattle.ctl_protocol.specs.declared.header.ZoneText.{ZoneText}
 use Rattle.ctl_protocol.specs.declared.header.ZoneText.TheVariants.{Posix, Offset, File}
-use Rattle.event_reader.specs.Members.{◌>>=◌, number_key}
+use Rattle.ctl_protocol.specs.Members.{◌>>=◌, number_key}
 use Rattle.ctl_protocol.specs.Objects.{with_members}
 use Rattle.ctl_protocol.specs.Headers.{digit_of, byte_of, bytes_of_hex, up_to, zone_key, settings_of, overrides_key, has_header_keys, header_shape, header_at}
 use Rattle.ctl_protocol.specs.HeaderLines.{hex_digit, hex_of, setting_members, header_object, is_zone, is_setting, IsHeader}

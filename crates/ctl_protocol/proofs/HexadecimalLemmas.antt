@@ -1,7 +1,7 @@
 -- Bytes that are read two digits at a time.
 use Rattle.std.proofs.Common.{◌≡◌, ◌≢◌, ◌<◌, ◌≤◌, ◌-◌, ℕ, List, [], ◌∷◌, ◌++◌, length, take, drop, get_or, Option, Some, None, refl, sym, ap, ◌∙◌, append_assoc, append-nil, arith}
 use Rattle.std.proofs.Math.Seq.{take-length}
-use Rattle.event_reader.specs.Members.{◌>>=◌}
+use Rattle.ctl_protocol.specs.Members.{◌>>=◌}
 use Rattle.ctl_protocol.specs.Headers.{with_front, byte_of, bytes_of_hex}
 
 regroup : (front : List ℕ) (x : ℕ) (tail : Option (List ℕ)) → with_front front (tail >>= λ xs. Some (x ∷ xs)) ≡ with_front (front ++ x ∷ []) tail

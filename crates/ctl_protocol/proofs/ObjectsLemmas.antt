@@ -9,8 +9,8 @@ use Rattle.serde_json.specs.Read.{max_depth}
 use Rattle.serde_json.specs.Written.{has_float, members_have_float, items_have_float}
 use Rattle.ctl_protocol.specs.Objects.{Plain, text, flag, count, whole, plain_data, with_members, plain_object}
 use Rattle.history_model.specs.declared.Act.{Act}
-use Rattle.event_reader.specs.declared.members.Form.{Form}
-use Rattle.event_reader.specs.Members.{tag_of, has_answers}
+use Rattle.ctl_protocol.specs.declared.members.Form.{Form}
+use Rattle.ctl_protocol.specs.Members.{tag_of, has_answers}
 use Rattle.ctl_protocol.specs.EventWriter.{line_object}
 use Rattle.ctl_protocol.specs.declared.header.Header.{Header}
 use Rattle.ctl_protocol.specs.HeaderLines.{header_object, plain_members, setting_members}

@@ -12,9 +12,9 @@ use Rattle.history_model.specs.declared.Ask.TheVariants as asks
 use Rattle.history_model.specs.declared.Answer.{Answer}
 use Rattle.history_model.specs.declared.Answer.TheVariants as answers
 use Rattle.history_model.specs.Labels.{is_label}
-use Rattle.event_reader.specs.declared.members.Form.{Form}
-use Rattle.event_reader.specs.declared.members.Form.TheVariants as forms
-use Rattle.event_reader.specs.Members.{tag_of, has_answers}
+use Rattle.ctl_protocol.specs.declared.members.Form.{Form}
+use Rattle.ctl_protocol.specs.declared.members.Form.TheVariants as forms
+use Rattle.ctl_protocol.specs.Members.{tag_of, has_answers}
 use Rattle.ctl_protocol.specs.Objects.{Plain, text, flag, count, with_members, line_of}
 
 -- the name of what a client asks of a job

@@ -11,7 +11,7 @@ use Rattle.ctl_protocol.specs.declared.header.ZoneText.{ZoneText}
 use Rattle.ctl_protocol.specs.declared.header.ZoneText.TheVariants.{Posix, Offset, File}
 use Rattle.json_kinds.specs.Json.{json_in}
 use Rattle.json_kinds.specs.JsonKinds.{is_among}
-use Rattle.event_reader.specs.Members.{◌>>=◌, number_key}
+use Rattle.ctl_protocol.specs.Members.{◌>>=◌, number_key}
 
 -- ---- bytes in lower case hexadecimal
 

@@ -7,14 +7,14 @@ ghost use Rattle.history_model.specs.declared.Ask.TheVariants as asks;
 ghost use Rattle.history_model.specs.declared.Answer.TheVariants as answers;
 ghost use Rattle.serde_json.specs.View.{view};
 ghost use Rattle.serde_json.specs.Written.{compact_text};
-ghost use Rattle.event_reader.specs.EventLines.{event_at, request_at};
-ghost use Rattle.event_reader.specs.declared.members.Form.TheVariants as forms;
+ghost use Rattle.ctl_protocol.specs.EventLines.{event_at, request_at};
+ghost use Rattle.ctl_protocol.specs.declared.members.Form.TheVariants as forms;
 ghost use Rattle.ctl_protocol.specs.Objects.{flag, flags_of, plains_of, plain_of};
 ghost use Rattle.ctl_protocol.specs.EventWriter as lines;
 ghost use Rattle.ctl_protocol.specs.EventWriter.{end_member, event_object, name_of_setting, of_answer, of_connection, of_job, of_run, is_request, is_writable, line_object};
 
+use crate::members::Form;
 use crate::object::{Cell, line_from, put_all, put_flags};
-use event_reader::Form;
 use history_model::{Answer, Ask, Ended, Event, JobItem, Obs, Reading, Text};
 use serde_json::{Map, Value};
 use std::alloc::{AllocError, Global};

@@ -5,11 +5,11 @@ ghost use Rattle.json_kinds.specs.Json.{json_in};
 ghost use Rattle.serde_json.specs.View.{view, members_view};
 ghost use Rattle.ctl_protocol.specs.Headers as headers;
 ghost use Rattle.ctl_protocol.specs.Headers.{are_among, bytes_of_hex, digit_of, file_of, header_at, header_keys, header_shape, offset_of, overrides_key, posix_of, reading_keys, setting_of, settings_of, up_to, zone_key};
-ghost use Rattle.event_reader.specs.Members.{IsReadAs, Reads, number_key};
+ghost use Rattle.ctl_protocol.specs.Members.{IsReadAs, Reads, number_key};
 ghost use Rattle.json_kinds.specs.JsonKinds.{texts_in};
 
 use crate::header::{Header, Settings, ZoneFile, ZoneText};
-use event_reader::ReadFault;
+use crate::members::ReadFault;
 use history_model::{MAX_UP, MAX_WALL, Reading, Setting, Text};
 use json_kinds::kinds::is_among;
 use json_kinds::{is_label, json_value};
@@ -27,7 +27,7 @@ fn json_line(alloc: Global, bytes: &[u8]) -> Result<Value, ReadFault>
 }
 
 /// The integer under a key, from 0 on.
-#[tactic(auto, unfolding(event_reader::specs::Members::number_key))]
+#[tactic(auto, unfolding(crate::specs::Members::number_key))]
 fn number_in(line: &Value, key: &str) -> Result<u64, ReadFault>
     ensures { Reads result (number_key key.now (view line.now)) }
 {

@@ -17,11 +17,11 @@ use Rattle.history_model.specs.declared.Ask.{Ask}
 use Rattle.history_model.specs.declared.Ask.TheVariants as asks
 use Rattle.history_model.specs.Labels.{is_label}
 use Rattle.json_kinds.specs.Json.{json_in}
-use Rattle.event_reader.specs.declared.members.Form.{Form}
-use Rattle.event_reader.specs.declared.members.Form.TheVariants as forms
-use Rattle.event_reader.specs.Targets.{if_label as label_if, behind_domain, label_named}
-use Rattle.event_reader.specs.Members.{◌>>=◌, text_key, flag_or, label_key, target_key, tag_of}
-use Rattle.event_reader.specs.EventLines.{has_load_keys, load_shape, unload_shape, job_shape, target_shape, setting_shape, kickstart_shape, bare_shape, asked_shape, request_shape_of, request_at}
+use Rattle.ctl_protocol.specs.declared.members.Form.{Form}
+use Rattle.ctl_protocol.specs.declared.members.Form.TheVariants as forms
+use Rattle.ctl_protocol.specs.Targets.{if_label as label_if, behind_domain, label_named}
+use Rattle.ctl_protocol.specs.Members.{◌>>=◌, text_key, flag_or, label_key, target_key, tag_of}
+use Rattle.ctl_protocol.specs.EventLines.{has_load_keys, load_shape, unload_shape, job_shape, target_shape, setting_shape, kickstart_shape, bare_shape, asked_shape, request_shape_of, request_at}
 use Rattle.ctl_protocol.specs.EventWriter.{is_writable}
 use Rattle.launcher.specs.declared.input.Input.TheVariants as inputs
 use Rattle.launcher.specs.Inputs.{asked_in, event_if_label, is_asked_of_a_job}

@@ -6,7 +6,7 @@ use Rattle.history_model.specs.declared.event.JobItem.{JobItem}
 use Rattle.history_model.specs.declared.event.JobItem.TheVariants as happens
 use Rattle.history_model.specs.declared.Ask.TheVariants as asks
 use Rattle.history_model.specs.Labels.{is_label}
-use Rattle.event_reader.specs.EventLines.{request_at}
+use Rattle.ctl_protocol.specs.EventLines.{request_at}
 use Rattle.outside.specs.declared.asking.Outside.{Outside}
 use Rattle.launcher.specs.declared.input.Input.{Input}
 use Rattle.launcher.specs.declared.input.Input.TheVariants as inputs

@@ -2,7 +2,7 @@
 
 ghost use Rattle.std.specs.Prelude.{◌≡◌, ◌&&◌, Some, [], is_none, is_some, true, option_and_then};
 ghost use Rattle.history_model.specs.declared.event.Event.TheVariants as events;
-ghost use Rattle.event_reader.specs.EventLines.{request_at};
+ghost use Rattle.ctl_protocol.specs.EventLines.{request_at};
 ghost use Rattle.launcher.specs.JournaledLines.{journaled_set};
 ghost use Rattle.launcher.specs.Hosts.{HostHears, HostStamps};
 ghost use Rattle.launcher.specs.Accepting.{is_accepted_load, is_load as loads};

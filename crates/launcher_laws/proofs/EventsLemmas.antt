@@ -12,9 +12,9 @@ use Rattle.history_model.specs.declared.event.Event.TheVariants as events
 use Rattle.history_model.specs.declared.event.JobItem.TheVariants as happens
 use Rattle.history_model.specs.declared.Ask.TheVariants as asks
 use Rattle.history_model.specs.declared.Answer.TheVariants as answers
-use Rattle.event_reader.specs.declared.members.Form.TheVariants as forms
-use Rattle.event_reader.specs.Members.{tag_of}
-use Rattle.event_reader.specs.EventLines.{event_at}
+use Rattle.ctl_protocol.specs.declared.members.Form.TheVariants as forms
+use Rattle.ctl_protocol.specs.Members.{tag_of}
+use Rattle.ctl_protocol.specs.EventLines.{event_at}
 use Rattle.ctl_protocol.specs.Objects.{Plain, text, flag, count, whole, plain_data, with_members}
 use Rattle.ctl_protocol.specs.EventWriter.{name_of, line_members, answer_members, event_object}
 use Rattle.ctl_protocol.proofs.EventWriterLemmas.{event_back}

@@ -4,9 +4,9 @@ use Rattle.std.specs.List.{flat_map}
 use Rattle.serde_json.specs.Data.{Data}
 use Rattle.serde_json.specs.Written.{compact_text}
 use Rattle.history_model.specs.declared.event.Event.{Event}
-use Rattle.event_reader.specs.declared.members.Form.TheVariants as forms
-use Rattle.line_feed.specs.Lines.{lines_of, rest_of}
-use Rattle.line_feed.proofs.CutLemmas.{lines_none, rest_none}
+use Rattle.ctl_protocol.specs.declared.members.Form.TheVariants as forms
+use Rattle.ctl_protocol.specs.Lines.{lines_of, rest_of}
+use Rattle.ctl_protocol.proofs.CutLemmas.{lines_none, rest_none}
 use Rattle.replay_loop.specs.ReplayOutcomes.{input_lines, last_line}
 use Rattle.ctl_protocol.specs.declared.header.Header.{Header}
 use Rattle.ctl_protocol.specs.Objects.{line_of}

@@ -9,7 +9,7 @@ use Rattle.json.specs.Print.{escape_byte, escape, quoted}
 use Rattle.json.proofs.Printed.Strings.{escape_byte_plain}
 use Rattle.serde_json.specs.Data.{Num, unsigned, negative, float, Data, null, boolean, number, string, array, object, Items, no_items, item, Members, no_members, member}
 use Rattle.serde_json.specs.Written.{number_text, comma_if, compact_text, items_text, members_text}
-use Rattle.line_feed.specs.Lines.{lines_after, rest_after, lines_of, rest_of}
+use Rattle.ctl_protocol.specs.Lines.{lines_after, rest_after, lines_of, rest_of}
 
 abbrev pub is_other : ℕ → Bool
 is_other b = not (nat_eq b 10)

@@ -4,8 +4,8 @@ use Rattle.std.proofs.lemmas.List.Folds.{list_all-append}
 use Rattle.std.specs.Io.KnownBytes.{Appends, Consumes, Keeps, IsAtEnd}
 use Rattle.std.specs.List.{list_all, take_while}
 use Rattle.std.proofs.KnownBytes.{Appends-trans, Consumes-trans, Consumes-kept, Consumes-nil}
-use Rattle.line_feed.specs.Lines.{Feed, lines_of, rest_of, fits, takes, fed, stopped, is_short, line_limit}
-use Rattle.line_feed.proofs.CutLemmas.{lines_none, rest_none, lines_joined, rest_joined, while_append}
+use Rattle.ctl_protocol.specs.Lines.{Feed, lines_of, rest_of, fits, takes, fed, stopped, is_short, line_limit}
+use Rattle.ctl_protocol.proofs.CutLemmas.{lines_none, rest_none, lines_joined, rest_joined, while_append}
 use Rattle.replay_loop.specs.LineMachine.{Output, Future}
 use Rattle.replay_loop.specs.Handling.{Handles, Stops, drained, come, LastStops, PieceStops}
 use Rattle.replay_loop.specs.ReplayOutcomes.{Answers, OpensNone, last_line, input_lines, counted_lines}

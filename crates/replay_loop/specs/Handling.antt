@@ -17,7 +17,7 @@ use Rattle.std.specs.Prelude.{◌≡◌, ◌≢◌, ◌⊎◌, [], ◌∷◌, �
 use Rattle.std.specs.Io.KnownBytes.{Appends}
 use Rattle.replay_loop.specs.declared.fault.ReplayFault.{ReplayFault}
 use Rattle.replay_loop.specs.declared.fault.ReplayFault.TheVariants.{NoMemory, Header, Read, Write, TooLong, ReadCount}
-use Rattle.line_feed.specs.Lines.{Feed, takes, fed, stopped}
+use Rattle.ctl_protocol.specs.Lines.{Feed, takes, fed, stopped}
 use Rattle.replay_loop.specs.LineMachine.{Bytes, Lines, Held, Output, Future, Will}
 use Rattle.replay_loop.specs.Writing.{AppendsFront}
 use Rattle.replay_loop.specs.ReplayOutcomes.{Answers, OpensNone}

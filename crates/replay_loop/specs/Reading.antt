@@ -2,7 +2,7 @@
 use Rattle.std.specs.Prelude.{◌≡◌, ◌≤◌, ◌⊎◌, length, ℕ, [], ◌++◌, Option, Some, None, unwrap_or, true, false}
 use Rattle.std.specs.Io.KnownBytes.{Appends, Consumes, IsAtEnd}
 use Rattle.std.specs.List.{take_while}
-use Rattle.line_feed.specs.Lines.{lines_of, is_short, fits, line_limit}
+use Rattle.ctl_protocol.specs.Lines.{lines_of, is_short, fits, line_limit}
 use Rattle.replay_loop.specs.declared.fault.ReplayFault.{ReplayFault}
 use Rattle.replay_loop.specs.declared.fault.ReplayFault.TheVariants.{NoMemory, Header, Read, Write, TooLong, ReadCount}
 use Rattle.replay_loop.specs.LineMachine.{Bytes, Lines, Held, Output}

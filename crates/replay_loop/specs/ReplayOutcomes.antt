@@ -1,7 +1,7 @@
 -- The lines of a whole input, and what a machine answers to the lines that still come.
 use Rattle.std.specs.Prelude.{◌≡◌, [], ◌∷◌, ◌++◌, Option, Some, None, if◌then◌else◌}
 use Rattle.std.specs.List.{take_while}
-use Rattle.line_feed.specs.Lines.{lines_of, rest_of, is_short, fits, line_limit}
+use Rattle.ctl_protocol.specs.Lines.{lines_of, rest_of, is_short, fits, line_limit}
 use Rattle.replay_loop.specs.LineMachine.{Bytes, Lines, Output, Future}
 
 -- this is written for the lines that still come: without a machine the header comes first

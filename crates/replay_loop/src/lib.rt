@@ -9,7 +9,7 @@ mod reading;
 mod writing;
 
 pub use fault::ReplayFault;
-pub use line_feed::LINE_LIMIT;
+pub use ctl_protocol::LINE_LIMIT;
 pub use machine::LineMachine;
 pub use reading::run_within;
 pub use writing::write_text;

@@ -5,7 +5,7 @@ ghost use Rattle.replay_loop.specs.Handling.{Leads, Ends, Stops, HandlesNext, dr
 use crate::fault::ReplayFault;
 use crate::machine::LineMachine;
 use crate::writing::write_text;
-use line_feed::LineFeed;
+use ctl_protocol::LineFeed;
 use std::alloc::Global;
 use std::io::Write;
 

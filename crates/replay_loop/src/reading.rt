@@ -1,6 +1,6 @@
 //! The loop over reads.
 ghost use Rattle.std.specs.Prelude.{◌≡◌, ◌≢◌, IfErr, OnOk, None, true};
-ghost use Rattle.line_feed.specs.Lines.{fed, takes};
+ghost use Rattle.ctl_protocol.specs.Lines.{fed, takes};
 ghost use Rattle.replay_loop.specs.Handling.{Leads, LeadsPast, Ends, Stops, LastStops, PieceStops, drained};
 ghost use Rattle.replay_loop.specs.ReplayOutcomes.{last_line};
 ghost use Rattle.replay_loop.specs.Reading.{Finished, Failed};
@@ -8,7 +8,7 @@ ghost use Rattle.replay_loop.specs.Reading.{Finished, Failed};
 use crate::fault::ReplayFault;
 use crate::lines::{drain, handle};
 use crate::machine::LineMachine;
-use line_feed::{LINE_LIMIT, LineFault, LineFeed};
+use ctl_protocol::{LINE_LIMIT, LineFault, LineFeed};
 use std::alloc::Global;
 use std::io::{Read, Write};
 

@@ -1,7 +1,7 @@
 -- What the check of `event_writer::request_line` does not find by itself.
 use Rattle.std.proofs.Common.{ap, ◌∙◌}
 use Rattle.serde_json.specs.Written.{has_float}
-use Rattle.event_reader.specs.declared.members.Form.TheVariants as forms
+use Rattle.ctl_protocol.specs.declared.members.Form.TheVariants as forms
 use Rattle.ctl_protocol.specs.EventWriter.{name_of, line_members, answer_members}
 use Rattle.serde_json.specs.View.{view}
 use Rattle.ctl_protocol.proofs.ObjectsLemmas.{line_no_float}

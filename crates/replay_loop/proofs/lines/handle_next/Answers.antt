@@ -1,6 +1,6 @@
 -- What the check of `lines::handle_next` does not find by itself.
 use Rattle.std.proofs.Common.{◌≡◌, [], ◌∷◌, ◌++◌, ap, subst}
-use Rattle.line_feed.specs.Lines.{Feed}
+use Rattle.ctl_protocol.specs.Lines.{Feed}
 use Rattle.replay_loop.specs.Handling.{Ends, Stops}
 use Rattle.replay_loop.proofs.HandlingLemmas.{stands_quiet, nothing_leads, ends_later, out_of_memory}
 use Rattle.replay_loop.proofs.lines.handle_next.Goals as goal

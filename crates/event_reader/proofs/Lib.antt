@@ -1,2 +1,0 @@
-pub mod TargetsLemmas
-pub mod TreesLemmas

@@ -1,5 +1,0 @@
-pub mod Members
-pub mod EventLines
-pub mod Targets
-pub mod Line
-pub mod Trees

@@ -1,9 +1,0 @@
--- The data that a line stands for.
-use Rattle.json.specs.Value.{value_view}
-use Rattle.serde_json.specs.Data.{Data}
-use Rattle.event_reader.specs.Trees.{data_of}
-use Rattle.event_reader.specs.declared.line.Line.{Line}
-
--- what `serde_json` would read of the line
-abbrev pub seen : Line → Data
-seen line = data_of (value_view line.tree)
