@@ -3,7 +3,7 @@ use Rattle.std.proofs.Common.{◌≡◌, ℕ, false, List, [], ◌++◌, Option,
 use Rattle.std.specs.Io.KnownBytes.{Appends}
 use Rattle.std.specs.Prelude.{is_some}
 use Rattle.std.proofs.KnownBytes.{Appends-nil, Appends-trans}
-use Rattle.replay_loop.specs.Writing.{AppendsFront}
+use Rattle.ctl_protocol.specs.Writing.{AppendsFront}
 use Rattle.launcher.specs.declared.journal.Phase.{Phase}
 use Rattle.launcher.specs.declared.journal.Phase.TheVariants.{Open, Closed, Reported}
 use Rattle.launcher.specs.Journals.{JournalState, Grows, GrowsIn, CausedIn, Poured, poured_bytes, poured_cause, is_writing}

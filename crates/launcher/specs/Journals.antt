@@ -1,7 +1,7 @@
 -- A journal as contracts see it, and how it grows.
 use Rattle.std.specs.Prelude.{◌≡◌, ℕ, Bool, true, false, List, Option, Some, None, is_some}
 use Rattle.std.specs.Io.KnownBytes.{Appends}
-use Rattle.replay_loop.specs.Writing.{AppendsFront}
+use Rattle.ctl_protocol.specs.Writing.{AppendsFront}
 use Rattle.launcher.specs.declared.journal.Phase.{Phase}
 use Rattle.launcher.specs.declared.journal.Phase.TheVariants.{Open, Closed, Reported}
 use Rattle.launcher.specs.declared.journal_writer.Cause.{Cause}

@@ -2,10 +2,10 @@
 
 ghost use Rattle.std.specs.Prelude.{◌≡◌, Some};
 ghost use Rattle.std.specs.Io.KnownBytes.{Keeps};
-ghost use Rattle.replay_loop.specs.Writing.{Takes};
+ghost use Rattle.ctl_protocol.specs.Writing.{Takes};
 ghost use Rattle.launcher.specs.Journals.{Poured, cause_after};
 
-use replay_loop::write_text;
+use ctl_protocol::write_text;
 use std::alloc::AllocError;
 use std::io::Write;
 use std::marker::Model;

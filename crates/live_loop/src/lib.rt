@@ -1,6 +1,6 @@
 //! The live loop: rounds of waiting, reading the clock, polling children, looking at paths, and serving the clients of the
 //! control socket and of jobs' sockets. A round decides nothing. What it finds it hands to its launcher, one by one. The loop is over
-//! any launcher that answers as `LoopHost` says; that of `jobd` is `round_launcher::RoundLauncher`.
+//! any launcher that answers as `LoopHost` says; that of `jobd` is its `RoundLauncher`.
 #![tactic(auto)]
 
 mod children;

@@ -7,7 +7,7 @@ use Rattle.replay_loop.specs.declared.fault.ReplayFault.TheVariants.{NoMemory, H
 use Rattle.replay_loop.specs.LineMachine.{Output, Future, Opens, GoesOn}
 use Rattle.replay_loop.specs.ReplayOutcomes.{Answers, OpensNone, last_line}
 use Rattle.replay_loop.specs.Handling.{Stands, IsQuiet, Handles, Leads, Ends, Stops, PieceStops, LastStops}
-use Rattle.replay_loop.specs.Writing.{AppendsFront}
+use Rattle.ctl_protocol.specs.Writing.{AppendsFront}
 use Rattle.ctl_protocol.specs.Lines.{Feed, takes, fed, stopped}
 
 no_more : (o : Option (List ℕ)) → o ≡ option_map (λ after. [] ++ after) o

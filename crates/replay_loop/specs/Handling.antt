@@ -19,7 +19,7 @@ use Rattle.replay_loop.specs.declared.fault.ReplayFault.{ReplayFault}
 use Rattle.replay_loop.specs.declared.fault.ReplayFault.TheVariants.{NoMemory, Header, Read, Write, TooLong, ReadCount}
 use Rattle.ctl_protocol.specs.Lines.{Feed, takes, fed, stopped}
 use Rattle.replay_loop.specs.LineMachine.{Bytes, Lines, Held, Output, Future, Will}
-use Rattle.replay_loop.specs.Writing.{AppendsFront}
+use Rattle.ctl_protocol.specs.Writing.{AppendsFront}
 use Rattle.replay_loop.specs.ReplayOutcomes.{Answers, OpensNone}
 
 -- the machine, if the header has come, will write this

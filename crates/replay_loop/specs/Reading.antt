@@ -6,7 +6,7 @@ use Rattle.ctl_protocol.specs.Lines.{lines_of, is_short, fits, line_limit}
 use Rattle.replay_loop.specs.declared.fault.ReplayFault.{ReplayFault}
 use Rattle.replay_loop.specs.declared.fault.ReplayFault.TheVariants.{NoMemory, Header, Read, Write, TooLong, ReadCount}
 use Rattle.replay_loop.specs.LineMachine.{Bytes, Lines, Held, Output}
-use Rattle.replay_loop.specs.Writing.{AppendsFront}
+use Rattle.ctl_protocol.specs.Writing.{AppendsFront}
 use Rattle.replay_loop.specs.ReplayOutcomes.{OpensNone, input_lines, counted_lines}
 
 -- what a reader had left before and has left after, and what a writer held before and holds after

@@ -6,10 +6,8 @@ mod fault;
 mod lines;
 mod machine;
 mod reading;
-mod writing;
 
-pub use fault::ReplayFault;
 pub use ctl_protocol::LINE_LIMIT;
+pub use fault::ReplayFault;
 pub use machine::LineMachine;
 pub use reading::run_within;
-pub use writing::write_text;

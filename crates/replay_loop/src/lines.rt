@@ -4,8 +4,7 @@ ghost use Rattle.replay_loop.specs.Handling.{Leads, Ends, Stops, HandlesNext, dr
 
 use crate::fault::ReplayFault;
 use crate::machine::LineMachine;
-use crate::writing::write_text;
-use ctl_protocol::LineFeed;
+use ctl_protocol::{LineFeed, write_text};
 use std::alloc::Global;
 use std::io::Write;
 

@@ -1,6 +1,6 @@
 -- What the check of `lines::handle` does not find by itself.
 use Rattle.std.proofs.Common.{subst, true, false}
-use Rattle.replay_loop.specs.Writing.{Takes}
+use Rattle.ctl_protocol.specs.Writing.{Takes}
 use Rattle.replay_loop.proofs.HandlingLemmas.{stands_quiet, out_of_memory, opens, answers, breaks_off, refuses}
 use Rattle.replay_loop.proofs.lines.handle.Goals as goal
 

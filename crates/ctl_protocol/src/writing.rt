@@ -1,5 +1,5 @@
 //! The one loop over a writer.
-ghost use Rattle.replay_loop.specs.Writing.{Takes};
+ghost use Rattle.ctl_protocol.specs.Writing.{Takes};
 
 use std::io::Write;
 
