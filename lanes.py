@@ -1,7 +1,7 @@
 """Which crate of a build is proved when, and by how many jobs: those first behind which the longest chain of others waits.
 
-A check by more than one job takes more of the processors, and first reads what it stands on by one. So a crate gets further jobs only if the
-whole ends sooner by them: before each task the rest is rehearsed, with each number of jobs that it could get.
+A check by more than one job takes more of the processors, and first reads what it stands on by one. So a crate gets further jobs, or waits for
+them, only if the whole ends sooner by that: before each task the rest is rehearsed, with each number of jobs that it could get now or soon.
 How long a crate takes is what `make times` measured last (bench/crate_seconds.csv); it only has to be right beside the others.
 """
 import csv
@@ -11,8 +11,8 @@ from concurrent.futures import FIRST_COMPLETED, ThreadPoolExecutor, wait
 
 # What a check by one job needs more for each further job.
 MORE_MEMORY = 0.6
-# A fifth job of one check gains nothing.
-MOST_JOBS = 4
+# A fourth job of one check gains little.
+MOST_JOBS = 3
 # A check reads what it stands on by one job: as many seconds for each crate. Each further job costs so much of the rest.
 READING = 1.5
 MORE_WORK = 0.25
@@ -67,14 +67,24 @@ class Lanes:
             given.add(name)
         return now
 
+    def choices(self, free, running):
+        """After how many seconds a task could begin, by how many jobs: by those lanes that are free now, and by more once others have ended."""
+        found = [(0, jobs) for jobs in range(1, min(free, MOST_JOBS) + 1)]
+        for when, jobs, _ in sorted(running):
+            free += jobs
+            found += [(when, more) for more in range(found[-1][1] + 1, min(free, MOST_JOBS) + 1)]
+        return found
+
     def jobs(self, name, free, given, running, left):
-        """The fewest jobs by which all ends as soon as by any other number."""
+        """By how many jobs a task is to begin now: the fewest by which all ends as soon as by any other choice. None, if it is better to wait until
+        more lanes are free."""
         others = [it for it in left if it != name]
         ends = {
-            jobs: self.end(given, [*running, (self.took(name, jobs), jobs, name)], others)
-            for jobs in range(1, min(free, MOST_JOBS) + 1)
+            (when, jobs): self.end(given, [*running, (when + self.took(name, jobs), jobs, name)], others)
+            for when, jobs in self.choices(free, running)
         }
-        return min(jobs for jobs in ends if ends[jobs] <= min(ends.values()) + SLACK)
+        when, jobs = min(it for it in ends if ends[it] <= min(ends.values()) + SLACK)
+        return None if when else jobs
 
     def needs(self, name, jobs):
         return self.memory[name] * (1 + MORE_MEMORY * (jobs - 1))
@@ -99,6 +109,8 @@ class Lanes:
             now = time.monotonic()
             present = [(max(0, self.took(it, jobs) + since - now), jobs, it) for it, jobs, since in running.values()]
             jobs = self.jobs(name, free, given, present, left)
+            if not jobs:
+                return
             room = self.room - sum(self.needs(it, by) for it, by, _ in running.values())
             while jobs > 1 and self.needs(name, jobs) > room:
                 jobs -= 1
