@@ -56,7 +56,12 @@ COUNTS = [
 # 1,024 is the most jobs that there are: these kinds take them all.
 WHOLE = ("calendars", "shutdown", "watched")
 # The crates' functions, by a part of their names: the dearest of them, with all that it calls, is what the part takes.
-SPLIT = [("lines", r"ctl_protocol::(cut|feed)::"), ("reading", r"ctl_protocol::(event|line|members|number|target|tree)::"), ("table", r"job_table"), ("outcome", r"ctl_protocol.*outcome")]
+SPLIT = [
+    ("lines", r"ctl_protocol::(cut|feed)::"),
+    ("reading", r"ctl_protocol::(event|line|members|number|target|tree)::"),
+    ("table", r"job_table"),
+    ("outcome", r"ctl_protocol.*outcome"),
+]
 # What one line takes, or many: the kind, its jobs, the lengths of the two streams, and the aim in milliseconds.
 DEAR = [
     ("40,000 `disable` of distinct labels, replayed", "fresh", 0, (0, 40_000), 1000),
