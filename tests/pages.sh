@@ -33,11 +33,10 @@ WORDS = "crates/command_words/src/"
 def words_in(source, flags_of):
     """The subcommands and options that the source gives to the reader of words."""
     names = set(re.findall(r'name: "([a-z]+)",\s*about:', source))
-    names |= set(re.findall(r'\("([a-z]+)", Task::', source))
     options = {"--" + name for name in re.findall(r'option\(\s*alloc,\s*"([a-z-]+)"', source)}
     options |= {"--" + name for name in re.findall(r'id: "([a-z-]+)",\s*form: Form::(?:Value|Switch)', source)}
     flags = {"-" + letter for letter in re.findall(r"""flag\(\s*alloc,\s*"[a-z]+",\s*'(\w)'""", flags_of)}
-    flags |= {"-" + letter for letter in re.findall(r"""(?:\.short|Form::Letter)\('(\w)'\)""", source)}
+    flags |= {"-" + letter for letter in re.findall(r"""Form::(?:Letter|ShortValue)\('(\w)'\)""", source)}
     return names, options | flags
 
 
@@ -100,8 +99,8 @@ def check_program(program, page_path, source, flags_of, own_name):
 control = read(WORDS + "control_words.rt")
 check_program("build/jobctl", "man/jobctl.1", control, control, "jobctl")
 check_program("build/jobd", "man/jobd.8", read(WORDS + "jobd.rt"), "", "jobd")
-SCOPE = "crates/scope/src/words/"
-check_program("build/jobscope", "man/jobscope.1", read(SCOPE + "forms.rt", SCOPE + "command.rt"), "", "jobscope")
+SCOPE = read(WORDS + "scope_words.rt")
+check_program("build/jobscope", "man/jobscope.1", SCOPE, "", "jobscope")
 
 # ---- the version
 
@@ -224,7 +223,7 @@ for reason in sorted(reasons):
     if not near(reason, ""):
         faults.append(f"{USING}: {reason} is not in the page")
 control_names, control_options = words_in(control, control)
-scope_names, scope_options = words_in(read("crates/scope/src/words/forms.rt"), "")
+scope_names, scope_options = words_in(SCOPE, "")
 for name in sorted((control_names | scope_names) - {"jobctl"}):
     if not any(re.match(rf"\| `{name}\b", row) for row in rows):
         faults.append(f"{USING}: {name} is not in the page")

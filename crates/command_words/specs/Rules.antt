@@ -1,4 +1,4 @@
--- Arguments and commands in clap's own words: the forms of which both programs' words are made.
+-- Arguments and commands in clap's own words: the forms of which the programs' words are made.
 use Rattle.clap.specs.declared.Command.{Command, out-Command}
 use Rattle.std.specs.Prelude.{◌≡◌, ℕ, Bool, Some, true, false, Result, IfOk}
 use Rattle.clap.specs.Words.{App, Rule, Text, app_of, new_app, new_rule, with_rule}
@@ -8,10 +8,18 @@ use Rattle.clap.specs.declared.builder.action.ArgAction.TheVariants.{SetTrue, Ap
 abbrev pub flag_rule : Text → ℕ → Rule
 flag_rule id letter = record (new_rule id) { short = Some letter; action = Some SetTrue }
 
+-- a flag by its name, as --strict
+abbrev pub switch_rule : Text → Rule
+switch_rule id = record (new_rule id) { long = Some id; action = Some SetTrue }
+
 -- an option with a value, as --socket PATH
 abbrev pub option_rule : Text → Bool → Rule
 option_rule id required =
     record (new_rule id) { long = Some id; required = required; value_names = 1 }
+
+-- an option with a value behind a letter, as -n COUNT
+abbrev pub short_option_rule : Text → ℕ → Rule
+short_option_rule id letter = record (new_rule id) { short = Some letter; value_names = 1 }
 
 -- a word that must stand, as LABEL
 abbrev pub word_rule : Text → Rule
@@ -20,6 +28,10 @@ word_rule id = record (new_rule id) { required = true; value_names = 1 }
 -- one word or more, as PATH..
 abbrev pub words_rule : Text → Rule
 words_rule id = record (new_rule id) { action = Some Append; required = true; value_names = 1 }
+
+-- as many words as may be, as LABEL..
+abbrev pub any_words_rule : Text → Rule
+any_words_rule id = record (new_rule id) { action = Some Append; value_names = 1 }
 
 -- a subcommand with one word
 abbrev pub one_word_app : Text → Text → App

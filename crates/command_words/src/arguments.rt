@@ -1,7 +1,7 @@
-//! The forms of arguments of which both programs' words are made, and how their values are read.
+//! The forms of arguments of which the programs' words are made, and how their values are read.
 ghost use Rattle.std.specs.Prelude.{◌≡◌, IfOk, Some, None, true, false, map};
 ghost use Rattle.clap.specs.Words.{rule_of, first_of, all_of, with_rule, with_subcommand, new_app, App, Rule};
-ghost use Rattle.command_words.specs.Rules.{HasWords, Makes, flag_rule, option_rule, word_rule, words_rule};
+ghost use Rattle.command_words.specs.Rules.{HasWords, Makes, flag_rule, switch_rule, option_rule, short_option_rule, word_rule, words_rule, any_words_rule};
 ghost use Rattle.command_words.specs.Meaning.{is_set, rows_in};
 
 use crate::command::Paths;
@@ -38,6 +38,34 @@ pub fn option<'a>(
         .help(help)
 }
 
+/// A flag by its name.
+pub fn switch<'a>(alloc: Global, id: &'a str, help: &'a str) -> Arg<'a>
+    ensures rule { rule_of result ≡ switch_rule id.now }
+    ensures local { result.global ≡ false }
+{
+    Arg::new(alloc, id)
+        .long(id)
+        .action(ArgAction::SetTrue)
+        .help(help)
+}
+
+/// An option with a value behind a letter.
+pub fn short_option<'a>(
+    alloc: Global,
+    id: &'a str,
+    letter: char,
+    value: &'a str,
+    help: &'a str,
+) -> Arg<'a>
+    ensures rule { rule_of result ≡ short_option_rule id.now letter }
+    ensures local { result.global ≡ false }
+{
+    Arg::new(alloc, id)
+        .short(letter)
+        .value_name(value)
+        .help(help)
+}
+
 /// A word that must stand.
 pub fn word<'a>(alloc: Global, id: &'a str, value: &'a str, help: &'a str) -> Arg<'a>
     ensures rule { rule_of result ≡ word_rule id.now }
@@ -57,6 +85,17 @@ pub fn words<'a>(alloc: Global, id: &'a str, value: &'a str, help: &'a str) -> A
     Arg::new(alloc, id)
         .action(ArgAction::Append)
         .required(true)
+        .value_name(value)
+        .help(help)
+}
+
+/// As many words as may be.
+pub fn any_words<'a>(alloc: Global, id: &'a str, value: &'a str, help: &'a str) -> Arg<'a>
+    ensures rule { rule_of result ≡ any_words_rule id.now }
+    ensures local { result.global ≡ false }
+{
+    Arg::new(alloc, id)
+        .action(ArgAction::Append)
         .value_name(value)
         .help(help)
 }

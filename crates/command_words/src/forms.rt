@@ -4,7 +4,9 @@ ghost use Rattle.clap.specs.Words.{App, rule_of};
 ghost use Rattle.command_words.specs.Rules.{Makes};
 ghost use Rattle.command_words.specs.Forms.{rule_in, app_in, with_all};
 
-use crate::arguments::{add_arg, add_subcommand, bare, flag, option, word, words};
+use crate::arguments::{
+    add_arg, add_subcommand, any_words, bare, flag, option, short_option, switch, word, words,
+};
 use clap::Arg;
 use std::alloc::{AllocError, Global};
 
@@ -13,12 +15,18 @@ use std::alloc::{AllocError, Global};
 pub(crate) enum Form {
     /// A flag of one letter, as -w.
     Letter(char),
+    /// A flag by the argument's name, as --strict.
+    Switch,
     /// A value behind the argument's name, as --socket PATH.
     Value { required: bool },
+    /// A value behind a letter, as -n COUNT.
+    ShortValue(char),
     /// A word that must stand.
     Word,
     /// One word or more.
     Words,
+    /// As many words as may be.
+    AnyWords,
 }
 
 /// An argument: its name, what it is, how its value is called, and its help.
@@ -43,9 +51,12 @@ fn argument_of<'a>(alloc: Global, of: &Argument) -> Arg<'a>
 {
     match of.form {
         Form::Letter(letter) => flag(alloc, of.id, letter, of.help),
+        Form::Switch => switch(alloc, of.id, of.help),
         Form::Value { required } => option(alloc, of.id, required, of.value, of.help),
+        Form::ShortValue(letter) => short_option(alloc, of.id, letter, of.value, of.help),
         Form::Word => word(alloc, of.id, of.value, of.help),
         Form::Words => words(alloc, of.id, of.value, of.help),
+        Form::AnyWords => any_words(alloc, of.id, of.value, of.help),
     }
 }
 

@@ -109,7 +109,10 @@ fn zone_meant(rule: Option<Text>, file: Option<Text>) -> Option<ZoneWords>
 }
 
 /// The zone that was named; none if both forms were.
-fn zone_in(alloc: Global, found: &ArgMatches<'_>) -> Result<Option<ZoneWords>, AllocError>
+pub(crate) fn zone_in(
+    alloc: Global,
+    found: &ArgMatches<'_>,
+) -> Result<Option<ZoneWords>, AllocError>
     ensures { IfOk result (λ zone. zone ≡ spec.zone_in (rows_in found.now)) }
 {
     let (rule, file) = pair_of(alloc, found, "zone", "zone-file")?;

@@ -1,17 +1,23 @@
-//! What the words of the two programs mean: launchctl's for the control program, and the daemon's own.
+//! What the words of the three programs mean: launchctl's for the control program, the daemon's own, and those of `jobscope`.
 #![tactic(auto)]
 
-pub mod arguments;
+mod arguments;
 mod command;
 mod control_words;
 mod forms;
 mod jobctl;
 mod jobd;
-pub mod parse;
+mod jobscope;
+mod numbers;
+mod parse;
 mod reason;
+mod scope_command;
+mod scope_words;
 mod version;
 
 pub use command::{Command, DaemonCommand, Paths, WordFault, Words, ZoneWords};
 pub use jobctl::{control_command, explain};
 pub use jobd::{daemon_command, explain_daemon};
+pub use jobscope::{explain_scope, read_scope_words};
 pub use parse::Explanation;
+pub use scope_command::{Meaning, ScopeCommand, Task};

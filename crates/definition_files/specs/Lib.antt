@@ -1,3 +1,4 @@
+pub mod Coming
 pub mod Entries
 pub mod Fields
 pub mod Verdict

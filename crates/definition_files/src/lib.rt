@@ -1,5 +1,12 @@
-//! Files that define jobs: what a load would say of a definition's bytes, and lines of a crontab as definitions.
+//! Files that define jobs: what a load would say of them, when the clock starts their jobs, and lines of a crontab as definitions.
 #![tactic(auto)]
 
 pub mod check;
+mod coming;
 pub mod cron;
+mod files;
+mod starts;
+
+pub use coming::calendar_after;
+pub use files::Asked;
+pub use starts::coming_starts;

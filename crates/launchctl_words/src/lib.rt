@@ -1,10 +1,10 @@
-//! What the words of the two programs mean: launchctl's for the control program, and the daemon's own.
+//! What the words of the three programs mean: launchctl's for the control program, the daemon's own, and those of `jobscope`.
 #![tactic(auto)]
 
 mod reading;
 
 pub use command_words::{
-    Command, DaemonCommand, Explanation, Paths, WordFault, Words, ZoneWords, arguments, explain,
-    explain_daemon, parse,
+    Command, DaemonCommand, Explanation, Meaning, Paths, ScopeCommand, Task, WordFault, Words,
+    ZoneWords, explain, explain_daemon, explain_scope, read_scope_words,
 };
 pub use reading::{read_daemon_words, read_words, read_words_beside};

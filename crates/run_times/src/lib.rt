@@ -9,6 +9,7 @@ mod next;
 mod page;
 pub mod picture;
 mod span;
+pub mod telling;
 
 pub use escape::{escaped, is_unwritable};
 pub use ink::{Ink, Piece};

@@ -2,21 +2,14 @@
 #![tactic(auto)]
 
 mod charted;
-mod check;
-mod coming;
-mod cron;
-mod files;
+mod clock;
 mod journal;
 mod listener;
 mod log;
-mod next;
 mod page;
 mod program;
 mod report;
-mod telling;
 mod texts;
-mod there;
-mod words;
 mod zone;
 
 pub use journal::telling::{Cause, causes};

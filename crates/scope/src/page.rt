@@ -1,7 +1,7 @@
 //! The coming starts that stand on a page.
 
-use crate::coming::calendar_after;
 use crate::journal::reader::Journal;
+use definition_files::calendar_after;
 use history_model::{MAX_WALL, Reading};
 use job_defs::Def;
 use run_times::picture::{Chart, Coming};

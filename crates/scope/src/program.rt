@@ -1,22 +1,23 @@
 //! One run of the program: which subcommand runs, and what ends it.
 
-use crate::check::check_in;
-use crate::cron::cron;
-use crate::files::now;
-use crate::next::next_in;
+use crate::clock::now;
 use crate::report::report;
-use crate::telling::{Outcome, put, put_outcome, tell_end, want_memory};
-use crate::words::command::{Meaning, ScopeCommand, Task};
-use crate::words::forms::jobscope_words;
-use crate::words::reading::read_scope_words;
 use crate::zone::zone_of;
+use calendar_due::Zone;
+use ctl_protocol::LINE_LIMIT;
+use definition_files::check::check_files;
+use definition_files::cron::crontab;
+use definition_files::{Asked, coming_starts};
 use exit_status::{BAD_CLOCK, BAD_FILE, USAGE};
 use history_model::MAX_WALL;
-use launchctl_words::WordFault;
-use launchctl_words::parse::explain_by;
+use launchctl_words::{Meaning, ScopeCommand, Task, WordFault, explain_scope, read_scope_words};
+use run_times::telling::{Outcome, put, put_outcome, tell_end, want_memory};
 use std::alloc::{AllocError, Global};
 use std::io;
 use std::sync::Wait;
+
+/// How many starts are shown where the words do not say it.
+const COUNT: u64 = 10;
 
 /// Does what the words ask, the program's own name being the first, and answers the exit status. What is asked for goes to the
 /// standard output; a fault is one line on the standard error. 64 for words that are no command, 65 for a file, 71 for the clock,
@@ -55,7 +56,7 @@ fn run<W: Wait>(
 ) -> io::Result<u8> {
     match command.task {
         Task::Check | Task::Next => put_outcome(host, by_zone(host, alloc, command)),
-        Task::Cron => put_outcome(host, cron(host, alloc, &command.words)),
+        Task::Cron => put_outcome(host, crontab(host, alloc, command.words.as_slice())),
         _ => report(host, waits, alloc, command),
     }
 }
@@ -69,18 +70,36 @@ fn by_zone(host: &HostRuntime, alloc: Global, of: &ScopeCommand) -> Result<Outco
         Some(second) => Some(second.min(MAX_WALL)),
         None => now(host),
     };
-    let made = match (second, of.task) {
-        (Some(second), Task::Check) => check_in(host, alloc, of, &zone, second),
-        (Some(second), _) => next_in(host, alloc, of, &zone, second),
-        (None, _) => Ok(Outcome::failed(alloc, BAD_CLOCK)),
+    let made = match second {
+        Some(second) => made_of(host, alloc, of, &zone, second),
+        None => Ok(Outcome::failed(alloc, BAD_CLOCK)),
     };
     drop(zone);
     made
 }
 
+fn made_of(
+    host: &HostRuntime,
+    alloc: Global,
+    of: &ScopeCommand,
+    zone: &Zone,
+    from: u64,
+) -> Result<Outcome, AllocError> {
+    let asked = Asked {
+        paths: of.words.as_slice(),
+        longest: LINE_LIMIT,
+        zone,
+        from,
+    };
+    match of.task {
+        Task::Check => check_files(host, alloc, &asked, of.is_strict),
+        _ => coming_starts(host, alloc, &asked, of.count.unwrap_or(COUNT)),
+    }
+}
+
 // The help goes to the standard output, and what is wrong with the words to the standard error.
 fn explain(host: &HostRuntime, alloc: Global, words: &[String]) -> io::Result<u8> {
-    let explanation = explain_by(alloc, jobscope_words(alloc), words)?;
+    let explanation = explain_scope(alloc, words)?;
     let text = explanation.text.as_str();
     if explanation.is_help {
         put(host, text)?;

@@ -1,9 +1,9 @@
 //! The zone that words name.
 
-use crate::telling::{tell_error, tell_of};
 use calendar_due::{LONGEST_FILE, Zone, ZoneFault};
 use files_and_process::path_files::read_file;
 use launchctl_words::ZoneWords;
+use run_times::telling::{tell_error, tell_of};
 use run_times::utc;
 use std::alloc::{AllocError, Global};
 

@@ -1,7 +1,7 @@
 //! What keeps a journal from being read.
 
-use crate::telling::tell_of;
 use exit_status::BAD_FILE;
+use run_times::telling::tell_of;
 use std::io;
 use std::io::ErrorKind;
 

@@ -2,9 +2,9 @@
 
 use crate::journal::fault::JournalFault;
 use crate::journal::lines::{Hears, Lines};
-use crate::telling::put;
-use crate::words::command::ScopeCommand;
 use exit_status::BAD_FILE;
+use launchctl_words::ScopeCommand;
+use run_times::telling::put;
 use std::alloc::AllocError;
 use std::env::VarError;
 use std::fs::File;

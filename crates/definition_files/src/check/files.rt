@@ -1,20 +1,17 @@
 //! What a load would say of definitions, and what may be wrong with them.
 
-use crate::files::{bytes_of, is_empty_folder};
-use crate::telling::Outcome;
-use crate::there::{add_missing, add_warning};
-use crate::words::command::ScopeCommand;
-use calendar_due::Zone;
-use definition_files::check::{
+use crate::check::there::{add_missing, add_warning};
+use crate::check::{
     Change, Checked, Grade, Remark, changes_in_year, check_def, finding_line, summary_of,
 };
+use crate::files::{Asked, bytes_of, is_empty_folder};
 use exit_status::{BAD_FILE, REFUSED};
 use files_and_process::path_files::{Found, files_at};
 use history_model::KeyName;
 use job_defs::Def;
-use launchctl_words::Paths;
 use run_times::Ink;
 use run_times::Piece::Text;
+use run_times::telling::Outcome;
 use std::alloc::{AllocError, Global};
 
 /// What was found so far.
@@ -29,16 +26,15 @@ struct Findings {
 }
 
 /// For each file of the paths a line if all is well with its definition, else a line for each finding. The status is 0 if all would be
-/// read by a load; 1 if one would not, or if one has a warning and the command is strict; 65 if a file can't be read. In the zone the
+/// read by a load; 1 if one would not, or if one has a warning and the check is strict; 65 if a file can't be read. In the zone the
 /// entries of calendars are looked at, a year on from the second.
-pub(crate) fn check_in(
+pub fn check_files(
     host: &HostRuntime,
     alloc: Global,
-    of: &ScopeCommand,
-    zone: &Zone,
-    second: u64,
+    of: &Asked<'_>,
+    is_strict: bool,
 ) -> Result<Outcome, AllocError> {
-    let changes = changes_in_year(alloc, zone, second)?;
+    let changes = changes_in_year(alloc, of.zone, of.from)?;
     let mut findings = Findings {
         ink: Ink::new(alloc),
         labels: Vec::new(alloc),
@@ -46,9 +42,9 @@ pub(crate) fn check_in(
         has_warnings: false,
         is_unread: false,
     };
-    let checked = check_files(host, alloc, &of.words, changes.as_slice(), &mut findings);
+    let checked = check_each(host, alloc, of, changes.as_slice(), &mut findings);
     drop(changes);
-    let status = status_of(&findings, of.is_strict);
+    let status = status_of(&findings, is_strict);
     let Findings { ink, labels, .. } = findings;
     drop(labels);
     let text = ink.into_text();
@@ -71,16 +67,16 @@ fn status_of(findings: &Findings, is_strict: bool) -> u8 {
     }
 }
 
-fn check_files(
+fn check_each(
     host: &HostRuntime,
     alloc: Global,
-    paths: &Paths,
+    of: &Asked<'_>,
     changes: &[Change],
     findings: &mut Findings,
 ) -> Result<(), AllocError> {
-    let files = files_at(host, paths.as_slice())?;
+    let files = files_at(host, of.paths)?;
     for file in files.iter() {
-        match bytes_of(host, alloc, file)? {
+        match bytes_of(host, alloc, of.longest, file)? {
             Some(bytes) => check_bytes(host, alloc, file, bytes.as_slice(), changes, findings)?,
             None => findings.is_unread = findings.is_unread || !is_empty_folder(file),
         }

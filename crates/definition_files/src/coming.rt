@@ -3,18 +3,18 @@
 ghost use Rattle.std.specs.Prelude.{◌≡◌, ◌≤◌, ◌+◌, ◌<◌, IfSome, IfNone};
 ghost use Rattle.calendar_due.specs.Next.{IsFirstDue};
 ghost use Rattle.calendar_due.specs.ZoneRules.{minute_at};
-ghost use Rattle.scope.specs.Coming.{last_looked_at};
+ghost use Rattle.definition_files.specs.Coming.{last_looked_at};
 
 use calendar_due::{Calendar, Zone};
 use history_model::{Entry, MAX_WALL};
 
 /// How far ahead a minute of the calendar is looked for, in seconds: 2,930 days. Any entry that matches at all on a civil clock
 /// without gaps does so in each 2,922 days: between the 29th of February 2096 and that of 2104 there is none.
-pub(crate) const FARTHEST: u64 = 253_152_000;
+const FARTHEST: u64 = 253_152_000;
 
 /// The least whole minute after the second that some entry matches in the zone; none if there is none within 2,930 days. Both in
 /// seconds of Unix time.
-pub(crate) fn calendar_after(entries: &[Entry], zone: &Zone, after: u64) -> Option<u64>
+pub fn calendar_after(entries: &[Entry], zone: &Zone, after: u64) -> Option<u64>
     ensures { IsFirstDue (minute_at zone.now) entries.now after (last_looked_at after) result }
 {
     if entries.is_empty() {

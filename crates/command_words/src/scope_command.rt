@@ -1,11 +1,11 @@
-//! The commands that words can mean.
+//! The commands that words of `jobscope` can mean.
 
+use crate::command::{Paths, ZoneWords};
 use history_model::Text;
-use launchctl_words::{Paths, ZoneWords};
 
 /// What `jobscope` is asked to do.
 #[derive(Clone, Copy)]
-pub(crate) enum Task {
+pub enum Task {
     /// Read the definitions as a load would, and say what is wrong with each, and what may be.
     Check,
     /// Show the coming starts of the definitions.
@@ -35,33 +35,33 @@ pub(crate) const TASKS: &[(&str, Task)] = &[
 
 /// A subcommand's words. What the subcommand does not take is absent.
 #[derive(Drop)]
-pub(crate) struct ScopeCommand {
-    pub(crate) task: Task,
+pub struct ScopeCommand {
+    pub task: Task,
     /// A warning fails too.
-    pub(crate) is_strict: bool,
+    pub is_strict: bool,
     /// Events are told as they come.
-    pub(crate) follows: bool,
+    pub follows: bool,
     /// The picture is a page that stands alone.
-    pub(crate) is_page: bool,
+    pub is_page: bool,
     /// Times are shown in UTC, and not in the journal's zone.
-    pub(crate) is_utc: bool,
+    pub is_utc: bool,
     /// How many starts are shown.
-    pub(crate) count: Option<u64>,
+    pub count: Option<u64>,
     /// The second of Unix time after which starts are shown.
-    pub(crate) from: Option<u64>,
+    pub from: Option<u64>,
     /// The second of Unix time from which on events are told.
-    pub(crate) since: Option<u64>,
+    pub since: Option<u64>,
     /// The zone in which calendar entries are looked at.
-    pub(crate) zone: ZoneWords,
+    pub zone: ZoneWords,
     /// The journal's path.
-    pub(crate) journal: Option<Text>,
+    pub journal: Option<Text>,
     /// The paths of definitions, the labels of the jobs that are shown (of none, all are), or the lines of a crontab.
-    pub(crate) words: Paths,
+    pub words: Paths,
 }
 
 /// What stands for words that clap takes.
 #[derive(Drop)]
-pub(crate) enum Meaning {
+pub enum Meaning {
     Command(ScopeCommand),
     /// They are no command, as this text says.
     Wrong(String),

@@ -1,6 +1,6 @@
 //! Whether what a definition names is there.
 
-use definition_files::check::{Grade, Remark, place_of};
+use crate::check::{Grade, Remark, place_of};
 use files_and_process::path_files::read_front;
 use history_model::KeyName;
 use job_defs::Def;
@@ -74,19 +74,43 @@ pub(crate) fn add_missing(
         ),
     ];
     for (key, path, wanted) in keys.iter() {
-        let mut ink = Ink::new(alloc);
-        add_wrong(host, alloc, path.unwrap_or(""), *wanted, &mut ink);
-        let told = ink.into_text()?;
-        if !told.is_empty() {
-            let (name, behind) = match key {
-                KeyName::Program => ("the program", " "),
-                key => (key_name(*key), ": "),
-            };
-            let pieces = [Text(name), Text(behind), Text(told.as_str())];
-            add_warning(alloc, bytes, *key, &pieces, remarks)?;
-        }
+        let told = wrong_of(host, alloc, path.unwrap_or(""), *wanted)?;
+        let added = add_told(alloc, bytes, *key, told.as_str(), remarks);
+        drop(told);
+        added?;
     }
     Ok(())
+}
+
+// What is wrong with the path; the empty text if nothing is.
+fn wrong_of(
+    host: &HostRuntime,
+    alloc: Global,
+    path: &str,
+    wanted: Wanted,
+) -> Result<String, AllocError> {
+    let mut ink = Ink::new(alloc);
+    add_wrong(host, alloc, path, wanted, &mut ink);
+    ink.into_text()
+}
+
+// Adds a warning of what is wrong with the path of the key, if something is.
+fn add_told(
+    alloc: Global,
+    bytes: &[u8],
+    key: KeyName,
+    told: &str,
+    remarks: &mut Vec<Remark>,
+) -> Result<(), AllocError> {
+    if told.is_empty() {
+        return Ok(());
+    }
+    let (name, behind) = match key {
+        KeyName::Program => ("the program", " "),
+        key => (key_name(key), ": "),
+    };
+    let pieces = [Text(name), Text(behind), Text(told)];
+    add_warning(alloc, bytes, key, &pieces, remarks)
 }
 
 /// Adds a warning at the key's place, told by the pieces.

@@ -1,9 +1,9 @@
 //! Lines of a crontab as definitions.
 
-use crate::telling::{Outcome, tell_error, tell_of};
-use definition_files::cron::{Line, LineFault, definition_of, read_line};
+use crate::cron::{Line, LineFault, definition_of, read_line};
 use exit_status::{BAD_FILE, REFUSED};
-use launchctl_words::Paths;
+use history_model::Text;
+use run_times::telling::{Outcome, tell_error, tell_of};
 use std::alloc::{AllocError, Global};
 use std::io::Read;
 
@@ -16,13 +16,9 @@ const INPUT: &str = "standard input";
 /// A definition for each line that runs a command, a line each; the line `-` alone stands for those of standard input. What is wrong
 /// with a line is told, and so is a variable, which no definition takes over. The status is 1 if a line was refused: the others'
 /// definitions are written all the same. It is 65 if standard input can't be read.
-pub(crate) fn cron(
-    host: &HostRuntime,
-    alloc: Global,
-    lines: &Paths,
-) -> Result<Outcome, AllocError> {
+pub fn crontab(host: &HostRuntime, alloc: Global, lines: &[Text]) -> Result<Outcome, AllocError> {
     let mut made = Outcome::failed(alloc, 0);
-    match lines.as_slice() {
+    match lines {
         [only] if only.as_str() == "-" => match input_of(host, alloc)? {
             Some(text) => add_text(host, alloc, text.as_str(), &mut made)?,
             None => made.status = BAD_FILE,

@@ -1,16 +1,14 @@
 //! The coming starts of calendars and intervals, in the order of time.
 
 use crate::coming::{calendar_after, interval_after};
-use crate::files::{bytes_of, is_empty_folder};
-use crate::telling::{Outcome, tell_of};
-use crate::words::command::ScopeCommand;
+use crate::files::{Asked, bytes_of, is_empty_folder};
 use calendar_due::Zone;
 use exit_status::BAD_FILE;
 use files_and_process::path_files::{Found, files_at};
 use job_defs::{Def, DefFault, read_def};
-use launchctl_words::Paths;
 use run_times::Ink;
 use run_times::Piece::{Number, Text};
+use run_times::telling::{Outcome, tell_of};
 use std::alloc::{AllocError, Global};
 
 /// A definition, and when the clock wants it next: by an entry of its calendar, and by its interval.
@@ -21,22 +19,18 @@ struct Job {
     by_interval: Option<u64>,
 }
 
-/// How many starts are shown where the words do not say it.
-const COUNT: u64 = 10;
-
-/// As many coming starts of the definitions as the command wants, in the order of time, each after the second. An interval is counted
+/// So many coming starts of the definitions, in the order of time, each after the second. An interval is counted
 /// from there, as if the job were loaded then. 65 if a file can't be read or is no definition: the others' starts are written all the
 /// same. A job that the clock never starts is told.
-pub(crate) fn next_in(
+pub fn coming_starts(
     host: &HostRuntime,
     alloc: Global,
-    of: &ScopeCommand,
-    zone: &Zone,
-    from: u64,
+    of: &Asked<'_>,
+    count: u64,
 ) -> Result<Outcome, AllocError> {
     let mut jobs = Vec::new(alloc);
-    let is_well = add_jobs(host, alloc, &of.words, zone, from, &mut jobs);
-    let text = starts_text(alloc, of.count.unwrap_or(COUNT), from, zone, &mut jobs);
+    let is_well = add_jobs(host, alloc, of, &mut jobs);
+    let text = starts_text(alloc, count, of.from, of.zone, &mut jobs);
     drop(jobs);
     match (is_well, text) {
         (Ok(is_well), Ok(text)) => {
@@ -54,15 +48,13 @@ pub(crate) fn next_in(
 fn add_jobs(
     host: &HostRuntime,
     alloc: Global,
-    paths: &Paths,
-    zone: &Zone,
-    from: u64,
+    of: &Asked<'_>,
     jobs: &mut Vec<Job>,
 ) -> Result<bool, AllocError> {
-    let files = files_at(host, paths.as_slice())?;
+    let files = files_at(host, of.paths)?;
     let mut is_well = true;
     for file in files.iter() {
-        let is_read = add_job(host, alloc, file, zone, from, jobs)?;
+        let is_read = add_job(host, alloc, of, file, jobs)?;
         is_well = is_well && is_read;
     }
     Ok(is_well)
@@ -72,20 +64,19 @@ fn add_jobs(
 fn add_job(
     host: &HostRuntime,
     alloc: Global,
+    of: &Asked<'_>,
     file: &Found,
-    zone: &Zone,
-    from: u64,
     jobs: &mut Vec<Job>,
 ) -> Result<bool, AllocError> {
     let path = file.path.as_str();
-    let Some(bytes) = bytes_of(host, alloc, file)? else {
+    let Some(bytes) = bytes_of(host, alloc, of.longest, file)? else {
         return Ok(is_empty_folder(file));
     };
     match read_def(alloc, bytes.as_slice()) {
         Ok(def) => {
-            let by_calendar = calendar_after(def.calendar(), zone, from);
+            let by_calendar = calendar_after(def.calendar(), of.zone, of.from);
             let by_interval = match def.start_interval() {
-                Some(every) => interval_after(every, from),
+                Some(every) => interval_after(every, of.from),
                 None => None,
             };
             if by_calendar.is_none() && by_interval.is_none() {

@@ -8,14 +8,14 @@ use std::io::ErrorKind;
 
 /// What a subcommand came to: what it writes, and its exit status.
 #[derive(Drop)]
-pub(crate) struct Outcome {
-    pub(crate) text: String,
-    pub(crate) status: u8,
+pub struct Outcome {
+    pub text: String,
+    pub status: u8,
 }
 
 impl Outcome {
     /// Nothing is written.
-    pub(crate) fn failed(alloc: Global, status: u8) -> Outcome {
+    pub fn failed(alloc: Global, status: u8) -> Outcome {
         Outcome {
             text: String::new(alloc),
             status,
@@ -24,7 +24,7 @@ impl Outcome {
 }
 
 /// Writes to the standard output.
-pub(crate) fn put(host: &HostRuntime, text: &str) -> io::Result<()> {
+pub fn put(host: &HostRuntime, text: &str) -> io::Result<()> {
     if text.is_empty() {
         return Ok(());
     }
@@ -32,7 +32,7 @@ pub(crate) fn put(host: &HostRuntime, text: &str) -> io::Result<()> {
 }
 
 /// Writes a text to the standard output, if there was memory for it.
-pub(crate) fn put_made(host: &HostRuntime, made: Result<String, AllocError>) -> io::Result<()> {
+pub fn put_made(host: &HostRuntime, made: Result<String, AllocError>) -> io::Result<()> {
     match made {
         Ok(text) => {
             let is_put = put(host, text.as_str());
@@ -44,7 +44,7 @@ pub(crate) fn put_made(host: &HostRuntime, made: Result<String, AllocError>) -> 
 }
 
 /// Writes what a subcommand came to, and answers its exit status.
-pub(crate) fn put_outcome(host: &HostRuntime, made: Result<Outcome, AllocError>) -> io::Result<u8> {
+pub fn put_outcome(host: &HostRuntime, made: Result<Outcome, AllocError>) -> io::Result<u8> {
     match made {
         Ok(Outcome { text, status }) => {
             put_made(host, Ok(text))?;
@@ -55,16 +55,12 @@ pub(crate) fn put_outcome(host: &HostRuntime, made: Result<Outcome, AllocError>)
 }
 
 /// Tells a fault, or what is to be known, of the file in one line.
-pub(crate) fn tell_of<D: Display>(host: &HostRuntime, path: &str, told: &D) {
+pub fn tell_of<D: Display>(host: &HostRuntime, path: &str, told: &D) {
     let _written = eprintln!(host; "jobscope: {path}: {told}");
 }
 
 /// Tells what kept a file from being read. An error for want of memory, which is not told here.
-pub(crate) fn tell_error(
-    host: &HostRuntime,
-    path: &str,
-    error: &io::Error,
-) -> Result<(), AllocError> {
+pub fn tell_error(host: &HostRuntime, path: &str, error: &io::Error) -> Result<(), AllocError> {
     if error.kind() == ErrorKind::OutOfMemory {
         return Err(AllocError);
     }
@@ -72,13 +68,13 @@ pub(crate) fn tell_error(
     Ok(())
 }
 
-pub(crate) fn want_memory(host: &HostRuntime) -> u8 {
+pub fn want_memory(host: &HostRuntime) -> u8 {
     let _written = eprintln!(host; "jobscope: no memory");
     NO_MEMORY
 }
 
 /// Tells what kept a run from its end: memory, or the standard output.
-pub(crate) fn tell_end(host: &HostRuntime, error: &io::Error) -> u8 {
+pub fn tell_end(host: &HostRuntime, error: &io::Error) -> u8 {
     match error.kind() {
         ErrorKind::OutOfMemory => want_memory(host),
         ErrorKind::BrokenPipe => READER_GONE,

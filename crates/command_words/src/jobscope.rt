@@ -1,14 +1,16 @@
 //! What the words of `jobscope` mean.
 
-use crate::words::command::{Meaning, ScopeCommand, TASKS, Task};
-use crate::words::forms::jobscope_words;
-use crate::words::numbers::{number_of, wrong_number};
+use crate::arguments::{is_set, value_of, values_of};
+use crate::command::{Paths, WordFault, ZoneWords};
+use crate::jobd::zone_in;
+use crate::numbers::{number_of, wrong_number};
+use crate::parse::{Explanation, explain_by, parse};
+use crate::scope_command::{Meaning, ScopeCommand, TASKS, Task};
+use crate::scope_words::jobscope_words;
 use clap::ArgMatches;
-use history_model::Text;
-use launchctl_words::arguments::{is_set, value_of, values_of};
-use launchctl_words::parse::parse;
-use launchctl_words::{Paths, WordFault, ZoneWords};
 use std::alloc::{AllocError, Global};
+
+const BOTH_ZONES: &str = "jobscope: --zone and --zone-file can't stand together\n";
 
 fn task_named(name: &str) -> Option<Task> {
     for (known, task) in TASKS {
@@ -19,17 +21,17 @@ fn task_named(name: &str) -> Option<Task> {
     None
 }
 
-// The words of the subcommand: its numbers are right, and it names one zone at most.
+// The words of the subcommand, whose numbers are right, in the zone that it names.
 fn command_in(
     alloc: Global,
     task: Task,
     found: &ArgMatches<'_>,
+    zone: ZoneWords,
 ) -> Result<ScopeCommand, AllocError> {
-    let words = words_in(alloc, task, found)?;
+    let words = words_in(alloc, task, found);
     let journal = value_of(alloc, found, "journal");
-    let zone = zone_in(alloc, found);
-    match (journal, zone) {
-        (Ok(journal), Ok(zone)) => Ok(ScopeCommand {
+    match (words, journal) {
+        (Ok(words), Ok(journal)) => Ok(ScopeCommand {
             task,
             is_strict: is_set(found, "strict"),
             follows: is_set(found, "follow"),
@@ -42,21 +44,13 @@ fn command_in(
             journal,
             words,
         }),
-        (journal, zone) => {
+        (words, journal) => {
+            drop(words);
             drop(journal);
             drop(zone);
-            drop(words);
             Err(AllocError)
         }
     }
-}
-
-fn zone_in(alloc: Global, found: &ArgMatches<'_>) -> Result<ZoneWords, AllocError> {
-    Ok(match (found.get_str("zone"), found.get_str("zone-file")) {
-        (Some(rule), _) => ZoneWords::Rule(Text::copy_of(alloc, rule)?),
-        (None, Some(path)) => ZoneWords::File(Text::copy_of(alloc, path)?),
-        (None, None) => ZoneWords::Default,
-    })
 }
 
 fn words_in(alloc: Global, task: Task, found: &ArgMatches<'_>) -> Result<Paths, AllocError> {
@@ -89,16 +83,18 @@ fn meaning_in(alloc: Global, found: &ArgMatches<'_>, task: Task) -> Result<Meani
     if let Some(text) = wrong_number(alloc, found)? {
         return Ok(Meaning::Wrong(text));
     }
-    if found.get_str("zone").is_some() && found.get_str("zone-file").is_some() {
-        let text = "jobscope: --zone and --zone-file can't stand together\n";
-        return Ok(Meaning::Wrong(String::from_str(alloc, text)?));
+    match zone_in(alloc, found)? {
+        Some(zone) => match command_in(alloc, task, found, zone) {
+            Ok(command) => Ok(Meaning::Command(command)),
+            Err(error) => Err(error),
+        },
+        None => Ok(Meaning::Wrong(String::from_str(alloc, BOTH_ZONES)?)),
     }
-    Ok(Meaning::Command(command_in(alloc, task, found)?))
 }
 
 /// What the words mean, the program's own name being the first; a text that says what is wrong if clap takes them and a value is no
 /// number, or both zone options stand. Usage: clap takes them for no command of jobscope.
-pub(crate) fn read_scope_words(alloc: Global, words: &[String]) -> Result<Meaning, WordFault> {
+pub fn read_scope_words(alloc: Global, words: &[String]) -> Result<Meaning, WordFault> {
     let Ok(command) = jobscope_words(alloc) else {
         return Err(WordFault::NoMemory);
     };
@@ -106,4 +102,9 @@ pub(crate) fn read_scope_words(alloc: Global, words: &[String]) -> Result<Meanin
         Ok(matches) => meaning_of(alloc, &matches),
         Err(fault) => Err(fault),
     }
+}
+
+/// The text for words that are no command of jobscope, or that ask for help.
+pub fn explain_scope(alloc: Global, words: &[String]) -> Result<Explanation, AllocError> {
+    explain_by(alloc, jobscope_words(alloc), words)
 }

@@ -1,25 +1,23 @@
-//! The clock, and the bytes of a definition's file.
+//! The files of definitions that are looked at, and their bytes.
 
-use crate::telling::{tell_error, tell_of};
-use ctl_protocol::LINE_LIMIT;
+use calendar_due::Zone;
 use files_and_process::path_files::{Found, Kind, read_file};
-use history_model::MAX_WALL;
+use history_model::Text;
+use run_times::telling::{tell_error, tell_of};
 use std::alloc::{AllocError, Global};
 use std::io;
-use std::time::SystemTime;
 
-/// The second of Unix time that the clock shows. None: it can't be read, and this was told.
-pub(crate) fn now(host: &HostRuntime) -> Option<u64> {
-    match SystemTime::now(host) {
-        Ok(time) => match time.duration_since(SystemTime::UNIX_EPOCH) {
-            Ok(since) => Some(since.as_secs().min(MAX_WALL)),
-            Err(_) => Some(0),
-        },
-        Err(error) => {
-            tell_of(host, "clock", &error);
-            None
-        }
-    }
+/// Which definitions are looked at, and as of when.
+#[derive(Clone, Copy)]
+pub struct Asked<'a> {
+    /// Their files, and folders of them.
+    pub paths: &'a [Text],
+    /// The longest file that a load would take, in bytes.
+    pub longest: usize,
+    /// The zone of the entries of calendars.
+    pub zone: &'a Zone,
+    /// The second of Unix time from which on the clock is looked at.
+    pub from: u64,
 }
 
 /// Whether it is a folder without a definition.
@@ -34,6 +32,7 @@ pub(crate) fn is_empty_folder(file: &Found) -> bool {
 pub(crate) fn bytes_of(
     host: &HostRuntime,
     alloc: Global,
+    longest: usize,
     file: &Found,
 ) -> Result<Option<Vec<u8>>, AllocError> {
     let path = file.path.as_str();
@@ -47,7 +46,7 @@ pub(crate) fn bytes_of(
             return Ok(None);
         }
         Kind::Unlisted(kind) => Err(io::Error::from(kind)),
-        Kind::File => read_file(host, alloc, path, LINE_LIMIT),
+        Kind::File => read_file(host, alloc, path, longest),
     };
     match read {
         Ok(Some(bytes)) => Ok(Some(bytes)),

@@ -2,8 +2,6 @@
 
 use clap::ArgMatches;
 use history_model::MAX_WALL;
-use run_times::Ink;
-use run_times::Piece::Text;
 use std::alloc::{AllocError, Global};
 
 const SECOND: &str = "a second of Unix time up to 250000000000";
@@ -23,11 +21,8 @@ pub(crate) fn wrong_number(
     for (id, option, most, wanted) in NUMBERS {
         if let Some(value) = found.get_str(*id) {
             if number_in(value, *most).is_none() {
-                let mut ink = Ink::new(alloc);
-                ink.put_all(&[Text("jobscope: "), Text(*option), Text(" ")]);
-                ink.put_made(format!(in alloc; "{value:?}"));
-                ink.put_all(&[Text(": wanted "), Text(*wanted), Text("\n")]);
-                return Ok(Some(ink.into_text()?));
+                let text = format!(in alloc; "jobscope: {option} {value:?}: wanted {wanted}\n")?;
+                return Ok(Some(text));
             }
         }
     }

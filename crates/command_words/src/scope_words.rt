@@ -1,0 +1,183 @@
+//! The command of `jobscope`, in clap's words, with a help text for each.
+
+use crate::forms::{Argument, Form, Subcommand, with_subcommands};
+use std::alloc::{AllocError, Global};
+
+const CHECK_EXIT: &str =
+    "Exit status: 0 each would be read by a load; 1 one would not, or has a warning with --strict, or no memory; 64 these words are no command; 65 a file can't be read.";
+
+const NEXT_EXIT: &str =
+    "Exit status: 0 done; 1 no memory; 64 these words are no command; 65 a file can't be read, or is no definition, or the zone is none.";
+
+const CRON_EXIT: &str =
+    "Exit status: 0 each line has its definition; 1 one is refused, or no memory; 64 these words are no command; 65 standard input can't be read.";
+
+const JOURNAL_EXIT: &str =
+    "Exit status: 0 done; 1 no memory; 64 these words are no command; 65 the journal can't be read, or is none.";
+
+const ZONE: Argument = Argument {
+    id: "zone",
+    form: Form::Value { required: false },
+    value: "TEXT",
+    help: "The zone of calendar entries as a POSIX rule; UTC0 where absent",
+};
+
+const ZONE_FILE: Argument = Argument {
+    id: "zone-file",
+    form: Form::Value { required: false },
+    value: "PATH",
+    help: "The zone as a zone file, in place of --zone",
+};
+
+const PATHS: Argument = Argument {
+    id: "paths",
+    form: Form::Words,
+    value: "PATH",
+    help: "A definition, or a folder of definitions (*.plist, *.json)",
+};
+
+const JOURNAL: Argument = Argument {
+    id: "journal",
+    form: Form::Value { required: false },
+    value: "PATH",
+    help: "The journal; where absent, that of JOBD_JOURNAL, else standard input",
+};
+
+const LABELS: Argument = Argument {
+    id: "labels",
+    form: Form::AnyWords,
+    value: "LABEL",
+    help: "Of these jobs alone; of all where absent",
+};
+
+const UTC: Argument = Argument {
+    id: "utc",
+    form: Form::Switch,
+    value: "",
+    help: "Show times in UTC, and not in the journal's zone",
+};
+
+const CHECK: &[Argument] = &[
+    Argument {
+        id: "strict",
+        form: Form::Switch,
+        value: "",
+        help: "Fail at a warning too",
+    },
+    ZONE,
+    ZONE_FILE,
+    PATHS,
+];
+
+const NEXT: &[Argument] = &[
+    Argument {
+        id: "count",
+        form: Form::ShortValue('n'),
+        value: "COUNT",
+        help: "How many starts; 10 where absent, at most 10000",
+    },
+    Argument {
+        id: "from",
+        form: Form::Value { required: false },
+        value: "SECOND",
+        help: "Show those after this second of Unix time; now where absent",
+    },
+    ZONE,
+    ZONE_FILE,
+    PATHS,
+];
+
+const WHY: &[Argument] = &[JOURNAL, LABELS, UTC];
+
+const RUNS: &[Argument] = &[JOURNAL, LABELS];
+
+const LOG: &[Argument] = &[
+    JOURNAL,
+    LABELS,
+    UTC,
+    Argument {
+        id: "follow",
+        form: Form::Letter('f'),
+        value: "",
+        help: "Go on as the journal grows",
+    },
+    Argument {
+        id: "since",
+        form: Form::Value { required: false },
+        value: "SECOND",
+        help: "Leave out what was before this second of Unix time",
+    },
+];
+
+const PICTURE: &[Argument] = &[
+    JOURNAL,
+    LABELS,
+    UTC,
+    Argument {
+        id: "html",
+        form: Form::Switch,
+        value: "",
+        help: "Write a page that stands alone: the chart, the counts, the reasons and the coming starts",
+    },
+];
+
+const CRON: &[Argument] = &[Argument {
+    id: "lines",
+    form: Form::Words,
+    value: "LINE",
+    help: "A line as in crontab(5), as one word, with no field for a user; - for the lines of standard input",
+}];
+
+// In the order of the help.
+const SUBCOMMANDS: &[Subcommand] = &[
+    Subcommand {
+        name: "check",
+        about: "Say whether definitions would load, and what may be wrong with them",
+        after: CHECK_EXIT,
+        arguments: CHECK,
+    },
+    Subcommand {
+        name: "next",
+        about: "Show the coming starts of calendars and intervals, in the order of time",
+        after: NEXT_EXIT,
+        arguments: NEXT,
+    },
+    Subcommand {
+        name: "why",
+        about: "Say why each job runs or not, and what will make it run",
+        after: JOURNAL_EXIT,
+        arguments: WHY,
+    },
+    Subcommand {
+        name: "log",
+        about: "Tell a journal's events to people",
+        after: JOURNAL_EXIT,
+        arguments: LOG,
+    },
+    Subcommand {
+        name: "runs",
+        about: "Count each job's runs",
+        after: JOURNAL_EXIT,
+        arguments: RUNS,
+    },
+    Subcommand {
+        name: "picture",
+        about: "Draw each job's runs over time",
+        after: JOURNAL_EXIT,
+        arguments: PICTURE,
+    },
+    Subcommand {
+        name: "cron",
+        about: "Write a definition for each line of a crontab",
+        after: CRON_EXIT,
+        arguments: CRON,
+    },
+];
+
+/// The whole command, with a help text for every word.
+pub(crate) fn jobscope_words<'a>(alloc: Global) -> Result<clap::Command<'a>, AllocError> {
+    let command = clap::Command::new(alloc, "jobscope")
+        .about("Reads definitions before a load, and journals after")
+        .subcommand_required(true);
+    with_subcommands(alloc, Ok(command), SUBCOMMANDS)
+}
