@@ -95,6 +95,12 @@ def side_by_side(compile_by):
     return compiled
 
 
+def without_warnings(help_of):
+    """rt asks each check for warnings of contracts that no call can meet, if rattle's help has the word. They take a tenth of a check, and no verdict
+    rests on them: check_crate.py and the gate's own proofs ask for them, a build does not."""
+    return lambda command: help_of(command).replace("--empty-contracts", "")
+
+
 def build_by_rt(program, rt):
     """Builds the program by a kit whose rt keeps what it proved, and leaves it in crates/PROGRAM/out/. This rt serves for nothing else then."""
     count = len(below(program))
@@ -111,6 +117,7 @@ def build_by_rt(program, rt):
     rt.run, rt.edits_of = run_and_take, lambda crate: ([], [])
     rt.in_lanes = lambda tasks: lanes_of(rt, tasks).run(lambda task, jobs, given: tasks[task][3](given, jobs))
     rt.Crate.compile_by = side_by_side(rt.Crate.compile_by)
+    rt.rtlib.help_of = without_warnings(rt.rtlib.help_of)
     with open("build/build.log", "w+", encoding="utf-8", errors="replace") as log:
         with contextlib.redirect_stdout(Progress(log, sys.stdout, count)):
             status = rt.ci(False, [program])
@@ -128,7 +135,7 @@ def main(program):
     os.environ.pop("CI", None)
     os.makedirs("build", exist_ok=True)
     if rt_keeps():
-        status = build_by_rt(program, load_rt("ci", "run", "edits_of", "in_lanes", "processors", "free", "Crate"))
+        status = build_by_rt(program, load_rt("ci", "run", "edits_of", "in_lanes", "processors", "free", "Crate", "rtlib"))
     else:
         status = build_by_ours(program)
     used = [resource.getrusage(it) for it in (resource.RUSAGE_SELF, resource.RUSAGE_CHILDREN)]
