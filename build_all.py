@@ -96,8 +96,8 @@ def side_by_side(compile_by):
 
 
 def without_warnings(help_of):
-    """rt asks each check for warnings of contracts that no call can meet, if rattle's help has the word. They take a tenth of a check, and no verdict
-    rests on them: check_crate.py and the gate's own proofs ask for them, a build does not."""
+    """rt asks each check for warnings of contracts that no call can meet, if rattle's help has the word. They take 4 to 14 % of a check, and no verdict
+    rests on them: the gate's own proofs ask for them, a build does not."""
     return lambda command: help_of(command).replace("--empty-contracts", "")
 
 
