@@ -3,10 +3,11 @@
 
     build_all.py PROGRAM
 
-It is `rt ci PROGRAM` without the wrong bodies, which only the gate tries: rt's own function is called, which works on a copy. lanes.py finds the
-order and the number of jobs of each check, and the two compilers of the program run side by side. What the gate or an earlier build passed on this
-machine is not proved again, and what this passes the gate does not prove again. RT_JOBS bounds the checks that run side by side. With a kit whose rt keeps nothing (13b), the same is
-done by proofs_kept.py: what it proves is kept for the next build and for check_crate.py, and the gate proves it again.
+It is `rt ci PROGRAM` without the wrong bodies and the warnings of contracts that no call can meet, which are the gate's. rt's own function is called,
+which works on a copy. lanes.py finds the order and the number of jobs of each check, and the two compilers of the program run side by side. What the
+gate or an earlier build passed on this machine is not proved again, and what this passes the gate does not prove again. RT_JOBS bounds the checks
+that run side by side. With a kit whose rt keeps nothing (13b), the same is done by proofs_kept.py: what it proves is kept for the next build and for
+check_crate.py, and the gate proves it again.
 
 A line is written as each crate is proved: how many of all are, and its name. What rt said stands in build/build.log; if something is not proved,
 the end of it is written. The program is left in crates/PROGRAM/out/. The last line has the processor time of all, and the time by the clock.
