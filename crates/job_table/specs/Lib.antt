@@ -1,2 +1,3 @@
 pub mod NextMoments
 pub mod Ends
+pub mod LoadOfBytes

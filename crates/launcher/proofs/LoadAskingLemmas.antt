@@ -7,7 +7,8 @@ use Rattle.history_model.specs.declared.event.Setting.{Setting}
 use Rattle.history_model.specs.Machine.{State}
 use Rattle.history_model.specs.Step.{outcome}
 use Rattle.loaded_jobs.specs.StandsFor.{KeepsState}
-use Rattle.loaded_jobs.specs.Loads.{load_of_bytes, refused_with}
+use Rattle.loaded_jobs.specs.Loads.{refused_with}
+use Rattle.job_table.specs.LoadOfBytes.{load_of_bytes}
 use Rattle.outside.specs.declared.asking.Outside.{Outside}
 use Rattle.outside.specs.Asking.{told_of}
 use Rattle.launcher.specs.Journals.{JournalState, Grows}

@@ -13,7 +13,8 @@ use Rattle.definition_values.specs.Definitions.{given, has_sockets}
 use Rattle.job_defs.specs.Keys.{def_of}
 use Rattle.loaded_jobs.specs.Tables.{Table, Row, Name, IsOnce}
 use Rattle.loaded_jobs.specs.StandsFor.{KeepsState}
-use Rattle.loaded_jobs.specs.Loads.{IsAdmitted, load_of_bytes, given_in, refusal_outside, described_in, number_in, new_setting_in}
+use Rattle.loaded_jobs.specs.Loads.{refusal_outside, described_in, number_in, new_setting_in}
+use Rattle.job_table.specs.LoadOfBytes.{IsAdmitted, load_of_bytes, given_in}
 use Rattle.loaded_jobs.specs.TableOutcomes.{IsSameFor, Means}
 use Rattle.loaded_jobs.specs.declared.loading.Ready.{Ready}
 use Rattle.child_edge.specs.Calls.{ToldCall}

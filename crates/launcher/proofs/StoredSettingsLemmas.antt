@@ -11,7 +11,8 @@ use Rattle.definition_values.specs.Described.{Described}
 use Rattle.definition_values.specs.Definitions.{has_sockets, given}
 use Rattle.job_defs.specs.Keys.{def_of}
 use Rattle.loaded_jobs.specs.Tables.{Name}
-use Rattle.loaded_jobs.specs.Loads.{load_of_bytes, given_in, refusal_outside}
+use Rattle.loaded_jobs.specs.Loads.{refusal_outside}
+use Rattle.job_table.specs.LoadOfBytes.{load_of_bytes, given_in}
 use Rattle.outside.specs.declared.unheard.Unheard.{Unheard}
 use Rattle.outside.specs.Orders.{answers_in}
 use Rattle.launcher.specs.HostTurns.{answer_event, answer_events}

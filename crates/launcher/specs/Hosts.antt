@@ -16,7 +16,7 @@ use Rattle.ctl_protocol.specs.EventWriter.{event_line}
 use Rattle.ctl_protocol.specs.HeaderLines.{header_line}
 use Rattle.loaded_jobs.specs.Tables.{Name, definition_of_number}
 use Rattle.loaded_jobs.specs.StandsFor.{KeepsState}
-use Rattle.loaded_jobs.specs.Loads.{load_of_bytes}
+use Rattle.job_table.specs.LoadOfBytes.{load_of_bytes}
 use Rattle.child_edge.specs.Calls.{ToldCall}
 use Rattle.outside.specs.declared.asking.Outside.{Outside}
 use Rattle.outside.specs.Asking.{Told, told_of}

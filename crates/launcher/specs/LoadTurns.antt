@@ -12,7 +12,8 @@ use Rattle.definition_values.specs.Definitions.{given}
 use Rattle.job_defs.specs.Keys.{def_of}
 use Rattle.loaded_jobs.specs.Tables.{Table, Name, definition_of_number}
 use Rattle.loaded_jobs.specs.StandsFor.{KeepsState, acts_in}
-use Rattle.loaded_jobs.specs.Loads.{load_of_bytes, refusal_outside, described_in, number_in, new_setting_in}
+use Rattle.loaded_jobs.specs.Loads.{refusal_outside, described_in, number_in, new_setting_in}
+use Rattle.job_table.specs.LoadOfBytes.{load_of_bytes}
 use Rattle.loaded_jobs.specs.declared.loading.Ready.{Ready}
 use Rattle.loaded_jobs.specs.SettingChanges.{set_of}
 use Rattle.loaded_jobs.specs.TableOutcomes.{IsSameFor}

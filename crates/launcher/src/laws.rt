@@ -9,7 +9,8 @@ ghost use Rattle.definition_values.specs.Described.{Described};
 ghost use Rattle.definition_values.specs.Definitions.{has_sockets};
 ghost use Rattle.job_defs.specs.Keys.{def_of};
 ghost use Rattle.loaded_jobs.specs.Tables.{Name};
-ghost use Rattle.loaded_jobs.specs.Loads.{load_of_bytes, refusal_outside};
+ghost use Rattle.loaded_jobs.specs.Loads.{refusal_outside};
+ghost use Rattle.job_table.specs.LoadOfBytes.{load_of_bytes};
 ghost use Rattle.launcher.specs.HostTurns.{answer_events};
 ghost use Rattle.child_edge.specs.Calls.{ToldCall};
 

@@ -4,17 +4,16 @@ use Rattle.slab.specs.Slab.{Slab, HasRoomFor}
 use Rattle.history_model.specs.declared.Reading.{Reading}
 use Rattle.history_model.specs.declared.event.Setting.{Setting}
 use Rattle.history_model.specs.declared.Refusal.{Refusal}
-use Rattle.history_model.specs.declared.Refusal.TheVariants.{SocketRefused, BadDefinition}
+use Rattle.history_model.specs.declared.Refusal.TheVariants.{SocketRefused}
 use Rattle.history_model.specs.Items.{Loaded}
 use Rattle.history_model.specs.FactsOfPast.{Keeps}
 use Rattle.history_model.specs.Labels.{Label, is_same}
-use Rattle.history_model.specs.Machine.{State, Event, Load, Given, Fault}
+use Rattle.history_model.specs.Machine.{State, Event, Load}
 use Rattle.history_model.specs.Acceptance.{refused_if, refusal_stored, refusal_in}
 use Rattle.history_model.specs.Step.{outcome, step}
 use Rattle.history_model.specs.Texts.{load_text}
 use Rattle.definition_values.specs.Described.{Described}
 use Rattle.definition_values.specs.Definitions.{definition, given, has_sockets}
-use Rattle.job_defs.specs.Keys.{def_of}
 use Rattle.loaded_jobs.specs.Tables.{Table, Name}
 use Rattle.loaded_jobs.specs.StandsFor.{KeepsState, acts_in}
 use Rattle.loaded_jobs.specs.Triggers.{triggers_of}
@@ -24,14 +23,10 @@ use Rattle.std.specs.Vec.{vec_len}
 use Rattle.history_model.specs.declared.TheConstants.{MAX_JOBS}
 use Rattle.loaded_jobs.specs.declared.seat.TheConstants.{ORDERS}
 
-abbrev pub given_in : Result Described Fault → Result Given Fault
-given_in (Ok described) = Ok (given described)
-given_in (Err fault) = Err fault
-
--- the load of a definition's bytes, with what the outside answers
-abbrev pub load_of_bytes : List ℕ → (writes_setting force bind store : Bool) → Event
-load_of_bytes bytes writes_setting force bind store =
-    Load (given_in (def_of bytes)) writes_setting force bind store
+-- the load of a definition that was read, with what the outside answers
+abbrev pub load_of : Described → (writes_setting force bind store : Bool) → Event
+load_of described writes_setting force bind store =
+    Load (Ok (given described)) writes_setting force bind store
 
 -- what is still to be asked of the outside: the sockets, then the store
 abbrev pub refusal_outside : Described → (writes_setting bind store : Bool) → Option Refusal
@@ -39,13 +34,12 @@ refusal_outside described writes_setting bind store =
     refused_if (has_sockets described && not bind) SocketRefused
     (refusal_stored writes_setting store)
 
--- a load that refuses only what the outside refuses
-pub record IsAdmitted (table : Table) (bytes : List ℕ) (writes_setting force : Bool)
-    (described : Described) : Type 0 where
-  pub read : def_of bytes ≡ Ok described
-  pub remains : (s : State) (bind store : Bool) → KeepsState table s →
-      refusal_in s (load_of_bytes bytes writes_setting force bind store)
-      ≡ refusal_outside described writes_setting bind store
+-- nothing but the outside refuses the load
+abbrev pub IsAdmitted : Table → Described → (writes_setting force : Bool) → Type 0
+IsAdmitted table described writes_setting force =
+    (s : State) (bind store : Bool) → KeepsState table s →
+    refusal_in s (load_of described writes_setting force bind store)
+    ≡ refusal_outside described writes_setting bind store
 
 -- no job has the label
 abbrev pub IsAbsent : Label → List Name → Type 0
@@ -66,11 +60,6 @@ pub record IsMade (at : Reading) (numbers : Slab (Unit {0})) (described : Descri
   pub stays : ready.seat.has_gone ≡ false
   pub fresh : ready.seat.core.decided ≡ 0
   pub setting : ready.setting ≡ enabled_if writes_setting described.label
-
--- the refusal is the definition's first fault
-abbrev pub IsBad : Result Described Fault → Refusal → Type 0
-IsBad read refusal =
-    (fault : Fault) × (read ≡ Err fault) × (refusal ≡ BadDefinition fault.reason fault.key)
 
 -- what was refused, if anything was
 abbrev pub refused_with : {A : Type 0} → Result A Refusal → Option Refusal

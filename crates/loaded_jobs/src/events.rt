@@ -24,7 +24,7 @@ use crate::seat::Touch;
 use history_model::{
     Answer, Ask, CivilMinute, JobItem, JobNo, MAX_UP, MAX_WALL, Obs, Reading, Refusal,
 };
-use job_defs::is_label;
+use json_kinds::is_label;
 use std::alloc::Global;
 
 impl Jobs {

@@ -15,8 +15,8 @@ use crate::jobs::Jobs;
 use crate::seat::Seat;
 use crate::trigger::Listed;
 use crate::triggers::forget;
+use definition_values::Def;
 use history_model::JobNo;
-use job_defs::Def;
 
 /// Which jobs may have gone at the last event.
 #[derive(Clone, Copy)]

@@ -16,9 +16,9 @@ ghost use Rattle.history_model.specs.Reasons.{reasons_of, spawns_from, path_that
 ghost use Rattle.history_model.specs.Shown.{shown_of};
 ghost use Rattle.job_core.specs.JobEvents.{item_of_event};
 
+use definition_values::Def;
 use history_model::{Act, DemandKind, Entry, Reading, Reasons, Refusal, ShownJob};
 use job_core::{JobCore, JobEvent};
-use job_defs::Def;
 use std::alloc::{AllocError, Global};
 use std::marker::Model;
 

@@ -11,15 +11,14 @@ ghost use Rattle.timer_heap.specs.Timers.{room};
 ghost use Rattle.slab.specs.Slab.{HasRoomFor, get, Updates};
 ghost use Rattle.history_model.specs.declared.Refusal.TheVariants.{NoMemory};
 ghost use Rattle.history_model.specs.Machine.{State, Load, past_of};
-ghost use Rattle.history_model.specs.Acceptance.{refusal_of_load, refusal_in, refusal_there};
+ghost use Rattle.history_model.specs.Acceptance.{refusal_in, refusal_there};
 ghost use Rattle.history_model.specs.Search.{or_else};
 ghost use Rattle.history_model.specs.MachineLaws.{AreInOrder};
-ghost use Rattle.job_defs.specs.Keys.{def_of};
 ghost use Rattle.definition_values.specs.Definitions.{definition, given};
 ghost use Rattle.loaded_jobs.specs.Tables.{labels_in};
 ghost use Rattle.loaded_jobs.specs.StandsFor.{KeepsState};
 ghost use Rattle.loaded_jobs.specs.TableOutcomes.{IsSameFor, Means};
-ghost use Rattle.loaded_jobs.specs.Loads.{load_of_bytes, refusal_outside, refused_with, IsAdmitted, IsReady, Loads, IsAbsent, IsMade, IsBad, enabled_if};
+ghost use Rattle.loaded_jobs.specs.Loads.{load_of, refusal_outside, refused_with, IsAdmitted, IsReady, Loads, IsAbsent, IsMade, enabled_if};
 ghost use Rattle.loaded_jobs.specs.Counts.{counts, IsCounted};
 ghost use Rattle.loaded_jobs.specs.Minutes.{is_some_entry};
 ghost use Rattle.loaded_jobs.specs.Periods.{HasPositivePeriod};
@@ -39,9 +38,9 @@ use crate::seat::{ORDERS, Seat};
 use crate::settings::{Settings, is_disabled, set_if};
 use crate::trigger::{Listed, Trigger, triggers_of};
 use crate::triggers::enlist;
+use definition_values::Def;
 use history_model::{JobNo, MAX_JOBS, Order, Reading, Refusal, Setting, Text};
 use job_core::JobCore;
-use job_defs::{Def, DefFault, read_def};
 use slab::Slab;
 use std::alloc::{AllocError, Global};
 
@@ -76,30 +75,27 @@ impl Jobs {
     ghost use Rattle.loaded_jobs.specs.Sound.{seen_table, IsSound, IsWhole};
     ghost use Rattle.loaded_jobs.specs.Alike.{IsAlike};
 
-    /// Makes a load ready: looks for each refusal but the outside's, and takes all the memory.
+    /// Makes the load of a definition ready: looks for each refusal but the outside's, and takes all the memory.
     pub fn make_ready(
         &mut self,
         alloc: Global,
-        bytes: &[u8],
+        def: Def,
         writes_setting: bool,
         force: bool,
     ) -> Result<Ready, Refusal>
         requires sound { IsWhole self.old }
-        ensures admitted { IfOk result (λ ready.
-            IsAdmitted (seen_table self.old) bytes.now writes_setting force ready.seat.def) }
+        ensures admitted { IfOk result (λ _.
+            IsAdmitted (seen_table self.old) def writes_setting force) }
+        ensures def { IfOk result (λ ready. ready.seat.def ≡ def) }
         ensures writes_setting { IfOk result (λ ready. is_some ready.setting ≡ writes_setting) }
         ensures ready { IfOk result (IsReady (seen_table self.new)) }
         ensures refused { IfErr result (λ refusal. Means refusal ((s : State) (bind store : Bool) →
             KeepsState (seen_table self.old) s →
-            refusal_in s (load_of_bytes bytes.now writes_setting force bind store) ≡ Some refusal)) }
+            refusal_in s (load_of def writes_setting force bind store) ≡ Some refusal)) }
         ensures same { IsSameFor (seen_table self.old) (seen_table self.new) }
         ensures rows { (seen_table self.new).rows ≡ (seen_table self.old).rows }
         ensures sound { IsWhole self.new }
     {
-        if self.is_shutting_down {
-            return Err(Refusal::ShuttingDown);
-        }
-        let def = read(alloc, bytes)?;
         self.begin();
         if let Err(refusal) = self.admit(&def, writes_setting, force) {
             return Err(refusal);
@@ -111,17 +107,19 @@ impl Jobs {
         self.made(alloc, def, writes_setting, triggers)
     }
 
-    /// Looks for the refusals of a load while no shutdown was accepted, but for those of the outside.
+    /// Looks for the refusals of a load, but for those of the outside.
     fn admit(&self, def: &Def, writes_setting: bool, force: bool) -> Result<(), Refusal>
         requires sound { IsSound self.now }
         requires stay { AllStay self.now.seats.items }
-        requires running { self.now.is_shutting_down ≡ false }
         ensures answer { (s : State) (bind store : Bool) → KeepsState (seen_table self.now) s →
-            refusal_of_load s def.now.label (definition def.now) writes_setting force bind store
+            refusal_in s (load_of def.now writes_setting force bind store)
             ≡ or_else (refused_with result) (refusal_outside def.now writes_setting bind store) }
         ensures absent { OnOk result (IsAbsent def.now.label (map name self.now.seats.items)) }
         ensures few { OnOk result (vec_len self.now.seats < MAX_JOBS) }
     {
+        if self.is_shutting_down {
+            return Err(Refusal::ShuttingDown);
+        }
         if let Some(refusal) = self.refusal_there(def.label()) {
             return Err(refusal);
         }
@@ -397,17 +395,5 @@ fn enabled(alloc: Global, label: &str, writes_setting: bool) -> Result<Option<Se
             disabled: false,
         })),
         Err(_) => Err(Refusal::NoMemory),
-    }
-}
-
-/// Reads a definition.
-fn read(alloc: Global, bytes: &[u8]) -> Result<Def, Refusal>
-    ensures ok { IfOk result (λ def. def_of bytes.now ≡ Ok def) }
-    ensures bad { IfErr result (λ refusal. Means refusal (IsBad (def_of bytes.now) refusal)) }
-{
-    match read_def(alloc, bytes) {
-        Ok(def) => Ok(def),
-        Err(DefFault::NoMemory) => Err(Refusal::NoMemory),
-        Err(DefFault::Bad { reason, key }) => Err(Refusal::BadDefinition(reason, key)),
     }
 }

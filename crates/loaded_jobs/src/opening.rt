@@ -14,7 +14,7 @@ use crate::jobs::{Index, Jobs};
 use crate::settings::Settings;
 use calendar_due::Zone;
 use history_model::{Reading, Refusal, Setting};
-use job_defs::is_label;
+use json_kinds::is_label;
 use place_set::PlaceSet;
 use slab::Slab;
 use std::alloc::Global;

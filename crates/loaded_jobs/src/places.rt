@@ -14,8 +14,8 @@ ghost use Rattle.loaded_jobs.specs.Here.{IsHere};
 use crate::byte_order::is_before;
 use crate::jobs::Jobs;
 use crate::seat::Seat;
+use definition_values::Def;
 use history_model::JobNo;
-use job_defs::Def;
 
 impl Jobs {
     ghost use Rattle.loaded_jobs.specs.Sound.{seen_table, IsSound};

@@ -19,7 +19,7 @@ use crate::seat::Seat;
 use crate::settings::is_disabled;
 use crate::texts::{job, line};
 use history_model::Refusal;
-use job_defs::is_label;
+use json_kinds::is_label;
 use std::alloc::{AllocError, Global};
 
 /// The text of `list`: a line of heads, then a line for each loaded job.

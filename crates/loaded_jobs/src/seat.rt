@@ -23,11 +23,11 @@ ghost use Rattle.loaded_jobs.specs.Tables.{Name, definition_of_number, is_known}
 
 use crate::held_parts::{HeldCore, HeldDef};
 use calendar_due::Calendar;
+use definition_values::{Def, PathState};
 use history_model::{
     Act, Ask, CivilMinute, JobItem, JobNo, MAX_CONNECTIONS, Obs, Order, Reading, Text,
 };
 use job_core::JobEvent;
-use job_defs::{Def, PathState};
 
 /// How many orders one job gives at most in a step: each connection that waits is closed, one order more, and it is gone.
 pub const ORDERS: usize = MAX_CONNECTIONS + 2;

@@ -7,8 +7,8 @@ ghost use Rattle.loaded_jobs.specs.Triggers.{rank, rank_of, path_in, triggers_of
 ghost use Rattle.loaded_jobs.specs.declared.trigger.Trigger.TheVariants as triggers;
 
 use crate::byte_order::is_before;
+use definition_values::{Def, PathState};
 use history_model::{Entry, JobNo, Text};
-use job_defs::{Def, PathState};
 use std::alloc::{AllocError, Global};
 
 /// What touches a job.

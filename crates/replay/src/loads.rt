@@ -2,7 +2,8 @@
 ghost use Rattle.std.specs.Prelude.{◌≡◌, IfOk};
 ghost use Rattle.history_model.specs.Machine.{Set, UnloadJob};
 ghost use Rattle.loaded_jobs.specs.SettingChanges.{set_of};
-ghost use Rattle.loaded_jobs.specs.Loads.{load_of_bytes, refusal_outside};
+ghost use Rattle.loaded_jobs.specs.Loads.{refusal_outside};
+ghost use Rattle.job_table.specs.LoadOfBytes.{load_of_bytes};
 ghost use Rattle.replay.specs.Answers.{IsReplied};
 
 use crate::lines::{accepted_line, answer_line, refused_line};

@@ -4,7 +4,7 @@ use Rattle.history_model.specs.declared.event.Event as journal
 use Rattle.history_model.specs.declared.event.Event.TheVariants as journaled
 use Rattle.history_model.specs.JobItems.{item_of}
 use Rattle.history_model.specs.Machine.{Event, Unreadable, UnloadJob, Set, ListJobs, PrintJob, ShutDown, Tick, Sight, OfJob}
-use Rattle.loaded_jobs.specs.Loads.{load_of_bytes}
+use Rattle.job_table.specs.LoadOfBytes.{load_of_bytes}
 use Rattle.ctl_protocol.specs.EventLines.{event_at}
 
 -- the machine's event; a load's definition is what its text reads as

@@ -5,7 +5,8 @@ use Rattle.std.specs.String.{string_bytes}
 use Rattle.history_model.specs.declared.event.Event.TheVariants as events
 use Rattle.history_model.specs.Step.{outcome}
 use Rattle.loaded_jobs.specs.StandsFor.{KeepsState}
-use Rattle.loaded_jobs.specs.Loads.{load_of_bytes, refused_with}
+use Rattle.loaded_jobs.specs.Loads.{refused_with}
+use Rattle.job_table.specs.LoadOfBytes.{load_of_bytes}
 use Rattle.launcher.proofs.HostsLemmas.{as_replied}
 use Rattle.launcher.proofs.LoadAskingLemmas.{loaded, load_words}
 use Rattle.launcher.proofs.host.Host.ask_load.Goals as goal

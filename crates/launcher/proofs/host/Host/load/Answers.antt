@@ -6,7 +6,8 @@ use Rattle.history_model.specs.declared.Refusal.TheVariants.{NoMemory}
 use Rattle.history_model.specs.Machine.{State}
 use Rattle.history_model.specs.Acceptance.{refusal_in}
 use Rattle.loaded_jobs.specs.StandsFor.{KeepsState}
-use Rattle.loaded_jobs.specs.Loads.{IsAdmitted, load_of_bytes, described_in, refused_with}
+use Rattle.loaded_jobs.specs.Loads.{described_in, refused_with}
+use Rattle.job_table.specs.LoadOfBytes.{IsAdmitted, load_of_bytes}
 use Rattle.launcher.specs.declared.loading.Loaded.{Loaded}
 use Rattle.launcher.specs.LoadTurns.{LoadTurnOf, is_memory, label_written, load_request, settings_after, stamps_after, standing}
 use Rattle.launcher.proofs.LoadTurnsLemmas.{load_ended, load_sets, load_stamps, never_called, not_memory, told_unless, unstamped}
