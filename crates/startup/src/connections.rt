@@ -1,10 +1,14 @@
 //! What is done over the connection to a database, whatever its files are. A type parameter that becomes a real store is proved for all
 //! that lies below the store, so this happens once, in `over_files`.
 
+use crate::medium::Medium;
 use crate::refusal::StoreRefusal;
-use sqlite::{Alter, Connection, Error, ErrorCode, Files, Options};
-use sqlite_disk::Disk;
+use sqlite::{Alter, Connection, Error, ErrorCode, File, Files, Options};
+use sqlite_disk::Memory;
 use std::alloc::Global;
+
+/// The file of a database and its log: both of the system, or both copies in memory.
+pub(crate) type Media = Files<Medium<File, Memory>>;
 
 /// What is done over a connection, with what it gives. If it is refused, or nothing was done, it is given back.
 pub(crate) trait Task {
@@ -14,9 +18,9 @@ pub(crate) trait Task {
 }
 
 /// Opens the database of these files, and does the task over it.
-pub(crate) fn over_files<D: Disk + Drop, T: Task>(
+pub(crate) fn over_files<T: Task>(
     alloc: Global,
-    files: Files<D>,
+    files: Media,
     options: Options,
     task: T,
 ) -> Result<T::Done, (StoreRefusal, T)> {
@@ -30,9 +34,9 @@ pub(crate) fn over_files<D: Disk + Drop, T: Task>(
 }
 
 /// Opens the database of these files, and closes it, so that the log's pages are moved into it.
-pub(crate) fn close_files<D: Disk + Drop>(
+pub(crate) fn close_files(
     alloc: Global,
-    files: Files<D>,
+    files: Media,
     options: Options,
 ) -> Result<(), StoreRefusal> {
     if !files.may_be_used() {

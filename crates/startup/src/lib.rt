@@ -6,6 +6,7 @@
 mod connections;
 mod journal;
 mod looking;
+mod medium;
 mod overrides;
 mod places;
 mod plan;

@@ -1,6 +1,7 @@
 //! Whether a file is a store of overrides, found out without a write: a copy of it in memory is looked at.
 
-use crate::connections::{Task, over_files};
+use crate::connections::{Media, Task, over_files};
+use crate::medium::Medium;
 use crate::overrides::read_settings;
 use crate::refusal::StoreRefusal;
 use sqlite::{Alter, Connection, Error, ErrorCode, Files, Options};
@@ -78,7 +79,7 @@ fn look_in(alloc: Global, file: Vec<u8>, log: Vec<u8>) -> Result<Found, StoreRef
     }
 }
 
-fn copies(alloc: Global, file: Vec<u8>, log: Vec<u8>) -> io::Result<Files<Memory>> {
+fn copies(alloc: Global, file: Vec<u8>, log: Vec<u8>) -> io::Result<Media> {
     let log = match in_memory(alloc, log) {
         Ok(log) => log,
         Err(error) => {
@@ -87,7 +88,10 @@ fn copies(alloc: Global, file: Vec<u8>, log: Vec<u8>) -> io::Result<Files<Memory
         }
     };
     match in_memory(alloc, file) {
-        Ok(db) => Ok(Files { log, db }),
+        Ok(db) => Ok(Files {
+            log: Medium::Copied(log),
+            db: Medium::Copied(db),
+        }),
         Err(error) => {
             drop(log);
             Err(error)

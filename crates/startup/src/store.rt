@@ -1,14 +1,15 @@
 //! The store of a launcher: opened, served from, and settled once the launcher has let go of it.
 
-use crate::connections::{Task, close_files, over_files};
+use crate::connections::{Media, Task, close_files, over_files};
 use crate::looking::{Found, look};
+use crate::medium::Medium;
 use crate::refusal::{StoreRefusal, refuse_store};
 use crate::reporting::Level;
 use files_and_process::own_files::make_private;
 use history_model::Setting;
 use outside::SettingStore;
 use override_store::opened;
-use sqlite::{Alter, Connection, File, Files, Options, Unknown};
+use sqlite::{Alter, Connection, Files, Options, Unknown};
 use sqlite_std_file::OpenError;
 use std::alloc::Global;
 use std::hash::{BuildHasher, RandomState};
@@ -99,9 +100,13 @@ fn refused(error: OpenError) -> StoreRefusal {
     }
 }
 
-fn files_at(rt: &HostRuntime, path: &str) -> Result<(Files<File>, Options), OpenError> {
+fn files_at(rt: &HostRuntime, path: &str) -> Result<(Media, Options), OpenError> {
     let state = RandomState::new(rt)?;
-    let files = sqlite_std_file::open(rt, path, Unknown)?;
+    let Files { log, db } = sqlite_std_file::open(rt, path, Unknown)?;
+    let files = Files {
+        log: Medium::Plain(log),
+        db: Medium::Plain(db),
+    };
     let options = Options {
         cache_pages: CACHE_PAGES,
         checkpoint_frames: LOG_PAGES,
