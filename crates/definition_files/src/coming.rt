@@ -1,6 +1,6 @@
 //! When the clock wants a job next.
 
-ghost use Rattle.std.specs.Prelude.{◌≡◌, ◌≤◌, ◌+◌, ◌<◌, IfSome, IfNone};
+ghost use Rattle.std.specs.Prelude.{◌≡◌, ◌≤◌, ◌+◌, ◌<◌, MatchOption};
 ghost use Rattle.calendar_due.specs.Next.{IsFirstDue};
 ghost use Rattle.calendar_due.specs.ZoneRules.{minute_at};
 ghost use Rattle.definition_files.specs.Coming.{last_looked_at};
@@ -30,9 +30,11 @@ fn last_looked_at(after: u64) -> u64
     after.saturating_add(FARTHEST).min(MAX_WALL)
 }
 
-/// The second at which an interval of `every` seconds is over that began at `after`; none past what a launcher's clock may show.
+/// The second at which an interval of `every` seconds is over that began at `after`; none if it is past what a launcher's clock may
+/// show, and only then.
 pub(crate) fn interval_after(every: u32, after: u64) -> Option<u64>
-    ensures { IfSome result (λ second. (second ≡ after + every)) }
+    ensures { MatchOption result (MAX_WALL < after + every)
+        (λ second. (second ≡ after + every) × (second ≤ MAX_WALL)) }
 {
     let second = after.checked_add(u64::from(every))?;
     if second <= MAX_WALL {

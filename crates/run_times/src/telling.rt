@@ -1,5 +1,12 @@
 //! What a run writes and tells.
 
+ghost use Rattle.std.specs.Prelude.{◌≡◌, ◌↔◌, [], IsErr, IfOk, OnErr};
+ghost use Rattle.std.specs.String.{string_bytes};
+ghost use Rattle.std.specs.IoError.{error_kind};
+ghost use Rattle.std.specs.declared.io.ErrorKind.TheVariants.{OutOfMemory};
+ghost use Rattle.exit_status.specs.declared.TheConstants as statuses;
+ghost use Rattle.run_times.specs.Endings.{WantsMemory, status_of_end};
+
 use exit_status::{BAD_OUTPUT, NO_MEMORY, READER_GONE};
 use std::alloc::{AllocError, Global};
 use std::fmt::Display;
@@ -15,7 +22,10 @@ pub struct Outcome {
 
 impl Outcome {
     /// Nothing is written.
-    pub fn failed(alloc: Global, status: u8) -> Outcome {
+    pub fn failed(alloc: Global, status: u8) -> Outcome
+        ensures status { result.status ≡ status }
+        ensures text { string_bytes result.text ≡ [] }
+    {
         Outcome {
             text: String::new(alloc),
             status,
@@ -31,8 +41,10 @@ pub fn put(host: &HostRuntime, text: &str) -> io::Result<()> {
     print!(host; "{text}")
 }
 
-/// Writes a text to the standard output, if there was memory for it.
-pub fn put_made(host: &HostRuntime, made: Result<String, AllocError>) -> io::Result<()> {
+/// Writes a text to the standard output, if there was memory for it; if not, that is the error.
+pub fn put_made(host: &HostRuntime, made: Result<String, AllocError>) -> io::Result<()>
+    ensures { OnErr made (WantsMemory result) }
+{
     match made {
         Ok(text) => {
             let is_put = put(host, text.as_str());
@@ -43,8 +55,12 @@ pub fn put_made(host: &HostRuntime, made: Result<String, AllocError>) -> io::Res
     }
 }
 
-/// Writes what a subcommand came to, and answers its exit status.
-pub fn put_outcome(host: &HostRuntime, made: Result<Outcome, AllocError>) -> io::Result<u8> {
+/// Writes what a subcommand came to, and answers its exit status. An error if its text could not be written, or if there was no
+/// memory for it.
+pub fn put_outcome(host: &HostRuntime, made: Result<Outcome, AllocError>) -> io::Result<u8>
+    ensures status { IfOk made (λ outcome. IfOk result (λ status. status ≡ outcome.status)) }
+    ensures memory { OnErr made (WantsMemory result) }
+{
     match made {
         Ok(Outcome { text, status }) => {
             put_made(host, Ok(text))?;
@@ -60,7 +76,9 @@ pub fn tell_of<D: Display>(host: &HostRuntime, path: &str, told: &D) {
 }
 
 /// Tells what kept a file from being read. An error for want of memory, which is not told here.
-pub fn tell_error(host: &HostRuntime, path: &str, error: &io::Error) -> Result<(), AllocError> {
+pub fn tell_error(host: &HostRuntime, path: &str, error: &io::Error) -> Result<(), AllocError>
+    ensures { IsErr result ↔ (error_kind error.now ≡ OutOfMemory) }
+{
     if error.kind() == ErrorKind::OutOfMemory {
         return Err(AllocError);
     }
@@ -68,13 +86,19 @@ pub fn tell_error(host: &HostRuntime, path: &str, error: &io::Error) -> Result<(
     Ok(())
 }
 
-pub fn want_memory(host: &HostRuntime) -> u8 {
+/// Tells that memory was refused, and answers the exit status for it.
+pub fn want_memory(host: &HostRuntime) -> u8
+    ensures { result ≡ statuses.NO_MEMORY }
+{
     let _written = eprintln!(host; "jobscope: no memory");
     NO_MEMORY
 }
 
-/// Tells what kept a run from its end: memory, or the standard output.
-pub fn tell_end(host: &HostRuntime, error: &io::Error) -> u8 {
+/// Tells what kept a run from its end, memory or the standard output, and answers the exit status for it. That the reader of the
+/// standard output has gone is not told.
+pub fn tell_end(host: &HostRuntime, error: &io::Error) -> u8
+    ensures { result ≡ status_of_end (error_kind error.now) }
+{
     match error.kind() {
         ErrorKind::OutOfMemory => want_memory(host),
         ErrorKind::BrokenPipe => READER_GONE,
