@@ -12,7 +12,6 @@ import subprocess
 import sys
 
 sys.dont_write_bytecode = True
-sys.path.insert(0, os.getcwd())
 from kit import TOP, load_rt, rt_keeps
 
 
