@@ -4,8 +4,8 @@
     build_all.py PROGRAM
 
 It is `rt ci PROGRAM` without the wrong bodies and the warnings of contracts that no call can meet, which are the gate's. rt's own function is called,
-which works on a copy. lanes.py finds the order and the number of jobs of each check, and the two compilers of the program run side by side. What the
-gate or an earlier build passed on this machine is not proved again, and what this passes the gate does not prove again. RT_JOBS bounds the checks
+which works on a copy. lanes.py finds the order and the number of jobs of each check. The program is proved and compiled by two commands, one for each
+compiler, in place of one for its proof and one for each. What the gate or an earlier build passed on this machine is not proved again, and what this passes the gate does not prove again. RT_JOBS bounds the checks
 that run side by side. With a kit whose rt keeps nothing (13b), the same is done by proofs_kept.py: what it proves is kept for the next build and for
 check_crate.py, and the gate proves it again.
 
@@ -18,7 +18,9 @@ import os
 import re
 import resource
 import shutil
+import subprocess
 import sys
+import threading
 import time
 
 sys.dont_write_bytecode = True
@@ -27,6 +29,10 @@ from concurrent.futures import ThreadPoolExecutor
 from kit import TOP, below, load_rt, rt_keeps
 from lanes import Lanes, measured
 from proofs_kept import Proofs
+
+
+# The second command of a program begins after this share of what its proof and both compilers took last: about when the first has proved it.
+PAUSE = 0.25
 
 
 class Progress(io.StringIO):
@@ -79,21 +85,44 @@ def lanes_of(rt, tasks):
     return Lanes(below, seconds, memory, int(number) if number.isdigit() else rt.processors(), 0.85 * rt.free())
 
 
-def side_by_side(compile_by):
-    """rt has LLVM compile a proved program, and then Rattle's own compiler. This begins the second beside the first."""
+def by_two_commands(rt, pause):
+    """rt checks a program, has LLVM compile what was proved, and then Rattle's own compiler, and each reads all that lies below. Here one command checks it
+    and compiles it by LLVM, and another, which begins `pause` seconds later, checks it and compiles it by Rattle's own: beside the last part of the first,
+    which takes one processor. The first is held to what rt wants of a check, so the verdict is that of a proof from nothing; neither makes anything
+    of what it did not prove."""
+    prove = rt.Crate.prove
     pool, others = ThreadPoolExecutor(1), {}
 
-    def compiled(crate, backend, words, to):
-        if backend == "rattle":
-            return others.pop(crate.name).result()
-        others[crate.name] = pool.submit(compile_by, crate, "rattle", words, to)
-        status = compile_by(crate, backend, words, to)
+    def command(words, backend, made):
+        return ["build", *words, "--toolchain", f"{rt.KIT}/toolchain", "--backend", backend, "-o", made]
+
+    def later(crate, words, first):
+        first.wait(pause)
+        if rt.free() < rt.need(crate):
+            first.wait()
+        whole = [*rt.rtlib.guarded(), rt.rtlib.RATTLE, *command(words, "rattle", f"out/{crate.name}.by-rattle.o")]
+        nothing = {"stdin": subprocess.DEVNULL, "stdout": subprocess.DEVNULL, "stderr": subprocess.DEVNULL}
+        return subprocess.run(whole, cwd=crate.folder, **nothing).returncode
+
+    def proved(crate, *commands):
+        if not crate.is_program or commands[0][0] != "check":
+            return prove(crate, *commands)
+        words, first = commands[0][1 : commands[0].index("-o")], threading.Event()
+        others[crate.name] = pool.submit(later, crate, words, first)
+        status = prove(crate, command(words, "llvm", f"out/{crate.name}.o"))
+        first.set()
         if status:
-            # rt asks for no second then, and removes what it reads
             others.pop(crate.name).result()
         return status
 
-    return compiled
+    def compiled(crate, backend, _words, to):
+        if backend == "rattle" and others.pop(crate.name).result():
+            rt.say("note: Rattle's own compiler did not compile this program, so only the LLVM build is run", crate.out)
+            return 0
+        to += rt.BACKENDS[backend]
+        return crate.link(f"{to}.o", to)
+
+    rt.Crate.prove, rt.Crate.compile_by = proved, compiled
 
 
 def without_warnings(help_of):
@@ -117,7 +146,7 @@ def build_by_rt(program, rt):
 
     rt.run, rt.edits_of = run_and_take, lambda crate: ([], [])
     rt.in_lanes = lambda tasks: lanes_of(rt, tasks).run(lambda task, jobs, given: tasks[task][3](given, jobs))
-    rt.Crate.compile_by = side_by_side(rt.Crate.compile_by)
+    by_two_commands(rt, PAUSE * measured(f"{TOP}/bench/crate_seconds.csv").get(program, 400))
     rt.rtlib.help_of = without_warnings(rt.rtlib.help_of)
     with open("build/build.log", "w+", encoding="utf-8", errors="replace") as log:
         with contextlib.redirect_stdout(Progress(log, sys.stdout, count)):
@@ -136,7 +165,7 @@ def main(program):
     os.environ.pop("CI", None)
     os.makedirs("build", exist_ok=True)
     if rt_keeps():
-        status = build_by_rt(program, load_rt("ci", "run", "edits_of", "in_lanes", "processors", "free", "Crate", "rtlib"))
+        status = build_by_rt(program, load_rt("ci", "run", "edits_of", "in_lanes", "processors", "free", "need", "say", "Crate", "rtlib", "KIT", "BACKENDS"))
     else:
         status = build_by_ours(program)
     used = [resource.getrusage(it) for it in (resource.RUSAGE_SELF, resource.RUSAGE_CHILDREN)]
