@@ -65,7 +65,7 @@ def silent(path, count, text=b""):
     """So many clients that send no more than this, each of them replaced as it is let go."""
     held = [connect(path) for _ in range(count)]
     for client in held:
-        client.sendall(text)
+        send(client, text)
 
     def step():
         for at, client in enumerate(held):
