@@ -2,7 +2,7 @@
 use Rattle.std.proofs.Common.{◌≡◌, ◌≢◌, ℕ, Bool, true, false, cond, List, [], ◌∷◌, ◌++◌, Option, Some, bytes_eq, refl, sym, ap, ◌∙◌, true≢false}
 use Rattle.std.proofs.lemmas.List.Sums.{fold_push}
 use Rattle.std.proofs.lemmas.Slice.Eq.{bytes_eq-Decides}
-use Rattle.definition_values.specs.declared.parts.Variable.{Variable}
+use Rattle.history_model.specs.declared.definition.parts.Variable.{Variable}
 use Rattle.child_edge.specs.Command.{said_after}
 
 -- a name has its new value, and another name keeps what was said of it

@@ -1,6 +1,6 @@
 -- What a child's command has in its environment beside what the launcher has.
 use Rattle.std.specs.Prelude.{◌≡◌, ℕ, List, fold, bytes_eq, Option, Some, if◌then◌else◌}
-use Rattle.definition_values.specs.declared.parts.Variable.{Variable}
+use Rattle.history_model.specs.declared.definition.parts.Variable.{Variable}
 
 -- what is said of a name, if anything: its value, or that it has none
 abbrev pub Said : Type 0

@@ -4,8 +4,8 @@ ghost use Rattle.std.specs.Prelude.{◌≡◌, ◌++◌, ℕ, List, None, Some, 
 ghost use Rattle.std.specs.Process.{command_program, command_args, command_dir, command_arg0, command_var, SameEnv, SameDir, SameOtherVars, SameProgramAndArgs};
 ghost use Rattle.child_edge.specs.Command.{SetsVariables, said_after};
 
-use definition_values::{Def, Variable};
 use history_model::Text;
+use history_model::definition::{Def, Variable};
 use std::alloc::{AllocError, Global};
 use std::os::unix::process::CommandExt;
 use std::process::Command;

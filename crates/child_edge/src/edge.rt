@@ -7,7 +7,7 @@ ghost use Rattle.child_edge.specs.declared.plain.EdgeCall.{EdgeCall as Call};
 ghost use Rattle.child_edge.specs.declared.plain.Scripted.{Scripted as Answer};
 
 use crate::{EdgeCall, EdgeFault, Scripted};
-use definition_values::Def;
+use history_model::definition::Def;
 use history_model::{Ended, JobNo, Obs, Reading};
 
 /// What every trait of the outside tells: the calls that were made of it, each with its answer, and how many of them

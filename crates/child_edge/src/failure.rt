@@ -1,6 +1,6 @@
 //! Why a start was refused: which part of it, and what the system said.
 
-use definition_values::Def;
+use history_model::definition::Def;
 use std::alloc::Global;
 use std::fs::Files;
 use std::io::ErrorKind;

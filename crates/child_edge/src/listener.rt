@@ -1,10 +1,10 @@
 //! One listening socket: a Unix socket at a path, or TCP on IPv4. None of them blocks.
 
 use crate::Client;
-use definition_values::{Address, Socket};
 use files_and_process::socket_file;
 use files_and_process::socket_file::SocketMark;
 use history_model::Text;
+use history_model::definition::{Address, Socket};
 use mio::net::{TcpListener, UnixListener};
 use mio::{Interest, Registry, Token};
 use std::alloc::Global;

@@ -6,7 +6,7 @@ ghost use Rattle.child_edge.specs.MemoryEdges.{answer_to, answer_of, after_call,
 ghost use Rattle.child_edge.specs.Calls.{outcome_answer, start_answer, done_answer, poll_answer, look_answer, read_answer};
 
 use crate::{ChildEdge, ClockEdge, Edge, EdgeCall, EdgeFault, PathEdge, Scripted, SocketEdge};
-use definition_values::Def;
+use history_model::definition::Def;
 use history_model::{Ended, JobNo, Obs, Reading};
 use std::alloc::{AllocError, Global};
 use std::marker::Model;

@@ -14,7 +14,7 @@ use crate::start::Start;
 use crate::{
     ChildEdge, Client, ClockEdge, Edge, EdgeFault, Notice, PathEdge, SocketEdge, clock, paths,
 };
-use definition_values::Def;
+use history_model::definition::Def;
 use history_model::{Ended, JobNo, Obs, Reading};
 use mio::{Registry, Token};
 use socket_demand::Exchange;

@@ -6,7 +6,7 @@ use crate::maps::key_from;
 use crate::notices::{Asked, Notices};
 use crate::words::Hole::Error;
 use crate::words::cannot_bind;
-use definition_values::{Address, Def, Socket};
+use history_model::definition::{Address, Def, Socket};
 use history_model::{JobNo, MAX_JOBS, Text};
 use mio::{Registry, Token};
 use std::alloc::Global;

@@ -1,7 +1,7 @@
 //! What a start is asked for.
 
 use crate::children::RunKey;
-use definition_values::Def;
+use history_model::definition::Def;
 
 /// A start of a job's run: of which run, as its definition says, and for which connection if it serves one.
 #[derive(Clone, Copy)]

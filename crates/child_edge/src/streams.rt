@@ -8,7 +8,7 @@
 
 use crate::failure::{Failure, Part};
 use crate::spool::Spooled;
-use definition_values::Def;
+use history_model::definition::Def;
 use std::fs::{File, FileType, Files, Metadata, OpenOptions};
 use std::io::ErrorKind;
 use std::os::unix::fs::{FileTypeExt, MetadataExt};

@@ -1,7 +1,7 @@
 //! The lines that the edge has to tell: forms whose holes are filled. Each is absent where there was no memory for it.
 
 use Hole::{Error, Host, Number, Text};
-use definition_values::{Address, Socket};
+use history_model::definition::{Address, Socket};
 use std::alloc::{AllocError, Global};
 use std::fmt::Write;
 use std::io;

@@ -5,8 +5,8 @@ use Rattle.std.specs.Option.{option_map}
 use Rattle.history_model.specs.declared.Obs.{Obs}
 use Rattle.history_model.specs.declared.Reading.{Reading}
 use Rattle.history_model.specs.Items.{Definition, History, Loaded, Saw}
-use Rattle.definition_values.specs.declared.parts.PathState.{PathState}
-use Rattle.definition_values.specs.Definitions.{path_wish}
+use Rattle.history_model.specs.declared.definition.parts.PathState.{PathState}
+use Rattle.history_model.specs.Definitions.{path_wish}
 use Rattle.history_model.specs.Clock.{definition_of}
 use Rattle.history_model.specs.Demands.{is_same_path, last_seen}
 use Rattle.history_model.specs.Levels.{presence_holds}

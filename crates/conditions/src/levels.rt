@@ -10,9 +10,9 @@ ghost use Rattle.history_model.specs.ByFacts.{seen_after};
 ghost use Rattle.history_model.specs.Reasons.{exit_wants, crash_wants, state_that_holds};
 ghost use Rattle.history_model.specs.DueByFacts.{any_seen, first_seen};
 ghost use Rattle.conditions.specs.States.{wanted_of, last_sight, after_sight};
-ghost use Rattle.definition_values.specs.Definitions.{definition, path_wish};
+ghost use Rattle.history_model.specs.Definitions.{definition, path_wish};
 
-use definition_values::{Def, PathState};
+use history_model::definition::{Def, PathState};
 use history_model::{Ended, Obs, Reading, Text};
 use std::alloc::{AllocError, Global};
 use std::marker::Model;

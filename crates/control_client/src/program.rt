@@ -6,7 +6,7 @@ use crate::session::Session;
 use crate::settings::{SettingFault, Settings, settings_of};
 use exit_status::{NO_MEMORY, USAGE};
 use files_and_process::path_files::{Found, Kind, files_at};
-use history_model::{Ask, Event, JobItem, Text};
+use history_model::{Ask, Event, JobItem, Text, TextRef};
 use launchctl_words::{Command, Paths, WordFault, Words, explain, read_words, read_words_beside};
 use std::alloc::Global;
 use std::fs::Files;
@@ -22,27 +22,27 @@ enum Deed {
 }
 
 /// What the words come to.
-enum Task {
-    Files(Deed, Paths),
-    Request(Event),
+enum Task<'a> {
+    Files(Deed, &'a Paths),
+    Request(Event<'a>),
 }
 
-fn asked(label: Text, ask: Ask) -> Task {
+fn asked(label: &Text, ask: Ask) -> Task<'_> {
     Task::Request(Event::OfJob {
-        job: label,
+        job: TextRef::new(label.as_str()),
         item: JobItem::Asked(ask),
     })
 }
 
-fn set(label: Text, disabled: bool) -> Task {
+fn set(label: &Text, disabled: bool) -> Task<'_> {
     Task::Request(Event::Set {
-        job: label,
+        job: TextRef::new(label.as_str()),
         disabled,
         store: true,
     })
 }
 
-fn task_of(command: Command) -> Task {
+fn task_of(command: &Command) -> Task<'_> {
     match command {
         Command::Load {
             writes_setting,
@@ -50,22 +50,29 @@ fn task_of(command: Command) -> Task {
             paths,
         } => Task::Files(
             Deed::Load {
-                writes_setting,
-                force,
+                writes_setting: *writes_setting,
+                force: *force,
             },
             paths,
         ),
         Command::Unload {
             writes_setting,
             paths,
-        } => Task::Files(Deed::Unload { writes_setting }, paths),
+        } => Task::Files(
+            Deed::Unload {
+                writes_setting: *writes_setting,
+            },
+            paths,
+        ),
         Command::Start { label } => asked(label, Ask::Start),
         Command::Stop { label } => asked(label, Ask::Stop),
         Command::Enable { label } => set(label, false),
         Command::Disable { label } => set(label, true),
-        Command::Kickstart { kills_first, label } => asked(label, Ask::Kickstart(kills_first)),
+        Command::Kickstart { kills_first, label } => asked(label, Ask::Kickstart(*kills_first)),
         Command::List => Task::Request(Event::List),
-        Command::Print { label } => Task::Request(Event::Print { job: label }),
+        Command::Print { label } => Task::Request(Event::Print {
+            job: TextRef::new(label.as_str()),
+        }),
         Command::Shutdown => Task::Request(Event::Shutdown),
     }
 }
@@ -96,16 +103,11 @@ pub fn jobctl<R: Net + Files + Env + Print + Eprint + AllocGlobal + Clone + Drop
     match meant {
         Ok(Words { socket, command }) => {
             let mut session = Session::new(socket, patience);
-            match task_of(command) {
-                Task::Files(deed, paths) => {
-                    hand_in(rt, alloc, &mut session, deed, &paths);
-                    drop(paths);
-                }
-                Task::Request(event) => {
-                    session.ask_once(rt, alloc, &event);
-                    drop(event);
-                }
+            match task_of(&command) {
+                Task::Files(deed, paths) => hand_in(rt, alloc, &mut session, deed, paths),
+                Task::Request(event) => session.ask_once(rt, alloc, &event),
             }
+            drop(command);
             let status = session.status();
             drop(session);
             status
@@ -202,38 +204,44 @@ fn hand_in_one<R: Net + Files + Print + Eprint>(
         Kind::File => {}
     }
     let name = if is_named { Some(path) } else { None };
-    match event_for(rt, alloc, deed, path) {
-        Ok(event) => {
-            let answer = session.ask(rt, alloc, &event, name);
-            drop(event);
+    match text_for(rt, alloc, deed, path) {
+        Ok(text) => {
+            let answer = session.ask(rt, alloc, &request_with(deed, &text), name);
+            drop(text);
             answer
         }
         Err(fault) => Err(fault),
     }
 }
 
-/// The event of the file's definition. A fault of the file: it can't be read, is too long for a line, or is not UTF-8; for an
-/// unload also if it is no definition, so that its label is not known.
-fn event_for<R: Files>(rt: &R, alloc: Global, deed: Deed, path: &str) -> Result<Event, Fault> {
+/// What the request for a file says: the text of its definition, or for an unload the label in it. A fault of the file: it can't be read, is
+/// too long for a line, or is not UTF-8; for an unload also if it is no definition, so that its label is not known.
+fn text_for<R: Files>(rt: &R, alloc: Global, deed: Deed, path: &str) -> Result<Text, Fault> {
     let text = text_at(rt, alloc, path)?;
+    match deed {
+        Deed::Load { .. } => Ok(text),
+        Deed::Unload { .. } => label_of(alloc, text),
+    }
+}
+
+/// The request that says this.
+fn request_with(deed: Deed, text: &Text) -> Event<'_> {
+    let said = TextRef::new(text.as_str());
     match deed {
         Deed::Load {
             writes_setting,
             force,
-        } => Ok(Event::Load {
-            def: text,
+        } => Event::Load {
+            def: said,
             writes_setting,
             force,
             bind: true,
             store: true,
-        }),
-        Deed::Unload { writes_setting } => match label_of(alloc, text) {
-            Ok(job) => Ok(Event::Unload {
-                job,
-                writes_setting,
-                store: true,
-            }),
-            Err(fault) => Err(fault),
+        },
+        Deed::Unload { writes_setting } => Event::Unload {
+            job: said,
+            writes_setting,
+            store: true,
         },
     }
 }

@@ -44,7 +44,7 @@ const REFUSED_MORE: usize = 2;
 
 /// The line that asks for the event, with its newline. TooLong: it has more than [`LINE_LIMIT`] bytes before it. LongRecord:
 /// the line that the launcher's journal may get for it has.
-pub fn request_of(alloc: Global, event: &Event) -> Result<Vec<u8>, Fault> {
+pub fn request_of(alloc: Global, event: &Event<'_>) -> Result<Vec<u8>, Fault> {
     let line = request_line(alloc, event)?;
     if line.len() > LINE_LIMIT + 1 {
         return Err(Fault::TooLong);
@@ -56,7 +56,7 @@ pub fn request_of(alloc: Global, event: &Event) -> Result<Vec<u8>, Fault> {
 }
 
 // The longest that the journal's line for the event may be, with its newline.
-fn record_len(alloc: Global, event: &Event) -> Result<usize, Fault> {
+fn record_len(alloc: Global, event: &Event<'_>) -> Result<usize, Fault> {
     let record = event_line(alloc, event)?;
     Ok(record.len().saturating_add(REFUSED_MORE))
 }

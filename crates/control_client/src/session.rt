@@ -46,7 +46,7 @@ impl Session {
         &mut self,
         rt: &R,
         alloc: Global,
-        event: &Event,
+        event: &Event<'_>,
         name: Option<&str>,
     ) -> Result<(), Fault> {
         let line = request_of(alloc, event)?;
@@ -60,7 +60,7 @@ impl Session {
         &mut self,
         rt: &R,
         alloc: Global,
-        event: &Event,
+        event: &Event<'_>,
     ) {
         match self.ask(rt, alloc, event, None) {
             Ok(()) => {}

@@ -9,12 +9,12 @@ use crate::line::Line;
 use crate::members::{
     Form, ReadFault, flag_in, flag_or_in, has_only_keys, label_in, number_in, target_in, text_in,
 };
-use history_model::{Answer, Ask, Ended, Event, JobItem, Obs, Reading, Text};
+use history_model::{Answer, Ask, Ended, Event, JobItem, Obs, Reading, TextRef};
 use json::Scratch;
 use std::alloc::{AllocError, Global};
 
 #[tactic(auto, unfolding(crate::specs::EventLines::load_shape))]
-fn load_in(alloc: Global, form: Form, line: &Line<'_>) -> Result<Event, ReadFault>
+fn load_in<'a>(form: Form, line: &Line<'a>) -> Result<Event<'a>, ReadFault>
     ensures { Reads result (load_shape form (seen line.now)) }
 {
     if !has_only_keys(form, line, &["def", "w", "F"], &["bind", "store"]) {
@@ -25,9 +25,8 @@ fn load_in(alloc: Global, form: Form, line: &Line<'_>) -> Result<Event, ReadFaul
     let force = flag_or_in(line, "F", false)?;
     let bind = flag_or_in(line, "bind", true)?;
     let store = flag_or_in(line, "store", true)?;
-    let def = Text::copy_of(alloc, def)?;
     Ok(Event::Load {
-        def,
+        def: TextRef::new(def),
         writes_setting,
         force,
         bind,
@@ -36,13 +35,13 @@ fn load_in(alloc: Global, form: Form, line: &Line<'_>) -> Result<Event, ReadFaul
 }
 
 #[tactic(auto, unfolding(crate::specs::EventLines::unload_shape))]
-fn unload_in(alloc: Global, form: Form, line: &Line<'_>) -> Result<Event, ReadFault>
+fn unload_in<'a>(form: Form, line: &Line<'a>) -> Result<Event<'a>, ReadFault>
     ensures { Reads result (unload_shape form (seen line.now)) }
 {
     if !has_only_keys(form, line, &["job", "w"], &["store"]) {
         return Err(ReadFault::BadRequest);
     }
-    let job = label_in(alloc, line, "job")?;
+    let job = label_in(line, "job")?;
     let writes_setting = flag_or_in(line, "w", false)?;
     let store = flag_or_in(line, "store", true)?;
     Ok(Event::Unload {
@@ -53,13 +52,13 @@ fn unload_in(alloc: Global, form: Form, line: &Line<'_>) -> Result<Event, ReadFa
 }
 
 #[tactic(auto, unfolding(crate::specs::EventLines::job_shape))]
-fn job_in(alloc: Global, ask: Ask, form: Form, line: &Line<'_>) -> Result<Event, ReadFault>
+fn job_in<'a>(ask: Ask, form: Form, line: &Line<'a>) -> Result<Event<'a>, ReadFault>
     ensures { Reads result (job_shape ask form (seen line.now)) }
 {
     if !has_only_keys(form, line, &["job"], &[]) {
         return Err(ReadFault::BadRequest);
     }
-    let job = label_in(alloc, line, "job")?;
+    let job = label_in(line, "job")?;
     Ok(Event::OfJob {
         job,
         item: JobItem::Asked(ask),
@@ -67,28 +66,23 @@ fn job_in(alloc: Global, ask: Ask, form: Form, line: &Line<'_>) -> Result<Event,
 }
 
 #[tactic(auto, unfolding(crate::specs::EventLines::target_shape))]
-fn lone_target_in(alloc: Global, form: Form, line: &Line<'_>) -> Result<Text, ReadFault>
+fn lone_target_in<'a>(form: Form, line: &Line<'a>) -> Result<TextRef<'a>, ReadFault>
     ensures { Reads result (target_shape form (seen line.now)) }
 {
     if !has_only_keys(form, line, &["job"], &[]) {
         return Err(ReadFault::BadRequest);
     }
-    target_in(alloc, line, "job")
+    target_in(line, "job")
 }
 
 #[tactic(auto, unfolding(crate::specs::EventLines::setting_shape))]
-fn setting_in(
-    alloc: Global,
-    disabled: bool,
-    form: Form,
-    line: &Line<'_>,
-) -> Result<Event, ReadFault>
+fn setting_in<'a>(disabled: bool, form: Form, line: &Line<'a>) -> Result<Event<'a>, ReadFault>
     ensures { Reads result (setting_shape disabled form (seen line.now)) }
 {
     if !has_only_keys(form, line, &["job"], &["store"]) {
         return Err(ReadFault::BadRequest);
     }
-    let job = target_in(alloc, line, "job")?;
+    let job = target_in(line, "job")?;
     let store = flag_or_in(line, "store", true)?;
     Ok(Event::Set {
         job,
@@ -98,13 +92,13 @@ fn setting_in(
 }
 
 #[tactic(auto, unfolding(crate::specs::EventLines::kickstart_shape))]
-fn kickstart_in(alloc: Global, form: Form, line: &Line<'_>) -> Result<Event, ReadFault>
+fn kickstart_in<'a>(form: Form, line: &Line<'a>) -> Result<Event<'a>, ReadFault>
     ensures { Reads result (kickstart_shape form (seen line.now)) }
 {
     if !has_only_keys(form, line, &["job", "k"], &[]) {
         return Err(ReadFault::BadRequest);
     }
-    let job = target_in(alloc, line, "job")?;
+    let job = target_in(line, "job")?;
     let kills_first = flag_or_in(line, "k", false)?;
     Ok(Event::OfJob {
         job,
@@ -113,8 +107,8 @@ fn kickstart_in(alloc: Global, form: Form, line: &Line<'_>) -> Result<Event, Rea
 }
 
 #[tactic(auto, unfolding(crate::specs::EventLines::bare_shape))]
-fn bare_in(event: Event, form: Form, line: &Line<'_>) -> Result<Event, ReadFault>
-    ensures { Reads result (bare_shape event form (seen line.now)) }
+fn bare_in<'a>(event: Event<'a>, form: Form, line: &Line<'_>) -> Result<Event<'a>, ReadFault>
+    ensures { Reads result (bare_shape event.entry form (seen line.now)) }
 {
     if !has_only_keys(form, line, &[], &[]) {
         return Err(ReadFault::BadRequest);
@@ -124,20 +118,20 @@ fn bare_in(event: Event, form: Form, line: &Line<'_>) -> Result<Event, ReadFault
 
 /// The shape of what a client asks, of either form.
 #[tactic(auto, unfolding(crate::specs::EventLines::asked_shape))]
-fn request_named(alloc: Global, name: &str, form: Form, line: &Line<'_>) -> Result<Event, ReadFault>
+fn request_named<'a>(name: &str, form: Form, line: &Line<'a>) -> Result<Event<'a>, ReadFault>
     ensures { Reads result (asked_shape name.now form (seen line.now)) }
 {
     match name {
-        "load" => load_in(alloc, form, line),
-        "unload" => unload_in(alloc, form, line),
-        "start" => job_in(alloc, Ask::Start, form, line),
-        "stop" => job_in(alloc, Ask::Stop, form, line),
-        "kickstart" => kickstart_in(alloc, form, line),
-        "enable" => setting_in(alloc, false, form, line),
-        "disable" => setting_in(alloc, true, form, line),
+        "load" => load_in(form, line),
+        "unload" => unload_in(form, line),
+        "start" => job_in(Ask::Start, form, line),
+        "stop" => job_in(Ask::Stop, form, line),
+        "kickstart" => kickstart_in(form, line),
+        "enable" => setting_in(false, form, line),
+        "disable" => setting_in(true, form, line),
         "list" => bare_in(Event::List, form, line),
         "print" => {
-            let job = lone_target_in(alloc, form, line)?;
+            let job = lone_target_in(form, line)?;
             Ok(Event::Print { job })
         }
         "shutdown" => bare_in(Event::Shutdown, form, line),
@@ -146,7 +140,7 @@ fn request_named(alloc: Global, name: &str, form: Form, line: &Line<'_>) -> Resu
 }
 
 #[tactic(auto, unfolding(crate::specs::EventLines::clock_shape))]
-fn clock_in(line: &Line<'_>) -> Result<Event, ReadFault>
+fn clock_in<'a>(line: &Line<'a>) -> Result<Event<'a>, ReadFault>
     ensures { Reads result (clock_shape (seen line.now)) }
 {
     if !has_only_keys(Form::Event, line, &["up", "wall"], &[]) {
@@ -184,7 +178,7 @@ fn has_saw_keys(line: &Line<'_>) -> bool
 }
 
 #[tactic(auto, unfolding(crate::specs::EventLines::saw_shape))]
-fn saw_in(alloc: Global, line: &Line<'_>) -> Result<Event, ReadFault>
+fn saw_in<'a>(line: &Line<'a>) -> Result<Event<'a>, ReadFault>
     ensures { Reads result (saw_shape (seen line.now)) }
 {
     if !has_saw_keys(line) {
@@ -193,19 +187,19 @@ fn saw_in(alloc: Global, line: &Line<'_>) -> Result<Event, ReadFault>
     let path = text_in(line, "path")?;
     let obs = sight_in(line)?;
     Ok(Event::Saw {
-        path: Text::copy_of(alloc, path)?,
+        path: TextRef::new(path),
         obs,
     })
 }
 
 #[tactic(auto, unfolding(crate::specs::EventLines::connection_shape))]
-fn connection_in(alloc: Global, line: &Line<'_>) -> Result<(Text, u64), ReadFault>
+fn connection_in<'a>(line: &Line<'a>) -> Result<(TextRef<'a>, u64), ReadFault>
     ensures { Reads result (connection_shape (seen line.now)) }
 {
     if !has_only_keys(Form::Event, line, &["job", "conn"], &[]) {
         return Err(ReadFault::BadRequest);
     }
-    let job = label_in(alloc, line, "job")?;
+    let job = label_in(line, "job")?;
     let conn = number_in(line, "conn")?;
     Ok((job, conn))
 }
@@ -221,13 +215,13 @@ fn pid_in(line: &Line<'_>) -> Result<u32, ReadFault>
 }
 
 #[tactic(auto, unfolding(crate::specs::EventLines::spawned_shape))]
-fn spawned_in(alloc: Global, line: &Line<'_>) -> Result<Event, ReadFault>
+fn spawned_in<'a>(line: &Line<'a>) -> Result<Event<'a>, ReadFault>
     ensures { Reads result (spawned_shape (seen line.now)) }
 {
     if !has_only_keys(Form::Event, line, &["job", "run", "pid"], &[]) {
         return Err(ReadFault::BadRequest);
     }
-    let job = label_in(alloc, line, "job")?;
+    let job = label_in(line, "job")?;
     let run = number_in(line, "run")?;
     let pid = pid_in(line)?;
     Ok(Event::OfJob {
@@ -237,25 +231,25 @@ fn spawned_in(alloc: Global, line: &Line<'_>) -> Result<Event, ReadFault>
 }
 
 #[tactic(auto, unfolding(crate::specs::EventLines::run_shape))]
-fn run_in(alloc: Global, line: &Line<'_>) -> Result<(Text, u64), ReadFault>
+fn run_in<'a>(line: &Line<'a>) -> Result<(TextRef<'a>, u64), ReadFault>
     ensures { Reads result (run_shape (seen line.now)) }
 {
     if !has_only_keys(Form::Event, line, &["job", "run"], &[]) {
         return Err(ReadFault::BadRequest);
     }
-    let job = label_in(alloc, line, "job")?;
+    let job = label_in(line, "job")?;
     let run = number_in(line, "run")?;
     Ok((job, run))
 }
 
 #[tactic(auto, unfolding(crate::specs::EventLines::answer_shape))]
-fn answer_in(alloc: Global, line: &Line<'_>) -> Result<(Text, u64, bool), ReadFault>
+fn answer_in<'a>(line: &Line<'a>) -> Result<(TextRef<'a>, u64, bool), ReadFault>
     ensures { Reads result (answer_shape (seen line.now)) }
 {
     if !has_only_keys(Form::Event, line, &["job", "run", "ok"], &[]) {
         return Err(ReadFault::BadRequest);
     }
-    let job = label_in(alloc, line, "job")?;
+    let job = label_in(line, "job")?;
     let run = number_in(line, "run")?;
     let ok = flag_in(line, "ok")?;
     Ok((job, run, ok))
@@ -290,13 +284,13 @@ fn end_in(line: &Line<'_>) -> Result<Ended, ReadFault>
 }
 
 #[tactic(auto, unfolding(crate::specs::EventLines::ended_shape))]
-fn ended_in(alloc: Global, line: &Line<'_>) -> Result<Event, ReadFault>
+fn ended_in<'a>(line: &Line<'a>) -> Result<Event<'a>, ReadFault>
     ensures { Reads result (ended_shape (seen line.now)) }
 {
     if !has_only_keys(Form::Event, line, &["job", "run", "code", "signal"], &[]) {
         return Err(ReadFault::BadRequest);
     }
-    let job = label_in(alloc, line, "job")?;
+    let job = label_in(line, "job")?;
     let run = number_in(line, "run")?;
     let how = end_in(line)?;
     Ok(Event::OfJob {
@@ -307,109 +301,123 @@ fn ended_in(alloc: Global, line: &Line<'_>) -> Result<Event, ReadFault>
 
 /// The shape of any event.
 #[tactic(auto, unfolding(crate::specs::EventLines::journal_shape, crate::specs::EventLines::asked_shape))]
-fn journal_in(alloc: Global, name: &str, line: &Line<'_>) -> Result<Event, ReadFault>
+fn journal_in<'a>(name: &str, line: &Line<'a>) -> Result<Event<'a>, ReadFault>
     ensures { Reads result (journal_shape name.now (seen line.now)) }
 {
     match name {
         "clock" => clock_in(line),
-        "saw" => saw_in(alloc, line),
+        "saw" => saw_in(line),
         "came" => {
-            let (job, conn) = connection_in(alloc, line)?;
+            let (job, conn) = connection_in(line)?;
             let item = JobItem::Came(conn);
             Ok(Event::OfJob { job, item })
         }
         "left" => {
-            let (job, conn) = connection_in(alloc, line)?;
+            let (job, conn) = connection_in(line)?;
             let item = JobItem::Left(conn);
             Ok(Event::OfJob { job, item })
         }
-        "spawned" => spawned_in(alloc, line),
+        "spawned" => spawned_in(line),
         "spawn_refused" => {
-            let (job, run) = run_in(alloc, line)?;
+            let (job, run) = run_in(line)?;
             let item = JobItem::Answered(Answer::SpawnRefused { run });
             Ok(Event::OfJob { job, item })
         }
         "termed" => {
-            let (job, run, ok) = answer_in(alloc, line)?;
+            let (job, run, ok) = answer_in(line)?;
             let item = JobItem::Answered(Answer::Termed { run, ok });
             Ok(Event::OfJob { job, item })
         }
         "killed" => {
-            let (job, run, ok) = answer_in(alloc, line)?;
+            let (job, run, ok) = answer_in(line)?;
             let item = JobItem::Answered(Answer::Killed { run, ok });
             Ok(Event::OfJob { job, item })
         }
-        "ended" => ended_in(alloc, line),
+        "ended" => ended_in(line),
         "wait_refused" => {
-            let (job, run) = run_in(alloc, line)?;
+            let (job, run) = run_in(line)?;
             let item = JobItem::WaitRefused { run };
             Ok(Event::OfJob { job, item })
         }
-        _ => request_named(alloc, name, Form::Event, line),
+        _ => request_named(name, Form::Event, line),
     }
 }
 
 #[tactic(auto, unfolding(crate::specs::EventLines::event_shape))]
-fn event_in(alloc: Global, line: &Line<'_>) -> Result<Event, ReadFault>
+fn event_in<'a>(line: &Line<'a>) -> Result<Event<'a>, ReadFault>
     ensures { Reads result (event_shape (seen line.now)) }
 {
     let name = text_in(line, Form::Event.tag())?;
-    journal_in(alloc, name, line)
+    journal_in(name, line)
 }
 
 #[tactic(auto, unfolding(crate::specs::EventLines::request_shape_of))]
-fn request_in(alloc: Global, line: &Line<'_>) -> Result<Event, ReadFault>
+fn request_in<'a>(line: &Line<'a>) -> Result<Event<'a>, ReadFault>
     ensures { Reads result (request_shape_of (seen line.now)) }
 {
     let name = text_in(line, Form::Request.tag())?;
-    request_named(alloc, name, Form::Request, line)
+    request_named(name, Form::Request, line)
 }
 
-/// Reads lines, and keeps the room that this takes from line to line.
+/// The room that reading lines takes, kept from line to line.
 #[derive(Drop)]
-pub struct LineReader {
-    scratch: Box<Scratch>,
+pub struct LineRoom {
+    scratch: Option<Box<Scratch>>,
 }
 
-impl LineReader {
-    /// `Err` says that memory ran out.
-    pub fn new(alloc: Global) -> Result<LineReader, AllocError> {
-        Ok(LineReader {
-            scratch: Box::new(alloc, Scratch::new(alloc))?,
+impl LineRoom {
+    /// The room for lines without escaped texts; others make it wider. `AllocError` if memory for it was refused.
+    pub fn new(alloc: Global) -> Result<LineRoom, AllocError> {
+        let scratch = Box::new(alloc, Scratch::new(alloc))?;
+        Ok(LineRoom {
+            scratch: Some(scratch),
         })
     }
 
-    /// As [`read_event`].
-    #[tactic(auto, unfolding(crate::specs::EventLines::event_at))]
-    pub fn event(&mut self, alloc: Global, line: &[u8]) -> Result<Event, ReadFault>
-        ensures { Reads result (event_at line.now) }
-    {
-        let line = Line::read(alloc, line, &mut self.scratch)?;
-        event_in(alloc, &line)
+    /// Takes the room out, so that an event can be borrowed of it while its owner changes; it is to be put back. Meanwhile the owner has
+    /// none, and a line that is read there makes it anew. Takes no memory.
+    pub fn take(&mut self) -> LineRoom {
+        LineRoom {
+            scratch: self.scratch.take(),
+        }
     }
 
-    /// As [`read_request`].
-    #[tactic(auto, unfolding(crate::specs::EventLines::request_at))]
-    pub fn request(&mut self, alloc: Global, line: &[u8]) -> Result<Event, ReadFault>
-        ensures { Reads result (request_at line.now) }
-    {
-        let line = Line::read(alloc, line, &mut self.scratch)?;
-        request_in(alloc, &line)
+    /// The room, lent. `AllocError` if there was none, and memory for it was refused.
+    fn lent(&mut self, alloc: Global) -> Result<&mut Scratch, AllocError> {
+        if self.scratch.is_none() {
+            self.scratch = Some(Box::new(alloc, Scratch::new(alloc))?);
+        }
+        match &mut self.scratch {
+            Some(scratch) => Ok(scratch),
+            None => unreachable!(),
+        }
     }
 }
 
 /// The event that a line of a journal is, the newline left out. BadRequest if it is none: no JSON object (RFC
-/// 8259), a key too few or too many, or a value of another kind or range.
-pub fn read_event(alloc: Global, line: &[u8]) -> Result<Event, ReadFault>
+/// 8259), a key too few or too many, or a value of another kind or range. Its texts are borrowed of the line, or of the room.
+#[tactic(auto, unfolding(crate::specs::EventLines::event_at))]
+pub fn read_event<'a>(
+    alloc: Global,
+    line: &'a [u8],
+    room: &'a mut LineRoom,
+) -> Result<Event<'a>, ReadFault>
     ensures { Reads result (event_at line.now) }
 {
-    LineReader::new(alloc)?.event(alloc, line)
+    let line = Line::read(alloc, line, room.lent(alloc)?)?;
+    event_in(&line)
 }
 
 /// The event that a control client's line asks for, the newline left out. The outside's answers, which a client
-/// doesn't tell, stand as given. BadRequest if it is no request.
-pub fn read_request(alloc: Global, line: &[u8]) -> Result<Event, ReadFault>
+/// doesn't tell, stand as given. BadRequest if it is no request. Its texts are borrowed of the line, or of the room.
+#[tactic(auto, unfolding(crate::specs::EventLines::request_at))]
+pub fn read_request<'a>(
+    alloc: Global,
+    line: &'a [u8],
+    room: &'a mut LineRoom,
+) -> Result<Event<'a>, ReadFault>
     ensures { Reads result (request_at line.now) }
 {
-    LineReader::new(alloc)?.request(alloc, line)
+    let line = Line::read(alloc, line, room.lent(alloc)?)?;
+    request_in(&line)
 }

@@ -15,7 +15,7 @@ ghost use Rattle.ctl_protocol.specs.EventWriter.{end_member, event_object, name_
 
 use crate::members::Form;
 use crate::object::{Cell, line_from, put_all, put_flags};
-use history_model::{Answer, Ask, Ended, Event, JobItem, Obs, Reading, Text};
+use history_model::{Answer, Ask, Ended, Event, JobItem, Obs, Reading, TextRef};
 use serde_json::{Map, Value};
 use std::alloc::{AllocError, Global};
 
@@ -48,7 +48,7 @@ fn end_cell(how: Ended) -> (&'static str, Cell<'static>)
     }
 }
 
-fn job_value(alloc: Global, form: Form, name: &str, job: &Text) -> Result<Value, AllocError>
+fn job_value(alloc: Global, form: Form, name: &str, job: &TextRef<'_>) -> Result<Value, AllocError>
     ensures { IfOk result (λ v. view v ≡ line_object form name.now (of_job job.now ∷ []) []) }
 {
     line_value(alloc, form, name, &[("job", Cell::Text(job.as_str()))], &[])
@@ -64,7 +64,7 @@ fn setting_name(disabled: bool) -> &'static str
 fn setting_value(
     alloc: Global,
     form: Form,
-    job: &Text,
+    job: &TextRef<'_>,
     disabled: bool,
     store: bool,
 ) -> Result<Value, AllocError>
@@ -84,7 +84,7 @@ fn connection_value(
     alloc: Global,
     form: Form,
     name: &str,
-    job: &Text,
+    job: &TextRef<'_>,
     conn: u64,
 ) -> Result<Value, AllocError>
     ensures { IfOk result
@@ -101,7 +101,7 @@ fn run_value(
     alloc: Global,
     form: Form,
     name: &str,
-    job: &Text,
+    job: &TextRef<'_>,
     run: u64,
 ) -> Result<Value, AllocError>
     ensures { IfOk result (λ v. view v ≡ line_object form name.now (of_run job.now run) []) }
@@ -114,7 +114,7 @@ fn ok_value(
     alloc: Global,
     form: Form,
     name: &str,
-    job: &Text,
+    job: &TextRef<'_>,
     run: u64,
     ok: bool,
 ) -> Result<Value, AllocError>
@@ -128,7 +128,7 @@ fn ok_value(
     line_value(alloc, form, name, &keys, &[])
 }
 
-fn saw_value(alloc: Global, form: Form, path: &Text, obs: Obs) -> Result<Value, AllocError>
+fn saw_value(alloc: Global, form: Form, path: &TextRef<'_>, obs: Obs) -> Result<Value, AllocError>
     ensures { IfOk result (λ v. view v ≡ event_object form (events.Saw path.now obs)) }
 {
     let keys = [
@@ -150,7 +150,7 @@ fn clock_value(alloc: Global, form: Form, at: Reading) -> Result<Value, AllocErr
 fn unload_value(
     alloc: Global,
     form: Form,
-    job: &Text,
+    job: &TextRef<'_>,
     writes_setting: bool,
     store: bool,
 ) -> Result<Value, AllocError>
@@ -167,7 +167,7 @@ fn unload_value(
 fn kickstart_value(
     alloc: Global,
     form: Form,
-    job: &Text,
+    job: &TextRef<'_>,
     kills_first: bool,
 ) -> Result<Value, AllocError>
     ensures { IfOk result (λ v. view v
@@ -181,7 +181,7 @@ fn kickstart_value(
 }
 
 /// The object of what a client asks of a job.
-fn asked_value(alloc: Global, form: Form, job: &Text, ask: Ask) -> Result<Value, AllocError>
+fn asked_value(alloc: Global, form: Form, job: &TextRef<'_>, ask: Ask) -> Result<Value, AllocError>
     ensures { IfOk result (λ v. view v
         ≡ event_object form (events.OfJob job.now (happens.Asked ask))) }
 {
@@ -197,7 +197,7 @@ fn asked_value(alloc: Global, form: Form, job: &Text, ask: Ask) -> Result<Value,
 fn spawned_value(
     alloc: Global,
     form: Form,
-    job: &Text,
+    job: &TextRef<'_>,
     run: u64,
     pid: u32,
 ) -> Result<Value, AllocError>
@@ -216,7 +216,7 @@ fn spawned_value(
 fn answered_value(
     alloc: Global,
     form: Form,
-    job: &Text,
+    job: &TextRef<'_>,
     answer: Answer,
 ) -> Result<Value, AllocError>
     ensures { IfOk result (λ v. view v
@@ -233,7 +233,7 @@ fn answered_value(
 fn ended_value(
     alloc: Global,
     form: Form,
-    job: &Text,
+    job: &TextRef<'_>,
     run: u64,
     how: Ended,
 ) -> Result<Value, AllocError>
@@ -249,7 +249,12 @@ fn ended_value(
 }
 
 /// The object of what happens to a job.
-fn item_value(alloc: Global, form: Form, job: &Text, item: JobItem) -> Result<Value, AllocError>
+fn item_value(
+    alloc: Global,
+    form: Form,
+    job: &TextRef<'_>,
+    item: JobItem,
+) -> Result<Value, AllocError>
     ensures { IfOk result (λ v. view v ≡ event_object form (events.OfJob job.now item)) }
 {
     match item {
@@ -263,7 +268,7 @@ fn item_value(alloc: Global, form: Form, job: &Text, item: JobItem) -> Result<Va
 }
 
 /// The object of an event.
-fn event_value(alloc: Global, form: Form, event: &Event) -> Result<Value, AllocError>
+fn event_value(alloc: Global, form: Form, event: &Event<'_>) -> Result<Value, AllocError>
     ensures { IfOk result (λ v. view v ≡ event_object form event.now) }
 {
     match event {
@@ -303,7 +308,7 @@ fn event_value(alloc: Global, form: Form, event: &Event) -> Result<Value, AllocE
 
 /// The line of a journal that tells an event, with its newline: an object of every key of the event's shape, in byte
 /// order. `Err` says only that memory ran out.
-pub fn event_line(alloc: Global, event: &Event) -> Result<Vec<u8>, AllocError>
+pub fn event_line(alloc: Global, event: &Event<'_>) -> Result<Vec<u8>, AllocError>
     ensures text { IfOk result (λ line. line.items ≡ lines.event_line event.now) }
     // The line, without its newline, is read as the event.
     ensures reads_back { OnOk result (is_writable event.now ≡ true
@@ -315,7 +320,7 @@ pub fn event_line(alloc: Global, event: &Event) -> Result<Vec<u8>, AllocError>
 
 /// The line by which a control client asks for an event, with its newline: the event's shape without the answers of the
 /// outside. `Err` says only that memory ran out.
-pub fn request_line(alloc: Global, event: &Event) -> Result<Vec<u8>, AllocError>
+pub fn request_line(alloc: Global, event: &Event<'_>) -> Result<Vec<u8>, AllocError>
     ensures text { IfOk result (λ line. line.items ≡ lines.request_line event.now) }
     // The line, without its newline, is read as what was asked.
     ensures reads_back { OnOk result (is_request event.now ≡ true

@@ -10,9 +10,9 @@ ghost use Rattle.json_kinds.specs.JsonKinds.{texts_in};
 
 use crate::header::{Header, Settings, ZoneFile, ZoneText};
 use crate::members::ReadFault;
-use history_model::{MAX_UP, MAX_WALL, Reading, Setting, Text};
+use history_model::{MAX_UP, MAX_WALL, Reading, Setting, Text, is_label};
+use json_kinds::json_value;
 use json_kinds::kinds::is_among;
-use json_kinds::{is_label, json_value};
 use serde_json::{Map, Value};
 use std::alloc::Global;
 

@@ -10,11 +10,10 @@ ghost use Rattle.ctl_protocol.specs.declared.members.ReadFault.TheVariants.{NoMe
 
 use crate::line::Line;
 use crate::target::label_named;
-use history_model::Text;
+use history_model::{TextRef, is_label};
 use json::Value;
-use json_kinds::is_label;
 use json_kinds::kinds::is_among;
-use std::alloc::{AllocError, AllocFailed, Global};
+use std::alloc::{AllocError, AllocFailed};
 use thiserror::Error;
 
 /// Why a line was not read.
@@ -106,26 +105,26 @@ pub(crate) fn flag_or_in(line: &Line<'_>, key: &str, absent: bool) -> Result<boo
     }
 }
 
-/// A copy of the label under a key.
+/// The label under a key.
 #[tactic(auto, unfolding(crate::specs::Members::label_key))]
-pub(crate) fn label_in(alloc: Global, line: &Line<'_>, key: &str) -> Result<Text, ReadFault>
+pub(crate) fn label_in<'a>(line: &Line<'a>, key: &str) -> Result<TextRef<'a>, ReadFault>
     ensures { Reads result (label_key key.now (seen line.now)) }
 {
     let label = text_in(line, key)?;
     if !is_label(label) {
         return Err(ReadFault::BadRequest);
     }
-    Ok(Text::copy_of(alloc, label)?)
+    Ok(TextRef::new(label))
 }
 
-/// A copy of the label that the target under a key names.
+/// The label that the target under a key names.
 #[tactic(auto, unfolding(crate::specs::Members::target_key))]
-pub(crate) fn target_in(alloc: Global, line: &Line<'_>, key: &str) -> Result<Text, ReadFault>
+pub(crate) fn target_in<'a>(line: &Line<'a>, key: &str) -> Result<TextRef<'a>, ReadFault>
     ensures { Reads result (target_key key.now (seen line.now)) }
 {
     let target = text_in(line, key)?;
     match label_named(target) {
-        Some(label) => Ok(Text::copy_of(alloc, label)?),
+        Some(label) => Ok(TextRef::new(label)),
         None => Err(ReadFault::BadRequest),
     }
 }

@@ -6,8 +6,8 @@ ghost use Rattle.ctl_protocol.specs.Targets as targets;
 ghost use Rattle.ctl_protocol.specs.Targets.{is_user_number, SplitsAtSlash};
 
 use crate::members::ReadFault;
-use history_model::Text;
-use json_kinds::{all_digits, is_label};
+use history_model::{Text, is_label};
+use json_kinds::all_digits;
 use std::alloc::Global;
 
 fn is_number(text: &str) -> bool

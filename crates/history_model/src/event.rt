@@ -1,5 +1,5 @@
 //! What happens to the launcher: the events of a journal, with what the outside answered.
-use crate::text::Text;
+use crate::text::{Text, TextRef};
 use crate::{Answer, Ask, Ended, Obs, Reading};
 
 /// A label's setting, made by `enable` and `disable` and by `-w` of load and unload (launchctl(1)): it decides over the
@@ -28,14 +28,15 @@ pub enum JobItem {
     WaitRefused { run: u64 },
 }
 
-/// An event of the launcher, as a line of a journal says it (launchctl(1) for what a control client asks). `bind` and `store`
-/// are the outside's answers; they count only if a load has sockets, and if a setting is written.
+/// An event of the launcher, as a line of a journal says it (launchctl(1) for what a control client asks). Its texts are borrowed, so it is
+/// made, read and written without a copy. `bind` and `store` are the outside's answers; they count only if a load has sockets, and if
+/// a setting is written.
 #[derive(Drop)]
-pub enum Event {
+pub enum Event<'a> {
     /// A definition's JSON text is handed in. `writes_setting` also enables the label; with `force` a disabled one is loaded
     /// too.
     Load {
-        def: Text,
+        def: TextRef<'a>,
         writes_setting: bool,
         force: bool,
         bind: bool,
@@ -43,13 +44,13 @@ pub enum Event {
     },
     /// The job is to be removed; with `writes_setting` its label is also disabled.
     Unload {
-        job: Text,
+        job: TextRef<'a>,
         writes_setting: bool,
         store: bool,
     },
     /// From now on the label is to be loaded whatever its definition says (`enable`), or is not to be loaded (`disable`).
     Set {
-        job: Text,
+        job: TextRef<'a>,
         disabled: bool,
         store: bool,
     },
@@ -57,7 +58,7 @@ pub enum Event {
     List,
     /// What is known of one job is asked for.
     Print {
-        job: Text,
+        job: TextRef<'a>,
     },
     /// Every job is to be removed, and no further one loaded.
     Shutdown,
@@ -65,12 +66,12 @@ pub enum Event {
     Clock(Reading),
     /// A look at a path.
     Saw {
-        path: Text,
+        path: TextRef<'a>,
         obs: Obs,
     },
     /// What happens to the job of this label: each of its items but an unload and a shutdown, which are events of their own.
     OfJob {
-        job: Text,
+        job: TextRef<'a>,
         item: JobItem,
     },
 }

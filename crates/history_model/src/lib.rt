@@ -5,14 +5,17 @@
 ghost use Rattle.std.specs.Prelude.{◌≡◌};
 ghost use Rattle.history_model.specs.RefusalTexts.{refusal_code};
 
+pub mod definition;
 mod event;
+mod label;
 pub mod laws;
 mod reasons;
 mod text;
 
 pub use event::{Event, JobItem, Setting};
+pub use label::is_label;
 pub use reasons::{DemandKind, Reasons, StandingChild, Wants};
-pub use text::Text;
+pub use text::{Text, TextRef};
 
 /// A reading of the clocks. `up` counts milliseconds and never falls (at most `MAX_UP`); `wall` counts seconds of Unix time
 /// and may be set back (at most `MAX_WALL`).

@@ -1,11 +1,11 @@
-//! A text that stands inside another value: contracts see its bytes.
+//! A text that stands inside another value, its own or lent to it: contracts see its bytes.
 ghost use Rattle.std.specs.Prelude.{◌≡◌, ℕ, List, IfOk};
 ghost use Rattle.std.specs.String.{string_bytes};
 
 use std::alloc::{AllocError, Global};
 use std::marker::Model;
 
-/// A text of an event, a reply or a definition. To a contract it is its bytes of UTF-8.
+/// A text of a reply, a setting or a definition. To a contract it is its bytes of UTF-8.
 #[derive(Drop)]
 pub struct Text {
     inner: String,
@@ -47,5 +47,33 @@ impl Text {
     {
         let Text { inner } = self;
         inner
+    }
+}
+
+/// A text that an event borrows: of the line that was read, or of whoever tells what happened. To a contract it is its bytes of UTF-8.
+#[derive(Drop)]
+pub struct TextRef<'a> {
+    inner: &'a str,
+}
+
+impl<'a> Model for TextRef<'a> {
+    ghost Value = { List ℕ };
+
+    ghost view = { λ t. t.inner.now };
+}
+
+impl<'a> TextRef<'a> {
+    /// This text, borrowed. Takes no memory.
+    pub fn new(inner: &'a str) -> TextRef<'a>
+        ensures { result ≡ inner.now }
+    {
+        Self { inner }
+    }
+
+    /// The text, lent. Takes no memory.
+    pub fn as_str(&self) -> &'a str
+        ensures { result.now ≡ self.now }
+    {
+        self.inner
     }
 }

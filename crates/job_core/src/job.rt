@@ -15,7 +15,7 @@ use crate::JobEvent;
 use crate::calendar::Calendar;
 use crate::paths::{Queues, Watches};
 use conditions::Conditions;
-use definition_values::Def;
+use history_model::definition::Def;
 use history_model::{
     Act, Answer, DemandKind, JobItem, JobState, MAX_UP, MAX_WALL, Obs, Reading, Refusal, ShownJob,
 };
@@ -53,7 +53,7 @@ pub struct Job {
 impl Job {
     ghost use Rattle.history_model.specs.JobItems.{item_of};
     ghost use Rattle.job_core.specs.JobEvents.{item_of_event};
-    ghost use Rattle.definition_values.specs.Definitions.{definition};
+    ghost use Rattle.history_model.specs.Definitions.{definition};
     ghost use Rattle.history_model.specs.Shown.{shown_by, state_by};
     ghost use Rattle.job_core.specs.JobFields.{facts};
     ghost use Rattle.history_model.specs.Facts.{facts_of};

@@ -20,7 +20,7 @@ mod calendar;
 mod job;
 mod paths;
 
-use definition_values::Def;
+use history_model::definition::Def;
 use history_model::{Act, DemandKind, JobItem, MAX_UP, Obs, Reading, Reasons, Refusal, ShownJob};
 use job::Job;
 use std::alloc::{AllocError, Global};
@@ -36,11 +36,18 @@ pub enum JobEvent<'a> {
     Item(JobItem),
 }
 
-/// One loaded job: to a contract, the facts of its past, and how often it was asked for its order.
+/// What a core keeps.
 #[derive(Drop)]
-pub struct JobCore {
+struct Held {
     job: Job,
     decided: u64,
+}
+
+/// One loaded job: to a contract, the facts of its past, and how often it was asked for its order. What it keeps lies behind a
+/// pointer, so a core is small, and quick to move.
+#[derive(Drop)]
+pub struct JobCore {
+    held: Box<Held>,
 }
 
 impl Model for JobCore {
@@ -50,14 +57,17 @@ impl Model for JobCore {
 
     ghost use Rattle.job_core.specs.JobFields.{facts};
 
-    ghost view = { λ c. record { facts = facts c.job; decided = c.decided } };
+    ghost view = { λ c. record {
+      facts = facts c.held.value.job;
+      decided = c.held.value.decided;
+    } };
 }
 
 impl JobCore {
     ghost use Rattle.job_core.specs.JobEvents.{item_of_event};
     ghost use Rattle.history_model.specs.Shown.{shown_of};
     ghost use Rattle.job_core.specs.Memory.{NeedsNoMemory};
-    ghost use Rattle.definition_values.specs.Definitions.{definition};
+    ghost use Rattle.history_model.specs.Definitions.{definition};
 
     /// A job that was loaded at this reading. It takes all memory that the job ever needs, and its one refusal is of memory.
     pub fn new(alloc: Global, def: &Def, at: Reading) -> Result<JobCore, AllocError>
@@ -66,10 +76,14 @@ impl JobCore {
             (λ core. Keeps core.facts (Loaded (definition def.now) at ∷ [])) }
         ensures decided { IfOk result (λ core. core.decided ≡ 0) }
     {
-        Ok(JobCore {
+        let held = Held {
             job: Job::new(alloc, def, at)?,
             decided: 0,
-        })
+        };
+        match Box::new(alloc, held) {
+            Ok(held) => Ok(JobCore { held }),
+            Err(_) => Err(AllocError),
+        }
     }
 
     /// Takes in what happened. `now` is the reading before it. A refused event leaves the job as it was. The refusals, in
@@ -95,7 +109,7 @@ impl JobCore {
         ensures in_range { OnOk result
             ((clock.present_after (item_of_event event.entry) now).up ≤ MAX_UP) }
     {
-        self.job.apply(event, now)
+        self.held.job.apply(event, now)
     }
 
     /// What the job orders now, if anything; the order then counts as given, and none comes before it is answered.
@@ -113,15 +127,16 @@ impl JobCore {
             Keeps self.new.facts (ordered result past) }
         ensures decided { self.new.decided ≡ (self.old.decided + 1) % 2 ^ 64 }
     {
-        self.decided = self.decided.wrapping_add(1);
-        self.job.next_order(now.up)
+        let held = &mut *self.held;
+        held.decided = held.decided.wrapping_add(1);
+        held.job.next_order(now.up)
     }
 
     /// How often `decide` was called; after the greatest number comes 0.
     pub fn decided(&self) -> u64
         ensures { result ≡ self.now.decided }
     {
-        self.decided
+        self.held.decided
     }
 
     /// The next moment at which time alone may make an order due, by the interval, the throttle, the time to end, or a
@@ -133,7 +148,7 @@ impl JobCore {
         // By what is kept of the job, so that an index of moments need name no past.
         ensures known { result ≡ next_by self.now.facts now.up }
     {
-        self.job.next_moment(now.up)
+        self.held.job.next_moment(now.up)
     }
 
     /// What keeps the next spawn from being due, and what wants the job: all that holds. It takes no memory, and changes nothing.
@@ -141,7 +156,7 @@ impl JobCore {
         ensures { (past : History) → Keeps self.now.facts past → now ≡ clock.now past →
             result ≡ reasons_of past }
     {
-        self.job.reasons(now.up)
+        self.held.job.reasons(now.up)
     }
 
     /// The moment, in milliseconds of `up`, from which a reading makes the spawn due if nothing but readings happens and no calendar
@@ -152,7 +167,7 @@ impl JobCore {
         ensures { (past : History) → Keeps self.now.facts past → now ≡ clock.now past →
             result ≡ spawns_from past }
     {
-        self.job.spawns_from(now.up)
+        self.held.job.spawns_from(now.up)
     }
 
     /// What made the pending demand: the newest event that is a demand and that no successful spawn followed; none if no demand
@@ -160,7 +175,7 @@ impl JobCore {
     pub fn latest_demand(&self) -> Option<DemandKind>
         ensures { (past : History) → Keeps self.now.facts past → result ≡ latest_demand past }
     {
-        self.job.latest_demand()
+        self.held.job.latest_demand()
     }
 
     /// The path that holds the job wanted: the first of `PathState`, in the order of the definition, that was last seen as its
@@ -170,28 +185,28 @@ impl JobCore {
         ensures { (past : History) → Keeps self.now.facts past →
             option_map (λ path. path.now) result ≡ path_that_holds past }
     {
-        self.job.path_that_holds()
+        self.held.job.path_that_holds()
     }
 
     /// What is shown of the job.
     pub fn shown(&self) -> ShownJob
         ensures { (past : History) → Keeps self.now.facts past → result ≡ shown_of past }
     {
-        self.job.shown()
+        self.held.job.shown()
     }
 
     /// Whether an unload or a shutdown was asked.
     pub fn is_removing(&self) -> bool
         ensures { (past : History) → Keeps self.now.facts past → result ≡ runs.is_removed past }
     {
-        self.job.is_removing()
+        self.held.job.is_removing()
     }
 
     /// Whether the job is being removed, and nothing of it runs.
     pub fn is_gone(&self) -> bool
         ensures { (past : History) → Keeps self.now.facts past → result ≡ runs.is_gone past }
     {
-        self.job.is_gone()
+        self.held.job.is_gone()
     }
 
     /// The waiting connection at a position, counted from 0. There are at most 64.
@@ -200,6 +215,6 @@ impl JobCore {
             result ≡ slice_get (waiting past) position }
         ensures few { MAX_CONNECTIONS ≤ position → result ≡ None }
     {
-        self.job.connection(position)
+        self.held.job.connection(position)
     }
 }

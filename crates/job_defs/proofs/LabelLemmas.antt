@@ -7,8 +7,8 @@ use Rattle.history_model.specs.declared.Reason.TheVariants.{BadLabel, NotObject}
 use Rattle.history_model.specs.declared.KeyName.TheVariants as keys
 use Rattle.history_model.specs.Labels.{is_label}
 use Rattle.history_model.specs.Machine.{Fault}
-use Rattle.definition_values.specs.Described.{Described}
-use Rattle.definition_values.specs.Groups.{Launch}
+use Rattle.history_model.specs.Described.{Described}
+use Rattle.history_model.specs.KeyGroups.{Launch}
 use Rattle.json_kinds.specs.DefFaults.{bad, or_fault, ◌>>=◌}
 use Rattle.json_kinds.specs.JsonKinds.{bool_key, optional_text, required, text_at}
 use Rattle.job_defs.specs.Commands.{command_key, label_key}

@@ -8,7 +8,7 @@ use Rattle.history_model.specs.declared.KeyName.TheVariants.{Label, ProgramArgum
 use Rattle.history_model.specs.Machine.{Fault}
 use Rattle.history_model.specs.RefusalTexts.{key_text}
 use Rattle.history_model.specs.Labels.{is_label}
-use Rattle.definition_values.specs.Groups.{Command}
+use Rattle.history_model.specs.KeyGroups.{Command}
 use Rattle.json_kinds.specs.DefFaults.{bad, ◌>>=◌}
 use Rattle.json_kinds.specs.JsonKinds.{text_at, array_at, plain_at, filled_at, each_item, required}
 

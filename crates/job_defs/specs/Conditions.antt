@@ -8,9 +8,9 @@ use Rattle.history_model.specs.declared.Reason.TheVariants.{TooLong}
 use Rattle.history_model.specs.declared.KeyName.TheVariants.{KeepAlive}
 use Rattle.history_model.specs.Machine.{Fault}
 use Rattle.history_model.specs.RefusalTexts.{key_text}
-use Rattle.definition_values.specs.declared.parts.PathState.{PathState}
+use Rattle.history_model.specs.declared.definition.parts.PathState.{PathState}
 use Rattle.job_defs.specs.declared.demand.TheConstants.{LIST_LIMIT}
-use Rattle.definition_values.specs.Groups.{Keep}
+use Rattle.history_model.specs.KeyGroups.{Keep}
 use Rattle.json_kinds.specs.DefFaults.{bad, ◌>>=◌}
 use Rattle.json_kinds.specs.Names.{Key, crashed, path_state, successful_exit}
 use Rattle.json_kinds.specs.JsonKinds.{bool_at, object_at, filled, each_member, where_there, optional}

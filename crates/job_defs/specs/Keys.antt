@@ -6,9 +6,9 @@ use Rattle.serde_json.specs.Find.{as_object}
 use Rattle.history_model.specs.declared.Reason.TheVariants.{NotJson, NotObject}
 use Rattle.history_model.specs.declared.KeyName.TheVariants.{NoKey, Program, RunAtLoad, LaunchOnlyOnce, DisabledKey, OnDemand, WatchPaths, QueueDirectories, StartInterval, ThrottleInterval, ExitTimeOut, WorkingDirectory, StandardInPath, StandardOutPath, StandardErrorPath, UserName, GroupName, RootDirectory}
 use Rattle.history_model.specs.Machine.{Fault}
-use Rattle.definition_values.specs.Described.{Described}
-use Rattle.definition_values.specs.Definitions.{has_some}
-use Rattle.definition_values.specs.Groups.{Launch, Demand, Pace, Surroundings, described}
+use Rattle.history_model.specs.Described.{Described}
+use Rattle.history_model.specs.Definitions.{has_some}
+use Rattle.history_model.specs.KeyGroups.{Launch, Demand, Pace, Surroundings, described}
 use Rattle.json_kinds.specs.DefFaults.{bad, or_fault, ◌>>=◌}
 use Rattle.json_kinds.specs.Json.{json_in}
 use Rattle.json_kinds.specs.JsonKinds.{bool_key, integer_key, optional_integer, optional_text, optional_path, refused_key}

@@ -12,10 +12,10 @@ use Rattle.history_model.specs.declared.Reason.TheVariants.{Missing, OutOfRange,
 use Rattle.history_model.specs.declared.KeyName.TheVariants as keys
 use Rattle.history_model.specs.Machine.{Fault}
 use Rattle.history_model.specs.RefusalTexts.{key_text}
-use Rattle.definition_values.specs.declared.parts.Socket.{Socket}
-use Rattle.definition_values.specs.Definitions.{has_some}
-use Rattle.definition_values.specs.declared.parts.Address.{Address}
-use Rattle.definition_values.specs.declared.parts.Address.TheVariants.{Unix, Inet}
+use Rattle.history_model.specs.declared.definition.parts.Socket.{Socket}
+use Rattle.history_model.specs.Definitions.{has_some}
+use Rattle.history_model.specs.declared.definition.parts.Address.{Address}
+use Rattle.history_model.specs.declared.definition.parts.Address.TheVariants.{Unix, Inet}
 use Rattle.json_kinds.specs.Digits.{is_digit}
 use Rattle.json_kinds.specs.DefFaults.{bad, or_fault, ◌>>=◌}
 use Rattle.json_kinds.specs.Names.{Key, secure_key, socket_type, passive, family, protocol, path_name, node_name, service_name, wait}

@@ -8,7 +8,7 @@ use Rattle.history_model.specs.declared.Reason.TheVariants.{OutOfRange, TooLong}
 use Rattle.history_model.specs.declared.KeyName.TheVariants.{EnvironmentVariables}
 use Rattle.history_model.specs.Machine.{Fault}
 use Rattle.history_model.specs.RefusalTexts.{key_text}
-use Rattle.definition_values.specs.declared.parts.Variable.{Variable}
+use Rattle.history_model.specs.declared.definition.parts.Variable.{Variable}
 use Rattle.json_kinds.specs.DefFaults.{bad, ◌>>=◌}
 use Rattle.json_kinds.specs.Names.{Key}
 use Rattle.json_kinds.specs.JsonKinds.{object_at, plain, filled, each_member, where_there}

@@ -5,11 +5,11 @@ ghost use Rattle.serde_json.specs.View.{view, members_view};
 ghost use Rattle.json_kinds.specs.DefFaults.{Gives};
 ghost use Rattle.json_kinds.specs.JsonKinds.{each_member};
 ghost use Rattle.job_defs.specs.Conditions.{path_state_in, path_state_at, conditions_at, keep_at, keep_key};
-ghost use Rattle.definition_values.specs.Parts.{keep_of};
+ghost use Rattle.history_model.specs.DefinitionParts.{keep_of};
 ghost use Rattle.job_defs.specs.declared.demand.TheConstants.{LIST_LIMIT};
 
 use crate::demand::LIST_LIMIT;
-use definition_values::{Keep, PathState};
+use history_model::definition::{Keep, PathState};
 use history_model::{KeyName, Reason, Text};
 use json_kinds::DefFault;
 use json_kinds::keys::{PATH_LIMIT, optional_bool_of};

@@ -6,12 +6,12 @@ ghost use Rattle.json_kinds.specs.DefFaults.{Gives};
 ghost use Rattle.json_kinds.specs.JsonKinds.{each_item, path_at};
 ghost use Rattle.job_defs.specs.Paths.{paths_key};
 ghost use Rattle.job_defs.specs.Keys.{demand_at, pace_at};
-ghost use Rattle.definition_values.specs.Parts.{demand_of, pace_of};
+ghost use Rattle.history_model.specs.DefinitionParts.{demand_of, pace_of};
 ghost use Rattle.job_defs.specs.declared.demand.TheConstants.{LIST_LIMIT};
 
 use crate::calendars::calendar_key_of;
 use crate::conditions::keep_key_of;
-use definition_values::{Demand, Pace};
+use history_model::definition::{Demand, Pace};
 use history_model::{KeyName, Reason, Text};
 use json_kinds::DefFault;
 use json_kinds::keys::{PATH_LIMIT, bool_key_of, integer_key_of, optional_integer_of};

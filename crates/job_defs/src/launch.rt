@@ -6,14 +6,14 @@ ghost use Rattle.json_kinds.specs.DefFaults.{Gives};
 ghost use Rattle.json_kinds.specs.JsonKinds.{each_item};
 ghost use Rattle.job_defs.specs.Commands.{label_key, word_at, command_in, command_at, command_key};
 ghost use Rattle.job_defs.specs.Keys.{launch_at};
-ghost use Rattle.definition_values.specs.Parts.{command_of, launch_of};
+ghost use Rattle.history_model.specs.DefinitionParts.{command_of, launch_of};
 
-use definition_values::{Command, Launch};
-use history_model::{KeyName, Reason, Text};
+use history_model::definition::{Command, Launch};
+use history_model::{KeyName, Reason, Text, is_label};
+use json_kinds::DefFault;
 use json_kinds::keys::{bool_key_of, optional_text_of, required_of};
 use json_kinds::kinds::{array_of, filled_of, plain_of, text_of};
 use json_kinds::names::key_name;
-use json_kinds::{DefFault, is_label};
 use serde_json::Value;
 use std::alloc::Global;
 

@@ -2,7 +2,7 @@
 
 ghost use Rattle.std.specs.Prelude.{◌≡◌, ℕ, List, Ok, true};
 ghost use Rattle.history_model.specs.Labels.{is_label};
-ghost use Rattle.definition_values.specs.Described.{Described};
+ghost use Rattle.history_model.specs.Described.{Described};
 ghost use Rattle.job_defs.specs.Keys.{def_of};
 
 /// The label of a definition that is read is one: 1 to 255 bytes, none of them forbidden.

@@ -24,7 +24,8 @@ mod socket;
 mod sockets;
 mod surroundings;
 
-pub use definition_values::{Address, Def, PathState, Socket, Variable};
-pub use json_kinds::{DefFault, is_label, json_value, key_name, reason_name};
+pub use history_model::definition::{Address, Def, PathState, Socket, Variable};
+pub use history_model::is_label;
+pub use json_kinds::{DefFault, json_value, key_name, reason_name};
 pub use load_text::loaded;
 pub use read::read_def;

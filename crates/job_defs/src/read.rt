@@ -10,7 +10,7 @@ use crate::ignored::not_acted_on_of;
 use crate::launch::launch_keys;
 use crate::sockets::sockets_and_inetd_of;
 use crate::surroundings::surroundings_keys;
-use definition_values::Def;
+use history_model::definition::Def;
 use history_model::{KeyName, Reason};
 use json_kinds::keys::refused_key_of;
 use json_kinds::{DefFault, json_value};
@@ -56,7 +56,15 @@ fn def_in(alloc: Global, value: &Value) -> Result<Def, DefFault>
     let sockets = given!(sockets_and_inetd_of(alloc, value));
     given!(refusals_keys(value));
     let not_acted_on = not_acted_on_of(alloc, !sockets.is_empty(), value)?;
-    Ok(Def::of(launch, demand, pace, surroundings, sockets, not_acted_on))
+    Ok(Def::of(
+        alloc,
+        launch,
+        demand,
+        pace,
+        surroundings,
+        sockets,
+        not_acted_on,
+    )?)
 }
 
 /// Keys that would change who or where the job is.

@@ -11,7 +11,7 @@ ghost use Rattle.json_kinds.specs.JsonKinds.{where_there, optional, filled_at, t
 ghost use Rattle.job_defs.specs.Sockets.{one_of, passive_at, host_at, any_host, port_in, port_at, port_by, address_of, socket_at};
 
 use crate::host::{host_in, number_in};
-use definition_values::{Address, Socket};
+use history_model::definition::{Address, Socket};
 use history_model::{KeyName, Reason, Text};
 use json_kinds::DefFault;
 use json_kinds::keys::refused_of;

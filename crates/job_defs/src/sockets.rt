@@ -7,7 +7,7 @@ ghost use Rattle.json_kinds.specs.JsonKinds.{each_item, each_member};
 ghost use Rattle.job_defs.specs.Sockets.{socket_at, socket_count, sockets_in, sockets_key, inetd_at, inetd_key, sockets_and_inetd};
 
 use crate::socket::socket_of;
-use definition_values::Socket;
+use history_model::definition::Socket;
 use history_model::{KeyName, Reason};
 use json_kinds::DefFault;
 use json_kinds::keys::optional_bool_of;

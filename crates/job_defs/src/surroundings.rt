@@ -9,9 +9,9 @@ ghost use Rattle.json_kinds.specs.DefFaults.{Gives};
 ghost use Rattle.json_kinds.specs.JsonKinds.{each_member};
 ghost use Rattle.job_defs.specs.Variables.{is_equals, variable_in, variable_by, environment_key};
 ghost use Rattle.job_defs.specs.Keys.{surroundings_at};
-ghost use Rattle.definition_values.specs.Parts.{surroundings_of};
+ghost use Rattle.history_model.specs.DefinitionParts.{surroundings_of};
 
-use definition_values::{Surroundings, Variable};
+use history_model::definition::{Surroundings, Variable};
 use history_model::{KeyName, Reason, Text};
 use json_kinds::DefFault;
 use json_kinds::keys::optional_path_of;

@@ -4,8 +4,8 @@ use Rattle.history_model.specs.declared.Refusal.{Refusal}
 use Rattle.history_model.specs.declared.Refusal.TheVariants.{BadDefinition}
 use Rattle.history_model.specs.Machine.{State, Event, Load, Given, Fault}
 use Rattle.history_model.specs.Acceptance.{refusal_in}
-use Rattle.definition_values.specs.Described.{Described}
-use Rattle.definition_values.specs.Definitions.{given}
+use Rattle.history_model.specs.Described.{Described}
+use Rattle.history_model.specs.Definitions.{given}
 use Rattle.job_defs.specs.Keys.{def_of}
 use Rattle.loaded_jobs.specs.Tables.{Table}
 use Rattle.loaded_jobs.specs.StandsFor.{KeepsState}
@@ -20,8 +20,8 @@ abbrev pub load_of_bytes : List ℕ → (writes_setting force bind store : Bool)
 load_of_bytes bytes writes_setting force bind store =
     Load (given_in (def_of bytes)) writes_setting force bind store
 
--- a load that refuses only what the outside refuses
-pub record IsAdmitted (table : Table) (bytes : List ℕ) (writes_setting force : Bool)
+-- the bytes are a definition, and nothing but the outside refuses its load
+pub record IsReadAndAdmitted (table : Table) (bytes : List ℕ) (writes_setting force : Bool)
     (described : Described) : Type 0 where
   pub read : def_of bytes ≡ Ok described
   pub remains : (s : State) (bind store : Bool) → KeepsState table s →

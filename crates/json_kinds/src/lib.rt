@@ -1,6 +1,6 @@
 //! JSON values by key and kind, as the readers of definitions and of lines take them: a text of JSON, a value's kind,
 //! length, range and form, a key that has to stand or may be absent, each with the fault that names its key. Beside them
-//! the words that both readers know: the names of keys and of reasons, and what is a label.
+//! the words that both readers know: the names of keys and of reasons.
 #![tactic(auto)]
 
 mod digits;
@@ -8,11 +8,9 @@ mod fault;
 mod json;
 pub mod keys;
 pub mod kinds;
-mod label;
 pub mod names;
 
 pub use digits::all_digits;
 pub use fault::DefFault;
 pub use json::json_value;
-pub use label::is_label;
 pub use names::{key_name, reason_name};

@@ -110,15 +110,15 @@ file_fits bytes are = record { bytes = are; fit = IsUtf8-from_ascii (hex_of byte
 -- ---- the header
 
 -- what an opening admits is of labels, and its reading is within the limits
-record IsAdmitted (at : Reading) (settings : List Setting) : Type 0 where
+record IsOpeningAllowed (at : Reading) (settings : List Setting) : Type 0 where
   labels : list_all (λ setting. is_label setting.label) settings ≡ true
   up : at.up ≤ MAX_UP
   wall : at.wall ≤ MAX_WALL
 
-admitted : (at : Reading) (settings : List Setting) → opening_refusal at settings ≡ None → IsAdmitted at settings
+admitted : (at : Reading) (settings : List Setting) → opening_refusal at settings ≡ None → IsOpeningAllowed at settings
 admitted at settings none = go (list_all (λ setting. is_label setting.label) settings) (nat_lt at.up at.up) (nat_lt MAX_UP at.up) (nat_lt MAX_WALL at.wall) refl refl refl none where
   go : (b low high late : Bool) → list_all (λ setting. is_label setting.label) settings ≡ b → nat_lt MAX_UP at.up ≡ high → nat_lt MAX_WALL at.wall ≡ late →
-      refused_if (not b) BadRequest (refused_if (low || high || late) ClockRefused None) ≡ None → IsAdmitted at settings
+      refused_if (not b) BadRequest (refused_if (low || high || late) ClockRefused None) ≡ None → IsOpeningAllowed at settings
   go false low high late labels up wall none = cc
   go true true high late labels up wall none = cc
   go true false true late labels up wall none = cc

@@ -10,7 +10,6 @@ pub mod HostsLemmas
 pub mod JournalsLemmas
 pub mod LoadTurnsLemmas
 pub mod MakingLemmas
-pub mod NotingLemmas
 pub mod NumbersLemmas
 pub mod OneEventLemmas
 pub mod SetTurnsLemmas

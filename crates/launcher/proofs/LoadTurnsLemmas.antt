@@ -8,13 +8,13 @@ use Rattle.history_model.specs.Labels.{Label}
 use Rattle.history_model.specs.Machine.{State, Event, Load}
 use Rattle.history_model.specs.Acceptance.{refusal_in, refusal_stored, refused_if}
 use Rattle.history_model.specs.Step.{outcome, outcome_by, step, step_by, set_if}
-use Rattle.definition_values.specs.Described.{Described}
-use Rattle.definition_values.specs.Definitions.{given, has_sockets}
+use Rattle.history_model.specs.Described.{Described}
+use Rattle.history_model.specs.Definitions.{given, has_sockets}
 use Rattle.job_defs.specs.Keys.{def_of}
 use Rattle.loaded_jobs.specs.Tables.{Table, Row, Name, IsOnce}
 use Rattle.loaded_jobs.specs.StandsFor.{KeepsState}
 use Rattle.loaded_jobs.specs.Loads.{refusal_outside, described_in, number_in, new_setting_in}
-use Rattle.job_table.specs.LoadOfBytes.{IsAdmitted, load_of_bytes, given_in}
+use Rattle.job_table.specs.LoadOfBytes.{IsReadAndAdmitted, load_of_bytes, given_in}
 use Rattle.loaded_jobs.specs.TableOutcomes.{IsSameFor, Means}
 use Rattle.loaded_jobs.specs.declared.loading.Ready.{Ready}
 use Rattle.child_edge.specs.Calls.{ToldCall}
@@ -106,7 +106,7 @@ never_called s bytes writes_setting force r old new a t k n same is noted keeps 
 }
 
 module _ (s : State) (bytes : List ℕ) (writes_setting force : Bool) (outside : Outside) (old mid new : Table) (ready : Ready) (a c : Option (List ToldCall)) (t u : Option (List StoreCall)) (k n : JournalState)
-    (admitted : IsAdmitted old bytes writes_setting force (described_in ready)) (setting : is_some (new_setting_in ready) ≡ writes_setting) (same : IsSameFor old mid) (rows : mid.rows ≡ old.rows) (led : IsLed s) (keeps : KeepsState old s) where
+    (admitted : IsReadAndAdmitted old bytes writes_setting force (described_in ready)) (setting : is_some (new_setting_in ready) ≡ writes_setting) (same : IsSameFor old mid) (rows : mid.rows ≡ old.rows) (led : IsLed s) (keeps : KeepsState old s) where
   as_read : Load (Ok (given (described_in ready))) (is_some (new_setting_in ready)) force outside.bind outside.store ≡ load_of_bytes bytes writes_setting force outside.bind outside.store
   as_read = λ i. Load (given_in (sym admitted.read i)) (setting i) force outside.bind outside.store
 
@@ -149,7 +149,7 @@ module _ (s : State) (bytes : List ℕ) (writes_setting force : Bool) (outside :
       }
 
 -- what the machine then sets is what was stored
-pub load_sets : (s : State) (bytes : List ℕ) (writes_setting force : Bool) (outside : Outside) (old : Table) (d : Described) (refusal : Option Refusal) → IsAdmitted old bytes writes_setting force d → KeepsState old s →
+pub load_sets : (s : State) (bytes : List ℕ) (writes_setting force : Bool) (outside : Outside) (old : Table) (d : Described) (refusal : Option Refusal) → IsReadAndAdmitted old bytes writes_setting force d → KeepsState old s →
     refusal ≡ refusal_outside d writes_setting outside.bind outside.store → (has_sockets d ≡ false → outside.bind ≡ true) → ((writes_setting && outside.bind) ≡ false → outside.store ≡ true) →
     settings_after refusal s (load_of_bytes bytes writes_setting force outside.bind outside.store) ≡ set_if (writes_setting && (outside.bind && outside.store)) d.label false s.settings
 load_sets s bytes writes_setting force outside old d refusal admitted keeps answer unbound unstored =

@@ -13,7 +13,7 @@ use Rattle.history_model.specs.Runs.{is_answer_to}
 use Rattle.history_model.specs.Labels.{Label, is_same}
 use Rattle.history_model.specs.Machine.{Job, is_of, past_in}
 use Rattle.history_model.specs.MachineLaws.{labels_of}
-use Rattle.definition_values.specs.Described.{Described}
+use Rattle.history_model.specs.Described.{Described}
 use Rattle.loaded_jobs.specs.Tables.{Table, Row, Name, IsOther, IsOnce, is_known, label_of, definition_of_number}
 use Rattle.loaded_jobs.specs.StandsFor.{KeepsJobs, labelled}
 use Rattle.loaded_jobs.specs.Numbers.{row_name, row_names}

@@ -6,9 +6,10 @@ use Rattle.history_model.specs.Machine.{State}
 use Rattle.loaded_jobs.specs.Tables.{Table}
 use Rattle.loaded_jobs.specs.StandsFor.{KeepsState}
 use Rattle.outside.specs.Stores.{HoldsAfter, Stamp}
-use Rattle.launcher.specs.declared.event_ref.EventRef.{EventRef}
-use Rattle.launcher.specs.declared.event_ref.EventRef.TheVariants as happenings
-use Rattle.launcher.specs.JournaledLines.{journaled_by, journaled_set}
+use Rattle.history_model.specs.declared.event.Event as journal
+use Rattle.history_model.specs.declared.event.Event.TheVariants as journaled
+use Rattle.launcher.specs.Inputs.{is_taken_in}
+use Rattle.launcher.specs.JournaledLines.{journaled_set}
 use Rattle.launcher.specs.LoadTurns.{stamps_after}
 use Rattle.launcher.proofs.LoadTurnsLemmas.{unstamped}
 use Rattle.launcher.specs.Hosts.{label_asked}
@@ -21,12 +22,18 @@ refused_stamps Stamped label refusal r table store is = λ s keeps stamps had.
 
 -- ---- what happens asks for no setting
 
-pub sets_none : (what : EventRef) → label_asked (Some (journaled_by what)) ≡ None
-sets_none (happenings.Clock at) = refl
-sets_none (happenings.Saw path obs) = refl
-sets_none (happenings.ToJob label item) = refl
-sets_none (happenings.Unload label) = refl
-sets_none happenings.Shutdown = refl
+pub sets_none : (e : journal.Event) → is_taken_in e ≡ true → label_asked (Some e) ≡ None
+sets_none (journaled.Clock at) taken = refl
+sets_none (journaled.Saw path obs) taken = refl
+sets_none (journaled.OfJob job item) taken = refl
+sets_none (journaled.Unload job false true) taken = refl
+sets_none journaled.Shutdown taken = refl
+sets_none (journaled.Load def writes_setting force bind store) taken = cc
+sets_none (journaled.Unload job true store) taken = cc
+sets_none (journaled.Unload job false false) taken = cc
+sets_none (journaled.Set job disabled store) taken = cc
+sets_none journaled.List taken = cc
+sets_none (journaled.Print job) taken = cc
 
 -- ---- what was set
 

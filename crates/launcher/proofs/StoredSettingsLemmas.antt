@@ -7,8 +7,8 @@ use Rattle.history_model.specs.Labels.{Label}
 use Rattle.history_model.specs.Machine.{State, Event, Load, Set}
 use Rattle.history_model.specs.Acceptance.{refusal_in, refusal_stored, refused_if}
 use Rattle.history_model.specs.Step.{set_if, step, step_by, run}
-use Rattle.definition_values.specs.Described.{Described}
-use Rattle.definition_values.specs.Definitions.{has_sockets, given}
+use Rattle.history_model.specs.Described.{Described}
+use Rattle.history_model.specs.Definitions.{has_sockets, given}
 use Rattle.job_defs.specs.Keys.{def_of}
 use Rattle.loaded_jobs.specs.Tables.{Name}
 use Rattle.loaded_jobs.specs.Loads.{refusal_outside}

@@ -27,13 +27,14 @@ use Rattle.history_model.proofs.LabelOrderLemmas.{heard-labels, heard_one-labels
 use Rattle.history_model.proofs.TurnBoundLemmas.{turning-start, within-step, length-heavy}
 use Rattle.launcher.specs.HostTurns.{answer_event, answer_events, AreTheirs, IsWaiting, Begins, Happens, Settled, NamesLabel, IsLabel, IsNamedIn, IsLed, TurnsOf, Turns, trace}
 use Rattle.loaded_jobs.specs.Loads.{refused_with}
-use Rattle.launcher.specs.EventRefs.{event_of_ref}
+use Rattle.table_opening.specs.JournalEvents.{machine_event}
+use Rattle.launcher.specs.Inputs.{is_taken_in}
 use Rattle.ctl_protocol.specs.EventWriter.{event_line}
 use Rattle.launcher.specs.Journals.{JournalState, Grows}
 use Rattle.launcher.proofs.JournalsLemmas.{grows_append}
-use Rattle.launcher.specs.JournaledLines.{journaled_by, answer_texts}
-use Rattle.launcher.specs.declared.event_ref.EventRef.{EventRef}
-use Rattle.launcher.specs.declared.event_ref.EventRef.TheVariants as happenings
+use Rattle.launcher.specs.JournaledLines.{answer_texts}
+use Rattle.history_model.specs.declared.event.Event as journal
+use Rattle.history_model.specs.declared.event.Event.TheVariants as journaled
 use Rattle.launcher.proofs.CarryLemmas.{none-called}
 use Rattle.launcher.proofs.NumbersLemmas.{keeps-numbers, made-theirs}
 use Rattle.launcher.proofs.OneEventLemmas.{good, orderly-next}
@@ -180,22 +181,28 @@ refused-turn e line refusal old new first a b k n is noted happened = λ s led k
 -- ---- as the functions have it
 
 -- what happens names no label that comes
-pub label-event : (what : EventRef) → NamesLabel (event_of_ref what)
-label-event (happenings.Clock at) = tt
-label-event (happenings.Saw path obs) = tt
-label-event (happenings.ToJob label what) = tt
-label-event (happenings.Unload label) = tt
-label-event happenings.Shutdown = tt
+pub label-event : (e : journal.Event) → is_taken_in e ≡ true → NamesLabel (machine_event e)
+label-event (journaled.Clock at) taken = tt
+label-event (journaled.Saw path obs) taken = tt
+label-event (journaled.OfJob job item) taken = tt
+label-event (journaled.Unload job false true) taken = tt
+label-event journaled.Shutdown taken = tt
+label-event (journaled.Load def writes_setting force bind store) taken = cc
+label-event (journaled.Unload job true store) taken = cc
+label-event (journaled.Unload job false false) taken = cc
+label-event (journaled.Set job disabled store) taken = cc
+label-event journaled.List taken = cc
+label-event (journaled.Print job) taken = cc
 
 -- the answer of the turn is that of its event
-pub turned-from : (what : EventRef) (result : Result (Unit {0}) Refusal) (old mid new : Table) (before first after : List Unheard) (a b c : Option (List ToldCall)) (k m n : JournalState) → result ≡ Ok tt → before ≡ [] →
-    UnlessMemory result (Happens (event_of_ref what) (refused_with result) old mid before first a b) → Grows k m (event_line (journaled_by what)) → Settles mid first after new b c m n → Turns (event_of_ref what) (event_line (journaled_by what)) None old new (trace a k) (trace c n)
+pub turned-from : (what : journal.Event) → is_taken_in what ≡ true → (result : Result (Unit {0}) Refusal) (old mid new : Table) (before first after : List Unheard) (a b c : Option (List ToldCall)) (k m n : JournalState) → result ≡ Ok tt → before ≡ [] →
+    UnlessMemory result (Happens (machine_event what) (refused_with result) old mid before first a b) → Grows k m (event_line what) → Settles mid first after new b c m n → Turns (machine_event what) (event_line what) None old new (trace a k) (trace c n)
 unfolding turned-at
-turned-from what (Err refusal) old mid new before first after a b c k m n ok empty happened noted settles = cc
-turned-from what (Ok done) old mid new before first after a b c k m n ok empty happened noted settles = λ s led keeps.
+turned-from what taken (Err refusal) old mid new before first after a b c k m n ok empty happened noted settles = cc
+turned-from what taken (Ok done) old mid new before first after a b c k m n ok empty happened noted settles = λ s led keeps.
     let did = happened s keeps in
-    let turn : TurnsOf s (event_of_ref what) (event_line (journaled_by what)) None new (trace a k) (trace c n) =
-    turned-at s (event_of_ref what) (event_line (journaled_by what)) old mid new first after a b c k m n (label-event what) led keeps (subst (λ ps. Begins s (event_of_ref what) None mid ps first a b) empty did.begins) noted settles in (
+    let turn : TurnsOf s (machine_event what) (event_line what) None new (trace a k) (trace c n) =
+    turned-at s (machine_event what) (event_line what) old mid new first after a b c k m n (label-event what taken) led keeps (subst (λ ps. Begins s (machine_event what) None mid ps first a b) empty did.begins) noted settles in (
       turn,
       did.loaded,
       keeps-numbers turn.names old new (did.loaded refl) (turn.numbers refl),
@@ -206,10 +213,10 @@ unless-memory : {P Q : Type 0} (refusal : Refusal) → (P → Q) → UnlessMemor
 unless-memory NoMemory follows holds = tt
 unless-memory _ follows holds = follows holds
 
-pub refused-from : (what : EventRef) (result : Result (Unit {0}) Refusal) (refusal : Refusal) (old new : Table) (before first : List Unheard) (a b : Option (List ToldCall)) (k n : JournalState) →
-    result ≡ Err refusal → before ≡ [] → Grows k n (event_line (journaled_by what)) → UnlessMemory result (Happens (event_of_ref what) (refused_with result) old new before first a b) →
-    UnlessMemory {A = Unit {0}} (Err refusal) (Turns (event_of_ref what) (event_line (journaled_by what)) (Some refusal) old new (trace a k) (trace b n))
-refused-from what result refusal old new before first a b k n is empty noted happened =
+pub refused-from : (what : journal.Event) → is_taken_in what ≡ true → (result : Result (Unit {0}) Refusal) (refusal : Refusal) (old new : Table) (before first : List Unheard) (a b : Option (List ToldCall)) (k n : JournalState) →
+    result ≡ Err refusal → before ≡ [] → Grows k n (event_line what) → UnlessMemory result (Happens (machine_event what) (refused_with result) old new before first a b) →
+    UnlessMemory {A = Unit {0}} (Err refusal) (Turns (machine_event what) (event_line what) (Some refusal) old new (trace a k) (trace b n))
+refused-from what taken result refusal old new before first a b k n is empty noted happened =
     unless-memory refusal
-    (λ did. refused-turn (event_of_ref what) (event_line (journaled_by what)) refusal old new first a b k n (label-event what) noted (subst (λ ps. Happens (event_of_ref what) (Some refusal) old new ps first a b) empty did))
-    (subst (λ r. UnlessMemory r (Happens (event_of_ref what) (refused_with r) old new before first a b)) is happened)
+    (λ did. refused-turn (machine_event what) (event_line what) refusal old new first a b k n (label-event what taken) noted (subst (λ ps. Happens (machine_event what) (Some refusal) old new ps first a b) empty did))
+    (subst (λ r. UnlessMemory r (Happens (machine_event what) (refused_with r) old new before first a b)) is happened)

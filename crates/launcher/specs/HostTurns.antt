@@ -11,7 +11,7 @@ use Rattle.history_model.specs.Labels.{Label, is_label, is_same}
 use Rattle.history_model.specs.Machine.{State, Event, Load, OfJob}
 use Rattle.history_model.specs.Step.{outcome, step, run, orders_in}
 use Rattle.history_model.specs.MachineLaws.{AreInOrder, labels_of}
-use Rattle.definition_values.specs.Described.{Described}
+use Rattle.history_model.specs.Described.{Described}
 use Rattle.loaded_jobs.specs.Tables.{Table, Row, Name, IsOnce, is_known, label_of, definition_of_number}
 use Rattle.loaded_jobs.specs.StandsFor.{KeepsState, labelled}
 use Rattle.loaded_jobs.specs.TableOutcomes.{IsSameFor}

@@ -1,5 +1,5 @@
 -- What comes to a launcher, as events of the journal and of the machine.
-use Rattle.std.specs.Prelude.{ℕ, Bool, true, false, if◌then◌else◌, List, Option, Some, None, option_and_then}
+use Rattle.std.specs.Prelude.{ℕ, Bool, true, false, not, ◌&&◌, if◌then◌else◌, List, Option, Some, None, option_and_then}
 use Rattle.history_model.specs.declared.event.Event as journal
 use Rattle.history_model.specs.declared.event.Event.TheVariants as journaled
 use Rattle.history_model.specs.declared.event.JobItem.{JobItem}
@@ -49,6 +49,24 @@ input_event (inputs.Ended job run how) =
     event_if_label job.now (journaled.OfJob job.now (happens.Ended run how))
 input_event (inputs.WaitRefused job run) =
     event_if_label job.now (journaled.OfJob job.now (happens.WaitRefused run))
+
+-- The event that the table takes in at once: nothing outside is first asked for it, and it is no question.
+-- An unload without -w asks no store, and counts as stored.
+abbrev pub is_taken_in : journal.Event → Bool
+is_taken_in (journaled.Load def writes_setting force bind store) = false
+is_taken_in (journaled.Unload job writes_setting store) = not writes_setting && store
+is_taken_in (journaled.Set job disabled store) = false
+is_taken_in journaled.List = false
+is_taken_in (journaled.Print job) = false
+is_taken_in journaled.Shutdown = true
+is_taken_in (journaled.Clock at) = true
+is_taken_in (journaled.Saw path obs) = true
+is_taken_in (journaled.OfJob job item) = true
+
+-- the event is a reading of the clocks
+abbrev pub is_clock : journal.Event → Bool
+is_clock (journaled.Clock at) = true
+is_clock _ = false
 
 -- the event with what the outside answered to it
 abbrev pub answered : Outside → journal.Event → journal.Event

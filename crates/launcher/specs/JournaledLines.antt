@@ -10,20 +10,10 @@ use Rattle.ctl_protocol.specs.EventWriter.{event_line}
 use Rattle.loaded_jobs.specs.Tables.{Name, label_of}
 use Rattle.outside.specs.declared.asking.Outside.{Outside}
 use Rattle.outside.specs.declared.unheard.Unheard.{Unheard}
-use Rattle.launcher.specs.declared.event_ref.EventRef.{EventRef}
-use Rattle.launcher.specs.declared.event_ref.EventRef.TheVariants as happenings
 
 -- the journal's event of the answer to an order of the label's job
 abbrev pub journaled_answer : Label → Answer → journal.Event
 journaled_answer job answer = journaled.OfJob job (happens.Answered answer)
-
--- and of what happens
-abbrev pub journaled_by : EventRef → journal.Event
-journaled_by (happenings.Clock at) = journaled.Clock at
-journaled_by (happenings.Saw path obs) = journaled.Saw path.now obs
-journaled_by (happenings.ToJob label item) = journaled.OfJob label.now item
-journaled_by (happenings.Unload label) = journaled.Unload label.now false true
-journaled_by happenings.Shutdown = journaled.Shutdown
 
 -- the line of an answer; a number stands for its job's label
 abbrev pub answer_text : List Name → Unheard → List ℕ

@@ -1,5 +1,4 @@
 pub mod Accepting
-pub mod EventRefs
 pub mod TurnFaults
 pub mod Hosts
 pub mod Inputs

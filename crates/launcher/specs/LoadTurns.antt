@@ -7,8 +7,8 @@ use Rattle.history_model.specs.Labels.{Label}
 use Rattle.history_model.specs.Machine.{State, Event, Load, Fault}
 use Rattle.history_model.specs.Acceptance.{refusal_in}
 use Rattle.history_model.specs.Step.{outcome, step}
-use Rattle.definition_values.specs.Described.{Described}
-use Rattle.definition_values.specs.Definitions.{given}
+use Rattle.history_model.specs.Described.{Described}
+use Rattle.history_model.specs.Definitions.{given}
 use Rattle.job_defs.specs.Keys.{def_of}
 use Rattle.loaded_jobs.specs.Tables.{Table, Name, definition_of_number}
 use Rattle.loaded_jobs.specs.StandsFor.{KeepsState, acts_in}

@@ -9,13 +9,11 @@ ghost use Rattle.loaded_jobs.specs.Tables.{Name};
 ghost use Rattle.outside.specs.declared.unheard.Unheard.{Unheard as Answered};
 ghost use Rattle.launcher.specs.HostTurns.{IsWaiting, Handled, Settled, trace};
 
-use crate::event_ref::EventRef;
 use crate::events::hear_answer;
 use crate::host::Host;
 use crate::lent_facts::{lend_numbers, lend_text};
-use crate::lines::note;
 use child_edge::{ChildEdge, SocketEdge};
-use history_model::JobItem;
+use history_model::{Event, JobItem, TextRef};
 use outside::{SettingStore, Unheard};
 use std::alloc::Global;
 use std::io::Write;
@@ -36,8 +34,11 @@ impl<T: SettingStore, E: ChildEdge + SocketEdge, W: Write> Host<T, E, W> {
         let _accepted = hear_answer(&mut self.table, &mut self.edge, pending, &mut self.answers);
         let label = self.table.last_step().label(pending.job);
         lend_text(label); // for the proof
-        let told = EventRef::ToJob(label, JobItem::Answered(pending.answer));
-        note(&mut self.journal, alloc, told);
+        let told = Event::OfJob {
+            job: TextRef::new(label),
+            item: JobItem::Answered(pending.answer),
+        };
+        self.journal.note(alloc, &told);
     }
 
     /// Tells the table each answer of the queue, carries out what it orders, puts those answers behind the others, and writes the

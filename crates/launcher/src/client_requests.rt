@@ -9,19 +9,18 @@ ghost use Rattle.launcher.specs.Accepting.{is_accepted_load, is_load as loads};
 ghost use Rattle.launcher.specs.Inputs.{asked_in, is_asked_of_a_job};
 ghost use Rattle.launcher.specs.Writable.{WritesWhat};
 
-use crate::event_ref::EventRef;
 use crate::host::Host;
 use crate::lent_facts::{lend_numbers, lend_request};
 use crate::replies::{done, refused, told};
 use child_edge::{ChildEdge, SocketEdge};
-use ctl_protocol::ReadFault;
-use history_model::{Ask, Event, JobItem, Refusal, Reply};
+use ctl_protocol::{ReadFault, read_request};
+use history_model::{Ask, Event, JobItem, Refusal, Reply, TextRef};
 use outside::SettingStore;
 use std::alloc::Global;
 use std::io::Write;
 
 /// Whether the event is a load.
-fn is_load(event: &Event) -> bool
+fn is_load(event: &Event<'_>) -> bool
     ensures { result ≡ loads (Some event.now) }
 {
     match event {
@@ -61,53 +60,62 @@ impl<T: SettingStore, E: ChildEdge + SocketEdge, W: Write> Host<T, E, W> {
             ≡ is_accepted_load (option_and_then asked_in (request_at line.now)) result.refusal }
     {
         self.has_loaded = false;
-        match self.reader.request(alloc, line) {
-            Ok(outside) => {
-                lend_request(&outside); // for the proof
-                let is_load = is_load(&outside);
-                let reply = self.ask(alloc, outside);
+        let mut room = self.room.take();
+        match read_request(alloc, line, &mut room) {
+            Ok(asked) => {
+                lend_request(&asked); // for the proof
+                let is_load = is_load(&asked);
+                let reply = self.ask(alloc, &asked);
+                drop(asked);
+                self.room = room;
                 self.has_loaded = unless_refused(is_load, reply.refusal);
                 reply
             }
-            Err(ReadFault::NoMemory) => refused(alloc, Refusal::NoMemory),
-            Err(ReadFault::BadRequest) => refused(alloc, Refusal::BadRequest),
+            Err(ReadFault::NoMemory) => {
+                self.room = room;
+                refused(alloc, Refusal::NoMemory)
+            }
+            Err(ReadFault::BadRequest) => {
+                self.room = room;
+                refused(alloc, Refusal::BadRequest)
+            }
         }
     }
 
     /// What a client asks. The outside's answers are asked of the outside, whatever stands in the event.
     #[tactic(auto, using(crate::proofs::HostsLemmas::unheard, crate::proofs::StampsLemmas::refused_stamps))]
-    fn ask(&mut self, alloc: Global, outside: Event) -> Reply
-        ensures hears { HostHears E.told T.told T.holds (asked_in outside)
+    fn ask(&mut self, alloc: Global, asked: &Event<'_>) -> Reply
+        ensures hears { HostHears E.told T.told T.holds (asked_in asked.now)
             result.refusal result.text self.old self.new }
-        ensures stamped { HostStamps T.stamped (asked_in outside)
+        ensures stamped { HostStamps T.stamped (asked_in asked.now)
             result.refusal self.old self.new }
         ensures quiet { is_some result.refusal ≡ true → result.text ≡ [] }
     {
-        match outside {
+        match asked {
             Event::Load {
                 def,
                 writes_setting,
                 force,
                 ..
-            } => self.ask_load(alloc, def.as_str(), writes_setting, force),
+            } => self.ask_load(alloc, def.as_str(), *writes_setting, *force),
             Event::Unload {
                 job,
                 writes_setting,
                 ..
-            } => self.ask_unload(alloc, job.as_str(), writes_setting),
+            } => self.ask_unload(alloc, job.as_str(), *writes_setting),
             Event::Set { job, disabled, .. } => {
-                self.ask_set(alloc, job.as_str(), disabled, false)
+                self.ask_set(alloc, job.as_str(), *disabled, false)
             }
-            Event::OfJob { job, item } => {
-                if is_asked(item) {
-                    self.happen(alloc, EventRef::ToJob(job.as_str(), item))
+            Event::OfJob { job: _, item } => {
+                if is_asked(*item) {
+                    self.happen(alloc, asked)
                 } else {
                     refused(alloc, Refusal::BadRequest)
                 }
             }
             Event::List => self.ask_list(alloc),
             Event::Print { job } => self.ask_print(alloc, job.as_str()),
-            Event::Shutdown => self.happen(alloc, EventRef::Shutdown),
+            Event::Shutdown => self.happen(alloc, asked),
             _ => refused(alloc, Refusal::BadRequest),
         }
     }
@@ -149,7 +157,13 @@ impl<T: SettingStore, E: ChildEdge + SocketEdge, W: Write> Host<T, E, W> {
         if writes_setting {
             self.ask_set(alloc, job, true, true)
         } else {
-            self.happen(alloc, EventRef::Unload(job))
+            let job = TextRef::new(job);
+            let unload = Event::Unload {
+                job,
+                writes_setting: false,
+                store: true,
+            };
+            self.happen(alloc, &unload)
         }
     }
 

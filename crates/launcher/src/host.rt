@@ -14,7 +14,7 @@ use crate::answer_queue::AnswerQueue;
 use crate::host_parts::{Inside, make_inside, store_fault, with_settings};
 use crate::journal::{Journal, Phase};
 use child_edge::{ChildEdge, SocketEdge};
-use ctl_protocol::{Header, LineReader};
+use ctl_protocol::{Header, LineRoom};
 use job_table::JobTable;
 use outside::SettingStore;
 use std::alloc::Global;
@@ -39,7 +39,7 @@ pub struct Host<T: SettingStore, E: ChildEdge + SocketEdge, W: Write> {
     pub(crate) edge: E,
     pub(crate) journal: Journal<W>,
     pub(crate) answers: AnswerQueue,
-    pub(crate) reader: LineReader,
+    pub(crate) room: LineRoom,
     // The input of the last turn was a load that was accepted.
     pub(crate) has_loaded: bool,
 }
@@ -77,7 +77,7 @@ impl<T: SettingStore + Drop, E: ChildEdge + SocketEdge + Drop, W: Write + Drop> 
                     table,
                     journal,
                     answers,
-                    reader,
+                    room,
                 },
             ) => Ok(Host {
                 table,
@@ -85,7 +85,7 @@ impl<T: SettingStore + Drop, E: ChildEdge + SocketEdge + Drop, W: Write + Drop> 
                 edge,
                 journal,
                 answers,
-                reader,
+                room,
                 has_loaded: false,
             }),
             Err(fault) => Err(fault),

@@ -13,7 +13,7 @@ use crate::host::HostFault;
 use crate::journal::Journal;
 use crate::lent_facts::lend_zone;
 use crate::settings::are_in_order;
-use ctl_protocol::{Header, LineReader, Settings};
+use ctl_protocol::{Header, LineRoom, Settings};
 use history_model::Setting;
 use job_table::JobTable;
 use outside::StoreFault;
@@ -27,7 +27,7 @@ pub(crate) struct Inside<W: Write> {
     pub(crate) table: JobTable,
     pub(crate) journal: Journal<W>,
     pub(crate) answers: AnswerQueue,
-    pub(crate) reader: LineReader,
+    pub(crate) room: LineRoom,
 }
 
 /// The fault that the store's is.
@@ -63,11 +63,11 @@ fn begun<W: Write>(alloc: Global, journal: Option<W>, header: &Header) -> Journa
     }
 }
 
-/// The queue of answers with all its room, and the reader of lines.
-fn reserved(alloc: Global) -> Result<(AnswerQueue, LineReader), AllocError> {
+/// The queue of answers with all its room, and the room for lines.
+fn reserved(alloc: Global) -> Result<(AnswerQueue, LineRoom), AllocError> {
     let answers = AnswerQueue::new(alloc)?;
-    let reader = LineReader::new(alloc)?;
-    Ok((answers, reader))
+    let room = LineRoom::new(alloc)?;
+    Ok((answers, room))
 }
 
 /// The launcher inside, as the header tells it. Its journal begins with the header's line. Refused as `HostFault` says.
@@ -88,7 +88,7 @@ pub(crate) fn make_inside<W: Write + Drop>(
         return Err(HostFault::Store);
     }
     lend_zone(&header.zone); // for the proof
-    let Ok((answers, reader)) = reserved(alloc) else {
+    let Ok((answers, room)) = reserved(alloc) else {
         return Err(HostFault::NoMemory);
     };
     let journal = begun(alloc, journal, &header);
@@ -97,7 +97,7 @@ pub(crate) fn make_inside<W: Write + Drop>(
             table,
             journal,
             answers,
-            reader,
+            room,
         }),
         Err(OpeningFault::NoMemory) => Err(HostFault::NoMemory),
         Err(OpeningFault::BadZone) => Err(HostFault::Header),

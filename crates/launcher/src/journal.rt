@@ -117,8 +117,8 @@ impl<W: Write> Journal<W> {
         self.phase = Phase::Closed;
     }
 
-    /// Writes the event's line.
-    pub fn note(&mut self, alloc: Global, event: &Event)
+    /// Writes the event's line. Want of memory for it closes the journal.
+    pub fn note(&mut self, alloc: Global, event: &Event<'_>)
         ensures { Grows self.old self.new (events.event_line event.now) }
     {
         if !self.is_writing() {
@@ -126,17 +126,6 @@ impl<W: Write> Journal<W> {
         }
         match event_line(alloc, event) {
             Ok(line) => self.append(line.as_slice()),
-            Err(want) => self.close(want),
-        }
-    }
-
-    /// Writes the line of an event that was just made; want of memory for the event closes the journal.
-    pub fn note_made(&mut self, alloc: Global, made: Result<Event, AllocError>)
-        ensures ok { IfOk made (λ event. Grows self.old self.new (events.event_line event)) }
-        ensures err { OnErr made ((text : List ℕ) → Grows self.old self.new text) }
-    {
-        match made {
-            Ok(event) => self.note(alloc, &event),
             Err(want) => self.close(want),
         }
     }

@@ -10,7 +10,7 @@ ghost use Rattle.launcher.specs.Writable.{IsFit, IsFitZone, IsWritableInput, Say
 
 use crate::input::Input;
 use ctl_protocol::ZoneText;
-use history_model::{Ended, Event, Text};
+use history_model::{Ended, Event, TextRef};
 use job_table::JobTable;
 
 /// The numbers of the table's jobs stand for their definitions. Nothing is done.
@@ -27,8 +27,8 @@ pub(crate) fn lend_text(text: &str)
     let _ = text;
 }
 
-/// A text that stands inside an event is UTF-8.
-fn lend_inner(text: &Text)
+/// A text that an event borrows is UTF-8.
+fn lend_borrowed(text: &TextRef<'_>)
     ensures { IsUtf8 text.now }
 {
     lend_text(text.as_str());
@@ -36,15 +36,15 @@ fn lend_inner(text: &Text)
 
 /// All texts of what a client asks are UTF-8.
 #[tactic(auto, using(crate::proofs::WritableLemmas::ask_fits))]
-pub(crate) fn lend_request(event: &Event)
+pub(crate) fn lend_request(event: &Event<'_>)
     ensures { SaysFitIf (asked_in event.now) }
 {
     match event {
-        Event::Load { def, .. } => lend_inner(def),
+        Event::Load { def, .. } => lend_borrowed(def),
         Event::Unload { job, .. } | Event::Set { job, .. } | Event::Print { job } => {
-            lend_inner(job)
+            lend_borrowed(job)
         }
-        Event::OfJob { job, .. } => lend_inner(job),
+        Event::OfJob { job, .. } => lend_borrowed(job),
         _ => {}
     }
 }
@@ -121,7 +121,7 @@ pub(crate) fn lend_zone(zone: &ZoneText)
     ensures { IsFitZone zone.now }
 {
     match zone {
-        ZoneText::Posix(rule) => lend_inner(rule),
+        ZoneText::Posix(rule) => lend_text(rule.as_str()),
         ZoneText::Offset(seconds) => lend_whole(*seconds),
         ZoneText::File(file) => lend_bytes(file.as_slice()),
     }

@@ -5,7 +5,6 @@
 mod answer_queue;
 mod answers;
 mod client_requests;
-mod event_ref;
 mod events;
 mod finishing;
 mod host;
@@ -15,7 +14,6 @@ mod journal;
 mod journal_writer;
 pub mod laws;
 mod lent_facts;
-mod lines;
 mod loading;
 mod orders;
 mod questions;

@@ -6,24 +6,21 @@ ghost use Rattle.history_model.specs.declared.event.Event.TheVariants as journal
 ghost use Rattle.ctl_protocol.specs.EventWriter.{event_line};
 ghost use Rattle.loaded_jobs.specs.Loads.{refused_with};
 ghost use Rattle.loaded_jobs.specs.TableOutcomes.{UnlessMemory};
-ghost use Rattle.launcher.specs.EventRefs.{event_of_ref, is_clock};
+ghost use Rattle.table_opening.specs.JournalEvents.{machine_event};
 ghost use Rattle.launcher.specs.Hosts.{HostHears, HostStamps};
 ghost use Rattle.launcher.specs.Accepting.{is_accepted_load};
-ghost use Rattle.launcher.specs.Inputs.{input_event, event_if_label, wants_memory};
-ghost use Rattle.launcher.specs.JournaledLines.{journaled_by};
+ghost use Rattle.launcher.specs.Inputs.{input_event, event_if_label, is_clock, is_taken_in, wants_memory};
 ghost use Rattle.launcher.specs.LoadTurns.{is_memory};
 ghost use Rattle.launcher.specs.HostTurns.{Turns, IsUncalled, trace};
 ghost use Rattle.launcher.specs.Writable.{WritesWhat};
 
-use crate::event_ref::EventRef;
 use crate::events::hear;
 use crate::host::Host;
 use crate::input::Input;
 use crate::lent_facts::lend_input;
-use crate::lines::note;
 use crate::replies::{done, is_want, refused};
 use child_edge::{ChildEdge, SocketEdge};
-use history_model::{JobItem, Refusal, Reply};
+use history_model::{Event, JobItem, Refusal, Reply, TextRef};
 use job_defs::is_label;
 use outside::SettingStore;
 use std::alloc::Global;
@@ -72,8 +69,11 @@ impl<T: SettingStore, E: ChildEdge + SocketEdge, W: Write> Host<T, E, W> {
         lend_input(input); // for the proof
         match input {
             Input::Line(line) => self.line(alloc, line),
-            Input::Clock(at) => self.happen(alloc, EventRef::Clock(at)),
-            Input::Saw(path, obs) => self.happen(alloc, EventRef::Saw(path, obs)),
+            Input::Clock(at) => self.happen(alloc, &Event::Clock(at)),
+            Input::Saw(path, obs) => {
+                let path = TextRef::new(path);
+                self.happen(alloc, &Event::Saw { path, obs })
+            }
             Input::Came(job, conn) => self.happen_to(alloc, job, JobItem::Came(conn)),
             Input::Left(job, conn) => self.happen_to(alloc, job, JobItem::Left(conn)),
             Input::Ended(job, run, how) => self.happen_to(alloc, job, JobItem::Ended { run, how }),
@@ -97,20 +97,22 @@ impl<T: SettingStore, E: ChildEdge + SocketEdge, W: Write> Host<T, E, W> {
         ensures loaded { self.new.has_loaded ≡ false }
     {
         if is_label(job) {
-            self.happen(alloc, EventRef::ToJob(job, item))
+            let job = TextRef::new(job);
+            self.happen(alloc, &Event::OfJob { job, item })
         } else {
             self.has_loaded = false;
             refused(alloc, Refusal::BadRequest)
         }
     }
 
-    /// What happens, if the outside is first asked nothing, with its reply.
-    pub(crate) fn happen(&mut self, alloc: Global, what: EventRef<'_>) -> Reply
-        ensures hears { HostHears E.told T.told T.holds (Some (journaled_by what.entry))
+    /// What happens, with its reply. The caller's condition: nothing outside is first asked for it.
+    pub(crate) fn happen(&mut self, alloc: Global, what: &Event<'_>) -> Reply
+        requires { is_taken_in what.now ≡ true }
+        ensures hears { HostHears E.told T.told T.holds (Some what.now)
             result.refusal result.text self.old self.new }
-        ensures stamped { HostStamps T.stamped (Some (journaled_by what.entry))
+        ensures stamped { HostStamps T.stamped (Some what.now)
             result.refusal self.old self.new }
-        ensures memory { is_memory result.refusal ≡ true → is_clock what.entry ≡ true }
+        ensures memory { is_memory result.refusal ≡ true → is_clock what.now ≡ true }
         ensures quiet { is_some result.refusal ≡ true → result.text ≡ [] }
         ensures loaded { self.new.has_loaded ≡ false }
     {
@@ -123,15 +125,16 @@ impl<T: SettingStore, E: ChildEdge + SocketEdge, W: Write> Host<T, E, W> {
     /// next event, first in first out, until none remains. The journal gets the line of each event. The refusals are those of the
     /// event, and then no call was made: BadRequest (the name is no label), NoSuchJob, Removing, NotRunning, TooManyConnections,
     /// Stale, ClockRefused, ShuttingDown. NoMemory only to a reading of the clocks, which is then not taken in: nothing was carried
-    /// out, and no line was written.
-    pub(crate) fn take_in(&mut self, alloc: Global, what: EventRef<'_>) -> Result<(), Refusal>
+    /// out, and no line was written. The caller's condition: nothing outside is first asked for it.
+    pub(crate) fn take_in(&mut self, alloc: Global, what: &Event<'_>) -> Result<(), Refusal>
+        requires { is_taken_in what.now ≡ true }
         ensures turn { UnlessMemory result
-            (Turns (event_of_ref what.entry) (event_line (journaled_by what.entry))
+            (Turns (machine_event what.now) (event_line what.now)
             (refused_with result) self.old.table self.new.table
             (trace (E.told self.old.edge) self.old.journal)
             (trace (E.told self.new.edge) self.new.journal)) }
         ensures memory { result ≡ Err NoMemory →
-            (is_clock what.entry ≡ true) × IsUncalled self.old.table self.new.table
+            (is_clock what.now ≡ true) × IsUncalled self.old.table self.new.table
             (E.told self.old.edge) (E.told self.new.edge)
             × (self.new.journal ≡ self.old.journal) }
         ensures store { self.new.store ≡ self.old.store }
@@ -145,13 +148,13 @@ impl<T: SettingStore, E: ChildEdge + SocketEdge, W: Write> Host<T, E, W> {
             &mut self.answers,
         ) {
             Ok(()) => {
-                note(&mut self.journal, alloc, what);
+                self.journal.note(alloc, what);
                 self.settle(alloc);
                 Ok(())
             }
             Err(Refusal::NoMemory) => Err(Refusal::NoMemory),
             Err(refusal) => {
-                note(&mut self.journal, alloc, what);
+                self.journal.note(alloc, what);
                 Err(refusal)
             }
         }

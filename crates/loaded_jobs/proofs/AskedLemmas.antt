@@ -9,7 +9,7 @@ use Rattle.history_model.specs.declared.TheConstants.{MAX_UP, MAX_WALL}
 use Rattle.history_model.specs.MachineLaws.{AreInOrder}
 use Rattle.history_model.specs.Step.{heard, stays}
 use Rattle.history_model.specs.Items.{Item}
-use Rattle.definition_values.specs.Described.{Described}
+use Rattle.history_model.specs.Described.{Described}
 use Rattle.loaded_jobs.specs.Alike.{IsAlike}
 use Rattle.loaded_jobs.specs.AskedJobs.{CanAsk, AsksReached}
 use Rattle.loaded_jobs.specs.Counts.{counts, count_in, IsCounted}

@@ -20,7 +20,7 @@ use Rattle.history_model.specs.Refusals.{is_clock_refused, unless}
 use Rattle.history_model.specs.Calendar.{Zone, crossed, matches, calendar_fires}
 use Rattle.history_model.specs.Machine.{State, Job, sets}
 use Rattle.history_model.specs.Step.{stays, orders_of, lists, sight_of}
-use Rattle.definition_values.specs.Definitions.{definition}
+use Rattle.history_model.specs.Definitions.{definition}
 use Rattle.calendar_due.specs.ZoneRules.{minute_at}
 use Rattle.loaded_jobs.specs.Tables.{Row}
 use Rattle.loaded_jobs.specs.StandsFor.{KeepsJobs, KeepsSettings, KeepsState, labelled}

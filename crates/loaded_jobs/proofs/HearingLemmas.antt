@@ -11,8 +11,8 @@ use Rattle.history_model.specs.Facts.{Facts}
 use Rattle.history_model.specs.FactsOfPast.{Keeps, reply}
 use Rattle.history_model.specs.Machine.{Job}
 use Rattle.history_model.specs.Step.{heard, with_item, lists}
-use Rattle.definition_values.specs.Definitions.{definition}
-use Rattle.definition_values.specs.Described.{Described}
+use Rattle.history_model.specs.Definitions.{definition}
+use Rattle.history_model.specs.Described.{Described}
 use Rattle.loaded_jobs.specs.StandsFor.{KeepsJobs}
 use Rattle.loaded_jobs.specs.Seats.{row}
 use Rattle.loaded_jobs.specs.Touch.{item_for, nothing_for}

@@ -3,8 +3,8 @@ use Rattle.std.proofs.Common.{◌≡◌, ℕ, Bool, ◌||◌, List, sym, ◌∙�
 use Rattle.std.specs.List.{list_any}
 use Rattle.history_model.specs.Demands.{is_same_path}
 use Rattle.history_model.specs.Step.{lists}
-use Rattle.definition_values.specs.Described.{Described}
-use Rattle.definition_values.specs.Definitions.{definition, path_wish}
+use Rattle.history_model.specs.Described.{Described}
+use Rattle.history_model.specs.Definitions.{definition, path_wish}
 use Rattle.loaded_jobs.proofs.ListLemmas.{any-map}
 
 pub listed : (d : Described) (path : List ℕ) (a b c : Bool) → a ≡ list_any (λ wish. is_same_path path wish.path) d.path_state →

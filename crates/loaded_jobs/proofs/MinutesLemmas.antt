@@ -11,9 +11,9 @@ use Rattle.history_model.specs.Calendar.{allows}
 use Rattle.history_model.specs.Demands.{is_same_path}
 use Rattle.history_model.specs.Labels.{is_same}
 use Rattle.history_model.specs.Step.{lists}
-use Rattle.definition_values.specs.Described.{Described}
-use Rattle.definition_values.specs.Definitions.{definition, path_wish}
-use Rattle.definition_values.specs.declared.parts.PathState.{PathState}
+use Rattle.history_model.specs.Described.{Described}
+use Rattle.history_model.specs.Definitions.{definition, path_wish}
+use Rattle.history_model.specs.declared.definition.parts.PathState.{PathState}
 use Rattle.loaded_jobs.specs.Seats.{name}
 use Rattle.loaded_jobs.specs.Index.{ArePlaced, is_minute_among}
 use Rattle.loaded_jobs.specs.Visiting.{is_spared}

@@ -13,7 +13,7 @@ use Rattle.history_model.specs.Labels.{Label, is_same}
 use Rattle.history_model.specs.Machine.{Job, is_of, past_in}
 use Rattle.history_model.specs.Acceptance.{refusal_at}
 use Rattle.history_model.specs.Step.{with_item, heard_one}
-use Rattle.definition_values.specs.Definitions.{definition}
+use Rattle.history_model.specs.Definitions.{definition}
 use Rattle.loaded_jobs.specs.StandsFor.{KeepsJob, KeepsJobs}
 use Rattle.loaded_jobs.specs.Seats.{row, name, rows, gone, AllStay, has_label, is_loaded_under}
 use Rattle.loaded_jobs.specs.declared.seat.Seat.{Seat}

@@ -3,7 +3,7 @@ use Rattle.std.proofs.Common.{◌≡◌, ℕ, zero, suc, ◌==◌, Bool, true, f
 use Rattle.std.specs.Prelude.{◌≢◌}
 use Rattle.std.specs.List.{list_any, filter}
 use Rattle.slab.specs.Slab.{Slab, get, Updates}
-use Rattle.definition_values.specs.Described.{Described}
+use Rattle.history_model.specs.Described.{Described}
 use Rattle.loaded_jobs.specs.Tables.{definition_of_number}
 use Rattle.loaded_jobs.specs.Seats.{name, seat_stays, has_gone_under}
 use Rattle.loaded_jobs.specs.Sound.{AreFree}

@@ -13,8 +13,8 @@ use Rattle.history_model.specs.Labels.{Label, is_same}
 use Rattle.history_model.specs.Search.{first}
 use Rattle.history_model.specs.Machine.{State, Job, is_of, past_in}
 use Rattle.history_model.specs.Step.{lists, heard, heard as heard_of, heard_one, with_item, stays, orders_of}
-use Rattle.definition_values.specs.Definitions.{definition}
-use Rattle.definition_values.specs.Described.{Described}
+use Rattle.history_model.specs.Definitions.{definition}
+use Rattle.history_model.specs.Described.{Described}
 use Rattle.loaded_jobs.specs.Tables.{Row, Name, IsOther, IsOnce}
 use Rattle.loaded_jobs.specs.StandsFor.{KeepsJobs, KeepsState, IsAtRest, labelled}
 use Rattle.loaded_jobs.specs.Sound.{seen_table}

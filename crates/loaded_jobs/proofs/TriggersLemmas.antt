@@ -6,9 +6,9 @@ use Rattle.std.proofs.lemmas.Bool.Decides.{nat_tests}
 use Rattle.std.proofs.lemmas.Option.{slice_get_within}
 use Rattle.std.proofs.lemmas.List.Folds.{list_any-append}
 use Rattle.history_model.specs.Labels.{is_same, is_before}
-use Rattle.definition_values.specs.Described.{Described}
-use Rattle.definition_values.specs.Definitions.{definition, path_wish}
-use Rattle.definition_values.specs.declared.parts.PathState.{PathState}
+use Rattle.history_model.specs.Described.{Described}
+use Rattle.history_model.specs.Definitions.{definition, path_wish}
+use Rattle.history_model.specs.declared.definition.parts.PathState.{PathState}
 use Rattle.loaded_jobs.specs.Seats.{row, rows, name, seat_stays}
 use Rattle.loaded_jobs.specs.Index.{place_in, ArePlaced}
 use Rattle.loaded_jobs.specs.Nearest.{IsNearestOf, paths_of, paths_in}

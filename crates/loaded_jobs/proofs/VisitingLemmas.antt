@@ -15,8 +15,8 @@ use Rattle.history_model.specs.FactsOfPast.{Keeps, ordered}
 use Rattle.history_model.specs.Machine.{Job}
 use Rattle.history_model.specs.Step.{acts_of, listed, stays, heard, with_item}
 use Rattle.history_model.proofs.BooleanLemmas.{or-second}
-use Rattle.definition_values.specs.Definitions.{definition}
-use Rattle.definition_values.specs.Described.{Described}
+use Rattle.history_model.specs.Definitions.{definition}
+use Rattle.history_model.specs.Described.{Described}
 use Rattle.loaded_jobs.specs.Tables.{Row}
 use Rattle.loaded_jobs.specs.StandsFor.{KeepsJob, KeepsJobs, IsAtRest, numbered_orders, numbered_all}
 use Rattle.loaded_jobs.specs.Counts.{next_count}

@@ -4,7 +4,7 @@ use Rattle.std.specs.List.{filter_map, flat_map}
 use Rattle.history_model.specs.Items.{Item}
 use Rattle.history_model.specs.Machine.{Job}
 use Rattle.history_model.specs.Step.{heard, stays, orders_of}
-use Rattle.definition_values.specs.Described.{Described}
+use Rattle.history_model.specs.Described.{Described}
 use Rattle.loaded_jobs.specs.StandsFor.{KeepsJobs, labelled}
 use Rattle.loaded_jobs.specs.Alike.{IsAlike}
 use Rattle.loaded_jobs.specs.Counts.{counts, IsCounted}

@@ -7,7 +7,7 @@ use Rattle.history_model.specs.Clock.{now, definition_of}
 use Rattle.history_model.specs.Refusals.{refusal_of}
 use Rattle.history_model.specs.FactsOfPast.{Keeps}
 use Rattle.history_model.specs.Machine.{Job}
-use Rattle.definition_values.specs.Described.{Described}
+use Rattle.history_model.specs.Described.{Described}
 use Rattle.loaded_jobs.specs.Tables.{Row}
 use Rattle.loaded_jobs.specs.Seats.{name}
 use Rattle.loaded_jobs.specs.declared.seat.Seat.{Seat}

@@ -9,7 +9,7 @@ use Rattle.history_model.specs.Clock.{now, definition_of}
 use Rattle.history_model.specs.FactsOfPast.{Keeps}
 use Rattle.history_model.specs.Labels.{Label}
 use Rattle.history_model.specs.Machine.{Job, State, is_of, past_in, past_of}
-use Rattle.definition_values.specs.Definitions.{definition}
+use Rattle.history_model.specs.Definitions.{definition}
 use Rattle.loaded_jobs.specs.declared.seat.Seat.{Seat}
 
 -- the seat is that of the job with the label: it has the definition and the facts of the job's past

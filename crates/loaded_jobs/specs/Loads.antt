@@ -12,8 +12,8 @@ use Rattle.history_model.specs.Machine.{State, Event, Load}
 use Rattle.history_model.specs.Acceptance.{refused_if, refusal_stored, refusal_in}
 use Rattle.history_model.specs.Step.{outcome, step}
 use Rattle.history_model.specs.Texts.{load_text}
-use Rattle.definition_values.specs.Described.{Described}
-use Rattle.definition_values.specs.Definitions.{definition, given, has_sockets}
+use Rattle.history_model.specs.Described.{Described}
+use Rattle.history_model.specs.Definitions.{definition, given, has_sockets}
 use Rattle.loaded_jobs.specs.Tables.{Table, Name}
 use Rattle.loaded_jobs.specs.StandsFor.{KeepsState, acts_in}
 use Rattle.loaded_jobs.specs.Triggers.{triggers_of}

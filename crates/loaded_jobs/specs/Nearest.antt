@@ -8,7 +8,7 @@ use Rattle.history_model.specs.Clock.{definition_of}
 use Rattle.history_model.specs.Runs.{child}
 use Rattle.history_model.specs.Labels.{Label, is_same, is_before}
 use Rattle.history_model.specs.Machine.{Job, State, past_of}
-use Rattle.definition_values.specs.Definitions.{definition}
+use Rattle.history_model.specs.Definitions.{definition}
 use Rattle.loaded_jobs.specs.Tables.{Row, Table, label_of}
 
 -- one of the texts comes after the given one, and none of them between the two

@@ -2,7 +2,7 @@
 use Rattle.std.specs.Prelude.{◌<◌, List}
 use Rattle.std.specs.List.{AllByRecursion}
 use Rattle.std.specs.Option.{ForSome}
-use Rattle.definition_values.specs.Described.{Described}
+use Rattle.history_model.specs.Described.{Described}
 use Rattle.loaded_jobs.specs.Tables.{Name}
 
 -- the interval is above 0, if there is one

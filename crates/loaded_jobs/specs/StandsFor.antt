@@ -13,7 +13,7 @@ use Rattle.history_model.specs.FactsOfPast.{Keeps}
 use Rattle.history_model.specs.Labels.{Label}
 use Rattle.history_model.specs.Machine.{Job, State, sets}
 use Rattle.history_model.specs.Step.{acts_of}
-use Rattle.definition_values.specs.Definitions.{definition}
+use Rattle.history_model.specs.Definitions.{definition}
 use Rattle.calendar_due.specs.ZoneRules.{minute_at}
 use Rattle.loaded_jobs.specs.Tables.{Row, Name, Table, label_of}
 

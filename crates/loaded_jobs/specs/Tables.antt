@@ -6,7 +6,7 @@ use Rattle.history_model.specs.declared.Order.{Order}
 use Rattle.history_model.specs.declared.event.Setting.{Setting}
 use Rattle.history_model.specs.Labels.{Label, is_same}
 use Rattle.history_model.specs.Facts.{Facts}
-use Rattle.definition_values.specs.Described.{Described}
+use Rattle.history_model.specs.Described.{Described}
 use Rattle.calendar_due.specs.declared.zone.Zone.{Zone}
 
 -- a loaded job: its number, its definition, the facts of its past, and how often it was visited for

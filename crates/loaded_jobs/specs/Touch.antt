@@ -5,8 +5,8 @@ use Rattle.history_model.specs.declared.Ask.TheVariants as asks
 use Rattle.history_model.specs.Items.{Item, Read, Saw, Asked}
 use Rattle.history_model.specs.Calendar.{matches}
 use Rattle.history_model.specs.Step.{lists}
-use Rattle.definition_values.specs.Described.{Described}
-use Rattle.definition_values.specs.Definitions.{definition}
+use Rattle.history_model.specs.Described.{Described}
+use Rattle.history_model.specs.Definitions.{definition}
 use Rattle.loaded_jobs.specs.declared.seat.Touch.{Touch}
 use Rattle.loaded_jobs.specs.declared.seat.Touch.TheVariants.{Shutdown, Reading, Sight}
 

@@ -4,7 +4,7 @@ use Rattle.std.specs.List.{position}
 use Rattle.history_model.specs.Labels.{Label}
 use Rattle.history_model.specs.Machine.{Job}
 use Rattle.timer_heap.specs.Timers.{moment_in}
-use Rattle.definition_values.specs.Described.{Described}
+use Rattle.history_model.specs.Described.{Described}
 use Rattle.loaded_jobs.specs.Tables.{Row}
 use Rattle.loaded_jobs.specs.StandsFor.{IsAtRest}
 use Rattle.loaded_jobs.specs.Counts.{counts, count_in}

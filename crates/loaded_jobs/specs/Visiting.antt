@@ -11,7 +11,7 @@ use Rattle.history_model.specs.Due.{due}
 use Rattle.history_model.specs.FactsOfPast.{Keeps, ordered}
 use Rattle.history_model.specs.Machine.{Job}
 use Rattle.history_model.specs.Step.{acts_of, stays, heard}
-use Rattle.definition_values.specs.Described.{Described}
+use Rattle.history_model.specs.Described.{Described}
 use Rattle.loaded_jobs.specs.Tables.{Row}
 use Rattle.loaded_jobs.specs.StandsFor.{KeepsJobs, IsAtRest, numbered_orders, numbered_all}
 use Rattle.loaded_jobs.specs.Counts.{next_count}

@@ -9,7 +9,7 @@ use Rattle.history_model.specs.declared.TheConstants.{MAX_JOBS, MAX_UP}
 use Rattle.history_model.specs.Items.{Item}
 use Rattle.history_model.specs.Machine.{Job}
 use Rattle.history_model.specs.Step.{stays, heard}
-use Rattle.definition_values.specs.Described.{Described}
+use Rattle.history_model.specs.Described.{Described}
 use Rattle.loaded_jobs.specs.Tables.{Name, IsOnce, is_known}
 use Rattle.loaded_jobs.specs.StandsFor.{KeepsJobs, numbered_all}
 use Rattle.loaded_jobs.specs.Seats.{is_named, rows, name, AllStay}

@@ -22,9 +22,8 @@ use crate::jobs::Jobs;
 use crate::places::{place_of, place_of_number};
 use crate::seat::Touch;
 use history_model::{
-    Answer, Ask, CivilMinute, JobItem, JobNo, MAX_UP, MAX_WALL, Obs, Reading, Refusal,
+    Answer, Ask, CivilMinute, JobItem, JobNo, MAX_UP, MAX_WALL, Obs, Reading, Refusal, is_label,
 };
-use json_kinds::is_label;
 use std::alloc::Global;
 
 impl Jobs {

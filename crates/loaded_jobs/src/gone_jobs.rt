@@ -15,8 +15,8 @@ use crate::jobs::Jobs;
 use crate::seat::Seat;
 use crate::trigger::Listed;
 use crate::triggers::forget;
-use definition_values::Def;
 use history_model::JobNo;
+use history_model::definition::Def;
 
 /// Which jobs may have gone at the last event.
 #[derive(Clone, Copy)]
@@ -128,7 +128,7 @@ fn forget_one(listed: &mut Vec<Listed>, left: &Seat)
     ensures items { IsWithout left.now listed.old.items listed.new.items }
     ensures capacity { vec_capacity listed.new ≡ vec_capacity listed.old }
 {
-    if is_untouched(left.def.lent()) {
+    if is_untouched(&left.def) {
         return;
     }
     drop_number(listed, left.number);

@@ -5,7 +5,6 @@ mod all_seats;
 mod byte_order;
 mod events;
 mod gone_jobs;
-mod held_parts;
 mod index;
 mod jobs;
 mod loading;

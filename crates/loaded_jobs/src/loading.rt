@@ -14,7 +14,7 @@ ghost use Rattle.history_model.specs.Machine.{State, Load, past_of};
 ghost use Rattle.history_model.specs.Acceptance.{refusal_in, refusal_there};
 ghost use Rattle.history_model.specs.Search.{or_else};
 ghost use Rattle.history_model.specs.MachineLaws.{AreInOrder};
-ghost use Rattle.definition_values.specs.Definitions.{definition, given};
+ghost use Rattle.history_model.specs.Definitions.{definition, given};
 ghost use Rattle.loaded_jobs.specs.Tables.{labels_in};
 ghost use Rattle.loaded_jobs.specs.StandsFor.{KeepsState};
 ghost use Rattle.loaded_jobs.specs.TableOutcomes.{IsSameFor, Means};
@@ -30,7 +30,6 @@ ghost use Rattle.loaded_jobs.specs.Room.{HasSameRoom, held_after};
 ghost use Rattle.loaded_jobs.specs.Touching.{SparesOthers};
 ghost use Rattle.loaded_jobs.specs.Seats.{name, AllStay, place_for, seats_with};
 
-use crate::held_parts::{HeldCore, HeldDef};
 use crate::index::{grow, place_all};
 use crate::jobs::Jobs;
 use crate::places::place_of;
@@ -38,7 +37,7 @@ use crate::seat::{ORDERS, Seat};
 use crate::settings::{Settings, is_disabled, set_if};
 use crate::trigger::{Listed, Trigger, triggers_of};
 use crate::triggers::enlist;
-use definition_values::Def;
+use history_model::definition::Def;
 use history_model::{JobNo, MAX_JOBS, Order, Reading, Refusal, Setting, Text};
 use job_core::JobCore;
 use slab::Slab;
@@ -60,7 +59,7 @@ impl Ready {
     pub fn def(&self) -> &Def
         ensures { result.now ≡ described_in self.now }
     {
-        self.seat.def.lent()
+        &self.seat.def
     }
 
     /// The number that the job is to have.
@@ -232,10 +231,7 @@ impl Jobs {
         let Ok(number) = u32::try_from(self.numbers.vacant_key()) else {
             return Err(Refusal::NoMemory);
         };
-        let Ok(core) = core_of(alloc, &def, self.reading) else {
-            return Err(Refusal::NoMemory);
-        };
-        let Ok(def) = HeldDef::new(alloc, def) else {
+        let Ok(core) = JobCore::new(alloc, &def, self.reading) else {
             return Err(Refusal::NoMemory);
         };
         Ok(Seat {
@@ -304,7 +300,7 @@ impl Jobs {
             ≡ vec_len self.old.triggers + vec_len triggers }
         ensures listed { AreOrdered self.new.triggers.items }
     {
-        has_period(seat.def.lent()); // for the proof
+        has_period(&seat.def); // for the proof
         let _number = self.numbers.insert_reserved(());
         let fires = !seat.def.calendar().is_empty();
         self.has_calendars = self.has_calendars || fires;
@@ -366,19 +362,6 @@ fn is_held_back(writes_setting: bool, force: bool, disabled: bool) -> bool
     ensures { result ≡ (not writes_setting && not force && disabled) }
 {
     !writes_setting && !force && disabled
-}
-
-/// What decides over a job that is loaded at this reading.
-fn core_of(alloc: Global, def: &Def, at: Reading) -> Result<HeldCore, AllocError>
-    requires { at.up ≤ MAX_UP }
-    ensures loaded { IfOk result (λ core.
-        Keeps core.facts (Loaded (definition def.now) at ∷ [])) }
-    ensures fresh { IfOk result (λ core. core.decided ≡ 0) }
-{
-    match JobCore::new(alloc, def, at) {
-        Ok(core) => HeldCore::new(alloc, core),
-        Err(e) => Err(e),
-    }
 }
 
 /// The setting that enables the label, if one is wanted.

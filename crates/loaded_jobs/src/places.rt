@@ -14,8 +14,8 @@ ghost use Rattle.loaded_jobs.specs.Here.{IsHere};
 use crate::byte_order::is_before;
 use crate::jobs::Jobs;
 use crate::seat::Seat;
-use definition_values::Def;
 use history_model::JobNo;
+use history_model::definition::Def;
 
 impl Jobs {
     ghost use Rattle.loaded_jobs.specs.Sound.{seen_table, IsSound};
@@ -50,7 +50,7 @@ impl Jobs {
         ensures { definition_of_number (map name self.now.seats.items) job ≡ Some result.now }
     {
         match place_of_number(&self.seats, &self.index.places, job) {
-            Some(place) => self.seats[place].def.lent(),
+            Some(place) => &self.seats[place].def,
             None => unreachable!(),
         }
     }

@@ -18,8 +18,7 @@ use crate::jobs::Jobs;
 use crate::seat::Seat;
 use crate::settings::is_disabled;
 use crate::texts::{job, line};
-use history_model::Refusal;
-use json_kinds::is_label;
+use history_model::{Refusal, is_label};
 use std::alloc::{AllocError, Global};
 
 /// The text of `list`: a line of heads, then a line for each loaded job.

@@ -12,7 +12,7 @@ ghost use Rattle.history_model.specs.Due.{due};
 ghost use Rattle.history_model.specs.FactsOfPast.{Keeps, ordered};
 ghost use Rattle.history_model.specs.Step.{acts_of, lists};
 ghost use Rattle.history_model.specs.Clock as clock;
-ghost use Rattle.definition_values.specs.Definitions.{definition};
+ghost use Rattle.history_model.specs.Definitions.{definition};
 ghost use Rattle.job_core.specs.JobEvents.{item_of_event};
 ghost use Rattle.loaded_jobs.specs.StandsFor.{numbered_orders};
 ghost use Rattle.loaded_jobs.specs.Touch.{item_for};
@@ -21,13 +21,12 @@ ghost use Rattle.loaded_jobs.specs.Visiting.{IsVisit};
 ghost use Rattle.loaded_jobs.specs.Seats.{name};
 ghost use Rattle.loaded_jobs.specs.Tables.{Name, definition_of_number, is_known};
 
-use crate::held_parts::{HeldCore, HeldDef};
 use calendar_due::Calendar;
-use definition_values::{Def, PathState};
+use history_model::definition::{Def, PathState};
 use history_model::{
     Act, Ask, CivilMinute, JobItem, JobNo, MAX_CONNECTIONS, Obs, Order, Reading, Text,
 };
-use job_core::JobEvent;
+use job_core::{JobCore, JobEvent};
 
 /// How many orders one job gives at most in a step: each connection that waits is closed, one order more, and it is gone.
 pub const ORDERS: usize = MAX_CONNECTIONS + 2;
@@ -35,8 +34,8 @@ pub const ORDERS: usize = MAX_CONNECTIONS + 2;
 /// A job with its definition and its number. One that is gone stays until the next event.
 pub struct Seat {
     pub number: JobNo,
-    pub def: HeldDef,
-    pub core: HeldCore,
+    pub def: Def,
+    pub core: JobCore,
     pub has_gone: bool,
 }
 
@@ -76,7 +75,7 @@ impl Seat {
                 self.take_in(JobEvent::Read(at, fires), now);
             }
             Touch::Sight(path, obs) => {
-                if lists(self.def.lent(), path) {
+                if lists(&self.def, path) {
                     self.take_in(JobEvent::Saw(path, obs), now);
                 }
             }

@@ -19,8 +19,7 @@ ghost use Rattle.loaded_jobs.specs.Touching.{SparesOthers};
 
 use crate::jobs::Jobs;
 use crate::settings::set;
-use history_model::{Refusal, Setting, Text};
-use json_kinds::is_label;
+use history_model::{Refusal, Setting, Text, is_label};
 use std::alloc::Global;
 
 /// A label's new setting, and whether its job is to be removed.

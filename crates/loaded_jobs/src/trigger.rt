@@ -7,7 +7,7 @@ ghost use Rattle.loaded_jobs.specs.Triggers.{rank, rank_of, path_in, triggers_of
 ghost use Rattle.loaded_jobs.specs.declared.trigger.Trigger.TheVariants as triggers;
 
 use crate::byte_order::is_before;
-use definition_values::{Def, PathState};
+use history_model::definition::{Def, PathState};
 use history_model::{Entry, JobNo, Text};
 use std::alloc::{AllocError, Global};
 

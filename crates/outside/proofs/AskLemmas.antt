@@ -8,8 +8,8 @@ use Rattle.child_edge.specs.declared.plain.EdgeFault.{EdgeFault}
 use Rattle.child_edge.specs.declared.plain.EdgeFault.TheVariants as faults
 use Rattle.child_edge.specs.declared.plain.Scripted.TheVariants.{Done}
 use Rattle.child_edge.proofs.CallsLemmas.{tells_nothing, tells_append}
-use Rattle.definition_values.specs.Described.{Described}
-use Rattle.definition_values.specs.Definitions.{has_sockets}
+use Rattle.history_model.specs.Described.{Described}
+use Rattle.history_model.specs.Definitions.{has_sockets}
 use Rattle.outside.specs.Asking.{Asks, load_entries, told_of}
 use Rattle.outside.specs.Stores.{StoreCall, AreTold, store_calls}
 use Rattle.history_model.proofs.BooleanLemmas.{and-true, and-false}

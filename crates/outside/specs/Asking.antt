@@ -4,8 +4,8 @@ use Rattle.child_edge.specs.Calls.{Tells, is_done, ToldCall}
 use Rattle.child_edge.specs.declared.plain.EdgeCall.TheVariants.{Bind, Release}
 use Rattle.child_edge.specs.declared.plain.Scripted.{Scripted}
 use Rattle.child_edge.specs.declared.plain.Scripted.TheVariants.{Done}
-use Rattle.definition_values.specs.Described.{Described}
-use Rattle.definition_values.specs.Definitions.{has_sockets}
+use Rattle.history_model.specs.Described.{Described}
+use Rattle.history_model.specs.Definitions.{has_sockets}
 use Rattle.outside.specs.declared.asking.Outside.{Outside}
 use Rattle.outside.specs.Stores.{StoreCall, AreTold, store_calls}
 

@@ -9,8 +9,8 @@ ghost use Rattle.outside.specs.Stores.{AreTold, HoldsAfter, stamp_if, store_call
 
 use crate::SettingStore;
 use child_edge::SocketEdge;
-use definition_values::Def;
 use history_model::JobNo;
+use history_model::definition::Def;
 
 /// What the outside answered. What it was not asked counts as true.
 #[derive(Clone, Copy)]

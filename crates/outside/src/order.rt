@@ -7,7 +7,7 @@ ghost use Rattle.std.specs.Result.{ForOk};
 
 use crate::Unheard;
 use child_edge::{ChildEdge, EdgeFault, SocketEdge};
-use definition_values::Def;
+use history_model::definition::Def;
 use history_model::{Act, Answer, Order};
 
 /// The answer that the result of a start is.

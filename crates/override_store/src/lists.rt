@@ -6,8 +6,7 @@ ghost use Rattle.sqlite.specs.Order.{column};
 ghost use Rattle.override_store.specs.Settings.{IsChange, IsEntry, IsForeign, IsOf, change_of, HasForeignAnswer};
 
 use crate::{StoreFault, fault};
-use history_model::{Setting, Text};
-use json_kinds::is_label;
+use history_model::{Setting, Text, is_label};
 use sqlite::{Error, ErrorCode, Row};
 use std::alloc::Global;
 

@@ -7,7 +7,7 @@ ghost use Rattle.table_opening.specs.Output.{IsOutput};
 use crate::events::happened;
 use crate::loads::LoadWords;
 use crate::{loads, opening, whole};
-use ctl_protocol::{LineReader, ReadFault};
+use ctl_protocol::{LineRoom, ReadFault, read_event};
 use history_model::Event;
 use job_table::JobTable;
 use replay_loop::LineMachine;
@@ -17,12 +17,13 @@ use std::alloc::{AllocError, Global};
 #[derive(Drop)]
 pub(crate) struct JournalMachine {
     table: JobTable,
-    reader: LineReader,
+    room: LineRoom,
 }
 
 /// The line that answers an event.
-fn answer_to(alloc: Global, table: &mut JobTable, event: Event) -> Result<Vec<u8>, AllocError>
-    ensures { IfOk result (λ line. IsReplied (machine_event event) table.old table.new line.items) }
+fn answer_to(alloc: Global, table: &mut JobTable, event: &Event<'_>) -> Result<Vec<u8>, AllocError>
+    ensures { IfOk result (λ line.
+        IsReplied (machine_event event.now) table.old table.new line.items) }
 {
     match event {
         Event::Load {
@@ -36,28 +37,28 @@ fn answer_to(alloc: Global, table: &mut JobTable, event: Event) -> Result<Vec<u8
             table,
             def.as_str(),
             LoadWords {
-                writes_setting,
-                force,
-                bind,
-                store,
+                writes_setting: *writes_setting,
+                force: *force,
+                bind: *bind,
+                store: *store,
             },
         ),
         Event::Unload {
             job,
             writes_setting,
             store,
-        } => loads::unload(alloc, table, job.as_str(), writes_setting, store),
+        } => loads::unload(alloc, table, job.as_str(), *writes_setting, *store),
         Event::Set {
             job,
             disabled,
             store,
-        } => loads::set_disabled(alloc, table, job.as_str(), disabled, store),
+        } => loads::set_disabled(alloc, table, job.as_str(), *disabled, *store),
         Event::List => whole::list(alloc, table),
         Event::Print { job } => whole::print(alloc, table, job.as_str()),
         Event::Shutdown => whole::shutdown(alloc, table),
-        Event::Clock(at) => whole::clock(alloc, table, at),
-        Event::Saw { path, obs } => whole::saw(alloc, table, path.as_str(), obs),
-        Event::OfJob { job, item } => happened(alloc, table, job.as_str(), item),
+        Event::Clock(at) => whole::clock(alloc, table, *at),
+        Event::Saw { path, obs } => whole::saw(alloc, table, path.as_str(), *obs),
+        Event::OfJob { job, item } => happened(alloc, table, job.as_str(), *item),
     }
 }
 
@@ -65,13 +66,13 @@ fn answer_to(alloc: Global, table: &mut JobTable, event: Event) -> Result<Vec<u8
 fn answer(
     alloc: Global,
     table: &mut JobTable,
-    reader: &mut LineReader,
+    room: &mut LineRoom,
     line: &[u8],
 ) -> Result<Vec<u8>, AllocError>
     ensures { IfOk result (λ text. IsReplied (event_in line.now) table.old table.new text.items) }
 {
-    match reader.event(alloc, line) {
-        Ok(event) => answer_to(alloc, table, event),
+    match read_event(alloc, line, room) {
+        Ok(event) => answer_to(alloc, table, &event),
         Err(ReadFault::NoMemory) => Err(AllocError),
         Err(ReadFault::BadRequest) => whole::unreadable(alloc, table),
     }
@@ -86,7 +87,7 @@ impl LineMachine for JournalMachine {
         match opening::open(alloc, header) {
             Ok(Some(table)) => Ok(Some(JournalMachine {
                 table,
-                reader: LineReader::new(alloc)?,
+                room: LineRoom::new(alloc)?,
             })),
             Ok(None) => Ok(None),
             Err(e) => Err(e),
@@ -94,7 +95,7 @@ impl LineMachine for JournalMachine {
     }
 
     fn handle(&mut self, alloc: Global, line: &[u8]) -> Result<Vec<u8>, AllocError> {
-        match answer(alloc, &mut self.table, &mut self.reader, line) {
+        match answer(alloc, &mut self.table, &mut self.room, line) {
             Ok(text) => Ok(text),
             Err(e) => Err(e),
         }

@@ -1,6 +1,5 @@
 //! One kind of file for a database, of the system or a copy in memory. So the program has SQLite once, not once for each of the two.
 
-ghost use Rattle.sqlite_disk.specs.Disk.{Holds, Torn, Mixed, Cut, Follows, Only, CountsFault, CountsFaultIf, StaysFrozen};
 ghost use Rattle.startup.specs.Medium.{told, Says, of_each};
 
 use sqlite_disk::{Disk, Tally};
@@ -9,7 +8,9 @@ use std::io;
 /// A database's file, or its log: a file of the system, or a copy of one in memory.
 #[derive(Drop)]
 pub(crate) enum Medium<F: Disk, C: Disk> {
+    /// A file of the system.
     Plain(F),
+    /// A copy in memory.
     Copied(C),
 }
 

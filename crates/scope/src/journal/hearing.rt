@@ -135,7 +135,11 @@ fn set(
 
 /// The table hears the event, as a launcher's would. It says whether the event made a step: a question makes none. After a
 /// refusal the table is as before.
-pub(crate) fn hear(alloc: Global, table: &mut JobTable, event: &Event) -> Result<bool, Refusal> {
+pub(crate) fn hear(
+    alloc: Global,
+    table: &mut JobTable,
+    event: &Event<'_>,
+) -> Result<bool, Refusal> {
     match event {
         Event::Load {
             def,

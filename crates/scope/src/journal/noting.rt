@@ -13,7 +13,7 @@ impl Past {
     pub(crate) fn note(
         &mut self,
         alloc: Global,
-        event: &Event,
+        event: &Event<'_>,
         made: Result<Reading, Refusal>,
         wait: Wait,
     ) -> Result<(), AllocError> {
@@ -168,7 +168,7 @@ fn asked_by(ask: Ask) -> Asked {
 }
 
 // What a client asked, and of which label; the empty one for all jobs.
-fn asked_in(event: &Event) -> Option<(&str, Asked)> {
+fn asked_in<'a>(event: &Event<'a>) -> Option<(&'a str, Asked)> {
     match event {
         Event::OfJob {
             job,

@@ -4,7 +4,7 @@ use crate::journal::fault::JournalFault;
 use crate::journal::hearing::{Wait, hear};
 use crate::journal::past::Past;
 use calendar_due::Zone;
-use ctl_protocol::{Header, LineReader, ReadFault, read_header};
+use ctl_protocol::{Header, LineRoom, ReadFault, read_event, read_header};
 use history_model::{Event, Reading, Refusal, Wants};
 use job_table::JobTable;
 use std::alloc::{AllocError, Global};
@@ -17,7 +17,7 @@ pub(crate) struct Journal {
     /// The zone of the header.
     pub(crate) zone: Zone,
     pub(crate) past: Past,
-    reader: LineReader,
+    room: LineRoom,
 }
 
 /// The journal that a header opens.
@@ -31,14 +31,14 @@ pub(crate) fn open(alloc: Global, line: &[u8]) -> Result<Journal, JournalFault> 
 
 fn opened_by(alloc: Global, header: Header) -> Result<Journal, JournalFault> {
     let zone = zone_of(alloc, &header.zone);
-    match (zone, table_of(alloc, header), LineReader::new(alloc)) {
-        (Ok(Some(zone)), Ok(table), Ok(reader)) => Ok(Journal {
+    match (zone, table_of(alloc, header), LineRoom::new(alloc)) {
+        (Ok(Some(zone)), Ok(table), Ok(room)) => Ok(Journal {
             table,
             zone,
             past: Past::new(alloc),
-            reader,
+            room,
         }),
-        (zone, table, reader) => {
+        (zone, table, room) => {
             let fault = match (&zone, &table) {
                 (Ok(None), _) | (_, Err(OpeningFault::BadZone)) => JournalFault::BadZone,
                 (_, Err(OpeningFault::BadLabel | OpeningFault::BadReading)) => {
@@ -48,7 +48,7 @@ fn opened_by(alloc: Global, header: Header) -> Result<Journal, JournalFault> {
             };
             drop(zone);
             drop(table);
-            drop(reader);
+            drop(room);
             Err(fault)
         }
     }
@@ -58,9 +58,9 @@ impl Journal {
     /// Takes in a line after the header. It says whether the line is an event; what it gave is the past's `news`.
     pub(crate) fn take(&mut self, alloc: Global, line: &[u8]) -> Result<bool, AllocError> {
         self.past.news.clear();
-        match self.reader.event(alloc, line) {
+        match read_event(alloc, line, &mut self.room) {
             Ok(event) => {
-                let noted = self.hear(alloc, &event);
+                let noted = take_in(alloc, &mut self.table, &mut self.past, &event);
                 drop(event);
                 match noted {
                     Ok(()) => Ok(true),
@@ -71,24 +71,30 @@ impl Journal {
             Err(ReadFault::BadRequest) => Ok(false),
         }
     }
+}
 
-    fn hear(&mut self, alloc: Global, event: &Event) -> Result<(), AllocError> {
-        let made = match hear(alloc, &mut self.table, event) {
-            Ok(true) => Ok(self.table.reading()),
-            Ok(false) => return Ok(()),
-            Err(Refusal::NoMemory) => return Err(AllocError),
-            Err(refusal) => Err(refusal),
-        };
-        let wait = wait_after(&self.table, event);
-        match (self.past.note(alloc, event, made, wait), made) {
-            (Ok(()), Ok(at)) => note_orders(alloc, &self.table, &mut self.past, at),
-            (noted, _) => noted,
-        }
+// Tells the table an event, and notes what it gave.
+fn take_in(
+    alloc: Global,
+    table: &mut JobTable,
+    past: &mut Past,
+    event: &Event<'_>,
+) -> Result<(), AllocError> {
+    let made = match hear(alloc, table, event) {
+        Ok(true) => Ok(table.reading()),
+        Ok(false) => return Ok(()),
+        Err(Refusal::NoMemory) => return Err(AllocError),
+        Err(refusal) => Err(refusal),
+    };
+    let wait = wait_after(table, event);
+    match (past.note(alloc, event, made, wait), made) {
+        (Ok(()), Ok(at)) => note_orders(alloc, table, past, at),
+        (noted, _) => noted,
     }
 }
 
 // The wait of the job that the event was of, as the table has it.
-fn wait_after(table: &JobTable, event: &Event) -> Wait {
+fn wait_after(table: &JobTable, event: &Event<'_>) -> Wait {
     let reasons = match event {
         Event::OfJob { job, .. } => table.reasons(job.as_str()),
         _ => None,

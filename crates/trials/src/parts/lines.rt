@@ -1,8 +1,8 @@
 //! What no clause says: lines as other programs write and read them, and that each call succeeds.
 
 use ctl_protocol::{
-    ReadFault, event_line, header_line, read_event, read_header, read_request, read_target,
-    request_line,
+    LineRoom, ReadFault, event_line, header_line, read_event, read_header, read_request,
+    read_target, request_line,
 };
 use std::alloc::{AllocError, Global};
 
@@ -36,8 +36,9 @@ fn label_line(alloc: Global, label: &str) -> Result<Vec<u8>, AllocError> {
 
 /// The line, read and written again. A target has no line of its own: its label is written.
 pub fn again(alloc: Global, kind: Kind, line: &str) -> Result<Vec<u8>, ReadFault> {
+    let mut room = LineRoom::new(alloc)?;
     let written = match kind {
-        Kind::Event => match read_event(alloc, line.as_bytes()) {
+        Kind::Event => match read_event(alloc, line.as_bytes(), &mut room) {
             Ok(event) => {
                 let line = event_line(alloc, &event);
                 drop(event);
@@ -45,7 +46,7 @@ pub fn again(alloc: Global, kind: Kind, line: &str) -> Result<Vec<u8>, ReadFault
             }
             Err(fault) => return Err(fault),
         },
-        Kind::Request => match read_request(alloc, line.as_bytes()) {
+        Kind::Request => match read_request(alloc, line.as_bytes(), &mut room) {
             Ok(event) => {
                 let line = request_line(alloc, &event);
                 drop(event);

@@ -4,9 +4,9 @@
 use crate::cases::Case;
 use crate::memory_stage::{Sink, header, new_sink};
 use ctl_protocol::Header;
-use history_model::{Answer, Event, JobItem, Text};
+use history_model::{Answer, Event, JobItem, TextRef};
 use launcher::Journal;
-use std::alloc::{AllocError, Global};
+use std::alloc::Global;
 
 /// The header's line, and those of two events.
 const LINES: &[u8] = b"{\"overrides\":{},\"up\":0,\"wall\":1700000000,\"zone\":\"UTC0\"}\n\
@@ -72,19 +72,18 @@ pub const FULL: Row = Row {
 type Told = (bool, bool, bool);
 
 /// The second of the two events.
-fn event(alloc: Global) -> Result<Event, AllocError> {
-    let job = Text::copy_of(alloc, "a")?;
-    Ok(Event::OfJob {
-        job,
+fn event() -> Event<'static> {
+    Event::OfJob {
+        job: TextRef::new("a"),
         item: JobItem::Answered(Answer::Spawned { run: 1, pid: 812 }),
-    })
+    }
 }
 
 /// Notes a list and the event, ends the turn, and tells what is told of the journal.
-fn turned(alloc: Global, journal: Journal<&mut Sink>, event: &Event) -> Told {
+fn turned(alloc: Global, journal: Journal<&mut Sink>) -> Told {
     let mut journal = journal;
     journal.note(alloc, &Event::List);
-    journal.note(alloc, event);
+    journal.note(alloc, &event());
     journal.flush();
     let first = journal.report_closing();
     let second = journal.report_closing();
@@ -94,14 +93,14 @@ fn turned(alloc: Global, journal: Journal<&mut Sink>, event: &Event) -> Told {
 
 /// Says whether the journal over a writer for which so many writes go well becomes what the row says. Its closing is told once, and a
 /// writer that fails at no write is flushed once.
-fn becomes(alloc: Global, row: &Row, writes: usize, header: &Header, event: &Event) -> bool {
+fn becomes(alloc: Global, row: &Row, writes: usize, header: &Header) -> bool {
     let mut writer = Sink {
         piece: row.piece,
         is_full: row.is_full,
         refuses_flush: row.refuses_flush,
         ..new_sink(alloc, writes)
     };
-    let told = turned(alloc, Journal::begin(alloc, &mut writer, header), event);
+    let told = turned(alloc, Journal::begin(alloc, &mut writer, header));
     let is_told = told == (!row.is_open, false, row.is_open);
     let written = writer.taken.as_slice();
     let holds = if row.is_whole {
@@ -114,22 +113,18 @@ fn becomes(alloc: Global, row: &Row, writes: usize, header: &Header, event: &Eve
 
 /// Says whether the journals of the row hold their lines, or a front of them.
 pub fn become_so(alloc: Global, row: &Row) -> Option<bool> {
-    let event = event(alloc).ok()?;
     let header = header(alloc, "UTC0", 0)?;
     let (first, last) = row.writes;
     let mut are_so = true;
     for writes in first..=last {
-        are_so &= becomes(alloc, row, writes, &header, &event);
+        are_so &= becomes(alloc, row, writes, &header);
     }
     drop(header);
-    drop(event);
     Some(are_so)
 }
 
 /// Says whether no journal stays silent: nothing is told and nothing is given back.
 pub fn is_silent(alloc: Global) -> Option<bool> {
-    let event = event(alloc).ok()?;
-    let told = turned(alloc, Journal::none(), &event);
-    drop(event);
+    let told = turned(alloc, Journal::none());
     Some(told == (false, false, false))
 }

@@ -1,7 +1,7 @@
 -- What holds at each turn of the loops of `levels::states_of`, and why each ends.
 use Rattle.std.proofs.Common.{◌≡◌, map, take, None}
 use Rattle.conditions.specs.States.{wanted_of, last_sight}
-use Rattle.definition_values.specs.Definitions.{path_wish}
+use Rattle.history_model.specs.Definitions.{path_wish}
 use Rattle.conditions.proofs.levels.states_of.Given as goal
 
 abbrev pub invariant-loop-state : goal.invariant-loop-state

@@ -3,7 +3,7 @@ use Rattle.std.proofs.Common.{Bool, map, ap, sym, subst, ◌∙◌}
 use Rattle.std.specs.Prelude.{is_some, Ok}
 use Rattle.history_model.specs.MachineLaws.{AreInOrder}
 use Rattle.history_model.specs.Machine.{Load}
-use Rattle.definition_values.specs.Definitions.{given}
+use Rattle.history_model.specs.Definitions.{given}
 use Rattle.loaded_jobs.specs.Tables.{labels_in}
 use Rattle.loaded_jobs.specs.Seats.{name, place_for}
 use Rattle.loaded_jobs.specs.Sound.{seen_table}

@@ -4,7 +4,7 @@ use Rattle.std.proofs.lemmas.Option.{slice_get_within}
 use Rattle.std.proofs.lemmas.Bool.Decides.{nat_tests}
 use Rattle.history_model.specs.declared.CivilMinute.{CivilMinute}
 use Rattle.history_model.specs.declared.Reading.{Reading as Moment}
-use Rattle.definition_values.specs.Described.{Described}
+use Rattle.history_model.specs.Described.{Described}
 use Rattle.loaded_jobs.specs.Marking.{stands_at}
 use Rattle.loaded_jobs.specs.Touch.{is_touched}
 use Rattle.loaded_jobs.specs.declared.seat.Touch.{Touch}

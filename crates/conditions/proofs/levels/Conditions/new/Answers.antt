@@ -1,6 +1,6 @@
 -- The goals of `Conditions::new` that the prover leaves open.
 use Rattle.std.proofs.Common.{◌∙◌, ap, map, None, [], ◌∷◌}
-use Rattle.definition_values.specs.Definitions.{definition, path_wish}
+use Rattle.history_model.specs.Definitions.{definition, path_wish}
 use Rattle.conditions.specs.ConditionFacts.{kept_of}
 use Rattle.history_model.specs.Items.{Loaded}
 use Rattle.conditions.proofs.SightsLemmas.{unseen}

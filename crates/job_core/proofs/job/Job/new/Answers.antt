@@ -2,7 +2,7 @@
 use Rattle.std.proofs.Common.{◌≡◌, ◌∙◌, ap, refl, Bool, true, false, ◌||◌, cond, Some, None, [], ◌∷◌, is_some}
 use Rattle.history_model.specs.Items.{Loaded}
 use Rattle.history_model.specs.Facts.{facts_of}
-use Rattle.definition_values.specs.Definitions.{definition}
+use Rattle.history_model.specs.Definitions.{definition}
 use Rattle.job_core.specs.Sights.{unseen}
 use Rattle.job_core.specs.JobFields.{facts}
 use Rattle.history_model.specs.declared.reasons.DemandKind.TheVariants as kinds

@@ -7,7 +7,7 @@ use Rattle.history_model.specs.Machine.{State}
 use Rattle.history_model.specs.Acceptance.{refusal_in}
 use Rattle.loaded_jobs.specs.StandsFor.{KeepsState}
 use Rattle.loaded_jobs.specs.Loads.{described_in, refused_with}
-use Rattle.job_table.specs.LoadOfBytes.{IsAdmitted, load_of_bytes}
+use Rattle.job_table.specs.LoadOfBytes.{IsReadAndAdmitted, load_of_bytes}
 use Rattle.launcher.specs.declared.loading.Loaded.{Loaded}
 use Rattle.launcher.specs.LoadTurns.{LoadTurnOf, is_memory, label_written, load_request, settings_after, stamps_after, standing}
 use Rattle.launcher.proofs.LoadTurnsLemmas.{load_ended, load_sets, load_stamps, never_called, not_memory, told_unless, unstamped}
@@ -20,7 +20,7 @@ ask_and_load-ended-requires-clause-label g c = label_read c.as_bytes.result.now 
 
 pub returns-in-Ok-loaded-clause-turn : goal.returns-in-Ok-loaded-clause-turn
 returns-in-Ok-loaded-clause-turn g c = λ other s led keeps.
-    let admitted = subst (λ b. IsAdmitted c.args.self.now.table b c.args.writes_setting c.args.force (described_in c.in-Ok.ready)) c.as_bytes.ensures.value c.in-Ok.ensures.admitted in
+    let admitted = subst (λ b. IsReadAndAdmitted c.args.self.now.table b c.args.writes_setting c.args.force (described_in c.in-Ok.ready)) c.as_bytes.ensures.value c.in-Ok.ensures.admitted in
     let outside = c.ask_and_load-ended.result.outside in
     let told = g.E.Edge.told c.args.self.now.edge in
     let told' = g.E.Edge.told c.ask_and_load-ended.new.self.edge in
@@ -39,7 +39,7 @@ returns-in-Ok-loaded-clause-turn g c = λ other s led keeps.
 
 pub returns-in-Ok-loaded-clause-stored : goal.returns-in-Ok-loaded-clause-stored
 returns-in-Ok-loaded-clause-stored g c = λ s keeps holds.
-    let admitted = subst (λ b. IsAdmitted c.args.self.now.table b c.args.writes_setting c.args.force (described_in c.in-Ok.ready)) c.as_bytes.ensures.value c.in-Ok.ensures.admitted in
+    let admitted = subst (λ b. IsReadAndAdmitted c.args.self.now.table b c.args.writes_setting c.args.force (described_in c.in-Ok.ready)) c.as_bytes.ensures.value c.in-Ok.ensures.admitted in
     let outside = c.ask_and_load-ended.result.outside in
     let ends = c.ask_and_load-ended.ensures.ends in
     let store = c.ask_and_load-ended.new.self.store in
@@ -77,7 +77,7 @@ returns-in-Err-clause-silent g c = λ memory.
 
 pub returns-in-Ok-loaded-clause-stamped : goal.returns-in-Ok-loaded-clause-stamped
 returns-in-Ok-loaded-clause-stamped g c = λ s keeps stamps had.
-    let admitted = subst (λ b. IsAdmitted c.args.self.now.table b c.args.writes_setting c.args.force (described_in c.in-Ok.ready)) c.as_bytes.ensures.value c.in-Ok.ensures.admitted in
+    let admitted = subst (λ b. IsReadAndAdmitted c.args.self.now.table b c.args.writes_setting c.args.force (described_in c.in-Ok.ready)) c.as_bytes.ensures.value c.in-Ok.ensures.admitted in
     let outside = c.ask_and_load-ended.result.outside in
     let ends = c.ask_and_load-ended.ensures.ends in
     let stamped = g.T.SettingStore.stamped c.ask_and_load-ended.new.self.store in

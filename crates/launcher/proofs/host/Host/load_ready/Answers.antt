@@ -2,7 +2,7 @@
 use Rattle.std.proofs.Common.{◌≡◌, List, Some, ap, subst, sym}
 use Rattle.std.specs.Prelude.{Ok, is_some}
 use Rattle.history_model.specs.Machine.{Load}
-use Rattle.definition_values.specs.Definitions.{given}
+use Rattle.history_model.specs.Definitions.{given}
 use Rattle.loaded_jobs.specs.Tables.{Name, IsOnce, definition_of_number}
 use Rattle.launcher.proofs.NumbersLemmas.{AreNamed}
 use Rattle.loaded_jobs.specs.Loads.{described_in, number_in, new_setting_in}

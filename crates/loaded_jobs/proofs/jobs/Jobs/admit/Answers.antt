@@ -5,7 +5,7 @@ use Rattle.history_model.specs.declared.Refusal.TheVariants.{Disabled}
 use Rattle.history_model.specs.Search.{first}
 use Rattle.history_model.specs.Machine.{past_of, sets, flag_in, is_disabled}
 use Rattle.history_model.specs.Acceptance.{refused_if, refusal_there}
-use Rattle.definition_values.specs.Definitions.{definition}
+use Rattle.history_model.specs.Definitions.{definition}
 use Rattle.loaded_jobs.specs.Loads.{refusal_outside}
 use Rattle.loaded_jobs.proofs.LoadsLemmas.{there, behind-there, count-jobs, not-below}
 use Rattle.loaded_jobs.proofs.jobs.Jobs.admit.Goals as goal

@@ -11,7 +11,7 @@ use Rattle.history_model.specs.FactsOfPast.{Keeps}
 use Rattle.history_model.specs.Machine.{Job, Load, sets}
 use Rattle.history_model.specs.Step.{taken, with_job}
 use Rattle.history_model.specs.Texts.{load_text}
-use Rattle.definition_values.specs.Definitions.{definition, given}
+use Rattle.history_model.specs.Definitions.{definition, given}
 use Rattle.loaded_jobs.specs.Tables.{IsOnce, Row, definition_of_number}
 use Rattle.loaded_jobs.specs.StandsFor.{KeepsJob, KeepsJobs}
 use Rattle.loaded_jobs.specs.Seats.{row, name, rows, AllStay, is_above, place_for}

@@ -4,7 +4,7 @@ use Rattle.std.specs.Prelude.{Ok, Err, IfOk, Result, is_some}
 use Rattle.history_model.specs.declared.Refusal.{Refusal}
 use Rattle.history_model.specs.Items.{Loaded}
 use Rattle.history_model.specs.FactsOfPast.{Keeps}
-use Rattle.definition_values.specs.Definitions.{definition}
+use Rattle.history_model.specs.Definitions.{definition}
 use Rattle.loaded_jobs.specs.Seats.{name, rows}
 use Rattle.loaded_jobs.specs.Loads.{IsAbsent, IsReady, IsMade, enabled_if}
 use Rattle.loaded_jobs.specs.Sound.{seen_table}

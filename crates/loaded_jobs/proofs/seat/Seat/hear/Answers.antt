@@ -4,8 +4,6 @@ use Rattle.std.specs.Prelude.{Some, None, if◌then◌else◌}
 use Rattle.std.specs.List.{list_any}
 use Rattle.history_model.specs.Calendar.{matches}
 use Rattle.history_model.specs.Items.{Read, Saw}
-use Rattle.history_model.specs.Step.{lists}
-use Rattle.definition_values.specs.Definitions.{definition}
 use Rattle.loaded_jobs.specs.Touch.{item_for}
 use Rattle.loaded_jobs.proofs.HearingLemmas.{heard-as, heard-nothing}
 use Rattle.loaded_jobs.proofs.seat.Seat.hear.Goals as goal
@@ -17,8 +15,8 @@ returns-in-Reading c =
 
 pub returns-then-lists : goal.returns-then-lists
 returns-then-lists c =
-    heard-as (ap (λ b. if b then Some (Saw c.in-Sight.path.now c.in-Sight.obs) else None) (sym c.if-lists.true ∙ c.lists.ensures ∙ ap (λ d. lists (definition d) c.in-Sight.path.now) c.lent.ensures) ∙ ap (λ n. item_for n c.args.self.now.def) (sym c.in-Sight.is)) c.take_in-then-lists.ensures
+    heard-as (ap (λ b. if b then Some (Saw c.in-Sight.path.now c.in-Sight.obs) else None) (sym c.if-lists.true ∙ c.lists.ensures) ∙ ap (λ n. item_for n c.args.self.now.def) (sym c.in-Sight.is)) c.take_in-then-lists.ensures
 
 pub returns-else-lists : goal.returns-else-lists
 returns-else-lists c =
-    heard-as (ap (λ b. if b then Some (Saw c.in-Sight.path.now c.in-Sight.obs) else None) (sym c.if-lists.false ∙ c.lists.ensures ∙ ap (λ d. lists (definition d) c.in-Sight.path.now) c.lent.ensures) ∙ ap (λ n. item_for n c.args.self.now.def) (sym c.in-Sight.is)) heard-nothing
+    heard-as (ap (λ b. if b then Some (Saw c.in-Sight.path.now c.in-Sight.obs) else None) (sym c.if-lists.false ∙ c.lists.ensures) ∙ ap (λ n. item_for n c.args.self.now.def) (sym c.in-Sight.is)) heard-nothing

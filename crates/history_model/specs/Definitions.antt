@@ -2,9 +2,9 @@
 use Rattle.std.specs.Prelude.{ℕ, Bool, List, map, length, not, ◌==◌}
 use Rattle.history_model.specs.Items.{Definition}
 use Rattle.history_model.specs.Machine.{Given}
-use Rattle.definition_values.specs.Described.{Described}
-use Rattle.definition_values.specs.declared.parts.PathState.{PathState}
-use Rattle.definition_values.specs.declared.parts.Socket.{Socket}
+use Rattle.history_model.specs.Described.{Described}
+use Rattle.history_model.specs.declared.definition.parts.PathState.{PathState}
+use Rattle.history_model.specs.declared.definition.parts.Socket.{Socket}
 
 -- a path, and whether something is to be there
 abbrev pub path_wish : PathState → List ℕ × Bool

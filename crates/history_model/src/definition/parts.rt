@@ -1,6 +1,6 @@
 //! The parts of a definition, each for some keys of the table.
 
-use history_model::{Entry, Text};
+use crate::{Entry, Text};
 
 /// A condition of `KeepAlive.PathState`: the job is wanted while something is at the path (`present`), or while nothing
 /// is.

@@ -1,5 +1,4 @@
 //! What a job's definition says, key by key: a `Def`, as the reader of definitions makes it, with a getter for each key that is acted on.
-#![tactic(auto)]
 
 mod def;
 mod parts;

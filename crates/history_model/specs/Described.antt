@@ -2,9 +2,9 @@
 -- bytes.
 use Rattle.std.specs.Prelude.{ℕ, Bool, List, Option}
 use Rattle.history_model.specs.declared.Entry.{Entry}
-use Rattle.definition_values.specs.declared.parts.PathState.{PathState}
-use Rattle.definition_values.specs.declared.parts.Variable.{Variable}
-use Rattle.definition_values.specs.declared.parts.Socket.{Socket}
+use Rattle.history_model.specs.declared.definition.parts.PathState.{PathState}
+use Rattle.history_model.specs.declared.definition.parts.Variable.{Variable}
+use Rattle.history_model.specs.declared.definition.parts.Socket.{Socket}
 
 -- the definition as its getters give it
 pub record Described : Type 0 where

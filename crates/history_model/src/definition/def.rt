@@ -1,17 +1,17 @@
 //! A definition that was read, and what it says of each key.
 
-ghost use Rattle.std.specs.Prelude.{◌≡◌, ◌≤◌, IfSome, option_map};
-ghost use Rattle.definition_values.specs.Definitions.{has_sockets};
-ghost use Rattle.definition_values.specs.Groups.{described};
-ghost use Rattle.definition_values.specs.Parts.{launch_of, demand_of, pace_of, surroundings_of};
+ghost use Rattle.std.specs.Prelude.{◌≡◌, ◌≤◌, IfOk, IfSome, option_map};
+ghost use Rattle.history_model.specs.Definitions.{has_sockets};
+ghost use Rattle.history_model.specs.KeyGroups.{described};
+ghost use Rattle.history_model.specs.DefinitionParts.{launch_of, demand_of, pace_of, surroundings_of};
 
-use crate::parts::{Demand, Launch, Pace, PathState, Socket, Surroundings, Variable};
-use history_model::{Entry, Text};
+use super::parts::{Demand, Launch, Pace, PathState, Socket, Surroundings, Variable};
+use crate::{Entry, Text};
+use std::alloc::{AllocError, Global};
 use std::marker::Model;
 
-/// A job's definition, as `job_defs::read_def` reads it from JSON. The keys and their meaning are those of
-/// launchd.plist(5), but for what is said here.
-pub struct Def {
+/// What a definition keeps, part by part.
+struct Parts {
     launch: Launch,
     demand: Demand,
     pace: Pace,
@@ -21,9 +21,9 @@ pub struct Def {
 }
 
 // for the proof: who lets it go calls this, in place of letting each part go
-impl Drop for Def {
+impl Drop for Parts {
     fn drop(self) {
-        let Def {
+        let Parts {
             launch: _,
             demand: _,
             pace: _,
@@ -34,82 +34,95 @@ impl Drop for Def {
     }
 }
 
+/// A job's definition, as `job_defs::read_def` reads it from JSON. The keys and their meaning are those of
+/// launchd.plist(5), but for what is said here. Its parts lie behind a pointer, so a definition is small, and quick to move.
+#[derive(Drop)]
+pub struct Def {
+    parts: Box<Parts>,
+}
+
 impl Model for Def {
     ghost use Rattle.std.specs.Prelude.{◌≤◌, IfSome};
-    ghost use Rattle.definition_values.specs.Described.{Described};
+    ghost use Rattle.history_model.specs.Described.{Described};
 
     ghost Value = { Described };
 
     ghost view = { λ d. record {
-      label = d.launch.label;
-      program = d.launch.command.program;
-      arguments = d.launch.command.arguments.items;
-      run_at_load = d.launch.run_at_load;
-      launch_only_once = d.launch.launch_only_once;
-      disabled = d.launch.disabled;
-      keep_alive = d.demand.keep.always;
-      successful_exit = d.demand.keep.successful_exit;
-      crashed = d.demand.keep.crashed;
-      path_state = d.demand.keep.path_state.items;
-      watch_paths = d.demand.watch_paths.items;
-      queue_directories = d.demand.queue_directories.items;
-      start_interval = d.demand.start_interval;
-      calendar = d.demand.calendar.items;
-      throttle_interval = d.pace.throttle_interval;
-      exit_time_out = d.pace.exit_time_out;
-      environment = d.surroundings.environment.items;
-      working_directory = d.surroundings.working_directory;
-      standard_in_path = d.surroundings.standard_in_path;
-      standard_out_path = d.surroundings.standard_out_path;
-      standard_error_path = d.surroundings.standard_error_path;
-      sockets = d.sockets.items;
-      not_acted_on = d.not_acted_on.items;
+      label = d.parts.value.launch.label;
+      program = d.parts.value.launch.command.program;
+      arguments = d.parts.value.launch.command.arguments.items;
+      run_at_load = d.parts.value.launch.run_at_load;
+      launch_only_once = d.parts.value.launch.launch_only_once;
+      disabled = d.parts.value.launch.disabled;
+      keep_alive = d.parts.value.demand.keep.always;
+      successful_exit = d.parts.value.demand.keep.successful_exit;
+      crashed = d.parts.value.demand.keep.crashed;
+      path_state = d.parts.value.demand.keep.path_state.items;
+      watch_paths = d.parts.value.demand.watch_paths.items;
+      queue_directories = d.parts.value.demand.queue_directories.items;
+      start_interval = d.parts.value.demand.start_interval;
+      calendar = d.parts.value.demand.calendar.items;
+      throttle_interval = d.parts.value.pace.throttle_interval;
+      exit_time_out = d.parts.value.pace.exit_time_out;
+      environment = d.parts.value.surroundings.environment.items;
+      working_directory = d.parts.value.surroundings.working_directory;
+      standard_in_path = d.parts.value.surroundings.standard_in_path;
+      standard_out_path = d.parts.value.surroundings.standard_out_path;
+      standard_error_path = d.parts.value.surroundings.standard_error_path;
+      sockets = d.parts.value.sockets.items;
+      not_acted_on = d.parts.value.not_acted_on.items;
     } };
 
-    ghost invariant = { λ d. IfSome d.demand.start_interval (λ seconds. (1 ≤ seconds)
+    ghost invariant = { λ d. IfSome d.parts.value.demand.start_interval (λ seconds. (1 ≤ seconds)
         × (seconds ≤ 31536000))
-        × (d.pace.throttle_interval ≤ 86400) × (d.pace.exit_time_out ≤ 86400) };
+        × (d.parts.value.pace.throttle_interval ≤ 86400) × (d.parts.value.pace.exit_time_out ≤ 86400) };
 }
 
 impl Def {
     /// The definition with these parts. The intervals are within their ranges: `StartInterval` 1 to 31,536,000, `ThrottleInterval` and
-    /// `ExitTimeOut` at most 86,400, all in seconds. `not_acted_on` are the keys that nothing acts on.
+    /// `ExitTimeOut` at most 86,400, all in seconds. `not_acted_on` are the keys that nothing acts on. `AllocError` if memory
+    /// for the pointer to them was refused.
     pub fn of(
+        alloc: Global,
         launch: Launch,
         demand: Demand,
         pace: Pace,
         surroundings: Surroundings,
         sockets: Vec<Socket>,
         not_acted_on: Vec<Text>,
-    ) -> Def
+    ) -> Result<Def, AllocError>
         requires interval { IfSome demand.start_interval (λ seconds. (1 ≤ seconds)
             × (seconds ≤ 31536000)) }
         requires bounds { (pace.throttle_interval ≤ 86400) × (pace.exit_time_out ≤ 86400) }
-        ensures { result ≡ described (launch_of launch) (demand_of demand) (pace_of pace)
-            (surroundings_of surroundings) sockets.items not_acted_on.items }
+        ensures { IfOk result (λ def. def ≡ described (launch_of launch) (demand_of demand)
+            (pace_of pace) (surroundings_of surroundings) sockets.items not_acted_on.items) }
     {
-        Def {
+        let parts = Parts {
             launch,
             demand,
             pace,
             surroundings,
             sockets,
             not_acted_on,
+        };
+        match Box::new(alloc, parts) {
+            Ok(parts) => Ok(Def { parts }),
+            Err(_) => Err(AllocError),
         }
     }
 
-    /// `Label`: the job's name, which no other loaded job has. 1 to 255 bytes; `json_kinds::is_label` says which.
+    /// `Label`: the job's name, which no other loaded job has. 1 to 255 bytes; `is_label` says which.
     pub fn label(&self) -> &str
         ensures { result.now ≡ self.now.label }
     {
-        self.launch.label.as_str()
+        self.parts.launch.label.as_str()
     }
 
     /// `Program`: the executable, also the child's argv[0]. If the key is absent, the first of `ProgramArguments`.
     pub fn program(&self) -> &str
         ensures { result.now ≡ self.now.program }
     {
-        self.launch.command.program.as_str()
+        self.parts.launch.command.program.as_str()
     }
 
     /// `ProgramArguments` after its first element: the child's arguments after argv[0]. At most 255; none if the key
@@ -117,28 +130,28 @@ impl Def {
     pub fn arguments(&self) -> &[Text]
         ensures { result.now ≡ self.now.arguments }
     {
-        self.launch.command.arguments.as_slice()
+        self.parts.launch.command.arguments.as_slice()
     }
 
     /// `RunAtLoad`: the job is started once when it is loaded. Absent: no.
     pub fn run_at_load(&self) -> bool
         ensures { result ≡ self.now.run_at_load }
     {
-        self.launch.run_at_load
+        self.parts.launch.run_at_load
     }
 
     /// `LaunchOnlyOnce`: one spawn that succeeds is the last of a load. Absent: no.
     pub fn launch_only_once(&self) -> bool
         ensures { result ≡ self.now.launch_only_once }
     {
-        self.launch.launch_only_once
+        self.parts.launch.launch_only_once
     }
 
     /// `Disabled`: a hint not to load the job, over which `enable` and `disable` of launchctl(1) decide. Absent: no.
     pub fn disabled(&self) -> bool
         ensures { result ≡ self.now.disabled }
     {
-        self.launch.disabled
+        self.parts.launch.disabled
     }
 
     /// `KeepAlive` is `true`: the job is to run at all times. So does an `OnDemand` of `false` without `KeepAlive`.
@@ -146,7 +159,7 @@ impl Def {
     pub fn keep_alive(&self) -> bool
         ensures { result ≡ self.now.keep_alive }
     {
-        self.demand.keep.always
+        self.parts.demand.keep.always
     }
 
     /// `KeepAlive.SuccessfulExit`: the job is wanted after an end with status 0 (`true`), or after any other end
@@ -154,7 +167,7 @@ impl Def {
     pub fn successful_exit(&self) -> Option<bool>
         ensures { result ≡ self.now.successful_exit }
     {
-        self.demand.keep.successful_exit
+        self.parts.demand.keep.successful_exit
     }
 
     /// `KeepAlive.Crashed`: the job is wanted after an end by a signal of a crash (`true`), or after any other end
@@ -162,7 +175,7 @@ impl Def {
     pub fn crashed(&self) -> Option<bool>
         ensures { result ≡ self.now.crashed }
     {
-        self.demand.keep.crashed
+        self.parts.demand.keep.crashed
     }
 
     /// `KeepAlive.PathState`, in byte order of the paths: the job is wanted while one of them was last seen as it says.
@@ -170,21 +183,21 @@ impl Def {
     pub fn path_state(&self) -> &[PathState]
         ensures { result.now ≡ self.now.path_state }
     {
-        self.demand.keep.path_state.as_slice()
+        self.parts.demand.keep.path_state.as_slice()
     }
 
     /// `WatchPaths`: the job is started once when one of them changes. Absent: none.
     pub fn watch_paths(&self) -> &[Text]
         ensures { result.now ≡ self.now.watch_paths }
     {
-        self.demand.watch_paths.as_slice()
+        self.parts.demand.watch_paths.as_slice()
     }
 
     /// `QueueDirectories`: the job is wanted while one of them holds a file. Absent: none.
     pub fn queue_directories(&self) -> &[Text]
         ensures { result.now ≡ self.now.queue_directories }
     {
-        self.demand.queue_directories.as_slice()
+        self.parts.demand.queue_directories.as_slice()
     }
 
     /// `StartInterval`, in seconds: the job is started each time that so many are over, counted from the load. 1 to
@@ -194,7 +207,7 @@ impl Def {
         ensures range { IfSome self.now.start_interval (λ seconds. (1 ≤ seconds)
             × (seconds ≤ 31536000)) }
     {
-        self.demand.start_interval
+        self.parts.demand.start_interval
     }
 
     /// `StartCalendarInterval`: the job is started in each civil minute that an entry matches, as crontab(5) says it.
@@ -202,7 +215,7 @@ impl Def {
     pub fn calendar(&self) -> &[Entry]
         ensures { result.now ≡ self.now.calendar }
     {
-        self.demand.calendar.as_slice()
+        self.parts.demand.calendar.as_slice()
     }
 
     /// `ThrottleInterval`, in seconds: two spawns are at least so far apart. 0 to 86,400; 0 means no throttle. Absent:
@@ -211,7 +224,7 @@ impl Def {
         ensures value { result ≡ self.now.throttle_interval }
         ensures range { self.now.throttle_interval ≤ 86400 }
     {
-        self.pace.throttle_interval
+        self.parts.pace.throttle_interval
     }
 
     /// `ExitTimeOut`, in seconds: how long after TERM a child that is being stopped gets KILL. 0 to 86,400; 0 means
@@ -220,7 +233,7 @@ impl Def {
         ensures value { result ≡ self.now.exit_time_out }
         ensures range { self.now.exit_time_out ≤ 86400 }
     {
-        self.pace.exit_time_out
+        self.parts.pace.exit_time_out
     }
 
     /// `EnvironmentVariables`, in byte order of the names: what the child's environment has beside the launcher's. A
@@ -228,49 +241,49 @@ impl Def {
     pub fn environment(&self) -> &[Variable]
         ensures { result.now ≡ self.now.environment }
     {
-        self.surroundings.environment.as_slice()
+        self.parts.surroundings.environment.as_slice()
     }
 
     /// `WorkingDirectory`: the child's. Absent: the launcher's.
     pub fn working_directory(&self) -> Option<&str>
         ensures { option_map (λ path. path.now) result ≡ self.now.working_directory }
     {
-        text_in(&self.surroundings.working_directory)
+        text_in(&self.parts.surroundings.working_directory)
     }
 
     /// `StandardInPath`: what the child reads. Absent: the null device.
     pub fn standard_in_path(&self) -> Option<&str>
         ensures { option_map (λ path. path.now) result ≡ self.now.standard_in_path }
     {
-        text_in(&self.surroundings.standard_in_path)
+        text_in(&self.parts.surroundings.standard_in_path)
     }
 
     /// `StandardOutPath`: where the child's output is appended. Absent: the null device.
     pub fn standard_out_path(&self) -> Option<&str>
         ensures { option_map (λ path. path.now) result ≡ self.now.standard_out_path }
     {
-        text_in(&self.surroundings.standard_out_path)
+        text_in(&self.parts.surroundings.standard_out_path)
     }
 
     /// `StandardErrorPath`: where the child's errors are appended. Absent: the null device.
     pub fn standard_error_path(&self) -> Option<&str>
         ensures { option_map (λ path. path.now) result ≡ self.now.standard_error_path }
     {
-        text_in(&self.surroundings.standard_error_path)
+        text_in(&self.parts.surroundings.standard_error_path)
     }
 
     /// `Sockets`: where connections are waited for, in byte order of the sockets' names. At most 8. Absent: none.
     pub fn sockets(&self) -> &[Socket]
         ensures { result.now ≡ self.now.sockets }
     {
-        self.sockets.as_slice()
+        self.parts.sockets.as_slice()
     }
 
     /// Whether there is a socket.
     pub fn has_sockets(&self) -> bool
         ensures { result ≡ has_sockets self.now }
     {
-        !self.sockets.is_empty()
+        !self.parts.sockets.is_empty()
     }
 
     /// The keys of the definition that nothing acts on, in byte order and each once. A key of a dictionary has a dot
@@ -279,7 +292,7 @@ impl Def {
     pub fn not_acted_on(&self) -> &[Text]
         ensures { result.now ≡ self.now.not_acted_on }
     {
-        self.not_acted_on.as_slice()
+        self.parts.not_acted_on.as_slice()
     }
 }
 

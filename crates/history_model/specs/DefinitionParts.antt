@@ -1,11 +1,11 @@
 -- The parts of a definition as the groups of its keys.
-use Rattle.definition_values.specs.declared.parts.Command.{Command}
-use Rattle.definition_values.specs.declared.parts.Launch.{Launch}
-use Rattle.definition_values.specs.declared.parts.Keep.{Keep}
-use Rattle.definition_values.specs.declared.parts.Demand.{Demand}
-use Rattle.definition_values.specs.declared.parts.Pace.{Pace}
-use Rattle.definition_values.specs.declared.parts.Surroundings.{Surroundings}
-use Rattle.definition_values.specs.Groups as groups
+use Rattle.history_model.specs.declared.definition.parts.Command.{Command}
+use Rattle.history_model.specs.declared.definition.parts.Launch.{Launch}
+use Rattle.history_model.specs.declared.definition.parts.Keep.{Keep}
+use Rattle.history_model.specs.declared.definition.parts.Demand.{Demand}
+use Rattle.history_model.specs.declared.definition.parts.Pace.{Pace}
+use Rattle.history_model.specs.declared.definition.parts.Surroundings.{Surroundings}
+use Rattle.history_model.specs.KeyGroups as groups
 
 -- each part without where it lies in memory
 abbrev pub command_of : Command → groups.Command

@@ -1,10 +1,10 @@
 -- The keys of a definition in the groups in which they are read and kept, as plain values.
 use Rattle.std.specs.Prelude.{ℕ, Bool, List, Option}
 use Rattle.history_model.specs.declared.Entry.{Entry}
-use Rattle.definition_values.specs.declared.parts.PathState.{PathState}
-use Rattle.definition_values.specs.declared.parts.Variable.{Variable}
-use Rattle.definition_values.specs.declared.parts.Socket.{Socket}
-use Rattle.definition_values.specs.Described.{Described}
+use Rattle.history_model.specs.declared.definition.parts.PathState.{PathState}
+use Rattle.history_model.specs.declared.definition.parts.Variable.{Variable}
+use Rattle.history_model.specs.declared.definition.parts.Socket.{Socket}
+use Rattle.history_model.specs.Described.{Described}
 
 -- the executable, and the arguments after argv[0]
 pub record Command : Type 0 where

@@ -1,4 +1,0 @@
-pub mod Described
-pub mod Definitions
-pub mod Groups
-pub mod Parts
