@@ -1,5 +1,5 @@
 -- What one event of a launcher's turn leaves.
-use Rattle.std.proofs.Common.{◌≡◌, ◌≤◌, true, ◌&&◌, List, [], ◌∷◌, Option, Some, None, refl, sym, ap, subst, ◌∙◌}
+use Rattle.std.proofs.Common.{◌≡◌, ◌≤◌, Bool, true, false, ◌&&◌, List, [], ◌∷◌, Option, Some, None, refl, sym, ap, subst, ◌∙◌}
 use Rattle.std.specs.Prelude.{Result, Ok, Err, IsOk, IfOk, OnErr, IsUtf8}
 use Rattle.std.proofs.lemmas.Bool.{false≢true}
 use Rattle.std.specs.List.{filter, list_all, AllByRecursion}
@@ -10,7 +10,11 @@ use Rattle.history_model.specs.Items.{Item, Answered, History}
 use Rattle.history_model.specs.Search.{first}
 use Rattle.history_model.specs.Runs.{is_answer_to}
 use Rattle.history_model.specs.Labels.{Label, is_same}
-use Rattle.history_model.specs.Machine.{State, Event, Job, OfJob, is_of, past_in}
+use Rattle.history_model.specs.Machine.{State, Event, Job, OfJob, UnloadJob, is_of, past_in}
+use Rattle.history_model.specs.declared.event.Event as journal
+use Rattle.history_model.specs.declared.event.Event.TheVariants as journaled
+use Rattle.table_opening.specs.JournalEvents.{machine_event}
+use Rattle.launcher.specs.Inputs.{is_taken_in}
 use Rattle.history_model.specs.Acceptance.{refusal_in}
 use Rattle.history_model.specs.Step.{outcome, step, step_by, heard_one}
 use Rattle.history_model.specs.MachineLaws.{labels_of}
@@ -114,6 +118,14 @@ read-on e e' old new (Err NoMemory) (Err refusal) before after told told' is sam
 read-on e e' old new (Err _) result before after told told' is same answer known ends carried = handed-on e e' old new (Err _) result before after told told' is same answer known ends carried
 
 -- ---- want of memory
+
+-- an unload that is taken in at once is one without -w
+pub unload-taken : (e : journal.Event) (job : Label) (writes_setting store : Bool) → e ≡ journaled.Unload job writes_setting store → is_taken_in e ≡ true → UnloadJob job false true ≡ machine_event e
+unload-taken e job writes_setting store is taken = go writes_setting store (subst (λ (x : journal.Event). is_taken_in x ≡ true) is taken) ∙ ap machine_event (sym is) where
+  go : (w s : Bool) → is_taken_in (journaled.Unload job w s) ≡ true → UnloadJob job false true ≡ UnloadJob job w s
+  go false true told = refl
+  go false false told = cc
+  go true s told = cc
 
 -- an event that needs no memory does not answer that there is none
 pub needs-none : {X : Type 0} (lent : Result Step Refusal) (result : Result (Unit {0}) Refusal) → refused_with result ≡ refused_with lent → NeedsNoMemory lent → result ≡ Err NoMemory → X

@@ -37,7 +37,11 @@ pub(crate) fn hear<E: ChildEdge + SocketEdge>(
         Event::Clock(at) => carry_step(edge, table.clock(alloc, *at), answers),
         Event::Saw { path, obs } => carry_step(edge, table.saw(path.as_str(), *obs), answers),
         Event::OfJob { job, item } => carry_step(edge, table.hear(job.as_str(), *item), answers),
-        Event::Unload { job, .. } => carry_step(edge, table.unload(job.as_str()), answers),
+        Event::Unload {
+            job,
+            writes_setting: _writes_setting,
+            store: _store,
+        } => carry_step(edge, table.unload(job.as_str()), answers),
         Event::Shutdown => carry_step(edge, table.shutdown(), answers),
         Event::Load { .. } => unreachable!(),
         Event::Set { .. } => unreachable!(),
