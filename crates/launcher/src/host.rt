@@ -39,6 +39,7 @@ pub struct Host<T: SettingStore, E: ChildEdge + SocketEdge, W: Write> {
     pub(crate) edge: E,
     pub(crate) journal: Journal<W>,
     pub(crate) answers: AnswerQueue,
+    // What reading a client's line takes. It is out of the launcher while the event is acted on that borrows of it.
     pub(crate) room: LineRoom,
     // The input of the last turn was a load that was accepted.
     pub(crate) has_loaded: bool,
