@@ -120,12 +120,14 @@ read-on e e' old new (Err _) result before after told told' is same answer known
 -- ---- want of memory
 
 -- an unload that is taken in at once is one without -w
+without-w : (job : Label) (writes_setting store : Bool) → is_taken_in (journaled.Unload job writes_setting store) ≡ true → UnloadJob job false true ≡ UnloadJob job writes_setting store
+without-w job false true taken = refl
+without-w job false false taken = absurd (false≢true taken)
+without-w job true store taken = absurd (false≢true taken)
+
 pub unload-taken : (e : journal.Event) (job : Label) (writes_setting store : Bool) → e ≡ journaled.Unload job writes_setting store → is_taken_in e ≡ true → UnloadJob job false true ≡ machine_event e
-unload-taken e job writes_setting store is taken = go writes_setting store (subst (λ (x : journal.Event). is_taken_in x ≡ true) is taken) ∙ ap machine_event (sym is) where
-  go : (w s : Bool) → is_taken_in (journaled.Unload job w s) ≡ true → UnloadJob job false true ≡ UnloadJob job w s
-  go false true told = refl
-  go false false told = cc
-  go true s told = cc
+unload-taken e job writes_setting store is taken =
+    without-w job writes_setting store (subst (λ (x : journal.Event). is_taken_in x ≡ true) is taken) ∙ ap machine_event (sym is)
 
 -- an event that needs no memory does not answer that there is none
 pub needs-none : {X : Type 0} (lent : Result Step Refusal) (result : Result (Unit {0}) Refusal) → refused_with result ≡ refused_with lent → NeedsNoMemory lent → result ≡ Err NoMemory → X

@@ -1,5 +1,6 @@
 -- A whole turn of the launcher: its first event, and then the answers.
 use Rattle.std.proofs.Common.{◌≡◌, ℕ, ◌*◌, ◌≤◌, List, [], ◌∷◌, ◌++◌, map, length, Option, Some, None, refl, sym, ap, subst, ◌∙◌, arith, true, false}
+use Rattle.std.proofs.lemmas.Bool.{false≢true}
 use Rattle.std.specs.Prelude.{Result, Ok, Err}
 use Rattle.std.specs.List.{AllByRecursion}
 use Rattle.std.proofs.lemmas.List.{append-nil, length-map, map-append}
@@ -187,12 +188,12 @@ label-event (journaled.Saw path obs) taken = tt
 label-event (journaled.OfJob job item) taken = tt
 label-event (journaled.Unload job false true) taken = tt
 label-event journaled.Shutdown taken = tt
-label-event (journaled.Load def writes_setting force bind store) taken = cc
-label-event (journaled.Unload job true store) taken = cc
-label-event (journaled.Unload job false false) taken = cc
-label-event (journaled.Set job disabled store) taken = cc
-label-event journaled.List taken = cc
-label-event (journaled.Print job) taken = cc
+label-event (journaled.Load def writes_setting force bind store) taken = absurd (false≢true taken)
+label-event (journaled.Unload job true store) taken = absurd (false≢true taken)
+label-event (journaled.Unload job false false) taken = absurd (false≢true taken)
+label-event (journaled.Set job disabled store) taken = absurd (false≢true taken)
+label-event journaled.List taken = absurd (false≢true taken)
+label-event (journaled.Print job) taken = absurd (false≢true taken)
 
 -- the answer of the turn is that of its event
 pub turned-from : (what : journal.Event) → is_taken_in what ≡ true → (result : Result (Unit {0}) Refusal) (old mid new : Table) (before first after : List Unheard) (a b c : Option (List ToldCall)) (k m n : JournalState) → result ≡ Ok tt → before ≡ [] →
