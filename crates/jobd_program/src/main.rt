@@ -1,6 +1,9 @@
 //! The programs `jobd`, `jobctl` and `jobscope` in one file: it acts by the name that it was started under.
 #![tactic(auto)]
 
+mod stack;
+
+use crate::stack::{PAGES, take_stack};
 use control_client::jobctl;
 use files_and_process::own_process::{Programs, run_by_name};
 use jobd::jobd;
@@ -12,7 +15,8 @@ struct OneFile;
 
 impl Programs for OneFile {
     fn jobd<L: Wait>(&self, host: &HostRuntime, waits: &L, words: &[String]) -> u8 {
-        jobd(host, waits, host.alloc(), words)
+        // The first is 0, so the status is that of the second.
+        take_stack(PAGES) | jobd(host, waits, host.alloc(), words)
     }
 
     fn jobctl(&self, host: &HostRuntime, words: &[String]) -> u8 {
