@@ -1,5 +1,9 @@
 //! A client of the control socket.
 
+ghost use Rattle.std.specs.Prelude.{◌≡◌, OnOk};
+ghost use Rattle.control_socket.specs.Dialogues.{Converses, Reads, SendsOn};
+ghost use Rattle.control_socket.specs.Serving.{Serves};
+
 use crate::dialogue::Dialogue;
 use crate::turn::{Answers, Limit, Turn};
 use mio::net::UnixStream;
@@ -78,7 +82,11 @@ impl Client {
         alloc: Global,
         room: &mut [u8],
         turn: &mut Turn<'_, A, L>,
-    ) -> io::Result<Progress> {
+    ) -> io::Result<Progress>
+        ensures converses { OnOk result (Converses A.Answered self.old.dialogue turn.old.answers.now self.new.dialogue turn.new.answers.now) }
+        ensures serves { Serves A.Answered turn.old.answers.now turn.new.answers.now }
+        ensures name { turn.new.answers.ghost_name ≡ turn.old.answers.ghost_name }
+    {
         self.looked = turn.number;
         if !self.has_unsent() {
             self.taken = turn.up;
@@ -113,11 +121,18 @@ impl Client {
         alloc: Global,
         room: &mut [u8],
         turn: &mut Turn<'_, A, L>,
-    ) -> io::Result<bool> {
+    ) -> io::Result<bool>
+        ensures converses { OnOk result (Converses A.Answered self.old.dialogue turn.old.answers.now self.new.dialogue turn.new.answers.now) }
+        ensures serves { Serves A.Answered turn.old.answers.now turn.new.answers.now }
+        ensures name { turn.new.answers.ghost_name ≡ turn.old.answers.ghost_name }
+    {
         turn.left = turn.lines;
         self.dialogue.answer(alloc, turn)?;
         for _ in 0..turn.pieces {
-            if !self.dialogue.wants_more() || !self.read(room)? {
+            if !self.dialogue.wants_more() {
+                return Ok(false);
+            }
+            if !self.read(room)? {
                 return Ok(false);
             }
             self.dialogue.answer(alloc, turn)?;
@@ -126,7 +141,9 @@ impl Client {
     }
 
     // Takes the next piece, or the end. False: nothing is there yet.
-    fn read(&mut self, room: &mut [u8]) -> io::Result<bool> {
+    fn read(&mut self, room: &mut [u8]) -> io::Result<bool>
+        ensures { OnOk result (Reads self.old.dialogue self.new.dialogue) }
+    {
         match self.stream.read(room) {
             Ok(0) => self.dialogue.end(),
             Ok(count) => {
@@ -141,21 +158,33 @@ impl Client {
     }
 
     // Sends what the client's side takes at once.
-    fn send(&mut self, up: u64) -> io::Result<()> {
+    fn send(&mut self, up: u64) -> io::Result<()>
+        ensures { OnOk result (SendsOn self.old.dialogue self.new.dialogue) }
+    {
         for _ in 0..WRITES {
             if self.dialogue.to_send().is_empty() {
                 return Ok(());
             }
-            match self.stream.write(self.dialogue.to_send()) {
-                Ok(count) => {
-                    self.taken = up;
-                    self.dialogue.sent(count);
-                }
-                Err(error) if error.kind() == ErrorKind::WouldBlock => return Ok(()),
-                Err(error) if error.kind() == ErrorKind::Interrupted => {}
-                Err(error) => return Err(error),
+            if !self.send_some(up)? {
+                return Ok(());
             }
         }
         Ok(())
+    }
+
+    // Sends once. False: the client's side takes nothing now.
+    fn send_some(&mut self, up: u64) -> io::Result<bool>
+        ensures { OnOk result (SendsOn self.old.dialogue self.new.dialogue) }
+    {
+        match self.stream.write(self.dialogue.to_send()) {
+            Ok(count) => {
+                self.taken = up;
+                self.dialogue.sent(count);
+                Ok(true)
+            }
+            Err(error) if error.kind() == ErrorKind::WouldBlock => Ok(false),
+            Err(error) if error.kind() == ErrorKind::Interrupted => Ok(true),
+            Err(error) => Err(error),
+        }
     }
 }

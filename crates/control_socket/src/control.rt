@@ -1,5 +1,8 @@
 //! The control socket with its clients.
 
+ghost use Rattle.std.specs.Prelude.{◌≡◌};
+ghost use Rattle.control_socket.specs.Serving.{Serves};
+
 use crate::client::{Client, PIECES, Progress};
 use crate::notices::Notices;
 use crate::turn::{Answers, LINES, Limit, Turn};
@@ -152,7 +155,9 @@ impl ControlSocket {
         alloc: Global,
         answers: &mut A,
         limit: &mut L,
-    ) -> bool {
+    ) -> bool
+        ensures { Serves A.Answered answers.old answers.new }
+    {
         self.rounds = self.rounds.saturating_add(1);
         let mut turn = Turn::new(self.rounds, answers, limit);
         self.up = turn.up;
@@ -174,7 +179,10 @@ impl ControlSocket {
         &mut self,
         alloc: Global,
         turn: &mut Turn<'_, A, L>,
-    ) -> Option<bool> {
+    ) -> Option<bool>
+        ensures serves { Serves A.Answered turn.old.answers.now turn.new.answers.now }
+        ensures name { turn.new.answers.ghost_name ≡ turn.old.answers.ghost_name }
+    {
         let first = self.first;
         let mut is_busy = false;
         for step in 0..CLIENTS {
@@ -195,7 +203,10 @@ impl ControlSocket {
         alloc: Global,
         key: usize,
         turn: &mut Turn<'_, A, L>,
-    ) -> bool {
+    ) -> bool
+        ensures serves { Serves A.Answered turn.old.answers.now turn.new.answers.now }
+        ensures name { turn.new.answers.ghost_name ≡ turn.old.answers.ghost_name }
+    {
         let progress = match self.clients.get_mut(key) {
             None => return false,
             Some(client) => client.advance(alloc, &mut self.room, turn),

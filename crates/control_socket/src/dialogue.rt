@@ -1,6 +1,11 @@
 //! What passes between a client and the launcher: the requests that came and are not yet answered, and the replies that are
 //! not yet sent.
 
+ghost use Rattle.std.specs.Prelude.{◌≡◌, ◌++◌, OnOk, true};
+ghost use Rattle.ctl_protocol.specs.OutcomeLines.{reply_line as line_of};
+ghost use Rattle.control_socket.specs.Serving.{Serves};
+ghost use Rattle.control_socket.specs.Dialogues.{AnswersNext, Ends, Sends, Takes, Talks, intake_after, told_after};
+
 use crate::turn::{Answers, LINES, Limit, Turn};
 use ctl_protocol::{LINE_LIMIT, LineFault, LineFeed, reply_line};
 use history_model::{Refusal, Reply, Text};
@@ -50,7 +55,9 @@ impl Dialogue {
     }
 
     /// Takes the next piece of what the client sends. What comes behind a line that is too long is dropped.
-    pub(crate) fn take(&mut self, piece: &[u8]) -> Result<(), AllocError> {
+    pub(crate) fn take(&mut self, piece: &[u8]) -> Result<(), AllocError>
+        ensures { OnOk result (Takes piece.now self.old self.new) }
+    {
         if !matches!(self.intake, Intake::Open) {
             return Ok(());
         }
@@ -66,7 +73,9 @@ impl Dialogue {
     }
 
     /// The client sends no more: a last line without a newline is dropped.
-    pub(crate) fn end(&mut self) {
+    pub(crate) fn end(&mut self)
+        ensures { Ends self.old self.new }
+    {
         match self.intake {
             Intake::Open => {
                 self.intake = Intake::Ended;
@@ -82,7 +91,11 @@ impl Dialogue {
         &mut self,
         alloc: Global,
         turn: &mut Turn<'_, A, L>,
-    ) -> Result<(), AllocError> {
+    ) -> Result<(), AllocError>
+        ensures talks { OnOk result (Talks A.Answered self.old turn.old.answers.now self.new turn.new.answers.now) }
+        ensures serves { Serves A.Answered turn.old.answers.now turn.new.answers.now }
+        ensures name { turn.new.answers.ghost_name ≡ turn.old.answers.ghost_name }
+    {
         for _ in 0..=LINES {
             if !self.may_answer() || !turn.may_answer() {
                 return Ok(());
@@ -96,7 +109,12 @@ impl Dialogue {
         &mut self,
         alloc: Global,
         turn: &mut Turn<'_, A, L>,
-    ) -> Result<(), AllocError> {
+    ) -> Result<(), AllocError>
+        requires { self.old.has_lines ≡ true }
+        ensures next { OnOk result (AnswersNext A.Answered self.old turn.old.answers.now self.new turn.new.answers.now) }
+        ensures serves { Serves A.Answered turn.old.answers.now turn.new.answers.now }
+        ensures name { turn.new.answers.ghost_name ≡ turn.old.answers.ghost_name }
+    {
         let Ok(next) = self.requests.next_line() else {
             return Err(AllocError);
         };
@@ -113,7 +131,12 @@ impl Dialogue {
     }
 
     // Each whole line is answered.
-    fn close_intake(&mut self, alloc: Global) -> Result<(), AllocError> {
+    fn close_intake(&mut self, alloc: Global) -> Result<(), AllocError>
+        ensures requests { self.new.requests ≡ self.old.requests }
+        ensures lines { self.new.has_lines ≡ self.old.has_lines }
+        ensures intake { OnOk result (self.new.intake ≡ intake_after self.old.intake) }
+        ensures replies { OnOk result (self.new.replies.items ≡ self.old.replies.items ++ told_after self.old.intake) }
+    {
         match self.intake {
             Intake::Open | Intake::Refused | Intake::Over => Ok(()),
             Intake::Ended => {
@@ -131,24 +154,35 @@ impl Dialogue {
         }
     }
 
-    fn add(&mut self, alloc: Global, reply: &Reply) -> Result<(), AllocError> {
+    fn add(&mut self, alloc: Global, reply: &Reply) -> Result<(), AllocError>
+        ensures requests { self.new.requests ≡ self.old.requests }
+        ensures lines { self.new.has_lines ≡ self.old.has_lines }
+        ensures intake { self.new.intake ≡ self.old.intake }
+        ensures replies { OnOk result (self.new.replies.items ≡ self.old.replies.items ++ line_of reply.now) }
+    {
         let line = reply_line(alloc, reply)?;
         self.replies.extend_from_slice(line.as_slice())
     }
 
     /// What is still to be sent.
-    pub(crate) fn to_send(&self) -> &[u8] {
+    pub(crate) fn to_send(&self) -> &[u8]
+        ensures { result.now ≡ self.now.replies.items }
+    {
         self.replies.as_slice()
     }
 
     /// So many bytes of it were sent.
-    pub(crate) fn sent(&mut self, count: usize) {
+    pub(crate) fn sent(&mut self, count: usize)
+        ensures { Sends count self.old self.new }
+    {
         let count = count.min(self.replies.len());
         let _ = self.replies.drain(..count);
     }
 
     /// Whether lines may be left, and not too much waits to be sent.
-    pub(crate) fn may_answer(&self) -> bool {
+    pub(crate) fn may_answer(&self) -> bool
+        ensures { result ≡ true → self.now.has_lines ≡ true }
+    {
         self.has_lines && self.replies.len() <= UNSENT
     }
 

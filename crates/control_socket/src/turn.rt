@@ -1,12 +1,19 @@
 //! One call of `serve`: who answers in it, and how much.
 
+ghost use Rattle.std.specs.Prelude.{◌≡◌, ℕ, List};
+ghost use Rattle.history_model.specs.declared.Reply.{Reply as Answer};
+
 use history_model::Reply;
 use std::alloc::Global;
 
 /// Who answers the line of a request.
 pub trait Answers {
+    /// To the line this reply may lead from the one to the other.
+    ghost Answered: { List ℕ → Answer → Self → Self → Type 0 };
+
     /// The reply to the line, which stands without its newline.
-    fn answer(&mut self, alloc: Global, line: &[u8]) -> Reply;
+    fn answer(&mut self, alloc: Global, line: &[u8]) -> Reply
+        ensures { Self.Answered line.now result self.old self.new };
 }
 
 /// Who says how long the clients may be served in a round.
@@ -45,7 +52,10 @@ pub(crate) struct Turn<'a, A, L> {
 
 impl<'a, A: Answers, L: Limit> Turn<'a, A, L> {
     /// The first pass of the round of this number: a piece and a line of each client.
-    pub(crate) fn new(number: u64, answers: &'a mut A, limit: &'a mut L) -> Turn<'a, A, L> {
+    pub(crate) fn new(number: u64, answers: &'a mut A, limit: &'a mut L) -> Turn<'a, A, L>
+        ensures name { result.answers.ghost_name ≡ answers.entry.ghost_name }
+        ensures now { result.answers.now ≡ answers.old }
+    {
         let up = limit.up();
         Turn {
             answers,
@@ -65,7 +75,10 @@ impl<'a, A: Answers, L: Limit> Turn<'a, A, L> {
     }
 
     /// The reply to the client's next line.
-    pub(crate) fn answer(&mut self, alloc: Global, line: &[u8]) -> Reply {
+    pub(crate) fn answer(&mut self, alloc: Global, line: &[u8]) -> Reply
+        ensures answered { A.Answered line.now result self.old.answers.now self.new.answers.now }
+        ensures name { self.new.answers.ghost_name ≡ self.old.answers.ghost_name }
+    {
         let reply = self.answers.answer(alloc, line);
         self.left = self.left.saturating_sub(1);
         self.has_time = self.limit.has_time();

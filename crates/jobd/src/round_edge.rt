@@ -1,6 +1,8 @@
 //! What the rounds of a live loop ask of an edge beside what a launcher's turns ask of it. The launcher of a loop is over any such edge,
 //! so that only the few lines below are proved for all that the edge of the system holds.
 
+ghost use Rattle.std.specs.Prelude.{ℕ, Option};
+
 use child_edge::{ChildEdge, Client, ClockEdge, Notice, OsEdge, PathEdge, SocketEdge, System};
 use history_model::JobNo;
 use live_loop::{Caller, Origin};
@@ -8,8 +10,12 @@ use mio::{Registry, Token};
 
 /// An edge as rounds ask it. Each call is that of `OsEdge`.
 pub trait RoundEdge: ChildEdge + ClockEdge + PathEdge + SocketEdge {
+    /// To the question whose child is over, from this job on, this answer may lead from the one to the other: a job, and its run.
+    ghost Finds: { ℕ → Option (ℕ × ℕ) → Self → Self → Type 0 };
+
     /// The least job, this one or above it, whose child is over, with the child's run.
-    fn over_from(&mut self, job: JobNo) -> Option<(JobNo, u64)>;
+    fn over_from(&mut self, job: JobNo) -> Option<(JobNo, u64)>
+        ensures { Self.Finds job result self.old self.new };
 
     /// Has clients that come to jobs' sockets wake the poll under the token. False: the poll refuses.
     fn register(&mut self, registry: &Registry, token: Token) -> bool;
@@ -37,6 +43,9 @@ pub trait RoundEdge: ChildEdge + ClockEdge + PathEdge + SocketEdge {
 }
 
 impl<R: System> RoundEdge for OsEdge<R> {
+    // The edge of the system keeps no record, so nothing is promised of its answers.
+    ghost Finds = { λ job found old new. Unit {0} };
+
     fn over_from(&mut self, job: JobNo) -> Option<(JobNo, u64)> {
         OsEdge::over_from(self, job)
     }

@@ -1,5 +1,8 @@
 //! What a round of the live loop finds, handed to the launcher one by one.
 
+ghost use Rattle.std.specs.Prelude.{◌≡◌};
+ghost use Rattle.launcher.specs.Inputs.{input_event};
+
 use crate::news::is_news;
 use crate::round_edge::RoundEdge;
 use child_edge::{ChildEdge, Client, ClockEdge, Notice, PathEdge, SocketEdge};
@@ -27,6 +30,8 @@ pub struct RoundLauncher<T: SettingStore, E: ChildEdge + SocketEdge, W: Write> {
 }
 
 impl<T: SettingStore, E: ChildEdge + SocketEdge, W: Write> RoundLauncher<T, E, W> {
+    ghost use Rattle.jobd.specs.Launches.{Heard, Reads, Gives, Tells, Begins, PollsRun};
+
     /// The launcher at its own last reading.
     pub fn new(host: Host<T, E, W>) -> RoundLauncher<T, E, W> {
         let at = host.table().reading();
@@ -44,18 +49,22 @@ impl<T: SettingStore, E: ChildEdge + SocketEdge, W: Write> RoundLauncher<T, E, W
     pub fn begin(&mut self, alloc: Global)
     where
         E: ClockEdge,
+        ensures { Begins E.told T.told T.holds T.stamped self.old self.new }
     {
         self.is_active = false;
-        if let Ok(at) = self.host.edge().read() {
-            self.at = at;
-        }
+        let at = self.host.edge().read().unwrap_or(self.at);
+        self.at = at;
         if is_news(self.host.table(), self.at) {
             self.hand_in_time(alloc);
         }
     }
 
     // Hands in the reading of the round, unless it is the launcher's own already.
-    fn hand_in_time(&mut self, alloc: Global) {
+    fn hand_in_time(&mut self, alloc: Global)
+        ensures reads { Reads E.told T.told T.holds T.stamped self.old.at self.old.host self.new.host }
+        ensures at { self.new.at ≡ self.old.at }
+        ensures loaded { self.new.has_loaded ≡ self.old.has_loaded }
+    {
         if self.host.table().reading() == self.at {
             return;
         }
@@ -67,24 +76,29 @@ impl<T: SettingStore, E: ChildEdge + SocketEdge, W: Write> RoundLauncher<T, E, W
     }
 
     // for the proof: what the launcher's turn says of itself ends here
-    fn turn(&mut self, alloc: Global, input: Input<'_>) -> Reply {
+    fn turn(&mut self, alloc: Global, input: Input<'_>) -> Reply
+        ensures heard { Heard E.told T.told T.holds T.stamped (input_event input.entry) result.refusal result.text self.old.host self.new.host }
+        ensures at { self.new.at ≡ self.old.at }
+        ensures loaded { self.new.has_loaded ≡ self.old.has_loaded }
+    {
         self.host.turn(alloc, input)
     }
 
     /// Hands in what happened, after the reading of the round. A refused wait is told each round, so it is no reason to wait
     /// less.
-    pub fn give(&mut self, alloc: Global, input: Input<'_>) -> Reply {
-        let was_active = self.is_active;
+    pub fn give(&mut self, alloc: Global, input: Input<'_>) -> Reply
+        ensures { Gives E.told T.told T.holds T.stamped (input_event input.entry) result.refusal result.text self.old self.new }
+    {
+        let is_active = self.is_active || !matches!(input, Input::WaitRefused(_, _));
         self.hand_in_time(alloc);
-        self.is_active = match input {
-            Input::WaitRefused(_, _) => was_active,
-            _ => true,
-        };
+        self.is_active = is_active;
         self.turn(alloc, input)
     }
 
     // Hands in what happened, and gives why it was refused.
-    fn tell(&mut self, alloc: Global, input: Input<'_>) -> Option<Refusal> {
+    fn tell(&mut self, alloc: Global, input: Input<'_>) -> Option<Refusal>
+        ensures { Tells E.told T.told T.holds T.stamped (input_event input.entry) result self.old self.new }
+    {
         let reply = self.give(alloc, input);
         let refusal = reply.refusal;
         drop(reply);
@@ -93,30 +107,45 @@ impl<T: SettingStore, E: ChildEdge + SocketEdge, W: Write> RoundLauncher<T, E, W
 
     // Hands in how the run of the job ended, or that the wait for it was refused. The table can't lend the label while the child is
     // polled.
-    fn poll(&mut self, alloc: Global, room: &mut LabelRoom, job: JobNo, run: u64) {
+    fn poll(&mut self, alloc: Global, room: &mut LabelRoom, job: JobNo, run: u64)
+        ensures { PollsRun E.told T.told T.holds T.stamped job run self.old self.new }
+    {
         room.copy(self.host.table().last_step().label(job));
         let label = room.as_str();
-        let input = match self.host.edge().poll(job, run) {
-            Ok(None) => return,
-            Ok(Some(how)) => Input::Ended(label, run, how),
-            Err(_) => Input::WaitRefused(label, run),
-        };
-        let _refusal = self.tell(alloc, input);
+        match self.host.edge().poll(job, run) {
+            Ok(None) => {}
+            Ok(Some(how)) => {
+                let _refusal = self.tell(alloc, Input::Ended(label, run, how));
+            }
+            Err(_) => {
+                let _refusal = self.tell(alloc, Input::WaitRefused(label, run));
+            }
+        }
     }
 }
 
 impl<T: SettingStore, E: ChildEdge + SocketEdge, W: Write> Answers for RoundLauncher<T, E, W> {
+    ghost use Rattle.jobd.specs.Launches.{AnswersLine};
+
+    ghost Answered = { AnswersLine E.told T.told T.holds T.stamped };
+
     fn answer(&mut self, alloc: Global, line: &[u8]) -> Reply {
         let reply = self.give(alloc, Input::Line(line));
-        if self.host.has_loaded() {
-            self.has_loaded = true;
-        }
+        self.has_loaded = self.has_loaded | self.host.has_loaded();
         reply
     }
 }
 
 impl<T: SettingStore, E: ChildEdge + SocketEdge + PathEdge, W: Write> PathHost
     for RoundLauncher<T, E, W> {
+    ghost use Rattle.jobd.specs.Launches.{DoesPath, ListsNext};
+
+    ghost round_up = { λ round. round.at.up };
+
+    ghost IsNext = { ListsNext };
+
+    ghost Did = { DoesPath E.told T.told T.holds T.stamped };
+
     fn up(&self) -> u64 {
         self.at.up
     }
@@ -141,6 +170,16 @@ impl<T: SettingStore, E: ChildEdge + SocketEdge + PathEdge, W: Write> PathHost
 }
 
 impl<T: SettingStore, E: RoundEdge, W: Write> LoopHost for RoundLauncher<T, E, W> {
+    ghost use Rattle.jobd.specs.Launches.{AsksEdge, Begins, PollsFrom, ComesIn};
+
+    ghost Begun = { Begins E.told T.told T.holds T.stamped };
+
+    ghost Polled = { PollsFrom E.told T.told T.holds T.stamped E.Finds };
+
+    ghost Asked = { AsksEdge };
+
+    ghost Came = { ComesIn E.told T.told T.holds T.stamped };
+
     fn begin(&mut self, alloc: Global) {
         RoundLauncher::begin(self, alloc);
     }
@@ -182,12 +221,12 @@ impl<T: SettingStore, E: RoundEdge, W: Write> LoopHost for RoundLauncher<T, E, W
         self.host.edge().listener_from(job)
     }
 
-    fn label_at(&mut self, origin: Origin) -> Option<&str> {
-        if self.host.edge().listens_at(origin) {
-            Some(self.host.table().last_step().label(origin.job))
-        } else {
-            None
-        }
+    fn listens_at(&mut self, origin: Origin) -> bool {
+        self.host.edge().listens_at(origin)
+    }
+
+    fn label(&self, job: JobNo) -> &str {
+        self.host.table().last_step().label(job)
     }
 
     fn accept(&mut self, job: JobNo) -> Option<Client> {

@@ -1,1 +1,6 @@
+pub mod Children
+pub mod Kept
+pub mod Looks
+pub mod Rounds
+pub mod Sightings
 pub mod Waiting

@@ -1,5 +1,7 @@
 //! The children, each asked about once a round, as long as there is time.
 
+ghost use Rattle.live_loop.specs.Children.{PollsAll};
+
 use crate::label_room::LabelRoom;
 use crate::loop_host::LoopHost;
 use control_socket::Limit;
@@ -15,7 +17,9 @@ pub(crate) fn poll_children<H: LoopHost, L: Limit>(
     label: &mut LabelRoom,
     first: JobNo,
     time: &mut L,
-) -> JobNo {
+) -> JobNo
+    ensures { PollsAll H.Polled first host.old result host.new }
+{
     let mut next = first;
     for _ in 0..MAX_JOBS {
         let Some(job) = host.poll_from(alloc, label, next) else {

@@ -1,5 +1,8 @@
 //! The clients of jobs' sockets, from their coming to the end of their request. Then the edge of the system has them.
 
+ghost use Rattle.std.specs.Prelude.{◌≡◌};
+ghost use Rattle.live_loop.specs.Rounds.{Asks, Gathers};
+
 use crate::label_room::LabelRoom;
 use crate::loop_host::{HandedIn, LoopHost};
 use child_edge::Client;
@@ -50,7 +53,9 @@ impl JobSockets {
     }
 
     /// The poll was woken under this token.
-    pub(crate) fn wake_by(&mut self, token: Token) {
+    pub(crate) fn wake_by(&mut self, token: Token)
+        ensures { self.new.conn ≡ self.old.conn }
+    {
         if token == COMING {
             self.may_have_come = true;
         } else {
@@ -65,7 +70,10 @@ impl JobSockets {
         registry: &Registry,
         host: &mut H,
         time: &mut L,
-    ) {
+    )
+        ensures asks { Asks H.Asked host.old host.new }
+        ensures conn { self.new.conn ≡ self.old.conn }
+    {
         // Sockets that the poll refuses are tried in each round.
         if !host.register(registry, COMING) {
             self.may_have_come = true;
@@ -92,12 +100,10 @@ impl JobSockets {
 
     // Takes the clients of one job. If they are many, or there is no room for all before the first are read, the others are left
     // for the next round. It says whether one came.
-    fn accept_for<H: LoopHost>(
-        &mut self,
-        registry: &Registry,
-        host: &mut H,
-        origin: Origin,
-    ) -> bool {
+    fn accept_for<H: LoopHost>(&mut self, registry: &Registry, host: &mut H, origin: Origin) -> bool
+        ensures asks { Asks H.Asked host.old host.new }
+        ensures conn { self.new.conn ≡ self.old.conn }
+    {
         for count in 0..TAKEN {
             let place = self.callers.place(origin.bind, host.up());
             if !matches!(place, Place::Free) && self.callers.has_new(origin.bind) {
@@ -120,38 +126,64 @@ impl JobSockets {
         origin: Origin,
         client: Client,
         place: Place,
-    ) {
+    )
+        ensures asks { Asks H.Asked host.old host.new }
+        ensures conn { self.new.conn ≡ self.old.conn }
+    {
         match place {
-            Place::Free => {}
-            Place::Of(key) => self.let_go(host, key, Some(Loss::Displaced)),
+            Place::Free => self.take_in(registry, host, origin, client),
+            Place::Of(key) => {
+                self.let_go(host, key, Some(Loss::Displaced));
+                self.take_in(registry, host, origin, client);
+            }
             Place::Nowhere => {
                 drop(client);
                 self.tell(host, origin, Loss::Crowded);
-                return;
             }
-        }
-        let up = host.up();
-        if let Err(loss) = self.callers.welcome(registry, origin, client, up) {
-            self.tell(host, origin, loss);
         }
     }
 
-    fn let_go<H: LoopHost>(&mut self, host: &mut H, key: usize, loss: Option<Loss>) {
+    // Takes a client in, for which there is a place.
+    fn take_in<H: LoopHost>(
+        &mut self,
+        registry: &Registry,
+        host: &mut H,
+        origin: Origin,
+        client: Client,
+    )
+        ensures asks { Asks H.Asked host.old host.new }
+        ensures conn { self.new.conn ≡ self.old.conn }
+    {
+        let up = host.up();
+        match self.callers.welcome(registry, origin, client, up) {
+            Ok(()) => {}
+            Err(loss) => self.tell(host, origin, loss),
+        }
+    }
+
+    fn let_go<H: LoopHost>(&mut self, host: &mut H, key: usize, loss: Option<Loss>)
+        ensures asks { Asks H.Asked host.old host.new }
+        ensures conn { self.new.conn ≡ self.old.conn }
+    {
         let Some(caller) = self.callers.remove(key) else {
             return;
         };
         let origin = caller.origin;
         drop(caller);
-        if let Some(loss) = loss {
-            self.tell(host, origin, loss);
+        match loss {
+            Some(loss) => self.tell(host, origin, loss),
+            None => {}
         }
     }
 
     // A loss is told of a job that has its sockets still.
-    fn tell<H: LoopHost>(&mut self, host: &mut H, origin: Origin, loss: Loss) {
-        let up = host.up();
-        if let Some(label) = host.label_at(origin) {
-            self.losses.note(origin, label, loss, up);
+    fn tell<H: LoopHost>(&mut self, host: &mut H, origin: Origin, loss: Loss)
+        ensures asks { Asks H.Asked host.old host.new }
+        ensures conn { self.new.conn ≡ self.old.conn }
+    {
+        if host.listens_at(origin) {
+            let up = host.up();
+            self.losses.note(origin, host.label(origin.job), loss, up);
         }
     }
 
@@ -163,7 +195,9 @@ impl JobSockets {
         host: &mut H,
         label: &mut LabelRoom,
         time: &mut L,
-    ) -> bool {
+    ) -> bool
+        ensures { Gathers H.Asked H.Came self.old.conn host.old self.new.conn host.new }
+    {
         if self.callers.is_empty() {
             return false;
         }
@@ -171,12 +205,12 @@ impl JobSockets {
         let mut is_busy = false;
         for step in 0..CALLERS {
             let key = first.wrapping_add(step) % CALLERS;
-            match self.gathered(host, key) {
-                Gathered::Waits => continue,
-                Gathered::MayGoOn => is_busy = true,
-                Gathered::Whole => self.hand_in(alloc, host, label, key),
-                Gathered::Lost(loss) => self.let_go(host, key, loss),
+            let what = self.gathered(host, key);
+            if matches!(what, Gathered::Waits) {
+                continue;
             }
+            let goes_on = self.settle(alloc, host, label, key, what);
+            is_busy = is_busy | goes_on;
             if !time.has_time() {
                 self.first_key = key.wrapping_add(1) % CALLERS;
                 return true;
@@ -185,13 +219,41 @@ impl JobSockets {
         is_busy
     }
 
+    // Hands in a client whose request is whole, and lets one go that is lost. It says whether it may go on at once.
+    fn settle<H: LoopHost>(
+        &mut self,
+        alloc: Global,
+        host: &mut H,
+        label: &mut LabelRoom,
+        key: usize,
+        gathered: Gathered,
+    ) -> bool
+        ensures { Gathers H.Asked H.Came self.old.conn host.old self.new.conn host.new }
+    {
+        match gathered {
+            Gathered::Waits => false,
+            Gathered::MayGoOn => true,
+            Gathered::Whole => {
+                self.hand_in(alloc, host, label, key);
+                false
+            }
+            Gathered::Lost(loss) => {
+                self.let_go(host, key, loss);
+                false
+            }
+        }
+    }
+
     // What became of one client. One that came to sockets which were given up since is let go, also if the number has new
     // ones.
-    fn gathered<H: LoopHost>(&mut self, host: &mut H, key: usize) -> Gathered {
+    fn gathered<H: LoopHost>(&mut self, host: &mut H, key: usize) -> Gathered
+        ensures asks { Asks H.Asked host.old host.new }
+        ensures conn { self.new.conn ≡ self.old.conn }
+    {
         let Some(caller) = self.callers.get_mut(key) else {
             return Gathered::Waits;
         };
-        if host.label_at(caller.origin).is_none() {
+        if !host.listens_at(caller.origin) {
             return Gathered::Lost(None);
         }
         let up = host.up();
@@ -209,7 +271,9 @@ impl JobSockets {
         host: &mut H,
         label: &mut LabelRoom,
         key: usize,
-    ) {
+    )
+        ensures { Gathers H.Asked H.Came self.old.conn host.old self.new.conn host.new }
+    {
         let Some(caller) = self.callers.remove(key) else {
             return;
         };
@@ -220,11 +284,10 @@ impl JobSockets {
         match host.hand_in(alloc, label, conn, caller) {
             HandedIn::Dropped => {}
             HandedIn::Heard => self.losses.came_through(origin.job, host.up()),
-            HandedIn::Refused(refusal) => {
-                if let Some(loss) = Loss::of_refusal(refusal) {
-                    self.tell(host, origin, loss);
-                }
-            }
+            HandedIn::Refused(refusal) => match Loss::of_refusal(refusal) {
+                Some(loss) => self.tell(host, origin, loss),
+                None => {}
+            },
         }
     }
 }

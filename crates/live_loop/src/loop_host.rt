@@ -1,6 +1,10 @@
 //! A launcher as its live loop sees it: what a round asks of it and of its edge, and what it hands in. The loop knows neither the
 //! table nor the store nor the journal behind it.
 
+ghost use Rattle.std.specs.Prelude.{◌≡◌, ℕ, List, Option};
+ghost use Rattle.std.specs.Option.{option_map};
+ghost use Rattle.live_loop.specs.Looks.{PathCall, HasLoaded, LookedAt, Sighted};
+
 use crate::label_room::LabelRoom;
 use child_edge::{Client, Notice};
 use control_socket::Answers;
@@ -12,19 +16,33 @@ use std::alloc::Global;
 /// A launcher as the looks at paths see it.
 pub trait PathHost {
     /// The `up` of the present round's reading.
-    fn up(&self) -> u64;
+    ghost round_up: { Self → ℕ };
+
+    /// This may be the first path behind the text, in byte order, that a job lists.
+    ghost IsNext: { Self → List ℕ → Option (List ℕ) → Type 0 };
+
+    /// The call may lead from the one to the other.
+    ghost Did: { PathCall → Self → Self → Type 0 };
+
+    /// The `up` of the present round's reading.
+    fn up(&self) -> u64
+        ensures { result ≡ Self.round_up self.now };
 
     /// Whether a load was accepted since this was asked last.
-    fn take_loaded(&mut self) -> bool;
+    fn take_loaded(&mut self) -> bool
+        ensures { Self.Did (HasLoaded result) self.old self.new };
 
     /// The first path behind this one, in byte order, that a job lists.
-    fn path_after(&self, path: &str) -> Option<&str>;
+    fn path_after(&self, path: &str) -> Option<&str>
+        ensures { Self.IsNext self.now path.now (option_map (λ next. next.now) result) };
 
     /// What is at the path now. None if the system refuses to look.
-    fn look(&mut self, path: &str) -> Option<Obs>;
+    fn look(&mut self, path: &str) -> Option<Obs>
+        ensures { Self.Did (LookedAt path.now result) self.old self.new };
 
     /// Hands in a sight.
-    fn saw(&mut self, alloc: Global, path: &str, obs: Obs);
+    fn saw(&mut self, alloc: Global, path: &str, obs: Obs)
+        ensures { Self.Did (Sighted path.now obs) self.old self.new };
 }
 
 /// What became of a client that was handed in.
@@ -51,32 +69,56 @@ pub struct Standing {
 
 /// A launcher as the rounds of a live loop see it. Its answers to the lines of control clients are those of `Answers`.
 pub trait LoopHost: PathHost + Answers {
+    ghost use Rattle.live_loop.specs.declared.loop_host.HandedIn.{HandedIn};
+
+    /// A round's beginning may lead from the one to the other.
+    ghost Begun: { Self → Self → Type 0 };
+
+    /// To the question for a run that is over, of this job or of the next above it, this answer may lead from the one to the other.
+    ghost Polled: { ℕ → Option ℕ → Self → Self → Type 0 };
+
+    /// A question to the edge, by which nothing is handed in, may lead from the one to the other.
+    ghost Asked: { Self → Self → Type 0 };
+
+    /// That a client of the job came, under this number, was handed in, and it may have led from the one to the other.
+    ghost Came: { ℕ → ℕ → HandedIn → Self → Self → Type 0 };
+
     /// Begins a round at a new reading, which is handed in if it may change something. If the clock can't be read, the round
     /// is at the reading of the one before.
-    fn begin(&mut self, alloc: Global);
+    fn begin(&mut self, alloc: Global)
+        ensures { Self.Begun self.old self.new };
 
     /// The `up` of now, or of the round if the clock can't be read.
-    fn up_now(&mut self) -> u64;
+    fn up_now(&mut self) -> u64
+        ensures { Self.Asked self.old self.new };
 
     /// How it stands now.
     fn standing(&self) -> Standing;
 
     /// Asks about the child of this job, or of the next above it, whose run is over, and hands in how it ended, or that the wait was
     /// refused. It gives the number of that job; none if no run is over.
-    fn poll_from(&mut self, alloc: Global, room: &mut LabelRoom, first: JobNo) -> Option<JobNo>;
+    fn poll_from(&mut self, alloc: Global, room: &mut LabelRoom, first: JobNo) -> Option<JobNo>
+        ensures { Self.Polled first result self.old self.new };
 
     /// From now on clients that come to sockets of jobs wake the poll under this token. False if the system refuses that for a socket.
-    fn register(&mut self, registry: &Registry, token: Token) -> bool;
+    fn register(&mut self, registry: &Registry, token: Token) -> bool
+        ensures { Self.Asked self.old self.new };
 
     /// The job of this number, or the next above it, that listens at sockets, with the number of these sockets, which no other
     /// sockets had or have.
-    fn listener_from(&mut self, job: JobNo) -> Option<Origin>;
+    fn listener_from(&mut self, job: JobNo) -> Option<Origin>
+        ensures { Self.Asked self.old self.new };
 
-    /// The label of the job, if it has these sockets still.
-    fn label_at(&mut self, origin: Origin) -> Option<&str>;
+    /// Whether the job has these sockets still.
+    fn listens_at(&mut self, origin: Origin) -> bool
+        ensures { Self.Asked self.old self.new };
+
+    /// The label of the job.
+    fn label(&self, job: JobNo) -> &str;
 
     /// A client that waits at the job's sockets.
-    fn accept(&mut self, job: JobNo) -> Option<Client>;
+    fn accept(&mut self, job: JobNo) -> Option<Client>
+        ensures { Self.Asked self.old self.new };
 
     /// Hands in a client whose request came whole, under a number that it has had for no other.
     fn hand_in(
@@ -85,17 +127,22 @@ pub trait LoopHost: PathHost + Answers {
         room: &mut LabelRoom,
         conn: u64,
         caller: Caller,
-    ) -> HandedIn;
+    ) -> HandedIn
+        ensures { Self.Came conn caller.origin.job result self.old self.new };
 
     /// Sends clients what their runs have written. It says whether one may go on at once.
-    fn forward(&mut self) -> bool;
+    fn forward(&mut self) -> bool
+        ensures { Self.Asked self.old self.new };
 
     /// Lets each connection go that is held, with its files.
-    fn let_all_go(&mut self);
+    fn let_all_go(&mut self)
+        ensures { Self.Asked self.old self.new };
 
     /// The next line on what the edge was refused, and on what became of runs.
-    fn next_notice(&mut self) -> Option<Notice>;
+    fn next_notice(&mut self) -> Option<Notice>
+        ensures { Self.Asked self.old self.new };
 
     /// Whether the journal was closed since this was asked last.
-    fn report_journal_closing(&mut self) -> bool;
+    fn report_journal_closing(&mut self) -> bool
+        ensures { Self.Asked self.old self.new };
 }

@@ -1,7 +1,13 @@
 //! The rounds of the live loop: what each does, one after the other.
 
+ghost use Rattle.std.specs.Prelude.{◌≡◌, OnOk};
+ghost use Rattle.control_socket.specs.Serving.{Serves};
+ghost use Rattle.live_loop.specs.Rounds.{Asks, IsRound, ServesAll};
+ghost use Rattle.live_loop.specs.Kept.{IsKeptBy, IsLookKeptBy, left_in};
+
 use crate::children::poll_children;
 use crate::fault::ServeFault;
+use crate::job_sockets::JobSockets;
 use crate::live::Live;
 use crate::loop_host::LoopHost;
 use crate::round_time::RoundTime;
@@ -10,6 +16,7 @@ use crate::waiting::{next_pause, quick_rounds, round_wait};
 use child_edge::System;
 use control_socket::Limit;
 use history_model::SECOND;
+use mio::Events;
 use std::alloc::Global;
 use std::sync::Wait;
 use std::thread;
@@ -38,7 +45,19 @@ pub fn round<R: System, H: LoopHost>(
     rt: &R,
     alloc: Global,
     live: &mut Live<H>,
-) -> Result<bool, ServeFault> {
+) -> Result<bool, ServeFault>
+    ensures { OnOk result (IsRound (record {
+      round_up = H.round_up;
+      IsNext = H.IsNext;
+      Did = H.Did;
+      Answered = H.Answered;
+      Begun = H.Begun;
+      Polled = H.Polled;
+      Asked = H.Asked;
+      Came = H.Came;
+    })
+        (left_in live.old) (left_in live.new)) }
+{
     wait(rt, live)?;
     live.host.begin(alloc);
     let mut time = RoundTime::begin(rt, live.host.up());
@@ -49,9 +68,8 @@ pub fn round<R: System, H: LoopHost>(
         live.next_child,
         &mut time,
     );
-    if live.rooms.sights.look(alloc, &mut live.host) {
-        live.rooms.sockets.may_have_come = true;
-    }
+    let is_time = live.rooms.sights.look(alloc, &mut live.host);
+    live.rooms.sockets.may_have_come = live.rooms.sockets.may_have_come | is_time;
     serve_clients(rt, alloc, live);
     tell(rt, alloc, live);
     Ok(ends(live))
@@ -86,7 +104,10 @@ pub fn serve<L: Wait, R: System, H: LoopHost + Drop>(
 
 // Waits for readiness, no longer than until the next moment of the table and the next look. The poll knows whole milliseconds alone,
 // so a quick round sleeps before it.
-fn wait<R: System, H: LoopHost>(rt: &R, live: &mut Live<H>) -> Result<(), ServeFault> {
+fn wait<R: System, H: LoopHost>(rt: &R, live: &mut Live<H>) -> Result<(), ServeFault>
+    ensures asks { Asks H.Asked live.old.host live.new.host }
+    ensures kept { IsKeptBy live.old live.new }
+{
     let mut wait = next_wait(live);
     if live.quick > 0 && wait > 0 {
         thread::sleep(rt, Duration::from_micros(QUICK_WAIT));
@@ -99,13 +120,23 @@ fn wait<R: System, H: LoopHost>(rt: &R, live: &mut Live<H>) -> Result<(), ServeF
         Ok(()) => {}
         Err(_) => return Err(ServeFault::Poll),
     }
-    for event in live.rooms.events.iter() {
-        live.rooms.sockets.wake_by(event.token());
-    }
+    wake(&live.rooms.events, &mut live.rooms.sockets);
     Ok(())
 }
 
-fn next_wait<H: LoopHost>(live: &mut Live<H>) -> u64 {
+// Tells the sockets of jobs what woke the poll.
+fn wake(events: &Events, sockets: &mut JobSockets)
+    ensures { sockets.new.conn ≡ sockets.old.conn }
+{
+    for event in events.iter() {
+        sockets.wake_by(event.token());
+    }
+}
+
+fn next_wait<H: LoopHost>(live: &mut Live<H>) -> u64
+    ensures asks { Asks H.Asked live.old.host live.new.host }
+    ensures kept { IsKeptBy live.old live.new }
+{
     if live.is_busy {
         return 0;
     }
@@ -114,8 +145,12 @@ fn next_wait<H: LoopHost>(live: &mut Live<H>) -> u64 {
     round_wait(live.pause, up, live.host.standing().next_moment, look)
 }
 
-fn serve_clients<R: System, H: LoopHost>(rt: &R, alloc: Global, live: &mut Live<H>) {
-    let mut is_asking = serve_control(rt, alloc, live);
+fn serve_clients<R: System, H: LoopHost>(rt: &R, alloc: Global, live: &mut Live<H>)
+    ensures serves { ServesAll H.Answered H.Asked H.Came
+        live.old.rooms.sockets.conn live.new.rooms.sockets.conn live.old.host live.new.host }
+    ensures kept { IsLookKeptBy live.old live.new }
+{
+    let was_asking = serve_control(rt, alloc, live);
     let mut time = RoundTime::begin(rt, live.host.up());
     live.rooms
         .sockets
@@ -124,22 +159,44 @@ fn serve_clients<R: System, H: LoopHost>(rt: &R, alloc: Global, live: &mut Live<
         .rooms
         .sockets
         .gather(alloc, &mut live.host, &mut live.rooms.label, &mut time);
-    if !time.has_time() {
-        is_asking = serve_control(rt, alloc, live);
-    }
+    let is_asking = serve_again(rt, alloc, live, time.has_time(), was_asking);
     let is_taking = live.host.forward();
     live.is_busy = is_asking || is_sending || is_taking || live.next_child > 0;
 }
 
+// Serves control clients once more, if there was no time for the others.
+fn serve_again<R: System, H: LoopHost>(
+    rt: &R,
+    alloc: Global,
+    live: &mut Live<H>,
+    had_time: bool,
+    was_asking: bool,
+) -> bool
+    ensures serves { Serves H.Answered live.old.host live.new.host }
+    ensures kept { IsKeptBy live.old live.new }
+{
+    if had_time {
+        was_asking
+    } else {
+        serve_control(rt, alloc, live)
+    }
+}
+
 // Takes new control clients and serves all. True: one of them may go on at once.
-fn serve_control<R: System, H: LoopHost>(rt: &R, alloc: Global, live: &mut Live<H>) -> bool {
+fn serve_control<R: System, H: LoopHost>(rt: &R, alloc: Global, live: &mut Live<H>) -> bool
+    ensures serves { Serves H.Answered live.old.host live.new.host }
+    ensures kept { IsKeptBy live.old live.new }
+{
     live.control.accept(rt, live.poll.registry());
     let mut time = RoundTime::begin(rt, live.host.up());
     live.control.serve(alloc, &mut live.host, &mut time)
 }
 
 // Says how the next rounds wait, and whether this was the last. A quick round is none that is quiet: the pauses begin behind it.
-fn ends<H: LoopHost>(live: &mut Live<H>) -> bool {
+fn ends<H: LoopHost>(live: &mut Live<H>) -> bool
+    ensures host { live.new.host ≡ live.old.host }
+    ensures kept { IsKeptBy live.old live.new }
+{
     let standing = live.host.standing();
     let is_active = standing.is_active || live.rooms.sockets.is_stirred || live.quick > 0;
     live.pause = next_pause(is_active, live.pause);

@@ -1,6 +1,10 @@
 //! What a round tells on standard error: what was refused to the edge of the system, the control socket, the journal and the jobs'
 //! sockets, and what became of runs.
 
+ghost use Rattle.std.specs.Prelude.{◌≡◌};
+ghost use Rattle.live_loop.specs.Rounds.{Asks};
+ghost use Rattle.live_loop.specs.Kept.{IsKeptBy};
+
 use crate::live::Live;
 use crate::loop_host::LoopHost;
 use child_edge::{Notice, NoticeKind};
@@ -12,7 +16,10 @@ use std::mem;
 const LINES: usize = 256;
 
 /// Tells what there is to tell, in a line each. Where standard error would wait, the rest is left for a later round.
-pub(crate) fn tell<R: Eprint, H: LoopHost>(rt: &R, alloc: Global, live: &mut Live<H>) {
+pub(crate) fn tell<R: Eprint, H: LoopHost>(rt: &R, alloc: Global, live: &mut Live<H>)
+    ensures asks { Asks H.Asked live.old.host live.new.host }
+    ensures kept { IsKeptBy live.old live.new }
+{
     for _ in 0..LINES {
         let Some(notice) = next_notice(alloc, live) else {
             return;
@@ -25,16 +32,24 @@ pub(crate) fn tell<R: Eprint, H: LoopHost>(rt: &R, alloc: Global, live: &mut Liv
     }
 }
 
-fn next_notice<H: LoopHost>(alloc: Global, live: &mut Live<H>) -> Option<Notice> {
+fn next_notice<H: LoopHost>(alloc: Global, live: &mut Live<H>) -> Option<Notice>
+    ensures asks { Asks H.Asked live.old.host live.new.host }
+    ensures kept { IsKeptBy live.old live.new }
+{
     if let Some(notice) = live.untold.take() {
         return Some(notice);
     }
     if let Some(notice) = live.host.next_notice() {
         return Some(notice);
     }
-    if live.host.report_journal_closing() {
-        live.has_journal_closed = true;
-    }
+    live.has_journal_closed = live.has_journal_closed | live.host.report_journal_closing();
+    next_refusal(alloc, live)
+}
+
+fn next_refusal<H: LoopHost>(alloc: Global, live: &mut Live<H>) -> Option<Notice>
+    ensures host { live.new.host ≡ live.old.host }
+    ensures kept { IsKeptBy live.old live.new }
+{
     let text = if live.has_journal_closed {
         let text = Text::copy_of(alloc, "journal refused").ok()?;
         live.has_journal_closed = false;

@@ -36,6 +36,9 @@ fn said(alloc: Global, line: &[u8], asked: &mut Vec<u8>) -> Result<String, Alloc
 }
 
 impl Answers for Echo {
+    // What it answers is tried, and not promised.
+    ghost Answered = { λ line reply old new. Unit {0} };
+
     fn answer(&mut self, alloc: Global, line: &[u8]) -> Reply {
         match said(alloc, line, &mut self.asked) {
             Ok(text) => Reply {

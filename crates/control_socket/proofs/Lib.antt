@@ -1,0 +1,2 @@
+pub mod DialoguesLemmas
+pub mod ServingLemmas

@@ -1,0 +1,179 @@
+-- What the rounds of a live loop do to a launcher.
+use Rattle.std.specs.Prelude.{◌≡◌, ◌≢◌, ◌⊎◌, ◌≤◌, ℕ, Bool, true, false, ◌||◌, List, [], ◌∷◌, length, Option, Some, None, Result, Ok, Err, option_and_then}
+use Rattle.std.specs.Result.{result_unwrap_or}
+use Rattle.history_model.specs.declared.Ended.{Ended}
+use Rattle.history_model.specs.declared.Obs.{Obs}
+use Rattle.history_model.specs.declared.Reading.{Reading}
+use Rattle.history_model.specs.declared.Refusal.{Refusal}
+use Rattle.history_model.specs.declared.Reply.{Reply}
+use Rattle.history_model.specs.declared.event.Event as journal
+use Rattle.history_model.specs.declared.event.Event.TheVariants as journaled
+use Rattle.history_model.specs.declared.event.JobItem.TheVariants as happens
+use Rattle.history_model.specs.declared.event.Setting.{Setting}
+use Rattle.history_model.specs.Machine.{State}
+use Rattle.loaded_jobs.specs.Nearest.{IsNearestOf, listed_paths}
+use Rattle.loaded_jobs.specs.StandsFor.{KeepsState}
+use Rattle.loaded_jobs.specs.Tables.{Table, label_of}
+use Rattle.child_edge.specs.Calls.{ToldCall, TellsOne, poll_answer, look_answer, read_answer}
+use Rattle.child_edge.specs.declared.plain.EdgeCall.TheVariants.{Poll, Close, Look, Clock}
+use Rattle.child_edge.specs.declared.plain.EdgeFault.{EdgeFault}
+use Rattle.child_edge.specs.declared.plain.Scripted.TheVariants.{Done}
+use Rattle.ctl_protocol.specs.EventLines.{request_at}
+use Rattle.outside.specs.Stores.{Stamp, StoreCall}
+use Rattle.launcher.specs.declared.host.Host.{Host}
+use Rattle.launcher.specs.Hosts.{HostHears, HostStamps}
+use Rattle.launcher.specs.Inputs.{asked_in, event_if_label}
+use Rattle.launcher.specs.Journals.{reported}
+use Rattle.launcher.specs.Accepting.{is_accepted_load}
+use Rattle.launcher.specs.Writable.{WritesWhat}
+use Rattle.live_loop.specs.Looks.{PathCall, HasLoaded, LookedAt, Sighted}
+use Rattle.live_loop.specs.declared.loop_host.HandedIn.{HandedIn}
+use Rattle.live_loop.specs.declared.loop_host.HandedIn.TheVariants as handed
+use Rattle.jobd.specs.News.{may_change}
+use Rattle.jobd.specs.declared.round_launcher.RoundLauncher.{RoundLauncher}
+
+-- the launcher, once its outside was asked something between turns
+abbrev pub lent : {T E W : Type 0} → E → RoundLauncher T E W → RoundLauncher T E W
+lent edge round = record round { host = record round.host { edge = edge } }
+
+-- The outside was asked something, and nothing was handed in; or the closing of the journal was reported.
+abbrev pub AsksEdge : {T E W : Type 0} → RoundLauncher T E W → RoundLauncher T E W → Type 0
+AsksEdge {E = E} old new = ((edge : E) × (new ≡ lent edge old))
+    ⊎ (new ≡ record old { host = record old.host { journal = reported old.host.journal } })
+
+-- what a look gives, if the system did not refuse it
+abbrev pub seen_by : Result Obs EdgeFault → Option Obs
+seen_by (Ok obs) = Some obs
+seen_by (Err fault) = None
+
+-- the label of the job, which fits the room that is reserved for labels
+abbrev pub IsLabelOf : Table → ℕ → List ℕ → Type 0
+IsLabelOf table job label =
+    length (label_of table.names job) ≤ 255 → label ≡ label_of table.names job
+
+-- the path that comes next behind the text, of those that the loaded jobs list
+abbrev pub ListsNext : {T E W : Type 0} → RoundLauncher T E W → List ℕ → Option (List ℕ) → Type 0
+ListsNext round text next =
+    (s : State) → KeepsState round.host.table s → IsNearestOf text (listed_paths s.jobs) next
+
+module _ {T E W : Type 0} (calls : E → Option (List ToldCall)) (stores : T → Option (List StoreCall))
+    (holds : T → List Setting → Type 0) (stamped : T → List Stamp → Type 0) where
+  -- the launcher heard it, and answered so: all that a turn promises
+  pub record Heard (event : Option journal.Event) (refusal : Option Refusal) (words : List ℕ)
+      (old new : Host T E W) : Type 0 where
+    pub hears : HostHears calls stores holds event refusal words old new
+    pub stamps : HostStamps stamped event refusal old new
+    pub writable : WritesWhat refusal event
+    pub loaded : new.has_loaded ≡ is_accepted_load event refusal
+
+  -- a reading of the clocks was handed in, once
+  pub record HeardReading (at : Reading) (old new : Host T E W) : Type 0 where
+    pub refusal : Option Refusal
+    pub words : List ℕ
+    pub heard : Heard (Some (journaled.Clock at)) refusal words old new
+
+  -- a reading is handed in, unless it is the launcher's own already
+  abbrev pub Reads : Reading → Host T E W → Host T E W → Type 0
+  Reads at old new =
+      ((old.table.reading ≡ at) × (new ≡ old)) ⊎ ((old.table.reading ≢ at) × HeardReading at old new)
+
+  -- What happened was handed in, once, after the reading of the round.
+  pub record Gives (event : Option journal.Event) (refusal : Option Refusal) (words : List ℕ)
+      (old new : RoundLauncher T E W) : Type 0 where
+    pub mid : Host T E W
+    pub reading : Reads old.at old.host mid
+    pub heard : Heard event refusal words mid new.host
+    pub at : new.at ≡ old.at
+    pub loaded : new.has_loaded ≡ old.has_loaded
+
+  -- it was handed in, and some words were the answer
+  pub record Tells (event : Option journal.Event) (refusal : Option Refusal)
+      (old new : RoundLauncher T E W) : Type 0 where
+    pub words : List ℕ
+    pub gives : Gives event refusal words old new
+
+  -- ---- the beginning of a round
+
+  -- a reading is handed in on its own only if it may change something
+  abbrev pub ReadsIf : Bool → Reading → Host T E W → Host T E W → Type 0
+  ReadsIf true at old new = Reads at old new
+  ReadsIf false at old new = new ≡ old
+
+  -- The clocks are read once. If they can't be, the round is at the reading of the one before.
+  pub record Begins (old new : RoundLauncher T E W) : Type 0 where
+    pub answer : Result Reading EdgeFault
+    pub edge : E
+    pub told : TellsOne (calls old.host.edge) (Clock, read_answer answer) (calls edge)
+    pub at : new.at ≡ result_unwrap_or answer old.at
+    pub loaded : new.has_loaded ≡ old.has_loaded
+    pub is_news : Bool
+    pub decided : (s : State) → KeepsState old.host.table s →
+        is_news ≡ may_change s.jobs old.host.table.reading new.at
+    pub handed : ReadsIf is_news new.at (record old.host { edge = edge }) new.host
+
+  -- ---- children
+
+  -- an end is handed in, as it was answered, and so is a refusal to wait
+  abbrev pub TellsEnd : List ℕ → ℕ → Result (Option Ended) EdgeFault →
+      RoundLauncher T E W → RoundLauncher T E W → Type 0
+  TellsEnd label run (Ok None) old new = new ≡ old
+  TellsEnd label run (Ok (Some how)) old new = (refusal : Option Refusal)
+      × Tells (event_if_label label (journaled.OfJob label (happens.Ended run how))) refusal old new
+  TellsEnd label run (Err fault) old new = (refusal : Option Refusal)
+      × Tells (event_if_label label (journaled.OfJob label (happens.WaitRefused run))) refusal old new
+
+  -- The child of this run of the job is polled once, and what was answered is handed in under the job's label.
+  pub record PollsRun (job run : ℕ) (old new : RoundLauncher T E W) : Type 0 where
+    pub answer : Result (Option Ended) EdgeFault
+    pub edge : E
+    pub told : TellsOne (calls old.host.edge) (Poll job run, poll_answer answer) (calls edge)
+    pub label : List ℕ
+    pub its : IsLabelOf old.host.table job label
+    pub handed : TellsEnd label run answer (lent edge old) new
+
+  -- The edge tells whose child is over, and which run it was. That one is polled.
+  abbrev pub PollsFrom : (ℕ → Option (ℕ × ℕ) → E → E → Type 0) → ℕ → Option ℕ →
+      RoundLauncher T E W → RoundLauncher T E W → Type 0
+  PollsFrom Finds first None old new =
+      (edge : E) × Finds first None old.host.edge edge × (new ≡ lent edge old)
+  PollsFrom Finds first (Some job) old new = (run : ℕ) × (edge : E)
+      × Finds first (Some (job, run)) old.host.edge edge × PollsRun job run (lent edge old) new
+
+  -- ---- paths
+
+  -- what the looks at paths ask, and what they hand in: that path with that sight
+  abbrev pub DoesPath : PathCall → RoundLauncher T E W → RoundLauncher T E W → Type 0
+  DoesPath (HasLoaded loaded) old new =
+      (loaded ≡ old.has_loaded) × (new ≡ record old { has_loaded = false })
+  DoesPath (LookedAt path seen) old new = (answer : Result Obs EdgeFault) × (edge : E)
+      × TellsOne (calls old.host.edge) (Look, look_answer answer) (calls edge)
+      × (seen ≡ seen_by answer) × (new ≡ lent edge old)
+  DoesPath (Sighted path obs) old new =
+      (refusal : Option Refusal) × Tells (Some (journaled.Saw path obs)) refusal old new
+
+  -- ---- clients
+
+  -- What became of a client under this number: the edge did not hold it, and nothing was handed in; or the job heard that it came; or the
+  -- launcher refused it, and it was closed under this number.
+  abbrev pub TellsCame : List ℕ → ℕ → ℕ → HandedIn →
+      RoundLauncher T E W → RoundLauncher T E W → Type 0
+  TellsCame label job conn handed.Dropped old new = new ≡ old
+  TellsCame label job conn handed.Heard old new =
+      Tells (event_if_label label (journaled.OfJob label (happens.Came conn))) None old new
+  TellsCame label job conn (handed.Refused refusal) old new =
+      (mid : RoundLauncher T E W) × (edge : E)
+      × Tells (event_if_label label (journaled.OfJob label (happens.Came conn))) (Some refusal) old mid
+      × TellsOne (calls mid.host.edge) (Close job conn, Done) (calls edge) × (new ≡ lent edge mid)
+
+  -- A client of the job came, under this number.
+  pub record ComesIn (conn job : ℕ) (answer : HandedIn) (old new : RoundLauncher T E W) : Type 0 where
+    pub edge : E
+    pub label : List ℕ
+    pub its : IsLabelOf old.host.table job label
+    pub handed : TellsCame label job conn answer (lent edge old) new
+
+  -- a control client's line was handed in, and this is its reply; a load that was accepted is noted
+  pub record AnswersLine (line : List ℕ) (reply : Reply) (old new : RoundLauncher T E W) : Type 0 where
+    pub mid : RoundLauncher T E W
+    pub gives : Gives (option_and_then asked_in (request_at line)) reply.refusal reply.text old mid
+    pub noted : new ≡ record mid { has_loaded = mid.has_loaded || mid.host.has_loaded }

@@ -1,0 +1,2 @@
+pub mod LooksLemmas
+pub mod RoundsLemmas
