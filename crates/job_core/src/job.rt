@@ -8,6 +8,7 @@ ghost use Rattle.history_model.specs.ByFacts.{Follows};
 ghost use Rattle.history_model.specs.DueByFacts.{is_busy_by};
 
 mod events;
+mod moments;
 mod orders;
 mod reasons;
 
@@ -19,6 +20,7 @@ use history_model::definition::Def;
 use history_model::{
     Act, Answer, DemandKind, JobItem, JobState, MAX_UP, MAX_WALL, Obs, Reading, Refusal, ShownJob,
 };
+pub use moments::Moments;
 use pace::{Ending, Interval, Signal, Throttle};
 use socket_demand::Waiting;
 use std::alloc::{AllocError, Global};

@@ -23,6 +23,7 @@ mod paths;
 use history_model::definition::Def;
 use history_model::{Act, DemandKind, JobItem, MAX_UP, Obs, Reading, Reasons, Refusal, ShownJob};
 use job::Job;
+pub use job::Moments;
 use std::alloc::{AllocError, Global};
 use std::marker::Model;
 
@@ -65,6 +66,7 @@ impl Model for JobCore {
 
 impl JobCore {
     ghost use Rattle.job_core.specs.JobEvents.{item_of_event};
+    ghost use Rattle.job_core.specs.JobMoments.{AreMoments};
     ghost use Rattle.history_model.specs.Shown.{shown_of};
     ghost use Rattle.job_core.specs.Memory.{NeedsNoMemory};
     ghost use Rattle.history_model.specs.Definitions.{definition};
@@ -168,6 +170,16 @@ impl JobCore {
             result ≡ spawns_from past }
     {
         self.held.job.spawns_from(now.up)
+    }
+
+    /// From when on TERM and KILL are due for the run that lives, and when the interval is over, if nothing but readings
+    /// happens. It takes no memory, and changes nothing.
+    pub fn moments(&self, now: Reading) -> Moments
+        requires { now.up ≤ MAX_UP }
+        ensures { (past : History) → Keeps self.now.facts past → now ≡ clock.now past →
+            AreMoments past result }
+    {
+        self.held.job.moments(now.up)
     }
 
     /// What made the pending demand: the newest event that is a demand and that no successful spawn followed; none if no demand

@@ -1,1 +1,2 @@
 pub mod LeastMomentLemmas
+pub mod TakingLemmas

@@ -1,3 +1,4 @@
 pub mod NextMoments
 pub mod Ends
 pub mod LoadOfBytes
+pub mod Taking

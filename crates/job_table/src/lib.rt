@@ -16,14 +16,17 @@ mod calls;
 mod moments;
 mod next_in_order;
 mod prepared;
+mod take;
 
 use calendar_due::Zone;
 use history_model::{DemandKind, JobItem, JobNo, Obs, Order, Reading, Reasons, Refusal, Setting};
+pub use job_core::Moments;
 use job_defs::Def;
 use loaded_jobs::{Jobs, all_gone, list};
 pub use loaded_jobs::{NewSetting, Ready};
 use std::alloc::Global;
 use std::marker::Model;
+pub use take::Taken;
 
 /// The loaded jobs. To a contract, the values of a machine that it keeps.
 #[derive(Drop)]
@@ -85,7 +88,7 @@ impl JobTable {
     ghost use Rattle.loaded_jobs.specs.Opening.{opening_refusal};
     ghost use Rattle.loaded_jobs.specs.Minutes.{has_calendars};
     ghost use Rattle.loaded_jobs.specs.Numbers.{IsNumbered};
-    ghost use Rattle.loaded_jobs.specs.Waking.{waking, spawning, demanding, holding};
+    ghost use Rattle.loaded_jobs.specs.Waking.{waking, spawning, demanding, holding, HasMoments};
     ghost use Rattle.loaded_jobs.specs.Triggers.{listed_in};
     ghost use Rattle.history_model.specs.JobItems.{item_of};
 
@@ -237,6 +240,14 @@ impl JobTable {
         ensures { (s : State) → KeepsState self.now s → result ≡ waking (past_of s label.now) }
     {
         self.jobs.wakes(label)
+    }
+
+    /// From when on TERM and KILL are due for the run of the job with this label if nothing but readings happens, and when its interval
+    /// is over, in milliseconds of `up`. None if no such job is loaded. It takes no memory, and changes nothing.
+    pub fn moments(&self, label: &str) -> Option<Moments>
+        ensures { (s : State) → KeepsState self.now s → HasMoments (past_of s label.now) result }
+    {
+        self.jobs.moments(label)
     }
 
     /// The moment, in milliseconds of `up`, from which a reading makes the spawn of the job with this label due if nothing but

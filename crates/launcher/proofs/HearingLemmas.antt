@@ -22,7 +22,7 @@ use Rattle.history_model.specs.declared.event.Event.TheVariants as journaled
 use Rattle.launcher.specs.HostTurns.{AreNumbered, TurnsOf, Turns, IsUncalled, Trace, trace}
 use Rattle.loaded_jobs.specs.Loads.{refused_with}
 use Rattle.launcher.specs.LoadTurns.{is_memory, standing}
-use Rattle.table_opening.specs.JournalEvents.{machine_event}
+use Rattle.job_table.specs.Taking.{machine_event}
 use Rattle.launcher.specs.Inputs.{answered, is_taken_in, is_clock}
 use Rattle.launcher.specs.Hosts.{AsksOutside, IsOwn, Hears}
 use Rattle.launcher.proofs.HostsLemmas.{hears, wordless, is_want}

@@ -13,7 +13,7 @@ use Rattle.history_model.specs.Labels.{Label, is_same}
 use Rattle.history_model.specs.Machine.{State, Event, Job, OfJob, UnloadJob, is_of, past_in}
 use Rattle.history_model.specs.declared.event.Event as journal
 use Rattle.history_model.specs.declared.event.Event.TheVariants as journaled
-use Rattle.table_opening.specs.JournalEvents.{machine_event}
+use Rattle.job_table.specs.Taking.{machine_event}
 use Rattle.launcher.specs.Inputs.{is_taken_in}
 use Rattle.history_model.specs.Acceptance.{refusal_in}
 use Rattle.history_model.specs.Step.{outcome, step, step_by, heard_one}

@@ -28,7 +28,7 @@ use Rattle.history_model.proofs.LabelOrderLemmas.{heard-labels, heard_one-labels
 use Rattle.history_model.proofs.TurnBoundLemmas.{turning-start, within-step, length-heavy}
 use Rattle.launcher.specs.HostTurns.{answer_event, answer_events, AreTheirs, IsWaiting, Begins, Happens, Settled, NamesLabel, IsLabel, IsNamedIn, IsLed, TurnsOf, Turns, trace}
 use Rattle.loaded_jobs.specs.Loads.{refused_with}
-use Rattle.table_opening.specs.JournalEvents.{machine_event}
+use Rattle.job_table.specs.Taking.{machine_event}
 use Rattle.launcher.specs.Inputs.{is_taken_in}
 use Rattle.ctl_protocol.specs.EventWriter.{event_line}
 use Rattle.launcher.specs.Journals.{JournalState, Grows}

@@ -24,7 +24,7 @@ use Rattle.outside.specs.Stores.{HoldsAfter, Stamp, StoreCall, AreTold, set_call
 use Rattle.launcher.specs.Journals.{JournalState, Grows}
 use Rattle.launcher.specs.HostTurns.{AreNumbered, IsLed, KeepsNumbers, TurnsOf, trace}
 use Rattle.launcher.specs.LoadTurns.{AsksFor, AsksNothing, AsksStore, IsUntouched, SetRequest, Standing, event_of_set, is_memory, label_written, load_request, set_request, stamps_after, standing}
-use Rattle.table_opening.specs.JournalEvents.{machine_event}
+use Rattle.job_table.specs.Taking.{machine_event}
 use Rattle.table_opening.specs.Openings.{OpensBy}
 use Rattle.launcher.specs.Inputs.{answered}
 use Rattle.launcher.specs.Writable.{IsWritableHeader}

@@ -3,7 +3,7 @@
 ghost use Rattle.std.specs.Prelude.{◌≡◌, Err, OnErr, true};
 ghost use Rattle.history_model.specs.declared.Refusal.TheVariants.{NoMemory};
 ghost use Rattle.loaded_jobs.specs.TableOutcomes.{UnlessMemory};
-ghost use Rattle.table_opening.specs.JournalEvents.{machine_event};
+ghost use Rattle.job_table.specs.Taking.{machine_event};
 ghost use Rattle.launcher.specs.Inputs.{is_clock, is_taken_in};
 ghost use Rattle.launcher.specs.HostTurns.{Happens, IsUncalled, answer_event};
 ghost use Rattle.loaded_jobs.specs.Loads.{refused_with};

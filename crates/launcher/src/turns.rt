@@ -6,7 +6,7 @@ ghost use Rattle.history_model.specs.declared.event.Event.TheVariants as journal
 ghost use Rattle.ctl_protocol.specs.EventWriter.{event_line};
 ghost use Rattle.loaded_jobs.specs.Loads.{refused_with};
 ghost use Rattle.loaded_jobs.specs.TableOutcomes.{UnlessMemory};
-ghost use Rattle.table_opening.specs.JournalEvents.{machine_event};
+ghost use Rattle.job_table.specs.Taking.{machine_event};
 ghost use Rattle.launcher.specs.Hosts.{HostHears, HostStamps};
 ghost use Rattle.launcher.specs.Accepting.{is_accepted_load};
 ghost use Rattle.launcher.specs.Inputs.{input_event, event_if_label, is_clock, is_taken_in, wants_memory};

@@ -16,7 +16,8 @@ use Rattle.replay.proofs.OneOutputLemmas.{one_output}
 use Rattle.outside.specs.Stores.{StoreCall}
 use Rattle.launcher.specs.declared.journal.Phase.TheVariants.{Open}
 use Rattle.launcher.specs.Journals.{fresh}
-use Rattle.table_opening.specs.JournalEvents.{machine_event, read_as, event_in}
+use Rattle.job_table.specs.Taking.{machine_event}
+use Rattle.table_opening.specs.JournalEvents.{read_as, event_in}
 use Rattle.table_opening.specs.Openings.{OpensBy}
 use Rattle.table_opening.specs.Output.{IsOutput}
 use Rattle.launcher.specs.Hosts.{IsNew, with_overrides}

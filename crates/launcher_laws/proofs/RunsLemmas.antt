@@ -25,7 +25,7 @@ use Rattle.launcher.specs.JournaledLines.{journaled_answer, answer_texts}
 use Rattle.launcher.specs.HostTurns.{IsLed, answer_event, answer_events}
 use Rattle.launcher.proofs.StoredSettingsLemmas.{turn_settings}
 use Rattle.launcher.specs.LoadTurns.{is_memory}
-use Rattle.table_opening.specs.JournalEvents.{machine_event}
+use Rattle.job_table.specs.Taking.{machine_event}
 use Rattle.launcher.specs.Inputs.{answered}
 use Rattle.launcher.specs.Hosts.{HostTurnOf, IsSpared, HearsBy}
 use Rattle.launcher.specs.Writable.{IsWritable, IsWritableIf}

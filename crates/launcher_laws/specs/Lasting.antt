@@ -4,7 +4,7 @@ use Rattle.history_model.specs.declared.event.Setting.{Setting}
 use Rattle.history_model.specs.Machine.{State}
 use Rattle.history_model.specs.Step.{run, outcomes}
 use Rattle.loaded_jobs.specs.StandsFor.{KeepsState}
-use Rattle.table_opening.specs.JournalEvents.{machine_event}
+use Rattle.job_table.specs.Taking.{machine_event}
 use Rattle.launcher_laws.specs.TurnRuns.{Snapshot, Turn, Part, AreParts, events_in, outcomes_in}
 
 -- From the machine s the turns led to the last moment, by the events of their parts. The replies

@@ -7,6 +7,8 @@ use Rattle.history_model.specs.Items.{History}
 use Rattle.history_model.specs.Moments.{next_moment}
 use Rattle.history_model.specs.Demands.{latest_demand}
 use Rattle.history_model.specs.Reasons.{spawns_from, path_that_holds}
+use Rattle.job_core.specs.JobMoments.{AreMoments}
+use Rattle.job_core.specs.declared.job.moments.Moments.{Moments}
 
 -- the next moment of the job with this past, if it is loaded
 abbrev pub waking : Option History → Option ℕ
@@ -28,3 +30,10 @@ demanding (Some past) = latest_demand past
 abbrev pub holding : Option History → Option (List ℕ)
 holding None = None
 holding (Some past) = path_that_holds past
+
+-- from when on TERM and KILL are due for its run, and when its interval is over
+abbrev pub HasMoments : Option History → Option Moments → Type 0
+HasMoments None None = Unit {0}
+HasMoments (Some past) (Some moments) = AreMoments past moments
+HasMoments None (Some moments) = ⊥
+HasMoments (Some past) None = ⊥

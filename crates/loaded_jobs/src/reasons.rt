@@ -5,10 +5,11 @@ ghost use Rattle.std.specs.Option.{option_map};
 ghost use Rattle.history_model.specs.Machine.{State, past_of};
 ghost use Rattle.history_model.specs.Reasons.{reasons_of};
 ghost use Rattle.loaded_jobs.specs.StandsFor.{KeepsState};
-ghost use Rattle.loaded_jobs.specs.Waking.{waking, spawning, demanding, holding};
+ghost use Rattle.loaded_jobs.specs.Waking.{waking, spawning, demanding, holding, HasMoments};
 
 use crate::jobs::Jobs;
 use history_model::{DemandKind, Reasons};
+use job_core::Moments;
 
 impl Jobs {
     ghost use Rattle.loaded_jobs.specs.Sound.{seen_table, IsSound};
@@ -34,6 +35,18 @@ impl Jobs {
         match self.here(label) { // for the proof
             None => None,
             Some(seat) => seat.core.next_moment(self.reading),
+        }
+    }
+
+    /// From when on TERM and KILL are due for the run of the job with this label, and when its interval is over.
+    pub fn moments(&self, label: &str) -> Option<Moments>
+        requires { IsSound self.now }
+        ensures { (s : State) → KeepsState (seen_table self.now) s →
+            HasMoments (past_of s label.now) result }
+    {
+        match self.here(label) { // for the proof
+            None => None,
+            Some(seat) => Some(seat.core.moments(self.reading)),
         }
     }
 

@@ -1,3 +1,2 @@
 pub mod LauncherLemmas
-pub mod SettingLineLemmas
 pub mod OneOutputLemmas

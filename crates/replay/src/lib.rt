@@ -1,16 +1,13 @@
 //! The replay of a journal: each of its lines through the table of jobs, and a line of outcome for each.
 #![tactic(auto)]
 
-mod events;
 mod journal_machine;
 pub mod laws;
 mod lines;
-mod loads;
 mod opening;
 mod replaying;
 mod status;
 mod streams;
-mod whole;
 
 pub use replay_loop::{LINE_LIMIT, ReplayFault};
 pub use replaying::{replay, replay_within};

@@ -1,14 +1,15 @@
-//! The line of the table's reply.
+//! The line of what the table answered.
 
-ghost use Rattle.std.specs.Prelude.{◌≡◌, IfOk, Some, None, [], string_bytes};
-ghost use Rattle.history_model.specs.RefusalTexts.{refusal_text};
+ghost use Rattle.std.specs.Prelude.{◌≡◌, IfOk, Some, []};
+ghost use Rattle.history_model.specs.Step.{refused};
 ghost use Rattle.ctl_protocol.specs.OutcomeLines as outcomes;
 ghost use Rattle.ctl_protocol.specs.OutcomeLines.{plain_orders};
-ghost use Rattle.job_table.specs.Ends.{lent_acts, step_outcome};
+ghost use Rattle.job_table.specs.Ends.{lent_acts};
+ghost use Rattle.job_table.specs.Taking.{outcome_of};
 
 use ctl_protocol::outcome_line;
 use history_model::{Act, Refusal, Reply, Text};
-use job_table::Step;
+use job_table::{JobTable, Step, Taken};
 use std::alloc::{AllocError, Global};
 
 /// The orders of a step, by the labels of their jobs.
@@ -22,20 +23,18 @@ fn labelled_orders<'a>(alloc: Global, step: &Step<'a>) -> Result<Vec<(&'a str, A
     Ok(orders)
 }
 
-/// The line of an event that was accepted, with its text.
+/// The line of an event that was accepted.
 pub(crate) fn accepted_line(
     alloc: Global,
-    step: &Step<'_>,
-    text: Text,
+    table: &JobTable,
+    taken: Taken,
 ) -> Result<Vec<u8>, AllocError>
-    ensures { IfOk result (λ line. line.items
-        ≡ outcomes.outcome_line (record {
-          refusal = None;
-          orders = lent_acts step.now;
-          text = text;
-        })) }
+    ensures { IfOk result (λ line. line.items ≡ outcomes.outcome_line (outcome_of taken table.now)) }
 {
-    let orders = labelled_orders(alloc, step)?;
+    let (orders, text) = match taken {
+        Taken::Made(text) => (labelled_orders(alloc, &table.last_step())?, text),
+        Taken::Told(text) => (Vec::new(alloc), text),
+    };
     let reply = Reply {
         refusal: None,
         text,
@@ -45,45 +44,11 @@ pub(crate) fn accepted_line(
 
 /// The line of an event that was refused.
 pub(crate) fn refused_line(alloc: Global, refusal: Refusal) -> Result<Vec<u8>, AllocError>
-    ensures { IfOk result (λ line. line.items
-        ≡ outcomes.outcome_line (record {
-          refusal = Some refusal;
-          orders = [];
-          text = refusal_text refusal;
-        })) }
+    ensures { IfOk result (λ line. line.items ≡ outcomes.outcome_line (refused refusal)) }
 {
     let reply = Reply {
         refusal: Some(refusal),
         text: Text::new(String::new(alloc)),
-    };
-    outcome_line(alloc, &reply, &[])
-}
-
-/// The line of what an event call answered. Want of memory has none.
-pub(crate) fn answer_line(
-    alloc: Global,
-    answer: Result<Step<'_>, Refusal>,
-) -> Result<Vec<u8>, AllocError>
-    ensures { IfOk result (λ line. line.items ≡ outcomes.outcome_line (step_outcome answer.entry)) }
-{
-    match answer {
-        Ok(step) => accepted_line(alloc, &step, Text::new(String::new(alloc))),
-        Err(refusal) => refused_line(alloc, refusal),
-    }
-}
-
-/// The line of a question that was answered by a text.
-pub(crate) fn text_line(alloc: Global, text: String) -> Result<Vec<u8>, AllocError>
-    ensures { IfOk result (λ line. line.items
-        ≡ outcomes.outcome_line (record {
-          refusal = None;
-          orders = [];
-          text = string_bytes text;
-        })) }
-{
-    let reply = Reply {
-        refusal: None,
-        text: Text::new(text),
     };
     outcome_line(alloc, &reply, &[])
 }

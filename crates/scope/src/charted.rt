@@ -3,8 +3,8 @@
 ghost use Rattle.std.specs.Prelude.{◌≡◌, IfSome, option_map};
 ghost use Rattle.scope.specs.RunBars.{run_bar_end};
 
-use crate::journal::hearing::{News, What};
 use crate::journal::job::Asked;
+use crate::journal::news::{News, What};
 use crate::journal::past::Past;
 use crate::journal::run::{Run, RunEnd};
 use crate::texts::log::is_named;

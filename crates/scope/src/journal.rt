@@ -2,9 +2,9 @@
 //! job, what was asked of it, and how long it was up.
 
 pub(crate) mod fault;
-pub(crate) mod hearing;
 pub(crate) mod job;
 pub(crate) mod lines;
+pub(crate) mod news;
 mod noting;
 pub(crate) mod past;
 pub(crate) mod reader;

@@ -1,5 +1,8 @@
 //! What is made of a journal's lines as they are read.
 
+ghost use Rattle.std.specs.Prelude.{IfOk};
+ghost use Rattle.scope.specs.Journals.{HearsLine, StandsAfter};
+
 use crate::charted::Heard;
 use crate::journal::fault::JournalFault;
 use crate::journal::lines::Hears;
@@ -37,7 +40,10 @@ impl Listener<'_> {
     }
 
     // Takes in the line, and says whether it is an event, or the header.
-    fn take(&mut self, line: &[u8], is_header: bool) -> Result<bool, JournalFault> {
+    fn take(&mut self, line: &[u8], is_header: bool) -> Result<bool, JournalFault>
+        ensures { IfOk result (λ _.
+            HearsLine StandsAfter self.old.journal line.now is_header self.new.journal) }
+    {
         match &mut self.journal {
             Some(journal) if !is_header => match journal.take(self.alloc, line) {
                 Ok(is_event) => Ok(is_event),
@@ -52,6 +58,8 @@ impl Listener<'_> {
 }
 
 impl Hears for Listener<'_> {
+    ghost stands = { λ listener lines. StandsAfter listener.journal lines };
+
     fn hear(
         &mut self,
         line: &[u8],

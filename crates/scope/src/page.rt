@@ -2,8 +2,8 @@
 
 use crate::journal::reader::Journal;
 use definition_files::calendar_after;
-use history_model::{MAX_WALL, Reading};
-use job_defs::Def;
+use history_model::{MAX_WALL, Reading, SECOND};
+use job_table::JobTable;
 use run_times::picture::{Chart, Coming};
 use std::alloc::{AllocError, Global};
 
@@ -21,7 +21,7 @@ pub(crate) fn coming_of(
             if let Some(def) = &job.def {
                 let calendar = calendar_after(def.calendar(), &journal.zone, now.wall);
                 add(alloc, label, "StartCalendarInterval", calendar, &mut coming)?;
-                let interval = interval_end(def, job.record.loaded, now);
+                let interval = interval_end(&journal.table, label, now);
                 add(alloc, label, "StartInterval", interval, &mut coming)?;
             }
         }
@@ -45,9 +45,8 @@ fn add(
 }
 
 // The second at which the present interval is over, if there is one.
-fn interval_end(def: &Def, loaded: Reading, now: Reading) -> Option<u64> {
-    let length = u64::from(def.start_interval()?).saturating_mul(1000).max(1);
-    let since = now.up.saturating_sub(loaded.up);
-    let ahead = (length - since % length).div_ceil(1000);
+fn interval_end(table: &JobTable, label: &str, now: Reading) -> Option<u64> {
+    let up = table.moments(label)?.interval?;
+    let ahead = up.saturating_sub(now.up).div_ceil(SECOND);
     Some(now.wall.saturating_add(ahead).min(MAX_WALL))
 }

@@ -1,6 +1,6 @@
 //! What is kept of one job: of its present load, and over all its loads.
 
-use crate::journal::hearing::{Wait, What};
+use crate::journal::news::{Wait, What};
 use crate::journal::run::{Run, RunEnd, is_crash};
 use history_model::{Answer, DemandKind, Ended, JobItem, Reading};
 use job_defs::Def;
@@ -83,7 +83,7 @@ pub(crate) struct Record {
     pub(crate) ask: u64,
     /// Whether the system refused to wait for the present run.
     pub(crate) is_lost: bool,
-    /// When TERM, and when KILL, was ordered for the present run.
+    /// When the first TERM, and when the last KILL, was ordered for the present run.
     pub(crate) term: Option<Reading>,
     pub(crate) kill: Option<Reading>,
     /// From when on it has no run.
@@ -144,7 +144,7 @@ impl Record {
         if kills {
             self.kill = Some(at);
         } else {
-            self.term = Some(at);
+            self.term = self.term.or(Some(at));
         }
     }
 

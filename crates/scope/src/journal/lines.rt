@@ -1,5 +1,8 @@
 //! The lines of a journal that comes in pieces.
 
+ghost use Rattle.std.specs.Prelude.{◌≡◌, ℕ, List, IfOk, OnOk};
+ghost use Rattle.scope.specs.Journals.{HearsLine, HearsLines, HandsOn};
+
 use crate::journal::fault::JournalFault;
 use ctl_protocol::{LINE_LIMIT, LineFault, LineFeed};
 use std::alloc::Global;
@@ -9,6 +12,9 @@ const HEAD: usize = 256;
 
 /// What hears a journal line by line.
 pub(crate) trait Hears {
+    /// It stands for these lines, the header first.
+    ghost stands: { Self → List (List ℕ) → Type 0 };
+
     /// Takes in the next line, of which the first is the header, and adds what is to be shown of it. It says whether the line is an event,
     /// or the header; one that is not is left out.
     fn hear(
@@ -16,7 +22,8 @@ pub(crate) trait Hears {
         line: &[u8],
         is_header: bool,
         shown: &mut String,
-    ) -> Result<bool, JournalFault>;
+    ) -> Result<bool, JournalFault>
+        ensures { IfOk result (λ _. HearsLine stands self.old line.now is_header self.new) };
 }
 
 /// The lines of a journal that comes in pieces, and what was counted of them.
@@ -67,8 +74,11 @@ impl Lines {
         }
     }
 
-    /// Hands the next whole line on, and says whether there was one.
-    pub(crate) fn hand_on<H: Hears>(&mut self, hearer: &mut H) -> Result<bool, JournalFault> {
+    // Hands the next whole line on, and says whether there was one.
+    fn hand_on<H: Hears>(&mut self, hearer: &mut H) -> Result<bool, JournalFault>
+        ensures { IfOk result (λ more.
+            HandsOn H.stands more self.old hearer.old self.new hearer.new) }
+    {
         match self.feed.next_line() {
             Ok(Some(line)) => {
                 let is_header = self.count == 0;
@@ -89,7 +99,23 @@ impl Lines {
         }
     }
 
-    fn count_line(&mut self, is_event: bool) {
+    /// Hands each whole line on.
+    pub(crate) fn hand_all_on<H: Hears>(&mut self, hearer: &mut H) -> Result<(), JournalFault>
+        ensures { OnOk result
+            (HearsLines H.stands self.old.count hearer.old self.old.feed.lines hearer.new) }
+    {
+        'lines: loop {
+            match self.hand_on(hearer) {
+                Ok(true) => {}
+                Ok(false) => return Ok(()),
+                Err(fault) => return Err(fault),
+            }
+        }
+    }
+
+    fn count_line(&mut self, is_event: bool)
+        ensures { self.new ≡ record self.old { bad = self.new.bad; first_bad = self.new.first_bad } }
+    {
         if is_event {
             return;
         }

@@ -1,7 +1,7 @@
 //! What is kept of an event of the journal, and told of it.
 
-use crate::journal::hearing::{News, Wait, What};
 use crate::journal::job::Asked;
+use crate::journal::news::{News, Wait, What};
 use crate::journal::past::Past;
 use history_model::{Act, Ask, DemandKind, Event, JobItem, Reading, Refusal, Wants};
 use job_defs::read_def;

@@ -1,7 +1,7 @@
 //! What is kept of all jobs: by their labels, and the runs that are over.
 
-use crate::journal::hearing::News;
 use crate::journal::job::{Asked, Job, Record};
+use crate::journal::news::News;
 use crate::journal::run::Run;
 use history_model::Reading;
 use job_defs::Def;

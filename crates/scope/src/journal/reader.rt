@@ -1,12 +1,17 @@
 //! A journal that is open: the table, the zone of civil time, and what is kept of the past.
+ghost use Rattle.std.specs.Prelude.{OnOk, IfOk};
+ghost use Rattle.loaded_jobs.specs.TableOutcomes.{IsNextTable};
+ghost use Rattle.job_table.specs.Taking.{machine_event};
+ghost use Rattle.table_opening.specs.JournalEvents.{event_in};
+ghost use Rattle.scope.specs.Journals.{IsOpenedAt, IsOpenedBy};
 
 use crate::journal::fault::JournalFault;
-use crate::journal::hearing::{Wait, hear};
+use crate::journal::news::Wait;
 use crate::journal::past::Past;
 use calendar_due::Zone;
 use ctl_protocol::{Header, LineRoom, ReadFault, read_event, read_header};
 use history_model::{Event, Reading, Refusal, Wants};
-use job_table::JobTable;
+use job_table::{JobTable, Taken};
 use std::alloc::{AllocError, Global};
 use table_opening::{OpeningFault, table_of, zone_of};
 
@@ -21,7 +26,9 @@ pub(crate) struct Journal {
 }
 
 /// The journal that a header opens.
-pub(crate) fn open(alloc: Global, line: &[u8]) -> Result<Journal, JournalFault> {
+pub(crate) fn open(alloc: Global, line: &[u8]) -> Result<Journal, JournalFault>
+    ensures { IfOk result (λ journal. IsOpenedAt line.now journal.table) }
+{
     match read_header(alloc, line) {
         Ok(header) => opened_by(alloc, header),
         Err(ReadFault::NoMemory) => Err(JournalFault::NoMemory),
@@ -29,7 +36,9 @@ pub(crate) fn open(alloc: Global, line: &[u8]) -> Result<Journal, JournalFault> 
     }
 }
 
-fn opened_by(alloc: Global, header: Header) -> Result<Journal, JournalFault> {
+fn opened_by(alloc: Global, header: Header) -> Result<Journal, JournalFault>
+    ensures { IfOk result (λ journal. IsOpenedBy header journal.table) }
+{
     let zone = zone_of(alloc, &header.zone);
     match (zone, table_of(alloc, header), LineRoom::new(alloc)) {
         (Ok(Some(zone)), Ok(table), Ok(room)) => Ok(Journal {
@@ -56,7 +65,10 @@ fn opened_by(alloc: Global, header: Header) -> Result<Journal, JournalFault> {
 
 impl Journal {
     /// Takes in a line after the header. It says whether the line is an event; what it gave is the past's `news`.
-    pub(crate) fn take(&mut self, alloc: Global, line: &[u8]) -> Result<bool, AllocError> {
+    /// After it the table keeps the machine's next state.
+    pub(crate) fn take(&mut self, alloc: Global, line: &[u8]) -> Result<bool, AllocError>
+        ensures { OnOk result (IsNextTable (event_in line.now) self.old.table self.new.table) }
+    {
         self.past.news.clear();
         match read_event(alloc, line, &mut self.room) {
             Ok(event) => {
@@ -79,10 +91,14 @@ fn take_in(
     table: &mut JobTable,
     past: &mut Past,
     event: &Event<'_>,
-) -> Result<(), AllocError> {
-    let made = match hear(alloc, table, event) {
-        Ok(true) => Ok(table.reading()),
-        Ok(false) => return Ok(()),
+) -> Result<(), AllocError>
+    ensures { OnOk result (IsNextTable (machine_event event.now) table.old table.new) }
+{
+    if table.is_question(event) {
+        return Ok(());
+    }
+    let made = match table.take(alloc, event) {
+        Ok(_) => Ok(table.reading()),
         Err(Refusal::NoMemory) => return Err(AllocError),
         Err(refusal) => Err(refusal),
     };

@@ -60,11 +60,7 @@ fn take_lines<H: Hears>(
     hearer: &mut H,
 ) -> Result<bool, JournalFault> {
     let is_there = take_piece(host, source, lines)?;
-    for _ in 0..u64::MAX {
-        if !lines.hand_on(hearer)? {
-            break;
-        }
-    }
+    lines.hand_all_on(hearer)?;
     Ok(is_there)
 }
 

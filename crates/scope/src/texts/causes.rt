@@ -72,23 +72,28 @@ fn child_said(job: &Record, child: StandingChild, now: Reading) -> Said<'static>
     (form, holes)
 }
 
-/// Which signals were ordered for the run that lives, and when KILL follows.
-pub(crate) fn signals_said(job: &Record, exit_time_out: u64, now: Reading) -> Said<'static> {
-    let (form, at) = match (job.kill, job.term) {
-        (Some(at), _) => (" KILL was ordered at $.", at),
-        (None, Some(at)) if exit_time_out == 0 => (
+/// Which signals were ordered for the run that lives, and when KILL follows. That it is due, and waits for the answer to TERM, is so of a run
+/// that a `kickstart -k` struck.
+pub(crate) fn signals_said(told: &Told<'_>) -> Said<'static> {
+    let (form, at) = match (told.job.kill, told.job.term, told.moments.kill) {
+        (Some(at), _, _) => (" KILL was ordered at $.", at),
+        (None, Some(at), None) => (
             " TERM was ordered at $; no KILL follows, since ExitTimeOut is 0.",
             at,
         ),
-        (None, Some(at)) => (
+        (None, Some(at), Some(up)) if up <= told.now.up => (
+            " TERM was ordered at $; KILL follows once that is answered.",
+            at,
+        ),
+        (None, Some(at), Some(_)) => (
             " TERM was ordered at $; KILL follows at $ if it lives then (ExitTimeOut is $).",
             at,
         ),
-        (None, None) => ("", now),
+        (None, None, _) => ("", told.now),
     };
-    let kill = at.up.saturating_add(exit_time_out.saturating_mul(1000));
-    let holes = [Time(at.wall), Coming(kill), Number(exit_time_out), NONE];
-    (form, holes)
+    let kill = told.moments.kill.unwrap_or(0);
+    let timeout = Number(told.keys.exit_time_out);
+    (form, [Time(at.wall), Coming(kill), timeout, NONE])
 }
 
 // How long it is throttled, and the start from which the throttle goes, if it is known: the last one that was ordered, or one that

@@ -4,7 +4,7 @@ use crate::journal::job::Record;
 use crate::journal::run::RunEnd;
 use crate::texts::told::{Keys, Told, add_words};
 use calendar_due::{Calendar, Zone};
-use history_model::{Entry, MAX_WALL, Reading, Reasons};
+use history_model::{Entry, MAX_WALL, Reasons};
 use run_times::Hole::{Coming, Minute, Number, Text};
 use run_times::Page;
 
@@ -22,7 +22,7 @@ pub(crate) fn add_ways(page: &mut Page<'_>, told: &Told<'_>, entries: &[Entry], 
     let before = page.ink.text.len();
     let (form, wall) = calendar_words(entries, zone, told.now.wall);
     page.add(form, &[Minute(wall)]);
-    let (form, up, seconds) = interval_words(told.keys.start_interval, told.job.loaded, told.now);
+    let (form, up, seconds) = interval_words(told.keys.start_interval, told.moments.interval);
     page.add(form, &[Coming(up), Number(seconds)]);
     add_words(&mut page.ink, &event_words(&told.keys));
     let has_way = page.ink.text.len() > before;
@@ -67,21 +67,12 @@ fn calendar_words(entries: &[Entry], zone: &Zone, after: u64) -> (&'static str, 
     }
 }
 
-// The `up` at which its interval, which is counted from the load, is over, and its seconds.
-fn interval_words(
-    interval: Option<u32>,
-    loaded: Reading,
-    now: Reading,
-) -> (&'static str, u64, u64) {
-    let Some(seconds) = interval else {
-        return ("", 0, 0);
-    };
-    let seconds = u64::from(seconds);
-    let length = seconds.saturating_mul(1000).max(1);
-    let gone = now.up.saturating_sub(loaded.up) / length;
-    let next = gone.saturating_add(1).saturating_mul(length);
-    let up = loaded.up.saturating_add(next);
-    (" at $ (StartInterval is $),", up, seconds)
+// The `up` at which its interval is over, and its seconds.
+fn interval_words(interval: Option<u32>, end: Option<u64>) -> (&'static str, u64, u64) {
+    match (interval, end) {
+        (Some(seconds), Some(up)) => (" at $ (StartInterval is $),", up, u64::from(seconds)),
+        _ => ("", 0, 0),
+    }
 }
 
 fn event_words(keys: &Keys<'_>) -> [(bool, &'static str); 4] {

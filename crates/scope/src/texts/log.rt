@@ -1,6 +1,6 @@
 //! The journal for people: a line for each event that matters.
 
-use crate::journal::hearing::{News, Wait, What};
+use crate::journal::news::{News, Wait, What};
 use crate::journal::reader::Journal;
 use crate::journal::run::Run;
 use crate::texts::words::{asked_name, demand_words, end_words, refusal_name};

@@ -3,6 +3,7 @@
 use crate::journal::job::{Asked, Record};
 use history_model::{DemandKind, Reading, Reasons};
 use job_defs::{Def, PathState};
+use job_table::Moments;
 use run_times::{Hole, Ink};
 
 /// A sentence: its form, and what stands in the holes. An empty form says nothing.
@@ -16,6 +17,7 @@ pub(crate) const NONE: Hole<'static> = Hole::Text("");
 pub(crate) struct Told<'a> {
     pub(crate) now: Reading,
     pub(crate) reasons: Reasons,
+    pub(crate) moments: Moments,
     /// What made the pending demand.
     pub(crate) demand: Option<DemandKind>,
     /// Which path holds it wanted.

@@ -58,12 +58,13 @@ fn add_job(page: &mut Page<'_>, journal: &Journal, label: &str, job: &Job) {
         return page.add(form, &[Text(label), Time(job.record.gone.wall)]);
     };
     let table = &journal.table;
-    let Some(reasons) = table.reasons(label) else {
+    let (Some(reasons), Some(moments)) = (table.reasons(label), table.moments(label)) else {
         return;
     };
     let told = Told {
         now: page.now,
         reasons,
+        moments,
         demand: table.latest_demand(label),
         path: table.path_that_holds(label),
         asked: journal.past.asked_of(&job.record),
@@ -123,7 +124,7 @@ fn add_ending(page: &mut Page<'_>, told: &Told<'_>, child: StandingChild) {
         (child.is_stopped, " Its end was asked for."),
     ];
     add_words(&mut page.ink, &words);
-    let (form, holes) = signals_said(told.job, told.keys.exit_time_out, told.now);
+    let (form, holes) = signals_said(told);
     page.add(form, &holes);
 }
 

@@ -3,7 +3,7 @@ use Rattle.std.proofs.Common.{false, sym, ap, ◌∙◌}
 use Rattle.history_model.specs.JobItems.{item_of}
 use Rattle.history_model.specs.Machine.{OfJob, UnloadJob, ShutDown, Tick, Sight}
 use Rattle.std.specs.Prelude.{true}
-use Rattle.table_opening.specs.JournalEvents.{machine_event}
+use Rattle.job_table.specs.Taking.{machine_event}
 use Rattle.launcher.specs.Inputs.{is_clock}
 use Rattle.launcher.proofs.OneEventLemmas.{unload-taken, handed-on, read-on, needs-none, not-read, ok-needs-none}
 use Rattle.launcher.proofs.events.hear.Goals as goal

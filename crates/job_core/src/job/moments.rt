@@ -1,0 +1,60 @@
+//! From when on the end of a run is due, and when its interval is over.
+
+ghost use Rattle.std.specs.Prelude.{◌≡◌, ◌≤◌, ℕ};
+ghost use Rattle.history_model.specs.DueByFacts.{may_kill_by, may_term_by};
+ghost use Rattle.history_model.specs.NextMomentByFacts.{has_come, coming_period};
+
+use super::Job;
+use history_model::MAX_UP;
+
+/// The moments of a job, in milliseconds of `up`, if nothing but readings happens. While the answer to an order is awaited none is given.
+#[derive(Clone, Copy)]
+pub struct Moments {
+    /// From when on TERM is due for the run that lives: if its end was asked for, and by no `kickstart -k`. A moment that is
+    /// over is one, too; none if TERM or KILL was sent.
+    pub term: Option<u64>,
+    /// From when on KILL is due for the run that lives: at once if a `kickstart -k` asked for its end, else `ExitTimeOut` after
+    /// the first TERM. None if KILL was sent, or if none follows.
+    pub kill: Option<u64>,
+    /// The next end of its interval.
+    pub interval: Option<u64>,
+}
+
+impl Job {
+    ghost use Rattle.job_core.specs.JobFields.{facts};
+
+    /// The moments after which it is asked for, at this one of `up`.
+    pub fn moments(&self, up: u64) -> Moments
+        requires { up ≤ MAX_UP }
+        ensures term { (at : ℕ) → has_come result.term at ≡ may_term_by (facts self.now) at }
+        ensures kill { (at : ℕ) → has_come result.kill at ≡ may_kill_by (facts self.now) at }
+        ensures interval { result.interval
+            ≡ coming_period (facts self.now).definition.start_interval (facts self.now).load_up up }
+    {
+        Moments {
+            term: self.term_from(),
+            kill: self.kill_from(),
+            interval: self.interval.next_moment(up),
+        }
+    }
+
+    fn term_from(&self) -> Option<u64>
+        ensures { (at : ℕ) → has_come result at ≡ may_term_by (facts self.now) at }
+    {
+        if self.stops {
+            self.ending.term_at()
+        } else {
+            None
+        }
+    }
+
+    fn kill_from(&self) -> Option<u64>
+        ensures { (at : ℕ) → has_come result at ≡ may_kill_by (facts self.now) at }
+    {
+        if self.ending.is_struck() || self.stops {
+            self.ending.kill_at()
+        } else {
+            None
+        }
+    }
+}

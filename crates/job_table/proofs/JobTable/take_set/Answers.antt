@@ -1,0 +1,9 @@
+-- A setting that was made ready, and that the store took, is made.
+use Rattle.job_table.proofs.TakingLemmas.{changed}
+use Rattle.job_table.proofs.JobTable.take_set.Goals as goal
+
+pub returns : goal.returns
+returns c =
+    let made = c.in_ok-ready.ensures in
+    changed c.args.self.now c.prepare_set.new.self c.commit_set.new.self c.in_ok-ready.ready c.args.job.now c.args.disabled c.args.unload c.args.store c.made.result
+    made.label made.disabled made.unload made.admitted c.if-not-store.false made.same c.commit_set.ensures.changes c.made.ensures

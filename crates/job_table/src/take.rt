@@ -1,0 +1,175 @@
+//! The step of the machine: an event of a journal goes to the table, with the outside's answers that stand in it.
+
+ghost use Rattle.std.specs.Prelude.{◌≡◌, true, []};
+ghost use Rattle.history_model.specs.Machine.{State, UnloadJob};
+ghost use Rattle.history_model.specs.Step.{step};
+ghost use Rattle.loaded_jobs.specs.StandsFor.{KeepsState};
+ghost use Rattle.loaded_jobs.specs.Loads.{refusal_outside};
+ghost use Rattle.loaded_jobs.specs.SettingChanges.{set_of};
+ghost use Rattle.job_table.specs.LoadOfBytes.{load_of_bytes};
+ghost use Rattle.job_table.specs.Taking.{machine_event, Takes};
+ghost use Rattle.job_table.specs.declared.take.Taken.TheVariants.{Made};
+
+use crate::JobTable;
+use history_model::{Event, Refusal, Text};
+use job_defs::{Def, loaded};
+use std::alloc::Global;
+
+/// What an event gave that was accepted.
+#[derive(Drop)]
+pub enum Taken {
+    /// A step was made: `last_step` lends its orders. The text is a load's, else empty.
+    Made(Text),
+    /// A question was answered by this text, and nothing was done: what `last_step` lends is not of this event.
+    Told(Text),
+}
+
+/// The words of a load, and what the outside answers to it.
+#[derive(Clone, Copy)]
+struct LoadWords {
+    writes_setting: bool,
+    force: bool,
+    bind: bool,
+    store: bool,
+}
+
+/// A step that has no text.
+fn made(alloc: Global) -> Taken
+    ensures { result ≡ Made [] }
+{
+    Taken::Made(Text::new(String::new(alloc)))
+}
+
+/// What the outside refuses of a load: the sockets of a job that has any, then the store, if a setting is written.
+fn refused_outside(def: &Def, words: LoadWords) -> Option<Refusal>
+    ensures { result ≡ refusal_outside def.now words.writes_setting words.bind words.store }
+{
+    if def.has_sockets() && !words.bind {
+        return Some(Refusal::SocketRefused);
+    }
+    if words.writes_setting && !words.store {
+        return Some(Refusal::StoreRefused);
+    }
+    None
+}
+
+impl JobTable {
+    /// The machine's step on an event of a journal. Refusals: those of the machine, and NoMemory, after which the table is as before.
+    pub fn take(&mut self, alloc: Global, event: &Event<'_>) -> Result<Taken, Refusal>
+        ensures { Takes (machine_event event.now) self.old result self.new }
+    {
+        match event {
+            Event::Load {
+                def,
+                writes_setting,
+                force,
+                bind,
+                store,
+            } => {
+                let words = LoadWords {
+                    writes_setting: *writes_setting,
+                    force: *force,
+                    bind: *bind,
+                    store: *store,
+                };
+                self.take_load(alloc, def.as_str(), words)
+            }
+            Event::Unload {
+                job,
+                writes_setting,
+                store,
+            } => self.take_unload(alloc, job.as_str(), *writes_setting, *store),
+            Event::Set {
+                job,
+                disabled,
+                store,
+            } => self.take_set(alloc, job.as_str(), *disabled, false, *store),
+            Event::List => Ok(Taken::Told(Text::new(self.list(alloc)?))),
+            Event::Print { job } => Ok(Taken::Told(Text::new(self.print(alloc, job.as_str())?))),
+            Event::Shutdown => {
+                self.jobs.shut_down()?;
+                Ok(made(alloc))
+            }
+            Event::Clock(at) => {
+                self.jobs.clock(alloc, *at)?;
+                Ok(made(alloc))
+            }
+            Event::Saw { path, obs } => {
+                self.jobs.saw(path.as_str(), *obs);
+                Ok(made(alloc))
+            }
+            Event::OfJob { job, item } => {
+                self.jobs.hear(job.as_str(), *item)?;
+                Ok(made(alloc))
+            }
+        }
+    }
+
+    /// Whether the event is a question, of which the machine's step is the state itself: who wants no text need not take it.
+    #[tactic(auto, using(crate::proofs::TakingLemmas::asked_rests))]
+    pub fn is_question(&self, event: &Event<'_>) -> bool
+        ensures { result ≡ true → (s : State) → KeepsState self.now s →
+            step s (machine_event event.now) ≡ s }
+    {
+        let _ = &self.jobs; // for the proof
+        match event {
+            Event::List | Event::Print { .. } => true,
+            _ => false,
+        }
+    }
+
+    /// A definition is handed in; `bind` and `store` are what the outside answers, if it is asked.
+    fn take_load(&mut self, alloc: Global, def: &str, words: LoadWords) -> Result<Taken, Refusal>
+        ensures { Takes
+            (load_of_bytes def.now words.writes_setting words.force words.bind words.store)
+            self.old result self.new }
+    {
+        let ready = self.prepare_load(alloc, def.as_bytes(), words.writes_setting, words.force)?;
+        if let Some(refusal) = refused_outside(ready.def(), words) {
+            return Err(refusal);
+        }
+        match loaded(alloc, ready.def().not_acted_on()) {
+            Ok(text) => {
+                self.commit_load(ready);
+                Ok(Taken::Made(Text::new(text)))
+            }
+            Err(_) => Err(Refusal::NoMemory),
+        }
+    }
+
+    /// A label's setting is to be written, and with `unload` its job removed; `store` is what the store answers.
+    fn take_set(
+        &mut self,
+        alloc: Global,
+        job: &str,
+        disabled: bool,
+        unload: bool,
+        store: bool,
+    ) -> Result<Taken, Refusal>
+        ensures { Takes (set_of job.now disabled unload store) self.old result self.new }
+    {
+        let ready = self.prepare_set(alloc, job, disabled, unload)?;
+        if !store {
+            return Err(Refusal::StoreRefused);
+        }
+        self.commit_set(ready);
+        Ok(made(alloc))
+    }
+
+    /// The job is to be removed, with `writes_setting` its label disabled too.
+    fn take_unload(
+        &mut self,
+        alloc: Global,
+        job: &str,
+        writes_setting: bool,
+        store: bool,
+    ) -> Result<Taken, Refusal>
+        ensures { Takes (UnloadJob job.now writes_setting store) self.old result self.new }
+    {
+        if writes_setting {
+            return self.take_set(alloc, job, true, true, store);
+        }
+        self.jobs.unload(job)?;
+        Ok(made(alloc))
+    }
+}
