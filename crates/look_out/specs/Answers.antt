@@ -1,0 +1,25 @@
+-- What a look-out answers, as the nine bytes that cross its socket.
+use Rattle.std.specs.Prelude.{ℕ, List, ◌∷◌}
+use Rattle.std.specs.Int.{w64, to_le_bytes}
+use Rattle.look_out.specs.declared.answer.Answer.{Answer}
+use Rattle.look_out.specs.declared.answer.Answer.TheVariants.{Absent, There, Filled, Held, Refused}
+
+-- the first byte
+abbrev pub tag_of : Answer → ℕ
+tag_of Absent = 0
+tag_of (There stamp) = 1
+tag_of (Filled stamp) = 2
+tag_of (Held number) = 3
+tag_of (Refused error) = 4
+
+-- the number that the other eight say
+abbrev pub number_of : Answer → ℕ
+number_of Absent = 0
+number_of (There stamp) = stamp
+number_of (Filled stamp) = stamp
+number_of (Held number) = number
+number_of (Refused error) = error
+
+-- the nine bytes
+abbrev pub code_of : Answer → List ℕ
+code_of a = tag_of a ∷ to_le_bytes w64 (number_of a)

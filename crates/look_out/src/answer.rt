@@ -1,0 +1,53 @@
+//! What a look-out answers to one question, and the nine bytes that say it.
+
+ghost use Rattle.std.specs.Prelude.{◌≡◌, ◌<◌, ◌^◌, Some};
+ghost use Rattle.look_out.specs.Answers.{code_of, number_of};
+
+/// As many bytes has each answer: so many questions, so many answers, and no byte of one is taken for another's.
+pub const LENGTH: usize = 9;
+
+#[derive(Clone, Copy, PartialEq, Eq)]
+pub enum Answer {
+    /// A look: nothing is there.
+    Absent,
+    /// A look: something is there that is no folder, or an empty one; when it was changed.
+    There { stamp: u64 },
+    /// A look: a folder with an entry.
+    Filled { stamp: u64 },
+    /// An open: what was opened is held under this number.
+    Held { number: u64 },
+    /// The system's number of the error.
+    Refused { error: u64 },
+}
+
+impl Answer {
+    pub fn to_bytes(self) -> [u8; LENGTH]
+        ensures { result ≡ code_of self }
+    {
+        let (tag, number) = match self {
+            Answer::Absent => (0, 0),
+            Answer::There { stamp } => (1, stamp),
+            Answer::Filled { stamp } => (2, stamp),
+            Answer::Held { number } => (3, number),
+            Answer::Refused { error } => (4, error),
+        };
+        let [a, b, c, d, e, f, g, h] = number.to_le_bytes();
+        [tag, a, b, c, d, e, f, g, h]
+    }
+
+    /// The answer that the bytes say, if they say one.
+    pub fn from_bytes(bytes: [u8; LENGTH]) -> Option<Answer>
+        ensures { (a : Answer) → number_of a < 2 ^ 64 → bytes ≡ code_of a → result ≡ Some a }
+    {
+        let [tag, a, b, c, d, e, f, g, h] = bytes;
+        let number = u64::from_le_bytes([a, b, c, d, e, f, g, h]);
+        match tag {
+            0 => Some(Answer::Absent),
+            1 => Some(Answer::There { stamp: number }),
+            2 => Some(Answer::Filled { stamp: number }),
+            3 => Some(Answer::Held { number }),
+            4 => Some(Answer::Refused { error: number }),
+            _ => None,
+        }
+    }
+}
