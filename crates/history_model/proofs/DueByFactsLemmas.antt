@@ -132,6 +132,15 @@ module _ (up at : ℕ) (order : up ≤ at) where
   pub crosses-none : (f : Facts) → IsLater at (next_by f up) → crosses_interval f.definition.start_interval f.load_up up at ≡ false
   crosses-none f later = uncrossed f.definition.start_interval f.load_up (parts-of f later).period
 
+  crossed-alike : (o : Option ℕ) (load : ℕ) → IsLater at (coming_period o load up) → (later : ℕ) → crosses_interval o load at later ≡ crosses_interval o load up later
+  crossed-alike None load far later = refl
+  crossed-alike (Some seconds) load far later = ap (λ k. nat_lt k (periods seconds (later - load))) (periods-same seconds load far)
+
+  -- what a later reading crosses from here it crosses from there
+  pub crosses-alike : (f : Facts) → IsLater at (next_by f up) → (later : ℕ) →
+      crosses_interval f.definition.start_interval f.load_up at later ≡ crosses_interval f.definition.start_interval f.load_up up later
+  crosses-alike f far = crossed-alike f.definition.start_interval f.load_up (parts-of f far).period
+
   -- ---- the next moment
 
   end-same : (f : Facts) → IsLater at (coming_end f up) → coming_end f at ≡ coming_end f up

@@ -136,7 +136,7 @@ untouched-due t at later no_period none = go (awaited t) (child t) refl where
 
 -- ---- calendars
 
-list_any-none : {X : Type 0} (p : X → Bool) → ((x : X) → p x ≡ false) → (xs : List X) → list_any p xs ≡ false
+pub list_any-none : {X : Type 0} (p : X → Bool) → ((x : X) → p x ≡ false) → (xs : List X) → list_any p xs ≡ false
 list_any-none p fails [] = refl
 list_any-none p fails (x ∷ xs) = rw (fails x, list_any-none p fails xs) refl
 

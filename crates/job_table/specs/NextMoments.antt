@@ -3,10 +3,8 @@
 use Rattle.std.specs.Prelude.{◌≡◌, ◌≤◌, ℕ, ◌==◌, Bool, true, false, List, Option, Some, None}
 use Rattle.std.specs.List.{list_any, AllByRecursion}
 use Rattle.std.specs.Option.{ForSome}
-use Rattle.history_model.specs.Clock.{definition_of}
 use Rattle.history_model.specs.Moments.{next_moment}
 use Rattle.history_model.specs.Machine.{Job}
-use Rattle.loaded_jobs.specs.Minutes.{is_some_entry}
 
 -- there is a moment, and it is this one
 abbrev pub is_moment : ℕ → Option ℕ → Bool
@@ -19,7 +17,3 @@ IsNextUp jobs None = AllByRecursion (λ job. next_moment job.past ≡ None) jobs
 IsNextUp jobs (Some m) =
     (list_any (λ job. is_moment m (next_moment job.past)) jobs ≡ true)
     × AllByRecursion (λ job. ForSome (next_moment job.past) (λ n. m ≤ n)) jobs
-
--- some job has calendar entries
-abbrev pub have_calendars : List Job → Bool
-have_calendars jobs = list_any (λ job. is_some_entry (definition_of job.past).calendar) jobs

@@ -4,7 +4,8 @@ ghost use Rattle.std.specs.Prelude.{◌≡◌};
 ghost use Rattle.history_model.specs.Machine.{State};
 ghost use Rattle.loaded_jobs.specs.StandsFor.{KeepsState};
 ghost use Rattle.loaded_jobs.specs.Minutes.{has_calendars};
-ghost use Rattle.job_table.specs.NextMoments.{IsNextUp, have_calendars};
+ghost use Rattle.job_table.specs.NextMoments.{IsNextUp};
+ghost use Rattle.history_model.specs.News.{have_calendars};
 
 use crate::JobTable;
 use loaded_jobs::{Gone, is_some_with_calendar};

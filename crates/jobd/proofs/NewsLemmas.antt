@@ -1,16 +1,15 @@
--- The least of all moments is reached if some moment is, and a minute is crossed if the number of whole minutes rises.
-use Rattle.std.proofs.Common.{◌≡◌, ℕ, zero, suc, ◌-◌, ◌/◌, ◌==◌, ◌≤◌, Bool, true, false, ◌||◌, Option, Some, None, List, [], ◌∷◌, refl, sym, ap, ◌∙◌, arith}
-use Rattle.std.specs.Prelude.{nat_le, nat_lt}
+-- The least of all moments is reached if some moment is.
+use Rattle.std.proofs.Common.{◌≡◌, ℕ, ◌==◌, ◌≤◌, Bool, true, false, ◌||◌, Option, Some, None, List, [], ◌∷◌, refl, sym, ap, ◌∙◌, arith}
+use Rattle.std.specs.Prelude.{nat_le}
 use Rattle.std.proofs.lemmas.Bool.{eqb-true}
 use Rattle.std.proofs.lemmas.Bool.Decides.{nat_tests}
 use Rattle.std.specs.Option.{ForSome}
 use Rattle.std.specs.List.{list_any, AllByRecursion}
 use Rattle.history_model.specs.Moments.{next_moment}
 use Rattle.history_model.specs.Machine.{Job}
-use Rattle.history_model.specs.Calendar.{minutes_above, last_before, crossed}
 use Rattle.history_model.proofs.BooleanLemmas.{or-second}
 use Rattle.job_table.specs.NextMoments.{is_moment, IsNextUp}
-use Rattle.jobd.specs.News.{is_moment_reached, is_any_minute_crossed}
+use Rattle.history_model.specs.News.{is_moment_reached}
 
 module _ (up : ℕ) where
   abbrev are_reached : List Job → Bool
@@ -49,12 +48,3 @@ module _ (up : ℕ) where
     go : (b : Bool) → nat_le m up ≡ b → nat_le m up ≡ are_reached jobs
     go true is = is ∙ sym (some m jobs is there)
     go false is = is ∙ sym (late m jobs is all)
-
-some-above : (k n : ℕ) → nat_lt 0 n ≡ list_any (λ minute. true) (minutes_above k n)
-some-above k zero = refl
-some-above k (suc n) = grind (arith, nat_tests)
-
-pub minute-crossed : (before wall : ℕ) → nat_lt (before / 60) (wall / 60) ≡ is_any_minute_crossed before wall
-minute-crossed before wall =
-    let same : nat_lt (before / 60) (wall / 60) ≡ nat_lt 0 (wall / 60 - last_before before wall) = grind (arith, nat_tests) in
-    same ∙ some-above (last_before before wall) (wall / 60 - last_before before wall)

@@ -29,7 +29,7 @@ use Rattle.launcher.specs.Writable.{WritesWhat}
 use Rattle.live_loop.specs.Looks.{PathCall, HasLoaded, LookedAt, Sighted}
 use Rattle.live_loop.specs.declared.loop_host.HandedIn.{HandedIn}
 use Rattle.live_loop.specs.declared.loop_host.HandedIn.TheVariants as handed
-use Rattle.jobd.specs.News.{may_change}
+use Rattle.history_model.specs.News.{may_change}
 use Rattle.jobd.specs.declared.round_launcher.RoundLauncher.{RoundLauncher}
 
 -- the launcher, once its outside was asked something between turns

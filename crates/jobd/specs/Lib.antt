@@ -1,2 +1,1 @@
 pub mod Launches
-pub mod News

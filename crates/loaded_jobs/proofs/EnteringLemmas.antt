@@ -12,7 +12,8 @@ use Rattle.loaded_jobs.specs.StandsFor.{KeepsJob, KeepsJobs}
 use Rattle.loaded_jobs.specs.Seats.{row, name, rows, AllStay, is_above, seats_with}
 use Rattle.loaded_jobs.specs.Sound.{AreHeld}
 use Rattle.loaded_jobs.specs.Loads.{IsAbsent}
-use Rattle.loaded_jobs.specs.Minutes.{is_some_entry, some_calendar}
+use Rattle.loaded_jobs.specs.Minutes.{some_calendar}
+use Rattle.history_model.specs.News.{is_some_entry}
 use Rattle.loaded_jobs.specs.declared.seat.Seat.{Seat}
 use Rattle.loaded_jobs.proofs.FirstLemmas.{IsFirstWhere, NonePasses, first-where, none-where}
 use Rattle.loaded_jobs.proofs.PlacesLemmas.{rows-all}

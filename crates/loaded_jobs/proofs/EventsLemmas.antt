@@ -27,7 +27,8 @@ use Rattle.loaded_jobs.specs.StandsFor.{KeepsJobs, KeepsSettings, KeepsState, la
 use Rattle.loaded_jobs.specs.Seats.{row, name, rows, AllStay}
 use Rattle.loaded_jobs.specs.Sound.{seen_table}
 use Rattle.loaded_jobs.specs.Alike.{IsAlike}
-use Rattle.loaded_jobs.specs.Minutes.{is_some_entry, has_calendars, some_calendar}
+use Rattle.loaded_jobs.specs.Minutes.{has_calendars, some_calendar}
+use Rattle.history_model.specs.News.{is_some_entry}
 use Rattle.loaded_jobs.specs.Touch.{item_for}
 use Rattle.loaded_jobs.specs.Hearing.{refusal_if, AreFor, IsAccepted}
 use Rattle.loaded_jobs.specs.declared.jobs.Jobs.{Jobs}

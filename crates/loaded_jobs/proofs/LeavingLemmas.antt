@@ -13,7 +13,8 @@ use Rattle.loaded_jobs.specs.Tables.{Name, IsOther, IsOnce, labels_in, is_known}
 use Rattle.loaded_jobs.specs.Seats.{name, AllStay, seat_stays, has_gone_under}
 use Rattle.loaded_jobs.specs.Index.{IsNamed, IsIndexed, IsIndexOf, ArePlaced, AreTimed}
 use Rattle.loaded_jobs.specs.Leaving.{AllStayBut, IsWithout, is_of_other}
-use Rattle.loaded_jobs.specs.Minutes.{is_some_entry, some_calendar}
+use Rattle.loaded_jobs.specs.Minutes.{some_calendar}
+use Rattle.history_model.specs.News.{is_some_entry}
 use Rattle.loaded_jobs.specs.Periods.{HavePeriods}
 use Rattle.loaded_jobs.specs.Sound.{AreHeld, AreFree, IsSound}
 use Rattle.loaded_jobs.specs.Triggers.{AreListed, AreOrdered, triggers_of, listed_in, under, stays_under}

@@ -20,7 +20,8 @@ use Rattle.loaded_jobs.specs.StandsFor.{KeepsJob, KeepsJobs, IsAtRest}
 use Rattle.loaded_jobs.specs.Seats.{row, name, has_label, is_above, place_for, seats_with}
 use Rattle.loaded_jobs.specs.Index.{moment_for, IsNamed, IsIndexed}
 use Rattle.loaded_jobs.specs.Loads.{IsReady}
-use Rattle.loaded_jobs.specs.Minutes.{is_some_entry, some_calendar}
+use Rattle.loaded_jobs.specs.Minutes.{some_calendar}
+use Rattle.history_model.specs.News.{is_some_entry}
 use Rattle.loaded_jobs.specs.Triggers.{under, listed_in, AreOrdered}
 use Rattle.loaded_jobs.specs.declared.trigger.Listed.{Listed}
 use Rattle.loaded_jobs.specs.Touch.{is_at}

@@ -27,7 +27,8 @@ use Rattle.loaded_jobs.specs.Counts.{counts, count_in}
 use Rattle.loaded_jobs.specs.Seats.{row, name, rows, AllStay}
 use Rattle.loaded_jobs.specs.Periods.{HavePeriods}
 use Rattle.loaded_jobs.specs.Index.{is_minute_among}
-use Rattle.loaded_jobs.specs.Minutes.{is_some_entry, has_calendars}
+use Rattle.loaded_jobs.specs.Minutes.{has_calendars}
+use Rattle.history_model.specs.News.{is_some_entry}
 use Rattle.loaded_jobs.specs.Visiting.{is_spared, AreVisitedOnce}
 use Rattle.loaded_jobs.specs.declared.seat.Seat.{Seat}
 use Rattle.history_model.specs.declared.TheConstants.{SECOND}

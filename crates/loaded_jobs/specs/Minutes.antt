@@ -1,17 +1,12 @@
 -- The civil minutes that a reading crosses.
-use Rattle.std.specs.Prelude.{◌≡◌, Bool, true, false, List, [], ◌∷◌, map}
+use Rattle.std.specs.Prelude.{◌≡◌, Bool, true, List, map}
 use Rattle.std.specs.List.{list_any}
 use Rattle.history_model.specs.declared.Reading.{Reading}
 use Rattle.history_model.specs.declared.CivilMinute.{CivilMinute}
-use Rattle.history_model.specs.declared.Entry.{Entry}
 use Rattle.history_model.specs.Calendar.{crossed}
+use Rattle.history_model.specs.News.{is_some_entry}
 use Rattle.calendar_due.specs.ZoneRules.{minute_at}
 use Rattle.loaded_jobs.specs.Tables.{Row, Name, Table}
-
--- there is a calendar entry
-abbrev pub is_some_entry : List Entry → Bool
-is_some_entry [] = false
-is_some_entry (entry ∷ entries) = true
 
 -- some loaded job has calendar entries
 abbrev pub has_calendars : List Row → Bool

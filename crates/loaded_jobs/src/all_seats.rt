@@ -4,7 +4,7 @@ ghost use Rattle.std.specs.Prelude.{◌≡◌, ◌≤◌, ℕ, false, None, not,
 ghost use Rattle.std.specs.List.{filter, list_all, list_any};
 ghost use Rattle.std.specs.Vec.{vec_capacity, vec_len};
 ghost use Rattle.slab.specs.Slab.{get};
-ghost use Rattle.loaded_jobs.specs.Minutes.{is_some_entry};
+ghost use Rattle.history_model.specs.News.{is_some_entry};
 ghost use Rattle.std.specs.Prelude.{true};
 ghost use Rattle.loaded_jobs.specs.Seats.{seat_stays, has_gone_under};
 

@@ -6,7 +6,7 @@ ghost use Rattle.std.specs.Vec.{vec_capacity};
 ghost use Rattle.loaded_jobs.specs.Seats.{seat_stays};
 ghost use Rattle.loaded_jobs.specs.Room.{HasSameRoom};
 ghost use Rattle.loaded_jobs.specs.Triggers.{triggers_of};
-ghost use Rattle.loaded_jobs.specs.Minutes.{is_some_entry};
+ghost use Rattle.history_model.specs.News.{is_some_entry};
 ghost use Rattle.loaded_jobs.specs.Leaving.{AllStayBut, StayBut, IsWithout, one_more_gone, is_of_other};
 
 use crate::all_seats::{has_calendars, release, tidy};

@@ -20,7 +20,7 @@ ghost use Rattle.loaded_jobs.specs.StandsFor.{KeepsState};
 ghost use Rattle.loaded_jobs.specs.TableOutcomes.{IsSameFor, Means};
 ghost use Rattle.loaded_jobs.specs.Loads.{load_of, refusal_outside, refused_with, IsAdmitted, IsReady, Loads, IsAbsent, IsMade, enabled_if};
 ghost use Rattle.loaded_jobs.specs.Counts.{counts, IsCounted};
-ghost use Rattle.loaded_jobs.specs.Minutes.{is_some_entry};
+ghost use Rattle.history_model.specs.News.{is_some_entry};
 ghost use Rattle.loaded_jobs.specs.Periods.{HasPositivePeriod};
 ghost use Rattle.loaded_jobs.specs.Triggers.{triggers_of, under, AreOrdered};
 ghost use Rattle.loaded_jobs.specs.declared.trigger.Listed.{Listed};

@@ -2,7 +2,8 @@
 use Rattle.std.proofs.Common.{◌≡◌, not, ◌&&◌, ap, sym, subst, ◌∙◌}
 use Rattle.std.specs.List.{list_any}
 use Rattle.loaded_jobs.specs.Leaving.{StayBut}
-use Rattle.loaded_jobs.specs.Minutes.{is_some_entry, has_calendars}
+use Rattle.loaded_jobs.specs.Minutes.{has_calendars}
+use Rattle.history_model.specs.News.{is_some_entry}
 use Rattle.job_table.proofs.LeastMomentLemmas.{calendars-rows, calendars-jobs}
 use Rattle.loaded_jobs.proofs.EventsLemmas.{calendars-rows as stay-rows, calendars-names}
 use Rattle.job_table.proofs.JobTable.has_calendars.Goals as goal

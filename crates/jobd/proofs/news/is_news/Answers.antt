@@ -2,8 +2,8 @@
 use Rattle.std.proofs.Common.{◌≡◌}
 use Rattle.std.specs.List.{list_any}
 use Rattle.history_model.specs.Moments.{next_moment}
-use Rattle.job_table.specs.NextMoments.{have_calendars}
-use Rattle.jobd.specs.News.{is_moment_reached as has_come}
+use Rattle.history_model.specs.News.{have_calendars}
+use Rattle.history_model.specs.News.{is_moment_reached as has_come}
 use Rattle.jobd.proofs.news.is_news.Goals as goal
 
 pub returns : goal.returns

@@ -1,6 +1,6 @@
 -- The answers to the goals of `news::is_reached`.
 use Rattle.std.proofs.Common.{sym, ap, ◌∙◌}
-use Rattle.jobd.specs.News.{is_moment_reached as has_reached}
+use Rattle.history_model.specs.News.{is_moment_reached as has_reached}
 use Rattle.jobd.proofs.NewsLemmas.{reached}
 use Rattle.jobd.proofs.news.is_reached.Goals as goal
 

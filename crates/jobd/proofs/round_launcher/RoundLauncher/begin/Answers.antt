@@ -1,7 +1,7 @@
 -- Whether the reading is handed in on its own.
 use Rattle.std.proofs.Common.{rules, ◌≡◌, true, false, refl, sym, ap, subst, ◌∙◌}
 use Rattle.loaded_jobs.specs.StandsFor.{KeepsState}
-use Rattle.jobd.specs.News.{may_change}
+use Rattle.history_model.specs.News.{may_change}
 use Rattle.jobd.specs.Launches.{Reads}
 use Rattle.jobd.proofs.round_launcher.RoundLauncher.begin.Goals as goal
 

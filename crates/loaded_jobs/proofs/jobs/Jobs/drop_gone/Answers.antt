@@ -5,7 +5,7 @@ use Rattle.std.specs.List.{list_any, filter}
 use Rattle.loaded_jobs.specs.Tables.{IsOnce, definition_of_number}
 use Rattle.loaded_jobs.specs.Seats.{name, has_gone_under}
 use Rattle.loaded_jobs.specs.Index.{ArePlaced}
-use Rattle.loaded_jobs.specs.Minutes.{is_some_entry}
+use Rattle.history_model.specs.News.{is_some_entry}
 use Rattle.loaded_jobs.specs.Triggers.{stays_under}
 use Rattle.loaded_jobs.proofs.ListLemmas.{lent-back}
 use Rattle.loaded_jobs.proofs.TidyLemmas.{tidy-once}

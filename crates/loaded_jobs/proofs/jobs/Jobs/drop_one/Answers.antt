@@ -7,7 +7,7 @@ use Rattle.loaded_jobs.specs.Tables.{IsOnce, definition_of_number}
 use Rattle.loaded_jobs.specs.Seats.{name, seat_stays}
 use Rattle.loaded_jobs.specs.Index.{ArePlaced, place_in}
 use Rattle.loaded_jobs.specs.Leaving.{AllStayBut}
-use Rattle.loaded_jobs.specs.Minutes.{is_some_entry}
+use Rattle.history_model.specs.News.{is_some_entry}
 use Rattle.loaded_jobs.specs.declared.seat.Seat.{Seat}
 use Rattle.loaded_jobs.proofs.ListLemmas.{lent-back}
 use Rattle.loaded_jobs.proofs.MomentsLemmas.{get-at}

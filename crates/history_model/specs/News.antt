@@ -1,11 +1,21 @@
 -- Which readings of the clocks may change something.
-use Rattle.std.specs.Prelude.{ℕ, Bool, true, false, ◌||◌, ◌&&◌, nat_le, nat_lt, List, Option, Some, None}
+use Rattle.std.specs.Prelude.{ℕ, Bool, true, false, ◌||◌, ◌&&◌, nat_le, nat_lt, List, [], ◌∷◌, Option, Some, None}
 use Rattle.std.specs.List.{list_any}
 use Rattle.history_model.specs.declared.Reading.{Reading}
+use Rattle.history_model.specs.declared.Entry.{Entry}
+use Rattle.history_model.specs.Clock.{definition_of}
 use Rattle.history_model.specs.Calendar.{crossed}
 use Rattle.history_model.specs.Moments.{next_moment}
 use Rattle.history_model.specs.Machine.{Job}
-use Rattle.job_table.specs.NextMoments.{have_calendars}
+
+-- there is a calendar entry
+abbrev pub is_some_entry : List Entry → Bool
+is_some_entry [] = false
+is_some_entry (entry ∷ entries) = true
+
+-- some job has calendar entries
+abbrev pub have_calendars : List Job → Bool
+have_calendars jobs = list_any (λ job. is_some_entry (definition_of job.past).calendar) jobs
 
 -- the moment, if there is one, is reached
 abbrev pub is_moment_reached : ℕ → Option ℕ → Bool
