@@ -3,10 +3,11 @@
 #             passed over the same files is not proved or tried again; with 13b everything is. It leaves the program in build/ too
 # make times  the build and then the gate, with nothing kept from earlier runs: how long the build took, and what each crate cost in processor seconds
 # make build  proves, and leaves the program as build/jobd, with build/jobctl and build/jobscope as links to it
+# make install  puts the program of build/ under its three names below PREFIX; make uninstall removes it
 # make dist   the archive of the program in build/, with what belongs to it; make deb, the Debian package of it
 # make bench  times build/jobd, the calendar and the live launcher, and counts the instructions of a line; BASELINE=PROGRAM takes turns
 #             with another program
-.PHONY: run test times bench need_rt
+.PHONY: run test times bench need_rt build install uninstall dist deb
 
 # One job a check, as many checks side by side as there are processors: two jobs of one check cost a quarter more.
 RT_JOBS ?= $(shell nproc)
@@ -37,11 +38,38 @@ bench: build
 need_rt:
 	@command -v rt > /dev/null 2>&1 || { echo "rt is not on the PATH: install the Rattle kit (README, From source)" >&2; exit 127; }
 
-# make install, make uninstall: the program of build/ under its three names, manual pages, completions, documents and licences, below PREFIX
-# (/usr/local), each path behind DESTDIR
-include install.mk
+# make build: proves the program and all that it stands on (tools/build_all.py: as many crates side by side as there are processors), and
+# leaves it as build/jobd, with build/jobctl and build/jobscope as links to it. What an earlier build on this machine passed
+# over the same files is not proved again; with kit 13f, what a gate passed neither.
+PROGRAM := jobd_program
+# The program acts by the name that it is started under. The links are hard ones: the gate of kit 13b stops at a symbolic link in any folder here.
+put_program = install -m 755 crates/$(PROGRAM)/out/$(PROGRAM) build/jobd && ln -f build/jobd build/jobctl && ln -f build/jobd build/jobscope
+# Which commit and which kit stand behind the program of build/.
+say_proved = { echo "Commit: $$(git rev-parse HEAD)"; echo "Kit: $$(rt version)"; \
+    echo "Program: $$(cd build && sha256sum jobd)"; } > build/proved.txt
 
-# make dist, make deb: by packaging/
-include dist.mk
+build: need_rt
+	@mkdir -p build
+	@rm -f build/proved.txt
+	@python3 tools/build_all.py $(PROGRAM)
+	@$(put_program)
+	@$(say_proved)
 
-include build.mk
+# make install, make uninstall: packaging/install.sh puts the program of build/ under its three names, manual pages, completions, documents
+# and licences below PREFIX, each path behind DESTDIR, or removes them. A packager sets DESTDIR to a scratch folder.
+PREFIX ?= /usr/local
+DESTDIR ?=
+
+install:
+	@PREFIX='$(PREFIX)' DESTDIR='$(DESTDIR)' sh packaging/install.sh
+
+uninstall:
+	@PREFIX='$(PREFIX)' DESTDIR='$(DESTDIR)' sh packaging/install.sh uninstall
+
+# make dist: dist/kivgrond-VERSION-x86_64-linux.tar.gz; make deb: dist/jobd_VERSION_amd64.deb. Both take the program of build/ as it
+# is, and say of it whether `make build` proved it at this commit. They need no kit, no compiler and no network.
+dist:
+	@sh packaging/dist.sh
+
+deb: dist
+	@sh packaging/deb.sh

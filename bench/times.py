@@ -6,7 +6,7 @@ of the build by the clock, and the processor seconds of each crate's proof, test
 
 It calls rt's own functions, with RT_JOBS lanes (as many as there are processors if it is unset). The gate takes what the build proved, as it does for
 users: each part is done once. So the crates of the program are counted without the gate's warnings of contracts that no call can meet, which take
-4 to 14 % of a check (build_all.py). A kit whose rt keeps nothing (13b) runs the gate alone. What was proved is then kept as by any other run. The figures
+4 to 14 % of a check (tools/build_all.py). A kit whose rt keeps nothing (13b) runs the gate alone. What was proved is then kept as by any other run. The figures
 are appended to bench/history.csv, and what each proof took is left in bench/crate_seconds.csv, by which `make build` orders the crates. Each process that
 rt starts is counted by its user and system time, its own children included, and put down to the crate that it names:
 
@@ -29,7 +29,7 @@ sys.dont_write_bytecode = True
 import history
 
 HERE = os.path.dirname(os.path.abspath(__file__))
-sys.path.insert(0, os.path.dirname(HERE))
+sys.path.insert(0, f"{os.path.dirname(HERE)}/tools")
 import build_all
 import kit
 

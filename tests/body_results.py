@@ -1,5 +1,5 @@
 #!/usr/bin/env python3
-"""Keeps wrong_bodies/RESULTS.csv: for each wrong body the tree in which it was last refused, and by what.
+"""Keeps tests/wrong_bodies/RESULTS.csv: for each wrong body the tree in which it was last refused, and by what.
 
     tests/body_results.py note FILE    notes the lines `refused CRATE/NAME ..` that tests/wrong_bodies.sh wrote into FILE
     tests/body_results.py stale        lists each wrong body that is to be tried: its crate has other clauses or definitions now than
@@ -15,7 +15,7 @@ import subprocess
 import sys
 
 TOP = os.path.dirname(os.path.dirname(os.path.abspath(__file__)))
-FILE = f"{TOP}/wrong_bodies/RESULTS.csv"
+FILE = f"{TOP}/tests/wrong_bodies/RESULTS.csv"
 COLUMNS = ["crate", "body", "tree", "refused"]
 CLAUSE = re.compile(r"\b(?:ensures|requires)\*?\s+(?:\w+\s+)?\{")
 
@@ -26,10 +26,10 @@ def git(*words):
 
 def bodies():
     """Each wrong body that stands in the tree, as (crate, name)."""
-    for path in sorted(glob.glob(f"{TOP}/wrong_bodies/*/*.edit") + glob.glob(f"{TOP}/crates/*/must-fail/*.edit")):
+    for path in sorted(glob.glob(f"{TOP}/tests/wrong_bodies/*/*.edit") + glob.glob(f"{TOP}/crates/*/must-fail/*.edit")):
         with open(path) as it:
             parts = re.findall(r"(?m)^# part: (\S+)", it.read())
-        crate = path[len(TOP) :].split("/")[2]
+        crate = re.search(r"/(?:wrong_bodies|crates)/([^/]+)/", path[len(TOP) :])[1]
         edit = os.path.basename(path)[: -len(".edit")]
         yield from ((crate, f"{edit}.{it}" if parts else edit) for it in parts or [edit])
 

@@ -15,7 +15,7 @@ fail() {
 
 # A copy of what an install reads, so that a stand-in touches no build.
 mkdir -p "$scratch/tree/build"
-cp -r .gitignore Makefile ./*.mk crates.txt VERSION man completions contrib docs examples packaging README.md CHANGELOG.md LICENSE-MIT LICENSE-APACHE \
+cp -r .gitignore Makefile crates.txt VERSION man completions contrib docs examples packaging README.md CHANGELOG.md LICENSE-MIT LICENSE-APACHE \
     "$scratch/tree"
 stand_ins=0
 if [ -x build/jobd ]; then

@@ -13,7 +13,7 @@ bench/RESULTS.md. What is looked for:
   each of these names; in the README of a crate, some function of this crate, if it has one of that name.
 - A file that a code span names by its ending, as `due.rt`, has to be there.
 - Each wrong body has to be named in a document, or the edit that it is a part of. They stand in crates/CRATE/must-fail/ and in
-  wrong_bodies/CRATE/.
+  tests/wrong_bodies/CRATE/.
 - Where a comment names specs/NAME or proofs/NAME, its crate has to have that file.
 
 One line a fault; the status is 1 if there is one.
@@ -63,14 +63,14 @@ def documents():
 
 
 def sources():
-    for path in files_below("crates", "wrong_bodies", "tests", "bench", "examples", "completions", "contrib", "man"):
+    for path in files_below("crates", "tests", "tools", "bench", "examples", "completions", "contrib", "man"):
         if not path.endswith(".md"):
             yield path
 
 
 def wrong_bodies():
     """Each wrong body, with its edit's name and path."""
-    for path in files_below("crates", "wrong_bodies"):
+    for path in files_below("crates", "tests/wrong_bodies"):
         if path.endswith(".edit"):
             parts = re.findall(r"(?m)^# part: (\S+)", text_of(path))
             edit = os.path.basename(path)[: -len(".edit")]
@@ -130,8 +130,7 @@ def main():
         known |= words
         if path.endswith((".antt", ".rt")):
             holders.setdefault(os.path.basename(path).rsplit(".", 1)[0], []).append(words)
-    for name in ("crates.txt", "Makefile", "install.mk", "build.mk", "build_all.py", "check_crate.py", "kit.py", "lanes.py", "proofs_kept.py"):
-        known |= {name.partition(".")[0]}
+    for name in ("crates.txt", "Makefile"):
         known |= set(WORD.findall(text_of(f"{TOP}/{name}")))
     faults, named = [], set()
     for path in documents():

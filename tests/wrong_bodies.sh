@@ -4,7 +4,7 @@
 #   tests/wrong_bodies.sh [--gate] [--only-stale] [CRATE..]
 #   tests/wrong_bodies.sh --stale
 #
-# A wrong body is an edit of wrong_bodies/CRATE/, or one part of a joined edit there or in crates/CRATE/must-fail/ (the gate
+# A wrong body is an edit of tests/wrong_bodies/CRATE/, or one part of a joined edit there or in crates/CRATE/must-fail/ (the gate
 # tries the parts of a joined edit together). With --gate the other edits of must-fail/ are tried too. Without CRATE those of each crate are.
 # RT_JOBS says how many are tried side by side (as many as there are processors and memory allows). One line a wrong body, at the end:
 #
@@ -13,7 +13,7 @@
 #   refused CRATE/NAME elsewhere: ..             a proof or a definition is refused first: look whether a clause says it
 #   NOT REFUSED CRATE/NAME ..                    the contract is too weak, or the edit can't be read
 #
-# The last line counts them. The status is 1 if one was not refused. What was refused is noted in wrong_bodies/RESULTS.csv, with the
+# The last line counts them. The status is 1 if one was not refused. What was refused is noted in tests/wrong_bodies/RESULTS.csv, with the
 # commit and what refused it; --stale tries nothing, and lists the wrong bodies whose crate has other clauses since; --only-stale tries those.
 set -euo pipefail
 top=$(cd "$(dirname "$0")/.." && pwd)
@@ -32,12 +32,12 @@ done
 # part_edits CRATE TO: lays each wrong body of the crate as an edit of its own into the folder TO.
 part_edits() {
   local edit name
-  for edit in "$top/wrong_bodies/$1"/*.edit "$top/crates/$1/must-fail"/*.edit; do
+  for edit in "$top/tests/wrong_bodies/$1"/*.edit "$top/crates/$1/must-fail"/*.edit; do
     [ -f "$edit" ] || continue
     name=$(basename "$edit" .edit)
     if grep -q '^# part: ' "$edit"; then
       awk -v to="$2/$name." '/^# part: /{ if (out) close(out); out = to substr($0, 9) ".edit"; next } out { print > out }' "$edit"
-    elif [ -n "$gate" ] || [ "$(dirname "$edit")" = "$top/wrong_bodies/$1" ]; then
+    elif [ -n "$gate" ] || [ "$(dirname "$edit")" = "$top/tests/wrong_bodies/$1" ]; then
       cp "$edit" "$2/"
     fi
   done
@@ -61,7 +61,10 @@ fi
 room=$(mktemp -d "${TMPDIR:-/tmp}/wrong-bodies-XXXXXX")
 trap 'rm -rf "$room"' EXIT
 [ -z "$stale" ] || python3 "$top/tests/body_results.py" stale > "$room/stale" || true
-cp "$top"/{crates.txt,HANDLES,kit.py,lanes.py,check_crate.py,proofs_kept.py} "$top/tests/try_bodies.py" "$room/"
+mkdir "$room/tools" "$room/tests"
+cp "$top"/{crates.txt,HANDLES} "$room/"
+cp "$top"/tools/{kit,lanes,check_crate,proofs_kept}.py "$room/tools/"
+cp "$top/tests/try_bodies.py" "$room/tests/"
 for crate in "$top"/crates/*/; do
   lay_crate "$(basename "$crate")"
 done
@@ -72,7 +75,7 @@ for crate in "$@"; do
   [ -z "$(ls "$room/crates/$crate/must-fail")" ] || tried+=("$crate")
 done
 said=$room/said
-{ [ ${#tried[@]} = 0 ] || python3 "$room/try_bodies.py" "${tried[@]}" 2>&1 || true; } | sed -nE \
+{ [ ${#tried[@]} = 0 ] || python3 "$room/tests/try_bodies.py" "${tried[@]}" 2>&1 || true; } | sed -nE \
   -e 's,^(rt: )?must-fail ([^:]*)\.edit: refused\, as it must be: (note: )?(\./)?(src/.{0\,140}).*,refused \2 by \5,p;t' \
   -e 's,^(rt: )?must-fail ([^:]*)\.edit: refused\, as it must be: (\./)?(proofs/[^ ]*Answers\.antt:[0-9:]+ error: `[^`]*`: `(search|grind|omega)`: .{0\,80}).*,refused \2 by its goal: \4,p;t' \
   -e 's,^(rt: )?must-fail ([^:]*)\.edit: refused\, as it must be ?:?(.*),refused \2 elsewhere:\3,p;t' \

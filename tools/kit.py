@@ -10,7 +10,7 @@ import threading
 
 sys.dont_write_bytecode = True
 
-TOP = os.path.dirname(os.path.abspath(__file__))
+TOP = os.path.dirname(os.path.dirname(os.path.abspath(__file__)))
 
 
 def load_rt(*needed):

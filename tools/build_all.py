@@ -1,13 +1,12 @@
 #!/usr/bin/env python3
 """Proves a program of this tree and all that it stands on, as many crates side by side as there are processors, and keeps it.
 
-    build_all.py PROGRAM
+    tools/build_all.py PROGRAM
 
 It is `rt ci PROGRAM` without the wrong bodies and the warnings of contracts that no call can meet, which are the gate's. rt's own function is called,
-which works on a copy. lanes.py finds the order and the number of jobs of each check. The program is proved and compiled by two commands, one for each
-compiler, in place of one for its proof and one for each. What the gate or an earlier build passed on this machine is not proved again, and what this passes the gate does not prove again. RT_JOBS bounds the checks
-that run side by side. With a kit whose rt keeps nothing (13b), the same is done by proofs_kept.py: what it proves is kept for the next build and for
-check_crate.py, and the gate proves it again.
+which works on a copy. lanes.py finds the order and the number of jobs of each check. What the gate or an earlier build passed on this machine is not
+proved again, and what this passes the gate does not prove again. RT_JOBS bounds the checks that run side by side. With a kit whose rt keeps nothing
+(13b), the same is done by proofs_kept.py: what it proves is kept for the next build and for check_crate.py, and the gate proves it again.
 
 A line is written as each crate is proved: how many of all are, and its name. What rt said stands in build/build.log; if something is not proved,
 the end of it is written. The program is left in crates/PROGRAM/out/. The last line has the processor time of all, and the time by the clock.
@@ -18,21 +17,13 @@ import os
 import re
 import resource
 import shutil
-import subprocess
 import sys
-import threading
 import time
 
 sys.dont_write_bytecode = True
-from concurrent.futures import ThreadPoolExecutor
-
 from kit import TOP, below, load_rt, rt_keeps
 from lanes import Lanes, measured
 from proofs_kept import Proofs
-
-
-# The second command of a program begins after this share of what its proof and both compilers took last: about when the first has proved it.
-PAUSE = 0.25
 
 
 class Progress(io.StringIO):
@@ -85,46 +76,6 @@ def lanes_of(rt, tasks):
     return Lanes(below, seconds, memory, int(number) if number.isdigit() else rt.processors(), 0.85 * rt.free())
 
 
-def by_two_commands(rt, pause):
-    """rt checks a program, has LLVM compile what was proved, and then Rattle's own compiler, and each reads all that lies below. Here one command checks it
-    and compiles it by LLVM, and another, which begins `pause` seconds later, checks it and compiles it by Rattle's own: beside the last part of the first,
-    which takes one processor. The first is held to what rt wants of a check, so the verdict is that of a proof from nothing; neither makes anything
-    of what it did not prove."""
-    prove = rt.Crate.prove
-    pool, others = ThreadPoolExecutor(1), {}
-
-    def command(words, backend, made):
-        return ["build", *words, "--toolchain", f"{rt.KIT}/toolchain", "--backend", backend, "-o", made]
-
-    def later(crate, words, first):
-        first.wait(pause)
-        if rt.free() < rt.need(crate):
-            first.wait()
-        whole = [*rt.rtlib.guarded(), rt.rtlib.RATTLE, *command(words, "rattle", f"out/{crate.name}.by-rattle.o")]
-        nothing = {"stdin": subprocess.DEVNULL, "stdout": subprocess.DEVNULL, "stderr": subprocess.DEVNULL}
-        return subprocess.run(whole, cwd=crate.folder, **nothing).returncode
-
-    def proved(crate, *commands):
-        if not crate.is_program or commands[0][0] != "check":
-            return prove(crate, *commands)
-        words, first = commands[0][1 : commands[0].index("-o")], threading.Event()
-        others[crate.name] = pool.submit(later, crate, words, first)
-        status = prove(crate, command(words, "llvm", f"out/{crate.name}.o"))
-        first.set()
-        if status:
-            others.pop(crate.name).result()
-        return status
-
-    def compiled(crate, backend, _words, to):
-        if backend == "rattle" and others.pop(crate.name).result():
-            rt.say("note: Rattle's own compiler did not compile this program, so only the LLVM build is run", crate.out)
-            return 0
-        to += rt.BACKENDS[backend]
-        return crate.link(f"{to}.o", to)
-
-    rt.Crate.prove, rt.Crate.compile_by = proved, compiled
-
-
 def without_warnings(help_of):
     """rt asks each check for warnings of contracts that no call can meet, if rattle's help has the word. They take 4 to 14 % of a check, and no verdict
     rests on them: the gate's own proofs ask for them, a build does not."""
@@ -146,7 +97,6 @@ def build_by_rt(program, rt):
 
     rt.run, rt.edits_of = run_and_take, lambda crate: ([], [])
     rt.in_lanes = lambda tasks: lanes_of(rt, tasks).run(lambda task, jobs, given: tasks[task][3](given, jobs))
-    by_two_commands(rt, PAUSE * measured(f"{TOP}/bench/crate_seconds.csv").get(program, 400))
     rt.rtlib.help_of = without_warnings(rt.rtlib.help_of)
     with open("build/build.log", "w+", encoding="utf-8", errors="replace") as log:
         with contextlib.redirect_stdout(Progress(log, sys.stdout, count)):
@@ -165,7 +115,7 @@ def main(program):
     os.environ.pop("CI", None)
     os.makedirs("build", exist_ok=True)
     if rt_keeps():
-        status = build_by_rt(program, load_rt("ci", "run", "edits_of", "in_lanes", "processors", "free", "need", "say", "Crate", "rtlib", "KIT", "BACKENDS"))
+        status = build_by_rt(program, load_rt("ci", "run", "edits_of", "in_lanes", "processors", "free", "rtlib"))
     else:
         status = build_by_ours(program)
     used = [resource.getrusage(it) for it in (resource.RUSAGE_SELF, resource.RUSAGE_CHILDREN)]

@@ -1,8 +1,8 @@
 #!/usr/bin/env python3
 """Checks one crate of this tree over what `rt ci` or `make build` proved of the crates below, and keeps its work for the next check.
 
-    check_crate.py NAME [FLAG..]
-    check_crate.py NAME --must-fail [FILE.edit..]
+    tools/check_crate.py NAME [FLAG..]
+    tools/check_crate.py NAME --must-fail [FILE.edit..]
 
 What is not proved yet of the crates below is proved first, and kept: by rt, if it keeps what it proved, else by proofs_kept.py. `rt check` does not take
 that: it makes each library below anew, which can last an hour. Flags go to the check, as `--only path::of::function` or `--jobs 2`; without them all of the crate is checked, by one job. What was
