@@ -7,7 +7,7 @@ First: `rm -r crates/CRATE/out/incremental; python3 tools/check_crate.py CRATE`.
 one for each module, written as it goes. So the time between two files is what the later one took, by the clock. The NUMBER (25) dearest
 modules are listed, then what each kind of module took together, and how large its files are. Seconds grow with what else the machine does; sizes
 don't, and those of the Lts go with their time (their correlation was 0.8 to 0.9 in each sixth of a check of child_edge). So compare forms of a function by size. If the crate's library was built too (`rt lib`), a line of an Lts ends with
-how many values are let go within the function, part by part: each is a step, on each way out (docs/ARCHITECTURE.md, "Cheap to prove").
+how many values are let go within the function, part by part: each is a step, on each way out (docs/CHEAP_TO_PROVE.md).
 
     F.Lts        the steps of the function F: grows with its calls, and with each way out that lets values go
     F.Proof      the proof that F meets its clauses; F.Answers, what was written of it

@@ -11,7 +11,8 @@ bench/RESULTS.md. What is looked for:
 - Of `File.name`, as `Due.is_throttled`, a file of that name has to be there and to hold the name.
 - Of `Type::call` or `call` with clauses behind it, as `Throttle::free_at` (`past`), some function of that name has to have a clause of
   each of these names; in the README of a crate, some function of this crate, if it has one of that name.
-- A file that a code span names by its ending, as `due.rt`, has to be there.
+- A file that a code span names by its ending, as `due.rt`, has to be there; in a drawing, as `outside/order.rt`, below `src/` of that crate.
+- No row of a table in the pages that a reader begins with (SHORT) is longer than 200 characters.
 - Each wrong body has to be named in a document, or the edit that it is a part of. They stand in crates/CRATE/must-fail/ and in
   tests/wrong_bodies/CRATE/.
 - Where a comment names specs/NAME or proofs/NAME, its crate has to have that file.
@@ -41,6 +42,11 @@ CLAUSE = re.compile(r"^\s*(?:ensures|requires)\*?\s+(\w+)\s*\{", re.M)
 # Words before a dot that name no file: keys of a definition, as in `KeepAlive.NetworkState`, words that stand for any name, and what
 # `make dist` writes.
 NO_FILES = {"KeepAlive", "Sockets", "StartCalendarInterval", "NAME", "File", "PROVED"}
+
+
+# Pages whose tables are read first, and the longest row that they may have.
+SHORT = {"docs/MAP.md", "docs/GLOSSARY.md", "docs/CHANGING.md", "docs/CHEAP_TO_PROVE.md"}
+LONGEST_ROW = 200
 
 
 def files_below(*folders):
@@ -121,6 +127,26 @@ def faults_in_spans(path, text, known, files):
                     yield f"{short}:{number}: there is no file {name}"
 
 
+def faults_in_drawings(path, text, files):
+    """A drawing, which stands between fences, names a file that is not there."""
+    short, is_drawing = os.path.relpath(path, TOP), False
+    for number, line in enumerate(text.splitlines(), 1):
+        if line.startswith("```"):
+            is_drawing = not is_drawing
+        for name in FILE.findall(line) if is_drawing else ():
+            crate, _, rest = name.partition("/")
+            if f"crates/{crate}/src/{rest}" not in files and not any(it.endswith(f"/{name}") for it in files):
+                yield f"{short}:{number}: there is no file {name}"
+
+
+def faults_in_rows(path, text):
+    """A table of a page that is to be short has a long row."""
+    short = os.path.relpath(path, TOP)
+    for number, line in enumerate(text.splitlines(), 1):
+        if short in SHORT and line.startswith("|") and len(line) > LONGEST_ROW:
+            yield f"{short}:{number}: a row of {len(line)} characters"
+
+
 def main():
     known, holders = set(), {}
     clauses, files = clauses_of(), {os.path.relpath(it, TOP) for it in files_below("")}
@@ -136,6 +162,7 @@ def main():
     for path in documents():
         short, text = os.path.relpath(path, TOP), text_of(path)
         faults += [*faults_in_clauses(path, text, clauses, crates), *faults_in_spans(path, text, known, files)]
+        faults += [*faults_in_drawings(path, text, files), *faults_in_rows(path, text)]
         for number, line in enumerate(text.splitlines(), 1):
             words = set(WORD.findall(line))
             named |= words
