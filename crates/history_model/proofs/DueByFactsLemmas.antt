@@ -64,14 +64,14 @@ module _ (up at : ℕ) (order : up ≤ at) where
       let refused = both at (coming_after up SECOND f.term_refused) (coming_after up SECOND f.kill_refused) parts.1 in
       let out = guarded (nat_lt 0 f.definition.exit_timeout) (coming_after up (SECOND * f.definition.exit_timeout) f.term_ordered)
       (is_over (SECOND * f.definition.exit_timeout) at f.term_ordered) (is_over (SECOND * f.definition.exit_timeout) up f.term_ordered) parts.0 (over-same (SECOND * f.definition.exit_timeout) f.term_ordered) in
-      kill-shape f.strikes f.stops _ _ _ _ _ out (λ i. not f.is_kill_done && not (within-same SECOND f.kill_refused refused.1 i))
+      kill-shape f.is_struck f.is_stopping _ _ _ _ _ out (λ i. not f.is_kill_done && not (within-same SECOND f.kill_refused refused.1 i))
 
   terms : (f : Facts) → IsLater at (coming_end f up) → may_term_by f at ≡ may_term_by f up
   terms f later =
       let parts = both at (cond (nat_lt 0 f.definition.exit_timeout) (coming_after up (SECOND * f.definition.exit_timeout) f.term_ordered) None)
       (sooner (coming_after up SECOND f.term_refused) (coming_after up SECOND f.kill_refused)) later in
       let refused = both at (coming_after up SECOND f.term_refused) (coming_after up SECOND f.kill_refused) parts.1 in
-      λ i. not f.strikes && f.stops && not f.is_kill_done && (not f.is_term_done && not (within-same SECOND f.term_refused refused.0 i))
+      λ i. not f.is_struck && f.is_stopping && not f.is_kill_done && (not f.is_term_done && not (within-same SECOND f.term_refused refused.0 i))
 
   record Parts (f : Facts) : Type 0 where
     period : IsLater at (coming_period f.definition.start_interval f.load_up up)
@@ -90,7 +90,7 @@ module _ (up at : ℕ) (order : up ≤ at) where
   throttled-same f later = let parts = parts-of f later in throttled f parts.spawn parts.refusal
 
   beside : (f : Facts) (c : Option (ℕ × ℕ)) → c ≡ f.living_child → Parts f → due_beside_by c f at ≡ due_beside_by c f up
-  beside f None is parts = λ i. cond (not f.removes && is_wanted_by f && not (throttled f parts.spawn parts.refusal i)
+  beside f None is parts = λ i. cond (not f.is_removing && is_wanted_by f && not (throttled f parts.spawn parts.refusal i)
       && not (f.definition.launch_only_once && f.spawned_before) && nat_lt f.run_count (2 ^ 63)) (Some (Spawn (f.run_count + 1) (first f.queue))) None
   beside f (Some c) is parts =
       let end : IsLater at (coming_end f up) = subst (λ o. IsLater at (cond (is_some o) (coming_end f up) None)) (sym is) parts.end in

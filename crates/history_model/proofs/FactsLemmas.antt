@@ -38,7 +38,7 @@ facts-WaitRefused t run = refl
 
 pub facts-Start : (t : History) →
     let f = facts_of t in
-    let fires = not (is_busy_by f) || f.stops in
+    let fires = not (is_busy_by f) || f.is_stopping in
     facts_of (Asked Start ∷ t) ≡ fired_by fires kinds.Start f
 facts-Start t = refl
 
@@ -46,21 +46,21 @@ and-or : (a b c : Bool) → (a && (b || c)) ≡ (a && b || a && c)
 and-or true b c = refl
 and-or false b c = refl
 
-pub facts-Stop : (t : History) → let f = facts_of t in facts_of (Asked Stop ∷ t) ≡ record f { stops = is_busy_by f }
+pub facts-Stop : (t : History) → let f = facts_of t in facts_of (Asked Stop ∷ t) ≡ record f { is_stopping = is_busy_by f }
 facts-Stop t = rw (and-true (is_busy t)) refl
 
-pub facts-Unload : (t : History) → let f = facts_of t in facts_of (Asked Unload ∷ t) ≡ record f { stops = is_busy_by f; removes = true }
+pub facts-Unload : (t : History) → let f = facts_of t in facts_of (Asked Unload ∷ t) ≡ record f { is_stopping = is_busy_by f; is_removing = true }
 facts-Unload t = rw (and-true (is_busy t)) refl
 
-pub facts-Shutdown : (t : History) → let f = facts_of t in facts_of (Asked Shutdown ∷ t) ≡ record f { stops = is_busy_by f; removes = true }
+pub facts-Shutdown : (t : History) → let f = facts_of t in facts_of (Asked Shutdown ∷ t) ≡ record f { is_stopping = is_busy_by f; is_removing = true }
 facts-Shutdown t = rw (and-true (is_busy t)) refl
 
 pub facts-Kickstart : (t : History) (kills_first : Bool) →
     let f = facts_of t in
-    let fires = kills_first || (not (is_busy_by f) || f.stops) in
-    facts_of (Asked (Kickstart kills_first) ∷ t) ≡ record (fired_by fires kinds.Kickstart f) { strikes = is_busy_by f && kills_first || f.strikes }
+    let fires = kills_first || (not (is_busy_by f) || f.is_stopping) in
+    facts_of (Asked (Kickstart kills_first) ∷ t) ≡ record (fired_by fires kinds.Kickstart f) { is_struck = is_busy_by f && kills_first || f.is_struck }
 facts-Kickstart t kills_first = λ i. record (fired_by (fires (Asked (Kickstart kills_first)) t) kinds.Kickstart (facts_of t)) {
-  strikes = and-or (is_busy t) kills_first (list_any is_strike (since is_spawn_order t)) i;
+  is_struck = and-or (is_busy t) kills_first (list_any is_strike (since is_spawn_order t)) i;
 }
 
 -- ---- a spawn
@@ -80,8 +80,8 @@ pub facts-Spawn : (t : History) → IsLawful t → (run : ℕ) (conn : Option �
       is_term_done = false;
       is_kill_done = false;
       is_ordered_to_end = false;
-      stops = false;
-      strikes = false;
+      is_stopping = false;
+      is_struck = false;
     }
 facts-Spawn t lawful run conn e =
     let fact = due-Spawn t run conn e in
@@ -114,8 +114,8 @@ facts-Spawn t lawful run conn e =
       is_term_done = termed i;
       is_kill_done = killed i;
       is_ordered_to_end = heard i;
-      stops = idle i;
-      strikes = idle i;
+      is_stopping = idle i;
+      is_struck = idle i;
     }
 
 -- ---- a spawn that was answered ok
@@ -234,13 +234,13 @@ facts-Spawned t lawful run pid conn order fact =
       demand = demand i;
       spawned_before = true;
       queue = queue i;
-      stops = busy i && asked_to_stop t;
-      strikes = busy i && asked_to_end t;
+      is_stopping = busy i && asked_to_stop t;
+      is_struck = busy i && asked_to_end t;
     }
 
 pub facts-SpawnRefused : (t : History) → IsLawful t → (run : ℕ) (conn : Option ℕ) → awaited t ≡ Some (Spawn run conn) → Answers t (SpawnRefused run) →
     let f = facts_of t in
-    facts_of (Answered (SpawnRefused run) ∷ t) ≡ record f { awaited_act = None; spawn_refused = Some (now t).up; stops = false; strikes = false }
+    facts_of (Answered (SpawnRefused run) ∷ t) ≡ record f { awaited_act = None; spawn_refused = Some (now t).up; is_stopping = false; is_struck = false }
 facts-SpawnRefused t lawful run conn order fact =
     let fresh = (sound t lawful).1 run conn order in
     let empty : living t ≡ [] = fresh.3 in
@@ -248,8 +248,8 @@ facts-SpawnRefused t lawful run conn order fact =
     λ i. record (facts_of t) {
       awaited_act = settled i;
       spawn_refused = Some (now t).up;
-      stops = (is_some (first (empty i)) || is_some_spawn (settled i)) && asked_to_stop t;
-      strikes = (is_some (first (empty i)) || is_some_spawn (settled i)) && asked_to_end t;
+      is_stopping = (is_some (first (empty i)) || is_some_spawn (settled i)) && asked_to_stop t;
+      is_struck = (is_some (first (empty i)) || is_some_spawn (settled i)) && asked_to_end t;
     }
 
 -- ---- an end
@@ -277,8 +277,8 @@ pub facts-RunEnded : (t : History) → IsLawful t → (run : ℕ) (how : Ended) 
       awaited_act = settle (RunEnded run how) f.awaited_act;
       ended = Some (run, how);
       has_crashed = is_crash_end f.is_ordered_to_end how;
-      stops = false;
-      strikes = false;
+      is_stopping = false;
+      is_struck = false;
     }
 facts-RunEnded t lawful run how fact =
     let present = child-present t (run, fact.pid) (sound t lawful).0 fact.stands in
@@ -292,8 +292,8 @@ facts-RunEnded t lawful run how fact =
       awaited_act = more i;
       ended = Some (run, how);
       has_crashed = is_crash_end (list_any (is_stopping_order (number i)) t) how;
-      stops = idle i && asked_to_stop t;
-      strikes = idle i && asked_to_end t;
+      is_stopping = idle i && asked_to_stop t;
+      is_struck = idle i && asked_to_end t;
     }
 
 -- ---- TERM and KILL
@@ -323,8 +323,8 @@ facts-Term t lawful run e =
       term_ordered = last (cond (this i) ((now t).up ∷ moments (is_term_order (runs t)) t) (moments (is_term_order (runs t)) t));
       is_ordered_to_end = this i || list_any (is_stopping_order (runs t)) t;
       has_crashed = crash i;
-      stops = (is_some (child t) || is_some_spawn (sym fact.free i)) && asked_to_stop t;
-      strikes = (is_some (child t) || is_some_spawn (sym fact.free i)) && asked_to_end t;
+      is_stopping = (is_some (child t) || is_some_spawn (sym fact.free i)) && asked_to_stop t;
+      is_struck = (is_some (child t) || is_some_spawn (sym fact.free i)) && asked_to_end t;
     }
 
 pub facts-Kill : (t : History) → IsLawful t → (run : ℕ) → due t ≡ Some (Kill run) →
@@ -339,8 +339,8 @@ facts-Kill t lawful run e =
       awaited_act = Some (Kill run);
       is_ordered_to_end = this i || list_any (is_stopping_order (runs t)) t;
       has_crashed = crash i;
-      stops = (is_some (child t) || is_some_spawn (sym fact.free i)) && asked_to_stop t;
-      strikes = (is_some (child t) || is_some_spawn (sym fact.free i)) && asked_to_end t;
+      is_stopping = (is_some (child t) || is_some_spawn (sym fact.free i)) && asked_to_stop t;
+      is_struck = (is_some (child t) || is_some_spawn (sym fact.free i)) && asked_to_end t;
     }
 
 pub answer_term : (run : ℕ) (ok : Bool) (act : Act) → is_answer_to (Termed run ok) act ≡ true → act ≡ Term run
@@ -367,8 +367,8 @@ facts-Termed t lawful run ok fact =
       awaited_act = settled i;
       is_term_done = (this i && ok) || list_any (is_term_answer true (runs t)) t;
       term_refused = (ap (λ b. first (cond (b && not ok) ((now t).up ∷ moments (is_term_answer false (runs t)) t) (moments (is_term_answer false (runs t)) t))) this ∙ first-cond ok (now t).up (moments (is_term_answer false (runs t)) t)) i;
-      stops = ap (λ b. (is_some (child t) || b) && asked_to_stop t) (ap is_some_spawn settled ∙ sym (ap is_some_spawn order)) i;
-      strikes = ap (λ b. (is_some (child t) || b) && asked_to_end t) (ap is_some_spawn settled ∙ sym (ap is_some_spawn order)) i;
+      is_stopping = ap (λ b. (is_some (child t) || b) && asked_to_stop t) (ap is_some_spawn settled ∙ sym (ap is_some_spawn order)) i;
+      is_struck = ap (λ b. (is_some (child t) || b) && asked_to_end t) (ap is_some_spawn settled ∙ sym (ap is_some_spawn order)) i;
     }
 
 pub facts-Killed : (t : History) → IsLawful t → (run : ℕ) (ok : Bool) → Answers t (Killed run ok) →
@@ -383,6 +383,6 @@ facts-Killed t lawful run ok fact =
       awaited_act = settled i;
       is_kill_done = (this i && ok) || list_any (is_kill_answer true (runs t)) t;
       kill_refused = (ap (λ b. first (cond (b && not ok) ((now t).up ∷ moments (is_kill_answer false (runs t)) t) (moments (is_kill_answer false (runs t)) t))) this ∙ first-cond ok (now t).up (moments (is_kill_answer false (runs t)) t)) i;
-      stops = ap (λ b. (is_some (child t) || b) && asked_to_stop t) (ap is_some_spawn settled ∙ sym (ap is_some_spawn order)) i;
-      strikes = ap (λ b. (is_some (child t) || b) && asked_to_end t) (ap is_some_spawn settled ∙ sym (ap is_some_spawn order)) i;
+      is_stopping = ap (λ b. (is_some (child t) || b) && asked_to_stop t) (ap is_some_spawn settled ∙ sym (ap is_some_spawn order)) i;
+      is_struck = ap (λ b. (is_some (child t) || b) && asked_to_end t) (ap is_some_spawn settled ∙ sym (ap is_some_spawn order)) i;
     }

@@ -112,11 +112,11 @@ termed-light f up run ok e =
       g ok = facts_after (Answered (Termed run ok)) up (facts_after (Ordered (Term run)) up f)
 
       later : (o : Option ℕ) →
-          ((f.strikes || (f.stops && ltb 0 f.definition.exit_timeout && is_over (SECOND * f.definition.exit_timeout) up o)) && (not f.is_kill_done && not (is_newest_within SECOND up f.kill_refused))) ≡ false →
-          ((f.strikes || (f.stops && ltb 0 f.definition.exit_timeout && is_over (SECOND * f.definition.exit_timeout) up (or_else o (Some up)))) && (not f.is_kill_done && not (is_newest_within SECOND up f.kill_refused))) ≡ false
+          ((f.is_struck || (f.is_stopping && ltb 0 f.definition.exit_timeout && is_over (SECOND * f.definition.exit_timeout) up o)) && (not f.is_kill_done && not (is_newest_within SECOND up f.kill_refused))) ≡ false →
+          ((f.is_struck || (f.is_stopping && ltb 0 f.definition.exit_timeout && is_over (SECOND * f.definition.exit_timeout) up (or_else o (Some up)))) && (not f.is_kill_done && not (is_newest_within SECOND up f.kill_refused))) ≡ false
       later (Some moment) e = e
       later None e =
-          still-quiet f.strikes f.stops (ltb 0 f.definition.exit_timeout) (leb (up + SECOND * f.definition.exit_timeout) up) (not f.is_kill_done && not (is_newest_within SECOND up f.kill_refused))
+          still-quiet f.is_struck f.is_stopping (ltb 0 f.definition.exit_timeout) (leb (up + SECOND * f.definition.exit_timeout) up) (not f.is_kill_done && not (is_newest_within SECOND up f.kill_refused))
           (zero-over f.definition.exit_timeout up) e
 
       go : (c : ℕ × ℕ) → f.living_child ≡ Some c → may_kill_by (g true) up ≡ false → (b : Bool) → weigh_one (due_by (g b) up) ≡ 0
@@ -150,7 +150,7 @@ kill-child f up run e = pick (is_some f.awaited_act) f.living_child refl e where
 -- a refused spawn is not ordered again at the same moment
 refused-light : (f : Facts) (up run run' : ℕ) (conn : Option ℕ) → weigh_one (due_by (facts_after (Answered (SpawnRefused run')) up (facts_after (Ordered (Spawn run conn)) up f)) up) ≤ 2
 refused-light f up run run' conn =
-    unless-spawn g up (rw (within-now up) (closed (not g.removes && _) (is_newest_within (SECOND * f.definition.throttle_interval) up (Some up)) _ _)) where
+    unless-spawn g up (rw (within-now up) (closed (not g.is_removing && _) (is_newest_within (SECOND * f.definition.throttle_interval) up (Some up)) _ _)) where
       g : Facts
       g = facts_after (Answered (SpawnRefused run')) up (facts_after (Ordered (Spawn run conn)) up f)
 

@@ -63,13 +63,13 @@ abbrev pub facts_after : Item → ℕ → Facts → Facts
 facts_after (Read at calendar) up f =
     fired_by (calendar || crosses_interval f.definition.start_interval f.load_up up at.up)
     (cond calendar kinds.Calendar kinds.Interval) f
-facts_after (Asked Start) up f = fired_by (not (is_busy_by f) || f.stops) kinds.Start f
-facts_after (Asked Stop) up f = record f { stops = is_busy_by f }
-facts_after (Asked Unload) up f = record f { stops = is_busy_by f; removes = true }
-facts_after (Asked Shutdown) up f = record f { stops = is_busy_by f; removes = true }
+facts_after (Asked Start) up f = fired_by (not (is_busy_by f) || f.is_stopping) kinds.Start f
+facts_after (Asked Stop) up f = record f { is_stopping = is_busy_by f }
+facts_after (Asked Unload) up f = record f { is_stopping = is_busy_by f; is_removing = true }
+facts_after (Asked Shutdown) up f = record f { is_stopping = is_busy_by f; is_removing = true }
 facts_after (Asked (Kickstart kills_first)) up f =
-    record (fired_by (kills_first || (not (is_busy_by f) || f.stops)) kinds.Kickstart f)
-    { strikes = is_busy_by f && kills_first || f.strikes }
+    record (fired_by (kills_first || (not (is_busy_by f) || f.is_stopping)) kinds.Kickstart f)
+    { is_struck = is_busy_by f && kills_first || f.is_struck }
 facts_after (Ordered (Spawn run conn)) up f = record f {
   run_count = run;
   awaited_act = Some (Spawn run conn);
@@ -82,8 +82,8 @@ facts_after (Ordered (Spawn run conn)) up f = record f {
   is_term_done = false;
   is_kill_done = false;
   is_ordered_to_end = false;
-  stops = false;
-  strikes = false;
+  is_stopping = false;
+  is_struck = false;
 }
 facts_after (Ordered (Term run)) up f =
     record f {
@@ -104,7 +104,7 @@ facts_after (Answered (Spawned run pid)) up f = record f {
   queue = filter (λ c. not (carries c (conn_of f.awaited_act))) f.queue;
 }
 facts_after (Answered (SpawnRefused run)) up f =
-    record f { awaited_act = None; spawn_refused = Some up; stops = false; strikes = false }
+    record f { awaited_act = None; spawn_refused = Some up; is_stopping = false; is_struck = false }
 facts_after (Answered (Termed run ok)) up f =
     record f {
       awaited_act = None;
@@ -122,8 +122,8 @@ facts_after (RunEnded run how) up f = record f {
   awaited_act = settle (RunEnded run how) f.awaited_act;
   ended = Some (run, how);
   has_crashed = is_crash_end f.is_ordered_to_end how;
-  stops = false;
-  strikes = false;
+  is_stopping = false;
+  is_struck = false;
 }
 facts_after (WaitRefused run) up f = f
 facts_after (Loaded d at) up f = f

@@ -69,21 +69,21 @@ is_wanted_by f = f.has_demand || is_some (first f.queue) || level_by f
 -- `may_spawn`
 abbrev pub may_spawn_by : Facts → ℕ → Bool
 may_spawn_by f up =
-    not f.removes && is_wanted_by f && not (is_throttled_by f up)
+    not f.is_removing && is_wanted_by f && not (is_throttled_by f up)
     && not (f.definition.launch_only_once && f.spawned_before)
     && nat_lt f.run_count (2 ^ 63)
 
 -- `may_kill`, of the present run
 abbrev pub may_kill_by : Facts → ℕ → Bool
 may_kill_by f up =
-    (f.strikes || (f.stops && nat_lt 0 f.definition.exit_timeout
+    (f.is_struck || (f.is_stopping && nat_lt 0 f.definition.exit_timeout
     && is_over (SECOND * f.definition.exit_timeout) up f.term_ordered))
     && (not f.is_kill_done && not (is_newest_within SECOND up f.kill_refused))
 
 -- `may_term`, of the present run
 abbrev pub may_term_by : Facts → ℕ → Bool
 may_term_by f up =
-    not f.strikes && f.stops && not f.is_kill_done
+    not f.is_struck && f.is_stopping && not f.is_kill_done
     && (not f.is_term_done && not (is_newest_within SECOND up f.term_refused))
 
 -- `due_beside`
@@ -102,14 +102,14 @@ abbrev pub refusal_by : Item → Reading → Facts → Option Refusal
 refusal_by (Loaded d at) now f = None
 refusal_by (Read at calendar) now f = unless (not (is_clock_refused now at)) ClockRefused
 refusal_by (Saw path obs) now f = None
-refusal_by (Asked Start) now f = unless (not f.removes) Removing
+refusal_by (Asked Start) now f = unless (not f.is_removing) Removing
 refusal_by (Asked Stop) now f =
-    if f.removes then Some Removing else unless (is_busy_by f) NotRunning
-refusal_by (Asked Unload) now f = unless (not f.removes) Removing
+    if f.is_removing then Some Removing else unless (is_busy_by f) NotRunning
+refusal_by (Asked Unload) now f = unless (not f.is_removing) Removing
 refusal_by (Asked Shutdown) now f = None
-refusal_by (Asked (Kickstart kills_first)) now f = unless (not f.removes) Removing
+refusal_by (Asked (Kickstart kills_first)) now f = unless (not f.is_removing) Removing
 refusal_by (Came conn) now f =
-    if f.removes then Some Removing
+    if f.is_removing then Some Removing
     else if not f.definition.has_sockets || is_number_used f.last_number conn then Some Stale
     else unless (nat_lt (length f.queue) MAX_CONNECTIONS) TooManyConnections
 refusal_by (Left conn) now f = unless (list_any (λ c. c == conn) f.queue) Stale

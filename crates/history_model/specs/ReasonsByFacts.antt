@@ -49,8 +49,8 @@ throttled_until_by f up = if is_throttled_by f up then Some (free_by f) else Non
 -- `reasons_of`
 abbrev pub reasons_by : Facts → ℕ → Reasons
 reasons_by f up = record {
-  is_removing = f.removes;
-  child = option_map (standing_child f.stops f.strikes) f.living_child;
+  is_removing = f.is_removing;
+  child = option_map (standing_child f.is_stopping f.is_struck) f.living_child;
   awaited = f.awaited_act;
   wants = wants_by f;
   throttled_until = throttled_until_by f up;
@@ -61,7 +61,7 @@ reasons_by f up = record {
 -- `needs_event`
 abbrev pub needs_by : Facts → Bool
 needs_by f =
-    f.removes || is_some f.living_child || is_some f.awaited_act
+    f.is_removing || is_some f.living_child || is_some f.awaited_act
     || (f.definition.launch_only_once && f.spawned_before) || not (nat_lt f.run_count (2 ^ 63))
 
 -- `wanted_from`

@@ -269,6 +269,9 @@ pub const MAX_WALL: u64 = 250_000_000_000;
 /// A second, in milliseconds of `up`.
 pub const SECOND: u64 = 1_000;
 
+/// How far back a reading looks for minutes of the calendar, in seconds of `wall`: 400 days.
+pub const CALENDAR_REACH: u64 = 34_560_000;
+
 /// How many jobs may be loaded.
 pub const MAX_JOBS: usize = 1024;
 

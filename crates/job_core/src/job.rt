@@ -48,8 +48,8 @@ pub struct Job {
     demand: Option<DemandKind>,
     new_demand: Option<DemandKind>,
     spawned_before: bool,
-    stops: bool,
-    removes: bool,
+    is_stopping: bool,
+    is_removing: bool,
 }
 
 impl Job {
@@ -95,8 +95,8 @@ impl Job {
             demand,
             new_demand: demand,
             spawned_before: false,
-            stops: false,
-            removes: false,
+            is_stopping: false,
+            is_removing: false,
         })
     }
 
@@ -169,13 +169,13 @@ impl Job {
     fn state(&self) -> JobState
         ensures { result ≡ state_by (facts self.now) }
     {
-        if self.removes {
+        if self.is_removing {
             JobState::Removing
         } else if matches!(self.awaited, Some(Act::Spawn { .. })) {
             JobState::Spawning
         } else if self.child.is_none() {
             JobState::Idle
-        } else if self.stops || self.ending.is_struck() {
+        } else if self.is_stopping || self.ending.is_struck() {
             JobState::Stopping
         } else {
             JobState::Running
@@ -184,16 +184,16 @@ impl Job {
 
     /// Whether an unload or a shutdown was asked.
     pub fn is_removing(&self) -> bool
-        ensures { result ≡ (facts self.now).removes }
+        ensures { result ≡ (facts self.now).is_removing }
     {
-        self.removes
+        self.is_removing
     }
 
     /// Whether the job is being removed, and nothing of it runs.
     pub fn is_gone(&self) -> bool
-        ensures { result ≡ ((facts self.now).removes && not (is_busy_by (facts self.now))) }
+        ensures { result ≡ ((facts self.now).is_removing && not (is_busy_by (facts self.now))) }
     {
-        self.removes && !self.is_busy()
+        self.is_removing && !self.is_busy()
     }
 
     /// The waiting connection at a position, counted from 0.

@@ -33,7 +33,7 @@ ends_of t = record {
   kill_refused = first (moments (is_kill_answer false (runs t)) t);
   is_term_done = list_any (is_term_answer true (runs t)) t;
   is_kill_done = list_any (is_kill_answer true (runs t)) t;
-  strikes = is_struck t;
+  is_struck = is_struck t;
 }
 
 -- at this moment of `up` TERM may be ordered for a run that is being stopped
