@@ -26,6 +26,8 @@ use Rattle.history_model.proofs.SearchLemmas.{filter-less, list_any-implied, mom
 use Rattle.history_model.proofs.LawfulLemmas.{names_run, spawned-named, term-named, termed-named, killed-named, stopping-named, due-Spawn, due-Term, due-Kill, child-not_ended, last_end-ended, awaited-latest, Answers, IsChild, unnamed, eqb-self, eqb-false}
 use Rattle.history_model.proofs.RunsLemmas.{unless_settled-more, answered-settles, sound, child-present, spawned-living, ended-living, awaited-present}
 use Rattle.history_model.specs.DueByFacts.{is_busy_by}
+use Rattle.history_model.specs.declared.Child.{Child}
+use Rattle.history_model.specs.declared.LastEnd.{LastEnd}
 
 pub facts-Read : (t : History) (at : Reading) (calendar : Bool) →
     let f = facts_of t in
@@ -207,7 +209,7 @@ asked_to_end t = list_any is_strike (since is_spawn_order t)
 pub facts-Spawned : (t : History) → IsLawful t → (run pid : ℕ) (conn : Option ℕ) → awaited t ≡ Some (Spawn run conn) → Answers t (Spawned run pid) →
     let f = facts_of t in
     facts_of (Answered (Spawned run pid) ∷ t) ≡ record f {
-      living_child = Some (run, pid);
+      living_child = Some (record { run = run; pid = pid });
       awaited_act = None;
       has_demand = f.has_new_demand;
       demand = f.new_demand;
@@ -263,7 +265,7 @@ ended_no_spawn run how (Some (Close n)) excluded = refl
 ended_no_spawn run how (Some Gone) excluded = refl
 
 -- beside a child no spawn is awaited
-child-no_spawn : (t : History) → IsLawful t → (c : ℕ × ℕ) → child t ≡ Some c → (n : ℕ) (conn : Option ℕ) → awaited t ≡ Some (Spawn n conn) → ⊥
+child-no_spawn : (t : History) → IsLawful t → (c : Child) → child t ≡ Some c → (n : ℕ) (conn : Option ℕ) → awaited t ≡ Some (Spawn n conn) → ⊥
 child-no_spawn t lawful c e n conn order =
     let both = sound t lawful in
     let full : living t ≡ c ∷ [] = (child-present t c both.0 e).1 in
@@ -275,22 +277,22 @@ pub facts-RunEnded : (t : History) → IsLawful t → (run : ℕ) (how : Ended) 
     facts_of (RunEnded run how ∷ t) ≡ record f {
       living_child = None;
       awaited_act = settle (RunEnded run how) f.awaited_act;
-      ended = Some (run, how);
+      ended = Some (record { run = run; how = how });
       has_crashed = is_crash_end f.is_ordered_to_end how;
       is_stopping = false;
       is_struck = false;
     }
 facts-RunEnded t lawful run how fact =
-    let present = child-present t (run, fact.pid) (sound t lawful).0 fact.stands in
+    let present = child-present t (record { run = run; pid = fact.pid }) (sound t lawful).0 fact.stands in
     let number : run ≡ runs t = present.0 in
-    let empty = ended-living t run how (run, fact.pid) refl present.1 in
+    let empty = ended-living t run how (record { run = run; pid = fact.pid }) refl present.1 in
     let more = unless_settled-more (RunEnded run how) (since is_order t) (latest order_in t) in
-    let no_spawn = ended_no_spawn run how (awaited t) (child-no_spawn t lawful (run, fact.pid) fact.stands) in
+    let no_spawn = ended_no_spawn run how (awaited t) (child-no_spawn t lawful (record { run = run; pid = fact.pid }) fact.stands) in
     let idle : is_busy (RunEnded run how ∷ t) ≡ false = (λ i. is_some (first (empty i)) || is_some_spawn (more i)) ∙ no_spawn in
     λ i. record (facts_of t) {
       living_child = first (empty i);
       awaited_act = more i;
-      ended = Some (run, how);
+      ended = Some (record { run = run; how = how });
       has_crashed = is_crash_end (list_any (is_stopping_order (number i)) t) how;
       is_stopping = idle i && asked_to_stop t;
       is_struck = idle i && asked_to_end t;
@@ -299,14 +301,14 @@ facts-RunEnded t lawful run how fact =
 -- ---- TERM and KILL
 
 -- an order for a run that lives changes nothing of the last end
-crash-kept : (t : History) (act : Act) (o : Option (ℕ × Ended)) → ((e : ℕ × Ended) → o ≡ Some e → is_stopping_act e.0 act ≡ false) → crash_of (Ordered act ∷ t) o ≡ crash_of t o
+crash-kept : (t : History) (act : Act) (o : Option LastEnd) → ((e : LastEnd) → o ≡ Some e → is_stopping_act e.run act ≡ false) → crash_of (Ordered act ∷ t) o ≡ crash_of t o
 crash-kept t act None other = refl
 crash-kept t act (Some e) other = rw (other e refl) refl
 
-not_ended-other : (t : History) (run pid : ℕ) → child t ≡ Some (run, pid) → (e : ℕ × Ended) → last_end t ≡ Some e → (run == e.0) ≡ false
-not_ended-other t run pid present e ended = eqb-false run e.0 (λ same.
-    let living_on : has_ended run t ≡ false = child-not_ended t (run, pid) present in
-    let gone : has_ended e.0 t ≡ true = last_end-ended t e ended in
+not_ended-other : (t : History) (run pid : ℕ) → child t ≡ Some (record { run = run; pid = pid }) → (e : LastEnd) → last_end t ≡ Some e → (run == e.run) ≡ false
+not_ended-other t run pid present e ended = eqb-false run e.run (λ same.
+    let living_on : has_ended run t ≡ false = child-not_ended t (record { run = run; pid = pid }) present in
+    let gone : has_ended e.run t ≡ true = last_end-ended t e ended in
     let both : has_ended run t ≡ true = rw same gone in
     false≢true (sym living_on ∙ both))
 
@@ -315,7 +317,7 @@ pub facts-Term : (t : History) → IsLawful t → (run : ℕ) → due t ≡ Some
     facts_of (Ordered (Term run) ∷ t) ≡ record f { awaited_act = Some (Term run); term_ordered = or_else f.term_ordered (Some (now t).up); is_ordered_to_end = true }
 facts-Term t lawful run e =
     let fact = due-Term t run e in
-    let number : run ≡ runs t = (child-present t (run, fact.pid) (sound t lawful).0 fact.present).0 in
+    let number : run ≡ runs t = (child-present t (record { run = run; pid = fact.pid }) (sound t lawful).0 fact.present).0 in
     let this : (run == runs t) ≡ true = eq-eqb run (runs t) number in
     let crash = crash-kept t (Term run) (last_end t) (not_ended-other t run fact.pid fact.present) in
     λ i. record (facts_of t) {
@@ -332,7 +334,7 @@ pub facts-Kill : (t : History) → IsLawful t → (run : ℕ) → due t ≡ Some
     facts_of (Ordered (Kill run) ∷ t) ≡ record f { awaited_act = Some (Kill run); is_ordered_to_end = true }
 facts-Kill t lawful run e =
     let fact = due-Kill t run e in
-    let number : run ≡ runs t = (child-present t (run, fact.pid) (sound t lawful).0 fact.present).0 in
+    let number : run ≡ runs t = (child-present t (record { run = run; pid = fact.pid }) (sound t lawful).0 fact.present).0 in
     let this : (run == runs t) ≡ true = eq-eqb run (runs t) number in
     let crash = crash-kept t (Kill run) (last_end t) (not_ended-other t run fact.pid fact.present) in
     λ i. record (facts_of t) {

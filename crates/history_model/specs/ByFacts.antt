@@ -96,7 +96,7 @@ facts_after (Ordered (Kill run)) up f =
 facts_after (Ordered (Close conn)) up f = f
 facts_after (Ordered Gone) up f = f
 facts_after (Answered (Spawned run pid)) up f = record f {
-  living_child = Some (run, pid);
+  living_child = Some (record { run = run; pid = pid });
   awaited_act = None;
   has_demand = f.has_new_demand;
   demand = f.new_demand;
@@ -120,7 +120,7 @@ facts_after (Answered (Killed run ok)) up f =
 facts_after (RunEnded run how) up f = record f {
   living_child = None;
   awaited_act = settle (RunEnded run how) f.awaited_act;
-  ended = Some (run, how);
+  ended = Some (record { run = run; how = how });
   has_crashed = is_crash_end f.is_ordered_to_end how;
   is_stopping = false;
   is_struck = false;
@@ -130,7 +130,7 @@ facts_after (Loaded d at) up f = f
 facts_after (Saw path obs) up f =
     record (fired_by (watch_fires_by path obs f) kinds.Path f) {
       seen_watched = seen_after (λ p. p) f.definition.watch_paths path obs f.seen_watched;
-      seen_states = seen_after (λ state. state.0) f.definition.path_state path obs f.seen_states;
+      seen_states = seen_after (λ state. state.path) f.definition.path_state path obs f.seen_states;
       seen_queues = seen_after (λ p. p) f.definition.queue_directories path obs f.seen_queues;
     }
 facts_after (Came conn) up f = record f { queue = f.queue ++ conn ∷ []; last_number = Some conn }

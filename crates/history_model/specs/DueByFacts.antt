@@ -21,6 +21,8 @@ use Rattle.history_model.specs.Levels.{end_holds_of, presence_holds, queue_holds
 use Rattle.history_model.specs.Due.{is_within, is_over}
 use Rattle.history_model.specs.Refusals.{unless, is_clock_refused, is_awaited_answer, is_child, is_number_used}
 use Rattle.history_model.specs.Facts.{Facts}
+use Rattle.history_model.specs.declared.Child.{Child}
+use Rattle.history_model.specs.declared.LastEnd.{LastEnd}
 
 -- `is_busy`
 abbrev pub is_busy_by : Facts → Bool
@@ -52,14 +54,14 @@ first_seen holds (x ∷ xs) (obs ∷ seen) =
     if holds x obs then Some x else first_seen holds xs seen
 
 -- `end_holds`: a condition of the definition holds of the last end
-abbrev pub end_holds_by : Definition → Bool → Option (ℕ × Ended) → Bool
+abbrev pub end_holds_by : Definition → Bool → Option LastEnd → Bool
 end_holds_by d has_crashed end = end_holds_of d.successful_exit d.crashed has_crashed end
 
 -- `level_holds`
 abbrev pub level_by : Facts → Bool
 level_by f =
     f.definition.keep_alive || end_holds_by f.definition f.has_crashed f.ended
-    || any_seen (λ state. presence_holds state.1) f.definition.path_state f.seen_states
+    || any_seen (λ state. presence_holds state.present) f.definition.path_state f.seen_states
     || any_seen (λ path. queue_holds) f.definition.queue_directories f.seen_queues
 
 -- `is_wanted`
@@ -87,11 +89,11 @@ may_term_by f up =
     && (not f.is_term_done && not (is_newest_within SECOND up f.term_refused))
 
 -- `due_beside`
-abbrev pub due_beside_by : Option (ℕ × ℕ) → Facts → ℕ → Option Act
+abbrev pub due_beside_by : Option Child → Facts → ℕ → Option Act
 due_beside_by None f up =
     if may_spawn_by f up then Some (Spawn (f.run_count + 1) (first f.queue)) else None
 due_beside_by (Some c) f up =
-    if may_kill_by f up then Some (Kill c.0) else if may_term_by f up then Some (Term c.0) else None
+    if may_kill_by f up then Some (Kill c.run) else if may_term_by f up then Some (Term c.run) else None
 
 -- `due`
 abbrev pub due_by : Facts → ℕ → Option Act

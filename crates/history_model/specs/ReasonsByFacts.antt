@@ -20,15 +20,15 @@ wants_by f = record {
   keep_alive = f.definition.keep_alive;
   successful_exit = exit_wants f.definition.successful_exit f.ended;
   crashed = crash_wants f.definition.crashed f.has_crashed f.ended;
-  path_state = any_seen (λ state. presence_holds state.1) f.definition.path_state f.seen_states;
+  path_state = any_seen (λ state. presence_holds state.present) f.definition.path_state f.seen_states;
   queue_directories = any_seen (λ path. queue_holds) f.definition.queue_directories f.seen_queues;
 }
 
 -- `path_that_holds`
 abbrev pub path_by : Facts → Option (List ℕ)
 path_by f =
-    or_else (option_map (λ state. state.0)
-    (first_seen (λ state. presence_holds state.1) f.definition.path_state f.seen_states))
+    or_else (option_map (λ state. state.path)
+    (first_seen (λ state. presence_holds state.present) f.definition.path_state f.seen_states))
     (first_seen (λ path. queue_holds) f.definition.queue_directories f.seen_queues)
 
 -- so many milliseconds after the moment, 0 if there is none

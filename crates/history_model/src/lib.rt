@@ -116,6 +116,20 @@ pub enum Ended {
     Signal(u8),
 }
 
+/// The child of a job: the run that lives, and its process id.
+#[derive(Clone, Copy)]
+pub struct Child {
+    pub run: u64,
+    pub pid: u32,
+}
+
+/// The last end of a job: the run, and how it ended.
+#[derive(Clone, Copy)]
+pub struct LastEnd {
+    pub run: u64,
+    pub how: Ended,
+}
+
 /// What a job orders: the spawn of its next run, with the connection that it carries if one waits; TERM or KILL for its child's
 /// run; the close of a connection that waits if the job leaves; and that it is gone.
 #[derive(Clone, Copy, PartialEq, Eq)]
