@@ -18,7 +18,8 @@ use crate::paths::{Queues, Watches};
 use conditions::Conditions;
 use history_model::definition::Def;
 use history_model::{
-    Act, Answer, DemandKind, JobItem, JobState, MAX_UP, MAX_WALL, Obs, Reading, Refusal, ShownJob,
+    Act, Answer, Child, DemandKind, JobItem, JobState, MAX_UP, MAX_WALL, Obs, Reading, Refusal,
+    ShownJob,
 };
 pub use moments::Moments;
 use pace::{Ending, Interval, Signal, Throttle};
@@ -43,7 +44,7 @@ pub struct Job {
     ending: Ending,
     is_ordered_to_end: bool,
     runs: u64,
-    child: Option<(u64, u32)>,
+    child: Option<Child>,
     awaited: Option<Act>,
     demand: Option<DemandKind>,
     new_demand: Option<DemandKind>,
@@ -157,9 +158,9 @@ impl Job {
     {
         ShownJob {
             state: self.state(),
-            pid: self.child.map(|c| c.1),
+            pid: self.child.map(|c| c.pid),
             runs: self.runs,
-            last_end: self.conditions.last_end().map(|e| e.1),
+            last_end: self.conditions.last_end().map(|e| e.how),
             demand: self.demand.is_some(),
             connections: self.waiting.len(),
         }

@@ -14,7 +14,7 @@ use Rattle.history_model.specs.declared.TheConstants.{SECOND}
 
 -- the interval of a past
 abbrev pub every_of : History → Every
-every_of t = record { seconds = (definition_of t).start_interval; load_up = (load_of t).1.up }
+every_of t = record { seconds = (definition_of t).start_interval; load_up = (load_of t).at.up }
 
 -- the throttle of a past: its newest spawn order, and its newest refusal of a spawn
 abbrev pub spacing_of : History → Spacing

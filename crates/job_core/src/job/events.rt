@@ -9,7 +9,7 @@ ghost use Rattle.history_model.specs.ByFacts.{fired_by, conn_of, Follows};
 ghost use Rattle.history_model.specs.DueByFacts.{is_busy_by};
 
 use super::Job;
-use history_model::{Act, Ask, DemandKind, Ended, MAX_UP, MAX_WALL, Obs, Reading, Refusal};
+use history_model::{Act, Ask, Child, DemandKind, Ended, MAX_UP, MAX_WALL, Obs, Reading, Refusal};
 use pace::Signal;
 use socket_demand::Waiting;
 
@@ -172,7 +172,7 @@ impl Job {
         ensures { Follows (facts self.now) (WaitRefused run) now result (facts self.now) }
     {
         match self.child {
-            Some((child, _)) if child == run => Ok(()),
+            Some(child) if child.run == run => Ok(()),
             _ => Err(Refusal::Stale),
         }
     }
@@ -207,7 +207,7 @@ impl Job {
         }
         let conn = self.carried();
         take_out(&mut self.waiting, conn);
-        self.child = Some((run, pid));
+        self.child = Some(Child { run, pid });
         self.awaited = None;
         self.demand = self.new_demand;
         self.spawned_before = true;
@@ -235,7 +235,7 @@ impl Job {
         ensures unchanged { OnErr result (self.new ≡ self.old) }
     {
         match self.child {
-            Some((child, _)) if child == run => {}
+            Some(child) if child.run == run => {}
             _ => return Err(Refusal::Stale),
         }
         self.child = None;

@@ -71,8 +71,8 @@ impl Job {
                 conn: self.waiting.first(),
             }),
             None => None,
-            Some((run, _)) if self.may_kill(up) => Some(Act::Kill { run }),
-            Some((run, _)) if self.may_term(up) => Some(Act::Term { run }),
+            Some(child) if self.may_kill(up) => Some(Act::Kill { run: child.run }),
+            Some(child) if self.may_term(up) => Some(Act::Term { run: child.run }),
             Some(_) => None,
         }
     }

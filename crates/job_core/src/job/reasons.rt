@@ -60,9 +60,9 @@ impl Job {
     {
         match self.child {
             None => None,
-            Some((run, pid)) => Some(StandingChild {
-                run,
-                pid,
+            Some(child) => Some(StandingChild {
+                run: child.run,
+                pid: child.pid,
                 is_stopped: self.is_stopping,
                 is_struck: self.ending.is_struck(),
             }),
