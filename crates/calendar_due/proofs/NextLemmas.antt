@@ -3,6 +3,7 @@ use Rattle.std.proofs.Common.{◌≡◌, ℕ, ◌+◌, ◌*◌, ◌/◌, ◌==�
 use Rattle.std.proofs.lemmas.Bool.{eq-eqb}
 use Rattle.std.proofs.lemmas.Bool.Decides.{nat_tests}
 use Rattle.std.specs.List.{list_any}
+use Rattle.history_model.specs.declared.TheConstants.{CALENDAR_REACH}
 use Rattle.history_model.specs.declared.Entry.{Entry}
 use Rattle.history_model.specs.Calendar.{Zone, crossed, calendar_fires}
 use Rattle.history_model.specs.NextMomentByFacts.{has_come}
@@ -48,7 +49,7 @@ found-in p (x ∷ xs) some = go (p x) refl (found-in p xs) some where
   go false e later some = let (m, there, passes) = later some in (m, ap (λ b. (x == m) || b) there ∙ or-true (x == m), passes)
 
 -- a reading fires the calendar exactly if it is not before the first minute that is due
-pub first-fires : (zone : Zone) (entries : List Entry) (after until wall : ℕ) (o : Option ℕ) → IsFirstDue zone entries after until o → wall ≤ until → wall ≤ after + 34560000 →
+pub first-fires : (zone : Zone) (entries : List Entry) (after until wall : ℕ) (o : Option ℕ) → IsFirstDue zone entries after until o → wall ≤ until → wall ≤ after + CALENDAR_REACH →
     calendar_fires zone entries after wall ≡ has_come o wall
 first-fires zone entries after until wall o first inside near = go (calendar_fires zone entries after wall) o refl first where
   -- a crossed minute that is matched is due

@@ -3,12 +3,13 @@ ghost use Rattle.std.specs.Prelude.{◌≡◌, ◌≤◌, ◌+◌, ℕ, map};
 ghost use Rattle.std.specs.List.{list_any};
 ghost use Rattle.history_model.specs.Calendar.{Zone as Minutes, matches as entry_matches, allows, is_weekday, allows_day, crossed, calendar_fires};
 ghost use Rattle.history_model.specs.NextMomentByFacts.{has_come};
+ghost use Rattle.history_model.specs.declared.TheConstants.{CALENDAR_REACH};
 ghost use Rattle.calendar_due.specs.ZoneRules.{minute_at};
 ghost use Rattle.calendar_due.specs.Next.{is_matched, IsFirstDue};
 ghost use Rattle.calendar_due.specs.Days.{is_on_day, is_same_day, is_of_day};
 
 use crate::Zone;
-use history_model::{CivilMinute, Entry, MAX_WALL};
+use history_model::{CALENDAR_REACH, CivilMinute, Entry, MAX_WALL};
 
 /// The calendar of a job: its entries, of which one suffices (launchd.plist(5), StartCalendarInterval).
 pub struct Calendar;
@@ -40,7 +41,7 @@ impl Calendar {
     pub fn next(entries: &[Entry], zone: &Zone, after: u64, until: u64) -> Option<u64>
         requires { until ≤ MAX_WALL }
         ensures least { IsFirstDue (minute_at zone.now) entries.now after until result }
-        ensures fires { (wall : ℕ) → wall ≤ until → wall ≤ after + 34560000 →
+        ensures fires { (wall : ℕ) → wall ≤ until → wall ≤ after + CALENDAR_REACH →
             calendar_fires (minute_at zone.now) entries.now after wall ≡ has_come result wall }
     {
         first_due(entries, zone, after, until)

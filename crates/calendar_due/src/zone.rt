@@ -12,7 +12,7 @@ ghost use Rattle.calendar_due.specs.ZoneRules.{offsets, minute_at};
 ghost use Rattle.calendar_due.specs.Zone.{IsOfRule, IsOfTable, IsUnreadable, IsBadFile};
 ghost use Rattle.calendar_due.specs.declared.zone.TheConstants.{LONGEST_FILE};
 
-use history_model::{CivilMinute, MAX_WALL};
+use history_model::{CALENDAR_REACH, CivilMinute, MAX_WALL};
 use jiff::civil::DateTime;
 use jiff::tz::{Offset, TimeZone, Tzif};
 use jiff::{Error, Timestamp};
@@ -42,8 +42,6 @@ pub enum ZoneFault {
 
 /// The longest zone file, in bytes.
 pub const LONGEST_FILE: usize = 65_536;
-
-const DAYS_400: u64 = 34_560_000;
 
 impl Zone {
     /// The zone whose clock is always that many seconds ahead of UTC, negative west of it. BadZone past 86,399 either way.
@@ -161,7 +159,7 @@ impl Zone {
 fn minute_before(previous: u64, now: u64) -> u64
     ensures { result ≡ last_before previous now }
 {
-    (previous / 60).max(now.saturating_sub(DAYS_400) / 60)
+    (previous / 60).max(now.saturating_sub(CALENDAR_REACH) / 60)
 }
 
 // The datetime with its seconds dropped.

@@ -6,7 +6,6 @@ use Rattle.history_model.specs.declared.Obs.{Obs}
 use Rattle.history_model.specs.declared.Reading.{Reading}
 use Rattle.history_model.specs.Items.{Definition, History, Loaded, Saw}
 use Rattle.history_model.specs.declared.definition.parts.PathState.{PathState}
-use Rattle.history_model.specs.Definitions.{path_wish}
 use Rattle.history_model.specs.Clock.{definition_of}
 use Rattle.history_model.specs.Demands.{is_same_path, last_seen}
 use Rattle.history_model.specs.Levels.{presence_holds}
@@ -20,12 +19,12 @@ use Rattle.conditions.specs.ConditionFacts.{ConditionFacts, kept_of, conditions_
 use Rattle.conditions.specs.States.{wanted_of, last_sight, after_sight}
 use Rattle.conditions.specs.declared.levels.State.{State}
 
-pub any-holds : (ss : List State) → list_any (λ (s : State). presence_holds s.present s.last) ss ≡ any_seen (λ (state : List ℕ × Bool). presence_holds state.1) (map wanted_of ss) (map last_sight ss)
+pub any-holds : (ss : List State) → list_any (λ (s : State). presence_holds s.present s.last) ss ≡ any_seen (λ (state : PathState). presence_holds state.present) (map wanted_of ss) (map last_sight ss)
 any-holds [] = refl
 any-holds (s ∷ ss) = ap (λ b. presence_holds s.present s.last || b) (any-holds ss)
 
 pub seen-after : (path : List ℕ) (obs : Obs) (ss : List State) →
-    map last_sight (map (after_sight path obs) ss) ≡ seen_after (λ (state : List ℕ × Bool). state.0) (map wanted_of ss) path obs (map last_sight ss)
+    map last_sight (map (after_sight path obs) ss) ≡ seen_after (λ (state : PathState). state.path) (map wanted_of ss) path obs (map last_sight ss)
 seen-after path obs [] = refl
 seen-after path obs (s ∷ ss) = λ i. newer (is_same_path s.path path) obs s.last i ∷ seen-after path obs ss i
 
@@ -35,33 +34,33 @@ wanted-after path obs (s ∷ ss) = ap (λ l. wanted_of s ∷ l) (wanted-after pa
 
 pub holds-by : (t : History) → conditions_hold t ≡ holds_by (kept_of t)
 holds-by t =
-    rw (any-seen (λ (state : List ℕ × Bool). presence_holds state.1) (λ state. last_seen state.0 t) (definition_of t).path_state) refl
+    rw (any-seen (λ (state : PathState). presence_holds state.present) (λ state. last_seen state.path t) (definition_of t).path_state) refl
 
 pub kept-Saw : (t : History) (path : List ℕ) (obs : Obs) →
-    kept_of (Saw path obs ∷ t) ≡ record (kept_of t) { seen = seen_after (λ (state : List ℕ × Bool). state.0) (kept_of t).path_state path obs (kept_of t).seen }
-kept-Saw t path obs = λ i. record (kept_of t) { seen = seen-more (λ (state : List ℕ × Bool). state.0) (definition_of t).path_state t path obs i }
+    kept_of (Saw path obs ∷ t) ≡ record (kept_of t) { seen = seen_after (λ (state : PathState). state.path) (kept_of t).path_state path obs (kept_of t).seen }
+kept-Saw t path obs = λ i. record (kept_of t) { seen = seen-more (λ (state : PathState). state.path) (definition_of t).path_state t path obs i }
 
-pub unseen : (d : Definition) (at : Reading) (ps : List PathState) → map (λ _. None) ps ≡ map (λ (state : List ℕ × Bool). last_seen state.0 (Loaded d at ∷ [])) (map path_wish ps)
+pub unseen : (d : Definition) (at : Reading) (ps : List PathState) → map (λ _. None) ps ≡ map (λ (state : PathState). last_seen state.path (Loaded d at ∷ [])) ps
 unseen d at [] = refl
 unseen d at (p ∷ ps) = ap (λ l. None ∷ l) (unseen d at ps)
 
 pub first-state : (ss : List State) → option_map (λ (s : State). s.path) (find (λ (s : State). presence_holds s.present s.last) ss)
-    ≡ option_map (λ (state : List ℕ × Bool). state.0) (first_seen (λ (state : List ℕ × Bool). presence_holds state.1) (map wanted_of ss) (map last_sight ss))
+    ≡ option_map (λ (state : PathState). state.path) (first_seen (λ (state : PathState). presence_holds state.present) (map wanted_of ss) (map last_sight ss))
 first-state [] = refl
 first-state (s ∷ ss) = go (presence_holds s.present s.last) (first-state ss) where
   found : Option (List ℕ)
   found = option_map (λ (s : State). s.path) (find (λ (s : State). presence_holds s.present s.last) ss)
 
   go : (b : Bool) → option_map (λ (s : State). s.path) (find (λ (s : State). presence_holds s.present s.last) ss)
-      ≡ option_map (λ (state : List ℕ × Bool). state.0) (first_seen (λ (state : List ℕ × Bool). presence_holds state.1) (map wanted_of ss) (map last_sight ss)) →
+      ≡ option_map (λ (state : PathState). state.path) (first_seen (λ (state : PathState). presence_holds state.present) (map wanted_of ss) (map last_sight ss)) →
       option_map (λ (s : State). s.path) (cond b (Some s) (find (λ (s : State). presence_holds s.present s.last) ss))
-      ≡ option_map (λ (state : List ℕ × Bool). state.0) (cond b (Some (wanted_of s)) (first_seen (λ (state : List ℕ × Bool). presence_holds state.1) (map wanted_of ss) (map last_sight ss)))
+      ≡ option_map (λ (state : PathState). state.path) (cond b (Some (wanted_of s)) (first_seen (λ (state : PathState). presence_holds state.present) (map wanted_of ss) (map last_sight ss)))
   go true rest = refl
   go false rest = rest
 
 -- the first path that holds, of what is kept, and of a past
 abbrev pub path_in : ConditionFacts → Option (List ℕ)
-path_in k = option_map (λ (state : List ℕ × Bool). state.0) (first_seen (λ (state : List ℕ × Bool). presence_holds state.1) k.path_state k.seen)
+path_in k = option_map (λ (state : PathState). state.path) (first_seen (λ (state : PathState). presence_holds state.present) k.path_state k.seen)
 
 pub kept-path : (past : History) → state_that_holds past ≡ path_in (kept_of past)
-kept-path past = ap (option_map (λ (state : List ℕ × Bool). state.0)) (first-seen (λ (state : List ℕ × Bool). presence_holds state.1) (λ state. last_seen state.0 past) (definition_of past).path_state)
+kept-path past = ap (option_map (λ (state : PathState). state.path)) (first-seen (λ (state : PathState). presence_holds state.present) (λ state. last_seen state.path past) (definition_of past).path_state)

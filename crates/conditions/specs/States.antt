@@ -1,12 +1,13 @@
 -- The paths on whose presence a condition rests.
 use Rattle.std.specs.Prelude.{ℕ, Bool, cond, List, Option, Some}
 use Rattle.history_model.specs.declared.Obs.{Obs}
+use Rattle.history_model.specs.declared.definition.parts.PathState.{PathState}
 use Rattle.history_model.specs.Demands.{is_same_path}
 use Rattle.conditions.specs.declared.levels.State.{State}
 
 -- the path, and whether it is to be there
-abbrev pub wanted_of : State → List ℕ × Bool
-wanted_of s = (s.path, s.present)
+abbrev pub wanted_of : State → PathState
+wanted_of s = record { path = s.path; present = s.present }
 
 -- what was seen there last
 abbrev pub last_sight : State → Option Obs

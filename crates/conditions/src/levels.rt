@@ -10,10 +10,10 @@ ghost use Rattle.history_model.specs.ByFacts.{seen_after};
 ghost use Rattle.history_model.specs.Reasons.{exit_wants, crash_wants, state_that_holds};
 ghost use Rattle.history_model.specs.DueByFacts.{any_seen, first_seen};
 ghost use Rattle.conditions.specs.States.{wanted_of, last_sight, after_sight};
-ghost use Rattle.history_model.specs.Definitions.{definition, path_wish};
+ghost use Rattle.history_model.specs.Definitions.{definition};
 
 use history_model::definition::{Def, PathState};
-use history_model::{Ended, Obs, Reading, Text};
+use history_model::{Ended, LastEnd, Obs, Reading, Text};
 use std::alloc::{AllocError, Global};
 use std::marker::Model;
 
@@ -32,7 +32,7 @@ pub struct Conditions {
     successful_exit: Option<bool>,
     crashed: Option<bool>,
     states: Vec<State>,
-    last_end: Option<(u64, Ended)>,
+    last_end: Option<LastEnd>,
     has_crashed: bool,
 }
 
@@ -77,7 +77,7 @@ impl Conditions {
     /// Takes in what was seen at a path; nothing changes if no condition looks at it.
     pub fn saw(&mut self, path: &str, obs: Obs)
         ensures step { self.new ≡ record self.old
-            { seen = seen_after (λ s. s.0) self.old.path_state path.now obs self.old.seen } }
+            { seen = seen_after (λ s. s.path) self.old.path_state path.now obs self.old.seen } }
         ensures past { (past : History) → self.old ≡ kept_of past →
             self.new ≡ kept_of (Saw path.now obs ∷ past) }
     {
@@ -88,12 +88,12 @@ impl Conditions {
     /// and one by an unknown signal if neither was ordered.
     pub fn ended(&mut self, run: u64, how: Ended, is_ordered_to_end: bool)
         ensures step { self.new ≡ record self.old
-            { ended = Some (run, how); has_crashed = is_crash_end is_ordered_to_end how } }
+            { ended = Some (record { run = run; how = how }); has_crashed = is_crash_end is_ordered_to_end how } }
         ensures past { (past : History) → self.old ≡ kept_of past →
             is_ordered_to_end ≡ list_any (is_stopping_order run) past →
             self.new ≡ kept_of (RunEnded run how ∷ past) }
     {
-        self.last_end = Some((run, how));
+        self.last_end = Some(LastEnd { run, how });
         self.has_crashed = match how {
             Ended::Code(_) => false,
             Ended::Signal(n) => matches!(n, 3..=8 | 11 | 31) || (n == 0 && !is_ordered_to_end),
@@ -129,7 +129,7 @@ impl Conditions {
     {
         match self.last_end {
             None => false,
-            Some((_, how)) => agrees(self.successful_exit, is_success(how)),
+            Some(end) => agrees(self.successful_exit, is_success(end.how)),
         }
     }
 
@@ -143,7 +143,7 @@ impl Conditions {
     /// Whether a path was last seen as its condition wants it.
     pub fn path_holds(&self) -> bool
         ensures { result ≡ any_seen
-            (λ state. presence_holds state.1) self.now.path_state self.now.seen }
+            (λ state. presence_holds state.present) self.now.path_state self.now.seen }
     {
         any_holds(self.states.as_slice())
     }
@@ -151,8 +151,8 @@ impl Conditions {
     /// The first path, in the order of the definition, that was last seen as its condition wants it.
     pub fn path_that_holds(&self) -> Option<&str>
         ensures step { option_map (λ path. path.now) result
-            ≡ option_map (λ state. state.0)
-            (first_seen (λ state. presence_holds state.1) self.now.path_state self.now.seen) }
+            ≡ option_map (λ state. state.path)
+            (first_seen (λ state. presence_holds state.present) self.now.path_state self.now.seen) }
         ensures past { (past : History) → self.now ≡ kept_of past →
             option_map (λ path. path.now) result ≡ state_that_holds past }
     {
@@ -163,7 +163,7 @@ impl Conditions {
     }
 
     /// The last end, with its run.
-    pub fn last_end(&self) -> Option<(u64, Ended)>
+    pub fn last_end(&self) -> Option<LastEnd>
         ensures { result ≡ self.now.ended }
     {
         self.last_end
@@ -171,7 +171,7 @@ impl Conditions {
 }
 
 fn states_of(alloc: Global, listed: &[PathState]) -> Result<Vec<State>, AllocError>
-    ensures wanted { IfOk result (λ v. map wanted_of v.items ≡ map path_wish listed.now) }
+    ensures wanted { IfOk result (λ v. map wanted_of v.items ≡ listed.now) }
     ensures unseen { IfOk result (λ v. map last_sight v.items ≡ map (λ _. None) listed.now) }
 {
     let mut states = Vec::new(alloc);
@@ -199,15 +199,15 @@ fn see(states: &mut Vec<State>, path: &str, obs: Obs)
 fn end_holds(
     successful_exit: Option<bool>,
     crashed: Option<bool>,
-    last_end: Option<(u64, Ended)>,
+    last_end: Option<LastEnd>,
     has_crashed: bool,
 ) -> bool
     ensures { result ≡ end_holds_of successful_exit crashed has_crashed last_end }
 {
     match last_end {
         None => false,
-        Some((_, how)) => {
-            agrees(successful_exit, is_success(how)) || agrees(crashed, has_crashed)
+        Some(end) => {
+            agrees(successful_exit, is_success(end.how)) || agrees(crashed, has_crashed)
         }
     }
 }

@@ -24,6 +24,9 @@ use Rattle.history_model.proofs.ClockLemmas.{any-within}
 use Rattle.history_model.proofs.SeenLemmas.{any-seen}
 use Rattle.history_model.proofs.ConnectionLemmas.{facts-Came, facts-Left, facts-Saw}
 use Rattle.history_model.specs.declared.TheConstants.{SECOND}
+use Rattle.history_model.specs.declared.Child.{Child}
+use Rattle.history_model.specs.declared.LastEnd.{LastEnd}
+use Rattle.history_model.specs.declared.definition.parts.PathState.{PathState}
 
 pub refusal-by : (x : Item) (t : History) → refusal_of x t ≡ refusal_by x (now t) (facts_of t)
 refusal-by (Asked Start) t = refl
@@ -33,7 +36,7 @@ refusal-by (Asked Shutdown) t = refl
 refusal-by (Asked (Kickstart kills_first)) t = refl
 refusal-by _ t = refl
 
-end-holds-by : (d : Definition) (t : History) (o : Option (ℕ × Ended)) → end_holds d t o ≡ end_holds_by d (crash_of t o) o
+end-holds-by : (d : Definition) (t : History) (o : Option LastEnd) → end_holds d t o ≡ end_holds_by d (crash_of t o) o
 end-holds-by d t None = refl
 end-holds-by d t (Some end) = refl
 
@@ -41,7 +44,7 @@ pub level-by : (t : History) → level_holds t ≡ level_by (facts_of t)
 level-by t =
     rw (
       end-holds-by (definition_of t) t (last_end t),
-      any-seen (λ (state : List ℕ × Bool). presence_holds state.1) (λ state. last_seen state.0 t) (definition_of t).path_state,
+      any-seen (λ (state : PathState). presence_holds state.present) (λ state. last_seen state.path t) (definition_of t).path_state,
       any-seen (λ (path : List ℕ). queue_holds) (λ path. last_seen path t) (definition_of t).queue_directories,
     ) refl
 
@@ -51,18 +54,18 @@ throttled-by t lawful =
 
 pub due-by : (t : History) → IsLawful t → due t ≡ due_by (facts_of t) (now t).up
 due-by t lawful = go (child t) refl where
-  go : (c : Option (ℕ × ℕ)) → child t ≡ c → cond (is_some (awaited t)) None (due_beside c t) ≡ cond (is_some (awaited t)) None (due_beside_by c (facts_of t) (now t).up)
+  go : (c : Option Child) → child t ≡ c → cond (is_some (awaited t)) None (due_beside c t) ≡ cond (is_some (awaited t)) None (due_beside_by c (facts_of t) (now t).up)
   go None e = λ i. cond (is_some (awaited t)) None (cond (may i) (Some (Spawn (runs t + 1) (first (waiting t)))) None) where
     may : may_spawn t ≡ may_spawn_by (facts_of t) (now t).up
     may = rw (level-by t, throttled-by t lawful) refl
-  go (Some c) e = λ i. cond (is_some (awaited t)) None (cond (may_k i) (Some (Kill c.0)) (cond (may_t i) (Some (Term c.0)) None)) where
-    number : c.0 ≡ runs t
+  go (Some c) e = λ i. cond (is_some (awaited t)) None (cond (may_k i) (Some (Kill c.run)) (cond (may_t i) (Some (Term c.run)) None)) where
+    number : c.run ≡ runs t
     number = (child-present t c (sound t lawful).0 e).0
 
-    may_k : may_kill c.0 t ≡ may_kill_by (facts_of t) (now t).up
+    may_k : may_kill c.run t ≡ may_kill_by (facts_of t) (now t).up
     may_k = rw (number, any-within SECOND (now t).up (is_kill_answer false (runs t)) t lawful) refl
 
-    may_t : may_term c.0 t ≡ may_term_by (facts_of t) (now t).up
+    may_t : may_term c.run t ≡ may_term_by (facts_of t) (now t).up
     may_t = rw (number, any-within SECOND (now t).up (is_term_answer false (runs t)) t lawful) refl
 
 no_past : (t : History) → t ≡ [] → IsBehindLoad t → ⊥
@@ -86,7 +89,7 @@ facts-after (Answered (Spawned run pid)) t lawful loaded =
     let order = spawned-awaited t run pid fact in
     facts-Spawned t lawful.1 run pid order.0 order.1 fact
     ∙ ap (λ o. record (facts_of t) {
-      living_child = Some (run, pid);
+      living_child = Some (record { run = run; pid = pid });
       awaited_act = None;
       has_demand = (facts_of t).has_new_demand;
       demand = (facts_of t).new_demand;

@@ -29,9 +29,10 @@ use Rattle.history_model.proofs.StepLemmas.{Rests, IsGood, good-step, refused-No
 use Rattle.history_model.proofs.LiftedLemmas.{gone-living}
 use Rattle.history_model.proofs.OneLabelLemmas.{filter-idem, absent, taken-only, with_orders-only, step-other, resting-only}
 use Rattle.history_model.proofs.FewLoadsLemmas.{IsFew, few-step}
+use Rattle.history_model.specs.declared.Child.{Child}
 
 -- the runs that live in these jobs
-abbrev alive : List Job → List (ℕ × ℕ)
+abbrev alive : List Job → List Child
 alive jobs = flat_map (λ job. living job.past) jobs
 
 -- one if it holds
@@ -119,8 +120,8 @@ heard-living (Answered (Spawned run pid)) t heard accepted lawful =
     rw (spawned-living t run pid fresh, fresh.3) refl
 heard-living (RunEnded run how) t heard accepted lawful =
     let fact = IsChild-from t run accepted in
-    let one = child-present t (run, fact.pid) (sound t lawful).0 fact.stands in
-    rw (ended-living t run how (run, fact.pid) refl one.1, one.1) refl
+    let one = child-present t (record { run = run; pid = fact.pid }) (sound t lawful).0 fact.stands in
+    rw (ended-living t run how (record { run = run; pid = fact.pid }) refl one.1, one.1) refl
 heard-living (Asked Start) t heard accepted lawful = refl
 heard-living (Asked Stop) t heard accepted lawful = refl
 heard-living (Asked (Kickstart kills_first)) t heard accepted lawful = refl
@@ -193,7 +194,7 @@ step-balance l s e good few = go (refusal_in s e) refl (concerns l e) refl where
   go None is true named =
       let ordered_alike : only l (with_orders (taken s e)) ≡ with_orders (taken (only l s) e) = sym (with_orders-only l (taken s e)) ∙ ap with_orders (sym (taken-only l s e named is)) in
       let same : length (living_in (step_by None s e) l) ≡ length (alive (taken (only l s) e).jobs) =
-      ap (λ (t : State). length (alive t.jobs)) ordered_alike ∙ ap (λ (runs : List (ℕ × ℕ)). length runs) (alive-stays (taken (only l s) e).jobs) in
+      ap (λ (t : State). length (alive t.jobs)) ordered_alike ∙ ap (λ (runs : List Child). length runs) (alive-stays (taken (only l s) e).jobs) in
       rw same (balance l s e good (few l) named is)
 
 pub census : (l : Label) (es : List Event) (s : State) → IsGood s → IsFew s →

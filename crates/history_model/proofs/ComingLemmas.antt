@@ -24,6 +24,7 @@ use Rattle.history_model.proofs.RunsLemmas.{kept_awaited, unless_settled-more, a
 use Rattle.history_model.proofs.ClockLemmas.{now-grows}
 use Rattle.history_model.specs.declared.TheConstants.{SECOND}
 use Rattle.history_model.proofs.FactsLemmas.{answer_term, answer_kill}
+use Rattle.history_model.specs.declared.Child.{Child}
 
 -- ---- the least of the moments that are still to come
 
@@ -210,10 +211,10 @@ due-Term-may t run e = go (awaited t) (child t) e where
   stopping false true r e = (cc, refl)
   stopping false false r e = cc
 
-  go : (o : Option Act) (c : Option (ℕ × ℕ)) → due_shape o c t ≡ Some (Term run) → may_term run t ≡ true
+  go : (o : Option Act) (c : Option Child) → due_shape o c t ≡ Some (Term run) → may_term run t ≡ true
   go (Some act) c e = cc
   go None None e = absurd (spawning (may_spawn t) e)
-  go None (Some c) e = let both = stopping (may_kill c.0 t) (may_term c.0 t) c.0 e in rw (← both.0) both.1
+  go None (Some c) e = let both = stopping (may_kill c.run t) (may_term c.run t) c.run e in rw (← both.0) both.1
 
 term-over : (t : History) (run : ℕ) → due t ≡ Some (Term run) → are_over SECOND (now t).up (moments (is_term_answer false run) t)
 term-over t run e =
@@ -355,17 +356,17 @@ module _ (t : History) (lawful : IsLawful t) where
   kills : (run : ℕ) → next_of up (later_by SECOND (moments (is_kill_answer false run) t)) ≡ coming_after up SECOND (first (moments (is_kill_answer false run) t))
   kills run = newest-coming (is_kill_answer false run) SECOND up t lawful (kind-spaced (is_kill_answer false run) (is_kill run) (kill_kind run) t lawful) (omega arith)
 
-  run_moments : (c : Option (ℕ × ℕ)) → child t ≡ c → next_of up (child_moments c t) ≡ cond (is_some c) (coming_end (facts_of t) up) None
+  run_moments : (c : Option Child) → child t ≡ c → next_of up (child_moments c t) ≡ cond (is_some c) (coming_end (facts_of t) up) None
   run_moments None e = refl
   run_moments (Some c) e =
-      let number : c.0 ≡ runs t = (child-present t c (sound t lawful).0 e).0 in
-      let outs = timeouts (definition_of t).exit_timeout (last (moments (is_term_order c.0) t)) in
-      let refused = later_by SECOND (moments (is_term_answer false c.0) t) in
-      let killed = later_by SECOND (moments (is_kill_answer false c.0) t) in
+      let number : c.run ≡ runs t = (child-present t c (sound t lawful).0 e).0 in
+      let outs = timeouts (definition_of t).exit_timeout (last (moments (is_term_order c.run) t)) in
+      let refused = later_by SECOND (moments (is_term_answer false c.run) t) in
+      let killed = later_by SECOND (moments (is_kill_answer false c.run) t) in
       next-++ up (outs ++ refused) killed
       ∙ ap (λ m. sooner m (next_of up killed)) (next-++ up outs refused)
       ∙ sooner-assoc (next_of up outs) (next_of up refused) (next_of up killed)
-      ∙ (λ i. sooner (next-timeout up (definition_of t).exit_timeout (last (moments (is_term_order c.0) t)) i) (sooner (terms c.0 i) (kills c.0 i)))
+      ∙ (λ i. sooner (next-timeout up (definition_of t).exit_timeout (last (moments (is_term_order c.run) t)) i) (sooner (terms c.run i) (kills c.run i)))
       ∙ (λ i. sooner (cond (nat_lt 0 (definition_of t).exit_timeout) (coming_after up (SECOND * (definition_of t).exit_timeout) (last (moments (is_term_order (number i)) t))) None)
       (sooner (coming_after up SECOND (first (moments (is_term_answer false (number i)) t))) (coming_after up SECOND (first (moments (is_kill_answer false (number i)) t)))))
 
@@ -375,8 +376,8 @@ module _ (t : History) (lawful : IsLawful t) where
       let spawned = later_by (SECOND * (definition_of t).throttle_interval) (moments is_spawn_order t) in
       let refused = later_by SECOND (moments is_spawn_refusal t) in
       let beside = child_moments (child t) t in
-      period-first (definition_of t).start_interval (load_of t).1.up up (filter (nat_lt up) (waits t))
-      ∙ ap (sooner (coming_period (definition_of t).start_interval (load_of t).1.up up))
+      period-first (definition_of t).start_interval (load_of t).at.up up (filter (nat_lt up) (waits t))
+      ∙ ap (sooner (coming_period (definition_of t).start_interval (load_of t).at.up up))
       (next-least up (waits t)
       ∙ next-++ up (spawned ++ refused) beside
       ∙ ap (λ m. sooner m (next_of up beside)) (next-++ up spawned refused)

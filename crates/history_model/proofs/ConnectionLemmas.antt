@@ -145,6 +145,6 @@ facts-Saw t path obs up =
       demand = cond (fires i) (Some kinds.Path) (latest_demand t);
       new_demand = cond (fires i) (Some kinds.Path) (kind_since is_spawn_order t);
       seen_watched = seen-more (λ p. p) d.watch_paths t path obs i;
-      seen_states = seen-more (λ state. state.0) d.path_state t path obs i;
+      seen_states = seen-more (λ state. state.path) d.path_state t path obs i;
       seen_queues = seen-more (λ p. p) d.queue_directories t path obs i;
     }

@@ -4,6 +4,7 @@ use Rattle.std.specs.Prelude.{max}
 use Rattle.std.proofs.lemmas.Bool.{eqb-true}
 use Rattle.std.proofs.lemmas.Bool.Decides.{nat_tests}
 use Rattle.std.specs.List.{list_any, AllByRecursion}
+use Rattle.history_model.specs.declared.TheConstants.{CALENDAR_REACH}
 use Rattle.history_model.specs.Calendar.{IsCrossed, minutes_above, last_before, crossed}
 use Rattle.history_model.specs.MachineLaws.{IsRising}
 
@@ -43,8 +44,8 @@ module _ (previous wall m : ℕ) where
   crossed-is e =
       let found = counted (last_before previous wall) (wall / 60 - last_before previous wall) m e in
       let j : ℕ = found.0 in
-      let above : max (previous / 60) ((wall - 34560000) / 60) < j = found.1.0 in
-      let below : j ≤ max (previous / 60) ((wall - 34560000) / 60) + (wall / 60 - max (previous / 60) ((wall - 34560000) / 60)) = found.1.1 in
+      let above : max (previous / 60) ((wall - CALENDAR_REACH) / 60) < j = found.1.0 in
+      let below : j ≤ max (previous / 60) ((wall - CALENDAR_REACH) / 60) + (wall / 60 - max (previous / 60) ((wall - CALENDAR_REACH) / 60)) = found.1.1 in
       let same : 60 * j ≡ m = found.1.2 in
       (omega (arith, same), omega (arith, same, above), omega (arith, same, above, below), omega (arith, same, above))
 

@@ -13,6 +13,7 @@ use Rattle.history_model.specs.NextMomentByFacts.{sooner, coming, coming_after, 
 use Rattle.history_model.specs.LaterMoments.{IsLater}
 use Rattle.history_model.proofs.UntouchedLemmas.{kill-shape}
 use Rattle.history_model.specs.declared.TheConstants.{SECOND}
+use Rattle.history_model.specs.declared.Child.{Child}
 
 -- both of two are later if the sooner is
 both : (at : ℕ) (a b : Option ℕ) → IsLater at (sooner a b) → IsLater at a × IsLater at b
@@ -64,14 +65,14 @@ module _ (up at : ℕ) (order : up ≤ at) where
       let refused = both at (coming_after up SECOND f.term_refused) (coming_after up SECOND f.kill_refused) parts.1 in
       let out = guarded (nat_lt 0 f.definition.exit_timeout) (coming_after up (SECOND * f.definition.exit_timeout) f.term_ordered)
       (is_over (SECOND * f.definition.exit_timeout) at f.term_ordered) (is_over (SECOND * f.definition.exit_timeout) up f.term_ordered) parts.0 (over-same (SECOND * f.definition.exit_timeout) f.term_ordered) in
-      kill-shape f.strikes f.stops _ _ _ _ _ out (λ i. not f.is_kill_done && not (within-same SECOND f.kill_refused refused.1 i))
+      kill-shape f.is_struck f.is_stopping _ _ _ _ _ out (λ i. not f.is_kill_done && not (within-same SECOND f.kill_refused refused.1 i))
 
   terms : (f : Facts) → IsLater at (coming_end f up) → may_term_by f at ≡ may_term_by f up
   terms f later =
       let parts = both at (cond (nat_lt 0 f.definition.exit_timeout) (coming_after up (SECOND * f.definition.exit_timeout) f.term_ordered) None)
       (sooner (coming_after up SECOND f.term_refused) (coming_after up SECOND f.kill_refused)) later in
       let refused = both at (coming_after up SECOND f.term_refused) (coming_after up SECOND f.kill_refused) parts.1 in
-      λ i. not f.strikes && f.stops && not f.is_kill_done && (not f.is_term_done && not (within-same SECOND f.term_refused refused.0 i))
+      λ i. not f.is_struck && f.is_stopping && not f.is_kill_done && (not f.is_term_done && not (within-same SECOND f.term_refused refused.0 i))
 
   record Parts (f : Facts) : Type 0 where
     period : IsLater at (coming_period f.definition.start_interval f.load_up up)
@@ -89,12 +90,12 @@ module _ (up at : ℕ) (order : up ≤ at) where
   pub throttled-same : (f : Facts) → IsLater at (next_by f up) → is_throttled_by f at ≡ is_throttled_by f up
   throttled-same f later = let parts = parts-of f later in throttled f parts.spawn parts.refusal
 
-  beside : (f : Facts) (c : Option (ℕ × ℕ)) → c ≡ f.living_child → Parts f → due_beside_by c f at ≡ due_beside_by c f up
-  beside f None is parts = λ i. cond (not f.removes && is_wanted_by f && not (throttled f parts.spawn parts.refusal i)
+  beside : (f : Facts) (c : Option Child) → c ≡ f.living_child → Parts f → due_beside_by c f at ≡ due_beside_by c f up
+  beside f None is parts = λ i. cond (not f.is_removing && is_wanted_by f && not (throttled f parts.spawn parts.refusal i)
       && not (f.definition.launch_only_once && f.spawned_before) && nat_lt f.run_count (2 ^ 63)) (Some (Spawn (f.run_count + 1) (first f.queue))) None
   beside f (Some c) is parts =
       let end : IsLater at (coming_end f up) = subst (λ o. IsLater at (cond (is_some o) (coming_end f up) None)) (sym is) parts.end in
-      λ i. cond (kills f end i) (Some (Kill c.0)) (cond (terms f end i) (Some (Term c.0)) None)
+      λ i. cond (kills f end i) (Some (Kill c.run)) (cond (terms f end i) (Some (Term c.run)) None)
 
   pub due-same : (f : Facts) → IsLater at (next_by f up) → due_by f at ≡ due_by f up
   due-same f later = ap (λ o. cond (is_some f.awaited_act) None o) (beside f f.living_child refl (parts-of f later))
@@ -160,6 +161,6 @@ module _ (up at : ℕ) (order : up ≤ at) where
       λ i. sooner (period-same f.definition.start_interval f.load_up parts.period i)
       (sooner (sooner (after-same (SECOND * f.definition.throttle_interval) f.spawn_ordered parts.spawn i) (after-same SECOND f.spawn_refused parts.refusal i))
       (of-child f.living_child parts.end i)) where
-        of-child : (c : Option (ℕ × ℕ)) → IsLater at (cond (is_some c) (coming_end f up) None) → cond (is_some c) (coming_end f at) None ≡ cond (is_some c) (coming_end f up) None
+        of-child : (c : Option Child) → IsLater at (cond (is_some c) (coming_end f up) None) → cond (is_some c) (coming_end f at) None ≡ cond (is_some c) (coming_end f up) None
         of-child None later = refl
         of-child (Some c) later = end-same f later

@@ -26,6 +26,8 @@ use Rattle.history_model.proofs.SearchLemmas.{filter-less, list_any-implied, mom
 use Rattle.history_model.proofs.LawfulLemmas.{names_run, spawned-named, term-named, termed-named, killed-named, stopping-named, due-Spawn, due-Term, due-Kill, child-not_ended, last_end-ended, awaited-latest, Answers, IsChild, unnamed, eqb-self, eqb-false}
 use Rattle.history_model.proofs.RunsLemmas.{unless_settled-more, answered-settles, sound, child-present, spawned-living, ended-living, awaited-present}
 use Rattle.history_model.specs.DueByFacts.{is_busy_by}
+use Rattle.history_model.specs.declared.Child.{Child}
+use Rattle.history_model.specs.declared.LastEnd.{LastEnd}
 
 pub facts-Read : (t : History) (at : Reading) (calendar : Bool) →
     let f = facts_of t in
@@ -38,7 +40,7 @@ facts-WaitRefused t run = refl
 
 pub facts-Start : (t : History) →
     let f = facts_of t in
-    let fires = not (is_busy_by f) || f.stops in
+    let fires = not (is_busy_by f) || f.is_stopping in
     facts_of (Asked Start ∷ t) ≡ fired_by fires kinds.Start f
 facts-Start t = refl
 
@@ -46,21 +48,21 @@ and-or : (a b c : Bool) → (a && (b || c)) ≡ (a && b || a && c)
 and-or true b c = refl
 and-or false b c = refl
 
-pub facts-Stop : (t : History) → let f = facts_of t in facts_of (Asked Stop ∷ t) ≡ record f { stops = is_busy_by f }
+pub facts-Stop : (t : History) → let f = facts_of t in facts_of (Asked Stop ∷ t) ≡ record f { is_stopping = is_busy_by f }
 facts-Stop t = rw (and-true (is_busy t)) refl
 
-pub facts-Unload : (t : History) → let f = facts_of t in facts_of (Asked Unload ∷ t) ≡ record f { stops = is_busy_by f; removes = true }
+pub facts-Unload : (t : History) → let f = facts_of t in facts_of (Asked Unload ∷ t) ≡ record f { is_stopping = is_busy_by f; is_removing = true }
 facts-Unload t = rw (and-true (is_busy t)) refl
 
-pub facts-Shutdown : (t : History) → let f = facts_of t in facts_of (Asked Shutdown ∷ t) ≡ record f { stops = is_busy_by f; removes = true }
+pub facts-Shutdown : (t : History) → let f = facts_of t in facts_of (Asked Shutdown ∷ t) ≡ record f { is_stopping = is_busy_by f; is_removing = true }
 facts-Shutdown t = rw (and-true (is_busy t)) refl
 
 pub facts-Kickstart : (t : History) (kills_first : Bool) →
     let f = facts_of t in
-    let fires = kills_first || (not (is_busy_by f) || f.stops) in
-    facts_of (Asked (Kickstart kills_first) ∷ t) ≡ record (fired_by fires kinds.Kickstart f) { strikes = is_busy_by f && kills_first || f.strikes }
+    let fires = kills_first || (not (is_busy_by f) || f.is_stopping) in
+    facts_of (Asked (Kickstart kills_first) ∷ t) ≡ record (fired_by fires kinds.Kickstart f) { is_struck = is_busy_by f && kills_first || f.is_struck }
 facts-Kickstart t kills_first = λ i. record (fired_by (fires (Asked (Kickstart kills_first)) t) kinds.Kickstart (facts_of t)) {
-  strikes = and-or (is_busy t) kills_first (list_any is_strike (since is_spawn_order t)) i;
+  is_struck = and-or (is_busy t) kills_first (list_any is_strike (since is_spawn_order t)) i;
 }
 
 -- ---- a spawn
@@ -80,8 +82,8 @@ pub facts-Spawn : (t : History) → IsLawful t → (run : ℕ) (conn : Option �
       is_term_done = false;
       is_kill_done = false;
       is_ordered_to_end = false;
-      stops = false;
-      strikes = false;
+      is_stopping = false;
+      is_struck = false;
     }
 facts-Spawn t lawful run conn e =
     let fact = due-Spawn t run conn e in
@@ -114,8 +116,8 @@ facts-Spawn t lawful run conn e =
       is_term_done = termed i;
       is_kill_done = killed i;
       is_ordered_to_end = heard i;
-      stops = idle i;
-      strikes = idle i;
+      is_stopping = idle i;
+      is_struck = idle i;
     }
 
 -- ---- a spawn that was answered ok
@@ -207,7 +209,7 @@ asked_to_end t = list_any is_strike (since is_spawn_order t)
 pub facts-Spawned : (t : History) → IsLawful t → (run pid : ℕ) (conn : Option ℕ) → awaited t ≡ Some (Spawn run conn) → Answers t (Spawned run pid) →
     let f = facts_of t in
     facts_of (Answered (Spawned run pid) ∷ t) ≡ record f {
-      living_child = Some (run, pid);
+      living_child = Some (record { run = run; pid = pid });
       awaited_act = None;
       has_demand = f.has_new_demand;
       demand = f.new_demand;
@@ -234,13 +236,13 @@ facts-Spawned t lawful run pid conn order fact =
       demand = demand i;
       spawned_before = true;
       queue = queue i;
-      stops = busy i && asked_to_stop t;
-      strikes = busy i && asked_to_end t;
+      is_stopping = busy i && asked_to_stop t;
+      is_struck = busy i && asked_to_end t;
     }
 
 pub facts-SpawnRefused : (t : History) → IsLawful t → (run : ℕ) (conn : Option ℕ) → awaited t ≡ Some (Spawn run conn) → Answers t (SpawnRefused run) →
     let f = facts_of t in
-    facts_of (Answered (SpawnRefused run) ∷ t) ≡ record f { awaited_act = None; spawn_refused = Some (now t).up; stops = false; strikes = false }
+    facts_of (Answered (SpawnRefused run) ∷ t) ≡ record f { awaited_act = None; spawn_refused = Some (now t).up; is_stopping = false; is_struck = false }
 facts-SpawnRefused t lawful run conn order fact =
     let fresh = (sound t lawful).1 run conn order in
     let empty : living t ≡ [] = fresh.3 in
@@ -248,8 +250,8 @@ facts-SpawnRefused t lawful run conn order fact =
     λ i. record (facts_of t) {
       awaited_act = settled i;
       spawn_refused = Some (now t).up;
-      stops = (is_some (first (empty i)) || is_some_spawn (settled i)) && asked_to_stop t;
-      strikes = (is_some (first (empty i)) || is_some_spawn (settled i)) && asked_to_end t;
+      is_stopping = (is_some (first (empty i)) || is_some_spawn (settled i)) && asked_to_stop t;
+      is_struck = (is_some (first (empty i)) || is_some_spawn (settled i)) && asked_to_end t;
     }
 
 -- ---- an end
@@ -263,7 +265,7 @@ ended_no_spawn run how (Some (Close n)) excluded = refl
 ended_no_spawn run how (Some Gone) excluded = refl
 
 -- beside a child no spawn is awaited
-child-no_spawn : (t : History) → IsLawful t → (c : ℕ × ℕ) → child t ≡ Some c → (n : ℕ) (conn : Option ℕ) → awaited t ≡ Some (Spawn n conn) → ⊥
+child-no_spawn : (t : History) → IsLawful t → (c : Child) → child t ≡ Some c → (n : ℕ) (conn : Option ℕ) → awaited t ≡ Some (Spawn n conn) → ⊥
 child-no_spawn t lawful c e n conn order =
     let both = sound t lawful in
     let full : living t ≡ c ∷ [] = (child-present t c both.0 e).1 in
@@ -275,38 +277,38 @@ pub facts-RunEnded : (t : History) → IsLawful t → (run : ℕ) (how : Ended) 
     facts_of (RunEnded run how ∷ t) ≡ record f {
       living_child = None;
       awaited_act = settle (RunEnded run how) f.awaited_act;
-      ended = Some (run, how);
+      ended = Some (record { run = run; how = how });
       has_crashed = is_crash_end f.is_ordered_to_end how;
-      stops = false;
-      strikes = false;
+      is_stopping = false;
+      is_struck = false;
     }
 facts-RunEnded t lawful run how fact =
-    let present = child-present t (run, fact.pid) (sound t lawful).0 fact.stands in
+    let present = child-present t (record { run = run; pid = fact.pid }) (sound t lawful).0 fact.stands in
     let number : run ≡ runs t = present.0 in
-    let empty = ended-living t run how (run, fact.pid) refl present.1 in
+    let empty = ended-living t run how (record { run = run; pid = fact.pid }) refl present.1 in
     let more = unless_settled-more (RunEnded run how) (since is_order t) (latest order_in t) in
-    let no_spawn = ended_no_spawn run how (awaited t) (child-no_spawn t lawful (run, fact.pid) fact.stands) in
+    let no_spawn = ended_no_spawn run how (awaited t) (child-no_spawn t lawful (record { run = run; pid = fact.pid }) fact.stands) in
     let idle : is_busy (RunEnded run how ∷ t) ≡ false = (λ i. is_some (first (empty i)) || is_some_spawn (more i)) ∙ no_spawn in
     λ i. record (facts_of t) {
       living_child = first (empty i);
       awaited_act = more i;
-      ended = Some (run, how);
+      ended = Some (record { run = run; how = how });
       has_crashed = is_crash_end (list_any (is_stopping_order (number i)) t) how;
-      stops = idle i && asked_to_stop t;
-      strikes = idle i && asked_to_end t;
+      is_stopping = idle i && asked_to_stop t;
+      is_struck = idle i && asked_to_end t;
     }
 
 -- ---- TERM and KILL
 
 -- an order for a run that lives changes nothing of the last end
-crash-kept : (t : History) (act : Act) (o : Option (ℕ × Ended)) → ((e : ℕ × Ended) → o ≡ Some e → is_stopping_act e.0 act ≡ false) → crash_of (Ordered act ∷ t) o ≡ crash_of t o
+crash-kept : (t : History) (act : Act) (o : Option LastEnd) → ((e : LastEnd) → o ≡ Some e → is_stopping_act e.run act ≡ false) → crash_of (Ordered act ∷ t) o ≡ crash_of t o
 crash-kept t act None other = refl
 crash-kept t act (Some e) other = rw (other e refl) refl
 
-not_ended-other : (t : History) (run pid : ℕ) → child t ≡ Some (run, pid) → (e : ℕ × Ended) → last_end t ≡ Some e → (run == e.0) ≡ false
-not_ended-other t run pid present e ended = eqb-false run e.0 (λ same.
-    let living_on : has_ended run t ≡ false = child-not_ended t (run, pid) present in
-    let gone : has_ended e.0 t ≡ true = last_end-ended t e ended in
+not_ended-other : (t : History) (run pid : ℕ) → child t ≡ Some (record { run = run; pid = pid }) → (e : LastEnd) → last_end t ≡ Some e → (run == e.run) ≡ false
+not_ended-other t run pid present e ended = eqb-false run e.run (λ same.
+    let living_on : has_ended run t ≡ false = child-not_ended t (record { run = run; pid = pid }) present in
+    let gone : has_ended e.run t ≡ true = last_end-ended t e ended in
     let both : has_ended run t ≡ true = rw same gone in
     false≢true (sym living_on ∙ both))
 
@@ -315,7 +317,7 @@ pub facts-Term : (t : History) → IsLawful t → (run : ℕ) → due t ≡ Some
     facts_of (Ordered (Term run) ∷ t) ≡ record f { awaited_act = Some (Term run); term_ordered = or_else f.term_ordered (Some (now t).up); is_ordered_to_end = true }
 facts-Term t lawful run e =
     let fact = due-Term t run e in
-    let number : run ≡ runs t = (child-present t (run, fact.pid) (sound t lawful).0 fact.present).0 in
+    let number : run ≡ runs t = (child-present t (record { run = run; pid = fact.pid }) (sound t lawful).0 fact.present).0 in
     let this : (run == runs t) ≡ true = eq-eqb run (runs t) number in
     let crash = crash-kept t (Term run) (last_end t) (not_ended-other t run fact.pid fact.present) in
     λ i. record (facts_of t) {
@@ -323,8 +325,8 @@ facts-Term t lawful run e =
       term_ordered = last (cond (this i) ((now t).up ∷ moments (is_term_order (runs t)) t) (moments (is_term_order (runs t)) t));
       is_ordered_to_end = this i || list_any (is_stopping_order (runs t)) t;
       has_crashed = crash i;
-      stops = (is_some (child t) || is_some_spawn (sym fact.free i)) && asked_to_stop t;
-      strikes = (is_some (child t) || is_some_spawn (sym fact.free i)) && asked_to_end t;
+      is_stopping = (is_some (child t) || is_some_spawn (sym fact.free i)) && asked_to_stop t;
+      is_struck = (is_some (child t) || is_some_spawn (sym fact.free i)) && asked_to_end t;
     }
 
 pub facts-Kill : (t : History) → IsLawful t → (run : ℕ) → due t ≡ Some (Kill run) →
@@ -332,15 +334,15 @@ pub facts-Kill : (t : History) → IsLawful t → (run : ℕ) → due t ≡ Some
     facts_of (Ordered (Kill run) ∷ t) ≡ record f { awaited_act = Some (Kill run); is_ordered_to_end = true }
 facts-Kill t lawful run e =
     let fact = due-Kill t run e in
-    let number : run ≡ runs t = (child-present t (run, fact.pid) (sound t lawful).0 fact.present).0 in
+    let number : run ≡ runs t = (child-present t (record { run = run; pid = fact.pid }) (sound t lawful).0 fact.present).0 in
     let this : (run == runs t) ≡ true = eq-eqb run (runs t) number in
     let crash = crash-kept t (Kill run) (last_end t) (not_ended-other t run fact.pid fact.present) in
     λ i. record (facts_of t) {
       awaited_act = Some (Kill run);
       is_ordered_to_end = this i || list_any (is_stopping_order (runs t)) t;
       has_crashed = crash i;
-      stops = (is_some (child t) || is_some_spawn (sym fact.free i)) && asked_to_stop t;
-      strikes = (is_some (child t) || is_some_spawn (sym fact.free i)) && asked_to_end t;
+      is_stopping = (is_some (child t) || is_some_spawn (sym fact.free i)) && asked_to_stop t;
+      is_struck = (is_some (child t) || is_some_spawn (sym fact.free i)) && asked_to_end t;
     }
 
 pub answer_term : (run : ℕ) (ok : Bool) (act : Act) → is_answer_to (Termed run ok) act ≡ true → act ≡ Term run
@@ -367,8 +369,8 @@ facts-Termed t lawful run ok fact =
       awaited_act = settled i;
       is_term_done = (this i && ok) || list_any (is_term_answer true (runs t)) t;
       term_refused = (ap (λ b. first (cond (b && not ok) ((now t).up ∷ moments (is_term_answer false (runs t)) t) (moments (is_term_answer false (runs t)) t))) this ∙ first-cond ok (now t).up (moments (is_term_answer false (runs t)) t)) i;
-      stops = ap (λ b. (is_some (child t) || b) && asked_to_stop t) (ap is_some_spawn settled ∙ sym (ap is_some_spawn order)) i;
-      strikes = ap (λ b. (is_some (child t) || b) && asked_to_end t) (ap is_some_spawn settled ∙ sym (ap is_some_spawn order)) i;
+      is_stopping = ap (λ b. (is_some (child t) || b) && asked_to_stop t) (ap is_some_spawn settled ∙ sym (ap is_some_spawn order)) i;
+      is_struck = ap (λ b. (is_some (child t) || b) && asked_to_end t) (ap is_some_spawn settled ∙ sym (ap is_some_spawn order)) i;
     }
 
 pub facts-Killed : (t : History) → IsLawful t → (run : ℕ) (ok : Bool) → Answers t (Killed run ok) →
@@ -383,6 +385,6 @@ facts-Killed t lawful run ok fact =
       awaited_act = settled i;
       is_kill_done = (this i && ok) || list_any (is_kill_answer true (runs t)) t;
       kill_refused = (ap (λ b. first (cond (b && not ok) ((now t).up ∷ moments (is_kill_answer false (runs t)) t) (moments (is_kill_answer false (runs t)) t))) this ∙ first-cond ok (now t).up (moments (is_kill_answer false (runs t)) t)) i;
-      stops = ap (λ b. (is_some (child t) || b) && asked_to_stop t) (ap is_some_spawn settled ∙ sym (ap is_some_spawn order)) i;
-      strikes = ap (λ b. (is_some (child t) || b) && asked_to_end t) (ap is_some_spawn settled ∙ sym (ap is_some_spawn order)) i;
+      is_stopping = ap (λ b. (is_some (child t) || b) && asked_to_stop t) (ap is_some_spawn settled ∙ sym (ap is_some_spawn order)) i;
+      is_struck = ap (λ b. (is_some (child t) || b) && asked_to_end t) (ap is_some_spawn settled ∙ sym (ap is_some_spawn order)) i;
     }

@@ -20,6 +20,8 @@ use Rattle.history_model.specs.Refusals.{unless, refusal_of, is_awaited_answer, 
 use Rattle.history_model.specs.Clock.{definition_of}
 use Rattle.history_model.proofs.BooleanLemmas.{false-and, false-or, not-true, or-false, or-second}
 use Rattle.history_model.proofs.SearchLemmas.{list_any-implied}
+use Rattle.history_model.specs.declared.Child.{Child}
+use Rattle.history_model.specs.declared.LastEnd.{LastEnd}
 
 -- ---- tests on numbers
 
@@ -93,9 +95,9 @@ pub record SpawnDue (t : History) (run : ℕ) (conn : Option ℕ) : Type 0 where
 pub record StopDue (t : History) (run : ℕ) : Type 0 where
   pub pid : ℕ
   pub free : awaited t ≡ None
-  pub present : child t ≡ Some (run, pid)
+  pub present : child t ≡ Some (record { run = run; pid = pid })
 
-abbrev pub due_shape : Option Act → Option (ℕ × ℕ) → History → Option Act
+abbrev pub due_shape : Option Act → Option Child → History → Option Act
 due_shape o c t = cond (is_some o) None (due_beside c t)
 
 pub due-Spawn : (t : History) (run : ℕ) (conn : Option ℕ) → due t ≡ Some (Spawn run conn) → SpawnDue t run conn
@@ -109,10 +111,10 @@ due-Spawn t run conn e = go (awaited t) (child t) refl refl e where
   stopping false true r e = cc
   stopping false false r e = cc
 
-  go : (o : Option Act) (c : Option (ℕ × ℕ)) → awaited t ≡ o → child t ≡ c → due_shape o c t ≡ Some (Spawn run conn) → SpawnDue t run conn
+  go : (o : Option Act) (c : Option Child) → awaited t ≡ o → child t ≡ c → due_shape o c t ≡ Some (Spawn run conn) → SpawnDue t run conn
   go (Some act) c ea ec e = cc
   go None None ea ec e = spawning (may_spawn t) refl ea ec e
-  go None (Some c) ea ec e = absurd (stopping (may_kill c.0 t) (may_term c.0 t) c.0 e)
+  go None (Some c) ea ec e = absurd (stopping (may_kill c.run t) (may_term c.run t) c.run e)
 
 pub due-Term : (t : History) (run : ℕ) → due t ≡ Some (Term run) → StopDue t run
 due-Term t run e = go (awaited t) (child t) refl refl e where
@@ -125,10 +127,10 @@ due-Term t run e = go (awaited t) (child t) refl refl e where
   stopping false true r e = cc
   stopping false false r e = cc
 
-  go : (o : Option Act) (c : Option (ℕ × ℕ)) → awaited t ≡ o → child t ≡ c → due_shape o c t ≡ Some (Term run) → StopDue t run
+  go : (o : Option Act) (c : Option Child) → awaited t ≡ o → child t ≡ c → due_shape o c t ≡ Some (Term run) → StopDue t run
   go (Some act) c ea ec e = cc
   go None None ea ec e = absurd (spawning (may_spawn t) e)
-  go None (Some c) ea ec e = record { pid = c.1; free = ea; present = rw (← stopping (may_kill c.0 t) (may_term c.0 t) c.0 e) ec }
+  go None (Some c) ea ec e = record { pid = c.pid; free = ea; present = rw (← stopping (may_kill c.run t) (may_term c.run t) c.run e) ec }
 
 pub due-Kill : (t : History) (run : ℕ) → due t ≡ Some (Kill run) → StopDue t run
 due-Kill t run e = go (awaited t) (child t) refl refl e where
@@ -141,10 +143,10 @@ due-Kill t run e = go (awaited t) (child t) refl refl e where
   stopping false true r e = cc
   stopping false false r e = cc
 
-  go : (o : Option Act) (c : Option (ℕ × ℕ)) → awaited t ≡ o → child t ≡ c → due_shape o c t ≡ Some (Kill run) → StopDue t run
+  go : (o : Option Act) (c : Option Child) → awaited t ≡ o → child t ≡ c → due_shape o c t ≡ Some (Kill run) → StopDue t run
   go (Some act) c ea ec e = cc
   go None None ea ec e = absurd (spawning (may_spawn t) e)
-  go None (Some c) ea ec e = record { pid = c.1; free = ea; present = rw (← stopping (may_kill c.0 t) (may_term c.0 t) c.0 e) ec }
+  go None (Some c) ea ec e = record { pid = c.pid; free = ea; present = rw (← stopping (may_kill c.run t) (may_term c.run t) c.run e) ec }
 
 -- a child is closed, and a job gone, by the table
 pub due-rest : (t : History) (act : Act) → due t ≡ Some act → ((run : ℕ) (conn : Option ℕ) → act ≢ Spawn run conn) → ((run : ℕ) → act ≢ Term run) → ((run : ℕ) → act ≢ Kill run) → ⊥
@@ -158,23 +160,23 @@ due-rest t act e no_spawn no_term no_kill = go (awaited t) (child t) e where
   stopping false true r e = no_term r (let h : act ≡ Term r = cc in h)
   stopping false false r e = cc
 
-  go : (o : Option Act) (c : Option (ℕ × ℕ)) → due_shape o c t ≡ Some act → ⊥
+  go : (o : Option Act) (c : Option Child) → due_shape o c t ≡ Some act → ⊥
   go (Some a) c e = cc
   go None None e = spawning (may_spawn t) e
-  go None (Some c) e = stopping (may_kill c.0 t) (may_term c.0 t) c.0 e
+  go None (Some c) e = stopping (may_kill c.run t) (may_term c.run t) c.run e
 
 -- ---- the child and the awaited order are named by the past
 
-child_started : (p : ℕ × ℕ → Bool) (t : History) (c : ℕ × ℕ) → first (filter p (filter_map spawned_in t)) ≡ Some c → (has_spawned c.0 t ≡ true) × (p c ≡ true)
+child_started : (p : Child → Bool) (t : History) (c : Child) → first (filter p (filter_map spawned_in t)) ≡ Some c → (has_spawned c.run t ≡ true) × (p c ≡ true)
 child_started p [] c e = cc
-child_started p (Answered (Spawned run pid) ∷ t) c e = go (child_started p t c) (p (run, pid)) refl e where
-  go : (first (filter p (filter_map spawned_in t)) ≡ Some c → (has_spawned c.0 t ≡ true) × (p c ≡ true)) → (b : Bool) → p (run, pid) ≡ b → first (cond b ((run, pid) ∷ filter p (filter_map spawned_in t)) (filter p (filter_map spawned_in t))) ≡ Some c → ((run == c.0) || has_spawned c.0 t ≡ true) × (p c ≡ true)
+child_started p (Answered (Spawned run pid) ∷ t) c e = go (child_started p t c) (p (record { run = run; pid = pid })) refl e where
+  go : (first (filter p (filter_map spawned_in t)) ≡ Some c → (has_spawned c.run t ≡ true) × (p c ≡ true)) → (b : Bool) → p (record { run = run; pid = pid }) ≡ b → first (cond b ((record { run = run; pid = pid }) ∷ filter p (filter_map spawned_in t)) (filter p (filter_map spawned_in t))) ≡ Some c → ((run == c.run) || has_spawned c.run t ≡ true) × (p c ≡ true)
   go hypothesis true eb e' =
-      let same : (run, pid) ≡ c = cc in
-      let number : run ≡ c.0 = ap (λ (d : ℕ × ℕ). d.0) same in
-      let hit : (run == c.0) ≡ true = eq-eqb run c.0 number in
+      let same : (record { run = run; pid = pid }) ≡ c = cc in
+      let number : run ≡ c.run = ap (λ (d : Child). d.run) same in
+      let hit : (run == c.run) ≡ true = eq-eqb run c.run number in
       (rw hit refl, rw (← same) eb)
-  go hypothesis false eb e' = let rest = hypothesis e' in (or-second (run == c.0) (has_spawned c.0 t) rest.0, rest.1)
+  go hypothesis false eb e' = let rest = hypothesis e' in (or-second (run == c.run) (has_spawned c.run t) rest.0, rest.1)
 child_started p (Answered (SpawnRefused run) ∷ t) c e = child_started p t c e
 child_started p (Answered (Termed run ok) ∷ t) c e = child_started p t c e
 child_started p (Answered (Killed run ok) ∷ t) c e = child_started p t c e
@@ -189,16 +191,16 @@ child_started p (RunEnded run how ∷ t) c e = child_started p t c e
 child_started p (WaitRefused run ∷ t) c e = child_started p t c e
 
 -- a child's spawn was answered ok, and it has not ended
-pub child-spawned : (t : History) (c : ℕ × ℕ) → child t ≡ Some c → has_spawned c.0 t ≡ true
-child-spawned t c e = (child_started (λ d. not (has_ended d.0 t)) t c e).0
+pub child-spawned : (t : History) (c : Child) → child t ≡ Some c → has_spawned c.run t ≡ true
+child-spawned t c e = (child_started (λ d. not (has_ended d.run t)) t c e).0
 
-pub child-not_ended : (t : History) (c : ℕ × ℕ) → child t ≡ Some c → has_ended c.0 t ≡ false
-child-not_ended t c e = not-true (has_ended c.0 t) (child_started (λ d. not (has_ended d.0 t)) t c e).1
+pub child-not_ended : (t : History) (c : Child) → child t ≡ Some c → has_ended c.run t ≡ false
+child-not_ended t c e = not-true (has_ended c.run t) (child_started (λ d. not (has_ended d.run t)) t c e).1
 
 -- if no item names the run, it is not the child
-pub unnamed-child : (t : History) (r : ℕ) (c : ℕ × ℕ) → list_any (names_run r) t ≡ false → child t ≡ Some c → (c.0 == r) ≡ false
-unnamed-child t r c none e = eqb-false c.0 r (λ same.
-    let spawned : has_spawned c.0 t ≡ true = child-spawned t c e in
+pub unnamed-child : (t : History) (r : ℕ) (c : Child) → list_any (names_run r) t ≡ false → child t ≡ Some c → (c.run == r) ≡ false
+unnamed-child t r c none e = eqb-false c.run r (λ same.
+    let spawned : has_spawned c.run t ≡ true = child-spawned t c e in
     let never : has_spawned r t ≡ false = list_any-implied (is_spawned_answer r) (names_run r) (spawned-named r) t none in
     let both : has_spawned r t ≡ true = rw (← same) spawned in
     false≢true (sym never ∙ both))
@@ -258,15 +260,15 @@ Answers-from t answer e = go (awaited t) refl (unless-None (is_awaited_answer (a
 
 pub record IsChild (t : History) (run : ℕ) : Type 0 where
   pub pid : ℕ
-  pub stands : child t ≡ Some (run, pid)
+  pub stands : child t ≡ Some (record { run = run; pid = pid })
 
 pub IsChild-from : (t : History) (run : ℕ) → unless (is_child (child t) run) Stale ≡ None → IsChild t run
 IsChild-from t run e = go (child t) refl (unless-None (is_child (child t) run) Stale e) where
-  go : (o : Option (ℕ × ℕ)) → child t ≡ o → is_child o run ≡ true → IsChild t run
+  go : (o : Option Child) → child t ≡ o → is_child o run ≡ true → IsChild t run
   go None eo fits = cc
   go (Some c) eo fits =
-      let same : c.0 ≡ run = eqb-true c.0 run fits in
-      record { pid = c.1; stands = rw (← same) eo }
+      let same : c.run ≡ run = eqb-true c.run run fits in
+      record { pid = c.pid; stands = rw (← same) eo }
 
 -- no item names a run that was not ordered yet
 pub unnamed : (t : History) → IsLawful t → (r : ℕ) → runs t < r → list_any (names_run r) t ≡ false
@@ -279,11 +281,11 @@ unnamed (Ordered (Spawn run conn) ∷ t) (follows, lawful) r above =
 unnamed (Ordered (Term run) ∷ t) (follows, lawful) r above =
     let fact = due-Term t run follows.1 in
     let none = unnamed t lawful r above in
-    false-or (run == r) (list_any (names_run r) t) (unnamed-child t r (run, fact.pid) none fact.present) none
+    false-or (run == r) (list_any (names_run r) t) (unnamed-child t r (record { run = run; pid = fact.pid }) none fact.present) none
 unnamed (Ordered (Kill run) ∷ t) (follows, lawful) r above =
     let fact = due-Kill t run follows.1 in
     let none = unnamed t lawful r above in
-    false-or (run == r) (list_any (names_run r) t) (unnamed-child t r (run, fact.pid) none fact.present) none
+    false-or (run == r) (list_any (names_run r) t) (unnamed-child t r (record { run = run; pid = fact.pid }) none fact.present) none
 unnamed (Ordered (Close conn) ∷ t) (follows, lawful) r above = unnamed t lawful r above
 unnamed (Ordered Gone ∷ t) (follows, lawful) r above = unnamed t lawful r above
 unnamed (Answered answer ∷ t) (follows, lawful) r above =
@@ -293,7 +295,7 @@ unnamed (Answered answer ∷ t) (follows, lawful) r above =
 unnamed (RunEnded run how ∷ t) (follows, lawful) r above =
     let none = unnamed t lawful r above in
     let fact = IsChild-from t run follows.1 in
-    false-or (run == r) (list_any (names_run r) t) (unnamed-child t r (run, fact.pid) none fact.stands) none
+    false-or (run == r) (list_any (names_run r) t) (unnamed-child t r (record { run = run; pid = fact.pid }) none fact.stands) none
 unnamed (Loaded d at ∷ t) (follows, lawful) r above = unnamed t lawful r above
 unnamed (Read at calendar ∷ t) (follows, lawful) r above = unnamed t lawful r above
 unnamed (Saw path obs ∷ t) (follows, lawful) r above = unnamed t lawful r above
@@ -303,11 +305,11 @@ unnamed (Left conn ∷ t) (follows, lawful) r above = unnamed t lawful r above
 unnamed (WaitRefused run ∷ t) (follows, lawful) r above = unnamed t lawful r above
 
 -- the last end is an end of its run
-pub last_end-ended : (t : History) (e : ℕ × Ended) → last_end t ≡ Some e → has_ended e.0 t ≡ true
+pub last_end-ended : (t : History) (e : LastEnd) → last_end t ≡ Some e → has_ended e.run t ≡ true
 last_end-ended [] e h = cc
 last_end-ended (RunEnded run how ∷ t) e h =
-    let same : (run, how) ≡ e = cc in
-    let number : (run == e.0) ≡ true = eq-eqb run e.0 (ap (λ (d : ℕ × Ended). d.0) same) in
+    let same : (record { run = run; how = how }) ≡ e = cc in
+    let number : (run == e.run) ≡ true = eq-eqb run e.run (ap (λ (d : LastEnd). d.run) same) in
     rw number refl
 last_end-ended (Ordered act ∷ t) e h = last_end-ended t e h
 last_end-ended (Answered answer ∷ t) e h = last_end-ended t e h
@@ -331,10 +333,10 @@ due-Kill-may t run e = go (awaited t) (child t) e where
   stopping false true r e = cc
   stopping false false r e = cc
 
-  go : (o : Option Act) (c : Option (ℕ × ℕ)) → due_shape o c t ≡ Some (Kill run) → may_kill run t ≡ true
+  go : (o : Option Act) (c : Option Child) → due_shape o c t ≡ Some (Kill run) → may_kill run t ≡ true
   go (Some act) c e = cc
   go None None e = absurd (spawning (may_spawn t) e)
-  go None (Some c) e = let both = stopping (may_kill c.0 t) (may_term c.0 t) c.0 e in rw (← both.0) both.1
+  go None (Some c) e = let both = stopping (may_kill c.run t) (may_term c.run t) c.run e in rw (← both.0) both.1
 
 -- a job that may spawn is not throttled
 pub unthrottled : (t : History) → may_spawn t ≡ true → is_throttled t ≡ false

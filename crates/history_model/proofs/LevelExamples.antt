@@ -14,7 +14,7 @@ use Rattle.history_model.proofs.ThrottleExamples.{play, none, gives, refused, lo
 
 -- conditions are ORed, and hold of nothing that was not seen
 pub conditions : play (
-    load (record no_definition { successful_exit = Some false; path_state = (1 ∷ [], true) ∷ [] }) ∷ spawned 1 ∷ saw (1 ∷ []) true false 0
+    load (record no_definition { successful_exit = Some false; path_state = record { path = 1 ∷ []; present = true } ∷ [] }) ∷ spawned 1 ∷ saw (1 ∷ []) true false 0
     ∷ ended 1 (Code 0) ∷ read 10000 ∷ spawned 2 ∷ saw (1 ∷ []) false false 0 ∷ ended 2 (Code 0) ∷ read 20000 ∷ []
     )
     ≡ gives (Spawn 1 None) ∷ none ∷ none ∷ none ∷ gives (Spawn 2 None) ∷ none ∷ none ∷ none ∷ none ∷ []

@@ -18,6 +18,7 @@ use Rattle.history_model.proofs.BooleanLemmas.{and-false}
 use Rattle.history_model.proofs.RunsLemmas.{childless}
 use Rattle.history_model.proofs.StepLemmas.{Rests, all-implied}
 use Rattle.history_model.proofs.OneLoadLemmas.{far, overdue}
+use Rattle.history_model.specs.declared.Child.{Child}
 
 pub spaced : (t : History) → IsLawful t → IsSpaced t
 spaced [] lawful = tt
@@ -66,7 +67,7 @@ one-living (job ∷ other ∷ jobs) few all = absurd (omega (arith, few))
 -- a job that is gone has no run
 pub gone-living : (t : History) → is_gone t ≡ true → living t ≡ []
 gone-living t gone = go (is_removed t) (child t) refl gone where
-  go : (r : Bool) (c : Option (ℕ × ℕ)) → child t ≡ c → (r && not (is_some c || awaits_spawn t)) ≡ true → living t ≡ []
+  go : (r : Bool) (c : Option Child) → child t ≡ c → (r && not (is_some c || awaits_spawn t)) ≡ true → living t ≡ []
   go false c e gone = cc
   go true None e gone = childless t e
   go true (Some c) e gone = cc
@@ -83,7 +84,7 @@ held-back t idle wanted = go (awaited t) (child t) idle where
   held false true false false true e none = cc
   held false true false false false e none = refl
 
-  go : (a : Option Act) (c : Option (ℕ × ℕ)) → cond (is_some a) None (due_beside c t) ≡ None →
+  go : (a : Option Act) (c : Option Child) → cond (is_some a) None (due_beside c t) ≡ None →
       (is_some c || is_some a || is_throttled t || is_removed t || ((definition_of t).launch_only_once && has_ever_spawned t) || not (nat_lt (runs t) (2 ^ 63))) ≡ true
   go a (Some c) none = refl
   go (Some act) None none = refl

@@ -111,29 +111,29 @@ module _ (t : History) (positive : ForSome (definition_of t).start_interval (λ 
   in-waits : (k : ℕ) → is_in k (filter (nat_lt (now t).up) (waits t)) ≡ (is_in k (waits t) && nat_lt (now t).up k)
   in-waits k = any-filter (nat_lt (now t).up) k (waits t)
 
-  left : (k : ℕ) → is_in k (next_period (definition_of t).start_interval (load_of t).1.up (now t).up) ≡ true →
-      is_in k (next_period (definition_of t).start_interval (load_of t).1.up (now t).up ++ filter (nat_lt (now t).up) (waits t)) ≡ true
-  left k there = rw (in-++ k (next_period (definition_of t).start_interval (load_of t).1.up (now t).up) (filter (nat_lt (now t).up) (waits t)), there) refl
+  left : (k : ℕ) → is_in k (next_period (definition_of t).start_interval (load_of t).at.up (now t).up) ≡ true →
+      is_in k (next_period (definition_of t).start_interval (load_of t).at.up (now t).up ++ filter (nat_lt (now t).up) (waits t)) ≡ true
+  left k there = rw (in-++ k (next_period (definition_of t).start_interval (load_of t).at.up (now t).up) (filter (nat_lt (now t).up) (waits t)), there) refl
 
   right : (k : ℕ) → is_in k (waits t) ≡ true → (now t).up < k →
-      is_in k (next_period (definition_of t).start_interval (load_of t).1.up (now t).up ++ filter (nat_lt (now t).up) (waits t)) ≡ true
+      is_in k (next_period (definition_of t).start_interval (load_of t).at.up (now t).up ++ filter (nat_lt (now t).up) (waits t)) ≡ true
   right k there above =
-      rw (in-++ k (next_period (definition_of t).start_interval (load_of t).1.up (now t).up) (filter (nat_lt (now t).up) (waits t)))
-      (or-second (is_in k (next_period (definition_of t).start_interval (load_of t).1.up (now t).up)) (is_in k (filter (nat_lt (now t).up) (waits t)))
+      rw (in-++ k (next_period (definition_of t).start_interval (load_of t).at.up (now t).up) (filter (nat_lt (now t).up) (waits t)))
+      (or-second (is_in k (next_period (definition_of t).start_interval (load_of t).at.up (now t).up)) (is_in k (filter (nat_lt (now t).up) (waits t)))
       (in-waits k ∙ true-and (is_in k (waits t)) (nat_lt (now t).up k) there (grind (arith, nat_tests, above))))
 
-  whole : (m : ℕ) → next_moment t ≡ Some m → IsLeast (next_period (definition_of t).start_interval (load_of t).1.up (now t).up ++ filter (nat_lt (now t).up) (waits t)) m
-  whole m e = go (next_period (definition_of t).start_interval (load_of t).1.up (now t).up ++ filter (nat_lt (now t).up) (waits t)) e where
+  whole : (m : ℕ) → next_moment t ≡ Some m → IsLeast (next_period (definition_of t).start_interval (load_of t).at.up (now t).up ++ filter (nat_lt (now t).up) (waits t)) m
+  whole m e = go (next_period (definition_of t).start_interval (load_of t).at.up (now t).up ++ filter (nat_lt (now t).up) (waits t)) e where
     go : (ms : List ℕ) → least ms ≡ Some m → IsLeast ms m
     go [] h = cc
     go (k ∷ ms) h = least-is k ms m h
 
   pub is-one : (m : ℕ) → next_moment t ≡ Some m → ((now t).up < m) × IsMoment t m
   is-one m e =
-      go (or-either (is_in m (next_period (definition_of t).start_interval (load_of t).1.up (now t).up)) (is_in m (filter (nat_lt (now t).up) (waits t)))
-      (sym (in-++ m (next_period (definition_of t).start_interval (load_of t).1.up (now t).up) (filter (nat_lt (now t).up) (waits t))) ∙ (whole m e).0)) where
-        go : (is_in m (next_period (definition_of t).start_interval (load_of t).1.up (now t).up) ≡ true) ⊎ (is_in m (filter (nat_lt (now t).up) (waits t)) ≡ true) → ((now t).up < m) × IsMoment t m
-        go (inl there) = let fact = period-in (definition_of t).start_interval (load_of t).1.up (now t).up m positive there in (fact.0, inl fact.1)
+      go (or-either (is_in m (next_period (definition_of t).start_interval (load_of t).at.up (now t).up)) (is_in m (filter (nat_lt (now t).up) (waits t)))
+      (sym (in-++ m (next_period (definition_of t).start_interval (load_of t).at.up (now t).up) (filter (nat_lt (now t).up) (waits t))) ∙ (whole m e).0)) where
+        go : (is_in m (next_period (definition_of t).start_interval (load_of t).at.up (now t).up) ≡ true) ⊎ (is_in m (filter (nat_lt (now t).up) (waits t)) ≡ true) → ((now t).up < m) × IsMoment t m
+        go (inl there) = let fact = period-in (definition_of t).start_interval (load_of t).at.up (now t).up m positive there in (fact.0, inl fact.1)
         go (inr there) =
             let both = and-both (is_in m (waits t)) (nat_lt (now t).up m) (sym (in-waits m) ∙ there) in
             let later : nat_lt (now t).up m ≡ true = both.1 in
@@ -141,13 +141,13 @@ module _ (t : History) (positive : ForSome (definition_of t).start_interval (λ 
 
   pub is-least : (m other : ℕ) → next_moment t ≡ Some m → IsMoment t other → (now t).up < other → m ≤ other
   is-least m other e (inl period) above =
-      period-below (definition_of t).start_interval (load_of t).1.up (now t).up other m positive period above (λ k there. (whole m e).1 k (left k there))
+      period-below (definition_of t).start_interval (load_of t).at.up (now t).up other m positive period above (λ k there. (whole m e).1 k (left k there))
   is-least m other e (inr there) above = (whole m e).1 other (right other there above)
 
   pub is-none : (other : ℕ) → next_moment t ≡ None → IsMoment t other → other ≤ (now t).up
   is-none other e moment = go (nat_lt (now t).up other) refl moment where
-    empty : next_period (definition_of t).start_interval (load_of t).1.up (now t).up ++ filter (nat_lt (now t).up) (waits t) ≡ []
-    empty = least-None (next_period (definition_of t).start_interval (load_of t).1.up (now t).up ++ filter (nat_lt (now t).up) (waits t)) e
+    empty : next_period (definition_of t).start_interval (load_of t).at.up (now t).up ++ filter (nat_lt (now t).up) (waits t) ≡ []
+    empty = least-None (next_period (definition_of t).start_interval (load_of t).at.up (now t).up ++ filter (nat_lt (now t).up) (waits t)) e
 
     front : (xs ys : List ℕ) → xs ++ ys ≡ [] → xs ≡ []
     front [] ys h = refl
@@ -156,10 +156,10 @@ module _ (t : History) (positive : ForSome (definition_of t).start_interval (λ 
     go : (b : Bool) → nat_lt (now t).up other ≡ b → IsMoment t other → other ≤ (now t).up
     go false is moment = grind (arith, nat_tests, is)
     go true is (inl period) =
-        absurd (period-none (definition_of t).start_interval (load_of t).1.up (now t).up other
-        (front (next_period (definition_of t).start_interval (load_of t).1.up (now t).up) (filter (nat_lt (now t).up) (waits t)) empty) period)
+        absurd (period-none (definition_of t).start_interval (load_of t).at.up (now t).up other
+        (front (next_period (definition_of t).start_interval (load_of t).at.up (now t).up) (filter (nat_lt (now t).up) (waits t)) empty) period)
     go true is (inr there) =
-        let found : is_in other (next_period (definition_of t).start_interval (load_of t).1.up (now t).up ++ filter (nat_lt (now t).up) (waits t)) ≡ true =
+        let found : is_in other (next_period (definition_of t).start_interval (load_of t).at.up (now t).up ++ filter (nat_lt (now t).up) (waits t)) ≡ true =
         right other there (grind (arith, nat_tests, is)) in
-        let lost : is_in other (next_period (definition_of t).start_interval (load_of t).1.up (now t).up ++ filter (nat_lt (now t).up) (waits t)) ≡ false = rw empty refl in
+        let lost : is_in other (next_period (definition_of t).start_interval (load_of t).at.up (now t).up ++ filter (nat_lt (now t).up) (waits t)) ≡ false = rw empty refl in
         cc

@@ -3,6 +3,7 @@ use Rattle.std.proofs.Common.{◌≡◌, ◌⊎◌, inl, inr, ℕ, zero, suc, �
 use Rattle.std.specs.Prelude.{nat_lt}
 use Rattle.std.proofs.lemmas.Bool.Decides.{nat_tests}
 use Rattle.std.specs.List.{list_any, AllByRecursion}
+use Rattle.history_model.specs.declared.TheConstants.{CALENDAR_REACH}
 use Rattle.history_model.specs.declared.Reading.{Reading}
 use Rattle.history_model.specs.declared.Entry.{Entry}
 use Rattle.history_model.specs.Clock.{definition_of, crosses_interval}
@@ -45,7 +46,7 @@ pub fires-alike : (zone : Zone) (entries : List Entry) (before at wall : ℕ) �
 fires-alike zone entries before at wall (inl none) =
     rw (none) (none_at zone (crossed at wall) [] refl ∙ sym (none_at zone (crossed before wall) [] refl))
 fires-alike zone entries before at wall (inr same) =
-    sym (ap (λ k. list_any (λ m. list_any (λ entry. matches entry (zone m)) entries) (minutes_above (max k ((wall - 34560000) / 60)) (wall / 60 - max k ((wall - 34560000) / 60)))) same)
+    sym (ap (λ k. list_any (λ m. list_any (λ entry. matches entry (zone m)) entries) (minutes_above (max k ((wall - CALENDAR_REACH) / 60)) (wall / 60 - max k ((wall - CALENDAR_REACH) / 60)))) same)
 
 -- and from the one to the other nothing
 pub fires-none : (zone : Zone) (entries : List Entry) (before at : ℕ) → AreOneMinute entries before at → calendar_fires zone entries before at ≡ false

@@ -27,6 +27,7 @@ use Rattle.history_model.proofs.DueByFactsLemmas.{due-same, crosses-none}
 use Rattle.history_model.proofs.StepLemmas.{Stands, Rests}
 use Rattle.history_model.proofs.TwinLemmas.{IsTwin, AreTwins, definition-twin}
 use Rattle.history_model.proofs.NewsLemmas.{AreOneMinute, IsQuietFor, IsNear, fires-alike, fires-none}
+use Rattle.history_model.specs.declared.definition.parts.PathState.{PathState}
 
 -- ---- a sight that is equal to the last
 
@@ -60,7 +61,7 @@ module _ (t : History) (path : List ℕ) (obs : Obs) (seen : last_seen path t �
     demand = cond (no_watch i) (Some kinds.Path) (latest_demand t);
     new_demand = cond (no_watch i) (Some kinds.Path) (kind_since is_spawn_order t);
     seen_watched = map (λ (p : List ℕ). last-same p i) (definition_of t).watch_paths;
-    seen_states = map (λ (state : List ℕ × Bool). last-same state.0 i) (definition_of t).path_state;
+    seen_states = map (λ (state : PathState). last-same state.path i) (definition_of t).path_state;
     seen_queues = map (λ (p : List ℕ). last-same p i) (definition_of t).queue_directories;
   }
 

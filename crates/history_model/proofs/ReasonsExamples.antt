@@ -56,7 +56,7 @@ spawning = refl
 
 -- a child, a throttle, and nothing that wants another run
 pub running : why (Loaded at_load (read_at 0) ∷ Answered (Spawned 1 812) ∷ Read (read_at 4000) false ∷ [])
-    ≡ record unwanted { child = Some (standing_child false false (1, 812)); throttled_until = Some 10000 }
+    ≡ record unwanted { child = Some (standing_child false false (record { run = 1; pid = 812 })); throttled_until = Some 10000 }
 running = refl
 
 -- a job that is kept alive, and whose run ended early, waits for its throttle alone
@@ -84,7 +84,7 @@ pub all_at_once : why (
     )
     ≡ record unwanted {
       is_removing = true;
-      child = Some (standing_child true false (1, 7));
+      child = Some (standing_child true false (record { run = 1; pid = 7 }));
       awaited = Some (Term 1);
       throttled_until = Some 10000;
       is_launch_spent = true;
@@ -160,7 +160,7 @@ by_path = refl
 
 -- two paths of PathState, the first to be absent and the second to be there, and a queue directory
 abbrev pub of_paths : Definition
-of_paths = record no_definition { path_state = (97 ∷ [], false) ∷ (98 ∷ [], true) ∷ []; queue_directories = (99 ∷ []) ∷ [] }
+of_paths = record no_definition { path_state = record { path = 97 ∷ []; present = false } ∷ record { path = 98 ∷ []; present = true } ∷ []; queue_directories = (99 ∷ []) ∷ [] }
 
 -- something is there, and it is not empty
 abbrev pub full : Obs

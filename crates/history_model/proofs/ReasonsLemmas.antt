@@ -31,6 +31,9 @@ use Rattle.history_model.proofs.BooleanLemmas.{and-right, not-true, or-true, or-
 use Rattle.history_model.proofs.ClockLemmas.{any-within}
 use Rattle.history_model.proofs.ByFactsLemmas.{throttled-by, level-by}
 use Rattle.history_model.proofs.SeenLemmas.{any-seen, first-seen, first-any}
+use Rattle.history_model.specs.declared.Child.{Child}
+use Rattle.history_model.specs.declared.LastEnd.{LastEnd}
+use Rattle.history_model.specs.declared.definition.parts.PathState.{PathState}
 
 -- ---- the throttle's end
 
@@ -86,7 +89,7 @@ some-first : (cs : List ℕ) → nat_lt 0 (length cs) ≡ is_some (first cs)
 some-first [] = refl
 some-first (c ∷ cs) = grind (arith, nat_tests)
 
-end-wants : (d : Definition) (t : History) (o : Option (ℕ × Ended)) → (exit_wants d.successful_exit o || crash_wants d.crashed (crash_of t o) o) ≡ end_holds d t o
+end-wants : (d : Definition) (t : History) (o : Option LastEnd) → (exit_wants d.successful_exit o || crash_wants d.crashed (crash_of t o) o) ≡ end_holds d t o
 end-wants d t None = refl
 end-wants d t (Some end) = refl
 
@@ -102,10 +105,10 @@ pub wanted : (t : History) → some_want (wants_of t) ≡ is_wanted t
 wanted t =
     wants-shape (is_pending t) (nat_lt 0 (length (waiting t))) (definition_of t).keep_alive (exit_wants (definition_of t).successful_exit (last_end t))
     (crash_wants (definition_of t).crashed (crash_of t (last_end t)) (last_end t))
-    (list_any (λ state. presence_holds state.1 (last_seen state.0 t)) (definition_of t).path_state)
+    (list_any (λ state. presence_holds state.present (last_seen state.path t)) (definition_of t).path_state)
     (list_any (λ path. queue_holds (last_seen path t)) (definition_of t).queue_directories)
     ∙ (λ i. is_pending t || some-first (waiting t) i || ((definition_of t).keep_alive || end-wants (definition_of t) t (last_end t) i
-    || list_any (λ state. presence_holds state.1 (last_seen state.0 t)) (definition_of t).path_state
+    || list_any (λ state. presence_holds state.present (last_seen state.path t)) (definition_of t).path_state
     || list_any (λ path. queue_holds (last_seen path t)) (definition_of t).queue_directories))
 
 -- ---- whether a reason holds
@@ -130,15 +133,15 @@ reason-is t = λ i. is_removed t || is_some-map (standing_child (is_stopped t) (
     || is_some-cond (is_throttled t) (free_from t) i || ((definition_of t).launch_only_once && has_ever_spawned t) || not (nat_lt (runs t) (2 ^ 63))
 
 -- what is due by the same tests
-abbrev due_of : (t : History) → Option Act → Option (ℕ × ℕ) → (removed wanted throttled spent room : Bool) → Option Act
+abbrev due_of : (t : History) → Option Act → Option Child → (removed wanted throttled spent room : Bool) → Option Act
 due_of t (Some act) c removed wanted throttled spent room = None
-due_of t None (Some c) removed wanted throttled spent room = cond (may_kill c.0 t) (Some (Kill c.0)) (cond (may_term c.0 t) (Some (Term c.0)) None)
+due_of t None (Some c) removed wanted throttled spent room = cond (may_kill c.run t) (Some (Kill c.run)) (cond (may_term c.run t) (Some (Term c.run)) None)
 due_of t None None removed wanted throttled spent room =
     cond (not removed && wanted && not throttled && not spent && room) (Some (Spawn (runs t + 1) (first (waiting t)))) None
 
 due-is : (t : History) → due t ≡ due_of t (awaited t) (child t) (is_removed t) (is_wanted t) (is_throttled t) ((definition_of t).launch_only_once && has_ever_spawned t) (nat_lt (runs t) (2 ^ 63))
 due-is t = go (awaited t) (child t) where
-  go : (a : Option Act) (c : Option (ℕ × ℕ)) → cond (is_some a) None (due_beside c t) ≡ due_of t a c (is_removed t) (is_wanted t) (is_throttled t) ((definition_of t).launch_only_once && has_ever_spawned t) (nat_lt (runs t) (2 ^ 63))
+  go : (a : Option Act) (c : Option Child) → cond (is_some a) None (due_beside c t) ≡ due_of t a c (is_removed t) (is_wanted t) (is_throttled t) ((definition_of t).launch_only_once && has_ever_spawned t) (nat_lt (runs t) (2 ^ 63))
   go (Some act) c = refl
   go None (Some c) = refl
   go None None = refl
@@ -153,12 +156,12 @@ pub spawn-due : (t : History) → is_some_spawn (due t) ≡ not (some_reason (re
 spawn-due t = ap is_some_spawn (due-is t)
     ∙ go (awaited t) (child t) (is_removed t) (is_wanted t) (is_throttled t) ((definition_of t).launch_only_once && has_ever_spawned t) (nat_lt (runs t) (2 ^ 63))
     ∙ ap not (sym (reason-is t)) where
-      go : (a : Option Act) (c : Option (ℕ × ℕ)) (r w h o n : Bool) → is_some_spawn (due_of t a c r w h o n) ≡ not (holds_of r (is_some c) (is_some a) w h o n)
+      go : (a : Option Act) (c : Option Child) (r w h o n : Bool) → is_some_spawn (due_of t a c r w h o n) ≡ not (holds_of r (is_some c) (is_some a) w h o n)
       go (Some act) c true w h o n = refl
       go (Some act) None false w h o n = refl
       go (Some act) (Some c) false w h o n = refl
-      go None (Some c) true w h o n = stops-none (may_kill c.0 t) (may_term c.0 t) c.0
-      go None (Some c) false w h o n = stops-none (may_kill c.0 t) (may_term c.0 t) c.0
+      go None (Some c) true w h o n = stops-none (may_kill c.run t) (may_term c.run t) c.run
+      go None (Some c) false w h o n = stops-none (may_kill c.run t) (may_term c.run t) c.run
       go None None true w h o n = refl
       go None None false false h o n = refl
       go None None false true true o n = refl
@@ -170,7 +173,7 @@ spawn-due t = ap is_some_spawn (due-is t)
 pub spawn-is : (t : History) → some_reason (reasons_of t) ≡ false → due t ≡ Some (Spawn (runs t + 1) (first (waiting t)))
 spawn-is t none = due-is t
     ∙ go (awaited t) (child t) (is_removed t) (is_wanted t) (is_throttled t) ((definition_of t).launch_only_once && has_ever_spawned t) (nat_lt (runs t) (2 ^ 63)) (sym (reason-is t) ∙ none) where
-      go : (a : Option Act) (c : Option (ℕ × ℕ)) (r w h o n : Bool) → holds_of r (is_some c) (is_some a) w h o n ≡ false → due_of t a c r w h o n ≡ Some (Spawn (runs t + 1) (first (waiting t)))
+      go : (a : Option Act) (c : Option Child) (r w h o n : Bool) → holds_of r (is_some c) (is_some a) w h o n ≡ false → due_of t a c r w h o n ≡ Some (Spawn (runs t + 1) (first (waiting t)))
       go a c true w h o n e = cc
       go a (Some c) false w h o n e = cc
       go (Some act) None false w h o n e = cc
@@ -180,7 +183,7 @@ spawn-is t none = due-is t
       go None None false true false false false e = cc
       go None None false true false false true e = refl
 
-self-stops : (k m : Bool) (c : ℕ × ℕ) → is_none_or_stops (Some c) (cond k (Some (Kill c.0)) (cond m (Some (Term c.0)) None)) ≡ true
+self-stops : (k m : Bool) (c : Child) → is_none_or_stops (Some c) (cond k (Some (Kill c.run)) (cond m (Some (Term c.run)) None)) ≡ true
 self-stops true m c = grind (arith, nat_tests)
 self-stops false true c = grind (arith, nat_tests)
 self-stops false false c = refl
@@ -189,9 +192,9 @@ self-stops false false c = refl
 pub stop-due : (t : History) → some_reason (reasons_of t) ≡ true → is_none_or_stops (child t) (due t) ≡ true
 stop-due t some = ap (is_none_or_stops (child t)) (due-is t)
     ∙ go (awaited t) (child t) (is_removed t) (is_wanted t) (is_throttled t) ((definition_of t).launch_only_once && has_ever_spawned t) (nat_lt (runs t) (2 ^ 63)) (sym (reason-is t) ∙ some) where
-      go : (a : Option Act) (c : Option (ℕ × ℕ)) (r w h o n : Bool) → holds_of r (is_some c) (is_some a) w h o n ≡ true → is_none_or_stops c (due_of t a c r w h o n) ≡ true
+      go : (a : Option Act) (c : Option Child) (r w h o n : Bool) → holds_of r (is_some c) (is_some a) w h o n ≡ true → is_none_or_stops c (due_of t a c r w h o n) ≡ true
       go (Some act) c r w h o n e = refl
-      go None (Some c) r w h o n e = self-stops (may_kill c.0 t) (may_term c.0 t) c
+      go None (Some c) r w h o n e = self-stops (may_kill c.run t) (may_term c.run t) c
       go None None true w h o n e = refl
       go None None false false h o n e = refl
       go None None false true true o n e = refl
@@ -210,7 +213,7 @@ idle-reason t idle = go (some_reason (reasons_of t)) (sym (ap is_some_spawn idle
 
 wants-by : (t : History) → wants_of t ≡ wants_by (facts_of t)
 wants-by t = λ i. record (wants_of t) {
-  path_state = any-seen (λ (state : List ℕ × Bool). presence_holds state.1) (λ state. last_seen state.0 t) (definition_of t).path_state i;
+  path_state = any-seen (λ (state : PathState). presence_holds state.present) (λ state. last_seen state.path t) (definition_of t).path_state i;
   queue_directories = any-seen (λ (path : List ℕ). queue_holds) (λ path. last_seen path t) (definition_of t).queue_directories i;
 }
 
@@ -371,8 +374,8 @@ or-wanted crossed false o up e = or-false-right crossed ∙ e
 
 pub moment-due : (t : History) (at : Reading) → HasPeriod t → is_some_spawn (due (Read at false ∷ t)) ≡ has_come (spawns_from t) at.up
 moment-due t at positive = reading-due t at false
-    ∙ (λ i. not (needs_event (reasons_of t)) && or-wanted (interval_fires t at) (is_wanted t) (first (next_period (definition_of t).start_interval (load_of t).1.up (now t).up)) at.up
-    (crossed-from (definition_of t).start_interval (load_of t).1.up (now t).up at.up positive) i && nat_le (free_from t) at.up)
+    ∙ (λ i. not (needs_event (reasons_of t)) && or-wanted (interval_fires t at) (is_wanted t) (first (next_period (definition_of t).start_interval (load_of t).at.up (now t).up)) at.up
+    (crossed-from (definition_of t).start_interval (load_of t).at.up (now t).up at.up positive) i && nat_le (free_from t) at.up)
     ∙ go (needs_event (reasons_of t)) where
       go : (b : Bool) → (not b && has_come (wanted_from t) at.up && nat_le (free_from t) at.up) ≡ has_come (cond b None (not_before (free_from t) (wanted_from t))) at.up
       go true = refl
@@ -385,13 +388,13 @@ wanted-by t = ap (λ l. is_pending t || is_some (first (waiting t)) || l) (level
 
 pub spawns-by : (t : History) → IsLawful t → spawns_from t ≡ spawns_from_by (facts_of t) (now t).up
 spawns-by t lawful = λ i. cond (needs-is t i) None (not_before (free-by t lawful i)
-    (cond (wanted-by t i) (Some 0) (first (next_period (definition_of t).start_interval (load_of t).1.up (now t).up))))
+    (cond (wanted-by t i) (Some 0) (first (next_period (definition_of t).start_interval (load_of t).at.up (now t).up))))
 
 -- ---- which path, and which demand
 
 pub path-by : (t : History) → path_that_holds t ≡ path_by (facts_of t)
 path-by t = λ i. or_else
-    (option_map (λ state. state.0) (first-seen (λ (state : List ℕ × Bool). presence_holds state.1) (λ state. last_seen state.0 t) (definition_of t).path_state i))
+    (option_map (λ state. state.path) (first-seen (λ (state : PathState). presence_holds state.present) (λ state. last_seen state.path t) (definition_of t).path_state i))
     (first-seen (λ (path : List ℕ). queue_holds) (λ path. last_seen path t) (definition_of t).queue_directories i)
 
 is_some-or : {A : Type 0} (a b : Option A) → is_some (or_else a b) ≡ (is_some a || is_some b)
@@ -405,8 +408,8 @@ some-path f (Some x) = refl
 -- there is such a path exactly if a condition on a path, or a queue directory, wants the job
 pub path-told : (t : History) → is_some (path_that_holds t) ≡ ((reasons_of t).wants.path_state || (reasons_of t).wants.queue_directories)
 path-told t = is_some-or (state_that_holds t) (queue_that_holds t)
-    ∙ (λ i. (some-path (λ (state : List ℕ × Bool). state.0) (first (filter (λ (state : List ℕ × Bool). presence_holds state.1 (last_seen state.0 t)) (definition_of t).path_state))
-    ∙ first-any (λ (state : List ℕ × Bool). presence_holds state.1 (last_seen state.0 t)) (definition_of t).path_state) i
+    ∙ (λ i. (some-path (λ (state : PathState). state.path) (first (filter (λ (state : PathState). presence_holds state.present (last_seen state.path t)) (definition_of t).path_state))
+    ∙ first-any (λ (state : PathState). presence_holds state.present (last_seen state.path t)) (definition_of t).path_state) i
     || first-any (λ path. queue_holds (last_seen path t)) (definition_of t).queue_directories i)
 
 -- an item that is a demand is of some kind

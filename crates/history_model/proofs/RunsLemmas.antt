@@ -15,6 +15,7 @@ use Rattle.history_model.specs.Refusals.{IsLawful}
 use Rattle.history_model.specs.ByFacts.{settle}
 use Rattle.history_model.proofs.SearchLemmas.{filter-or, list_any-implied}
 use Rattle.history_model.proofs.LawfulLemmas.{eqb-self, names_act, names_run, due-Term, due-Kill, due-rest, ended-named, spawned-named, due-Spawn, Answers, Answers-from, IsChild-from, unnamed}
+use Rattle.history_model.specs.declared.Child.{Child}
 
 pub unless_settled-more : (x : Item) (s : History) (o : Option Act) → unless_settled (x ∷ s) o ≡ settle x (unless_settled s o)
 unless_settled-more x s None = refl
@@ -31,7 +32,7 @@ answered-settles t answer fact =
 
 -- no run lives, or the present one does
 abbrev pub IsAlone : History → Type 0
-IsAlone t = (living t ≡ []) ⊎ ((pid : ℕ) × (living t ≡ (runs t, pid) ∷ []))
+IsAlone t = (living t ≡ []) ⊎ ((pid : ℕ) × (living t ≡ (record { run = runs t; pid = pid }) ∷ []))
 
 -- the awaited spawn is that of the present run, which did nothing yet
 abbrev pub IsSpawning : History → ℕ → Type 0
@@ -42,24 +43,24 @@ IsSound t = IsAlone t × ((n : ℕ) (conn : Option ℕ) → awaited t ≡ Some (
 
 pub childless : (t : History) → child t ≡ None → living t ≡ []
 childless t e = go (living t) refl e where
-  go : (l : List (ℕ × ℕ)) → living t ≡ l → first l ≡ None → living t ≡ []
+  go : (l : List Child) → living t ≡ l → first l ≡ None → living t ≡ []
   go [] el e = el
   go (c ∷ l) el e = cc
 
 -- the child is the present run, and the only one
-pub child-present : (t : History) (c : ℕ × ℕ) → IsAlone t → child t ≡ Some c → (c.0 ≡ runs t) × (living t ≡ c ∷ [])
+pub child-present : (t : History) (c : Child) → IsAlone t → child t ≡ Some c → (c.run ≡ runs t) × (living t ≡ c ∷ [])
 child-present t c (inl none) e = let h : first (living t) ≡ None = rw none refl in cc
 child-present t c (inr (pid, one)) e =
-    let h : first (living t) ≡ Some (runs t, pid) = rw one refl in
-    let same : (runs t, pid) ≡ c = cc in
+    let h : first (living t) ≡ Some (record { run = runs t; pid = pid }) = rw one refl in
+    let same : (record { run = runs t; pid = pid }) ≡ c = cc in
     (rw (← same) refl, rw (← same) one)
 
-pub spawned-living : (t : History) (run pid : ℕ) → IsSpawning t run → living (Answered (Spawned run pid) ∷ t) ≡ (run, pid) ∷ []
+pub spawned-living : (t : History) (run pid : ℕ) → IsSpawning t run → living (Answered (Spawned run pid) ∷ t) ≡ (record { run = run; pid = pid }) ∷ []
 spawned-living t run pid fact = rw (fact.2, fact.3) refl
 
-pub ended-living : (t : History) (run : ℕ) (how : Ended) (c : ℕ × ℕ) → c.0 ≡ run → living t ≡ c ∷ [] → living (RunEnded run how ∷ t) ≡ []
+pub ended-living : (t : History) (run : ℕ) (how : Ended) (c : Child) → c.run ≡ run → living t ≡ c ∷ [] → living (RunEnded run how ∷ t) ≡ []
 ended-living t run how c same one =
-    rw (filter-or (λ (d : ℕ × ℕ). run == d.0) (λ (d : ℕ × ℕ). has_ended d.0 t) (filter_map spawned_in t), one, same, eqb-self run) refl
+    rw (filter-or (λ (d : Child). run == d.run) (λ (d : Child). has_ended d.run t) (filter_map spawned_in t), one, same, eqb-self run) refl
 
 answer_spawn : (run pid : ℕ) (act : Act) → is_answer_to (Spawned run pid) act ≡ true → (conn : Option ℕ) × (act ≡ Spawn run conn)
 answer_spawn run pid (Spawn n conn) e = (conn, let same : n ≡ run = eqb-true n run e in rw same refl)
@@ -119,13 +120,13 @@ sound (Answered (Killed run ok) ∷ t) (follows, lawful) =
 sound (RunEnded run how ∷ t) (follows, lawful) =
     let before = sound t lawful in
     let fact = IsChild-from t run follows.1 in
-    let one = child-present t (run, fact.pid) before.0 fact.stands in (
-      inl (ended-living t run how (run, fact.pid) refl one.1),
+    let one = child-present t (record { run = run; pid = fact.pid }) before.0 fact.stands in (
+      inl (ended-living t run how (record { run = run; pid = fact.pid }) refl one.1),
       λ n c e.
           let more = unless_settled-more (RunEnded run how) (since is_order t) (latest order_in t) in
           let still : awaited t ≡ Some (Spawn n c) = still_spawn run how (awaited t) n c (sym more ∙ e) in
           let empty : living t ≡ [] = (before.1 n c still).3 in
-          let full : living t ≡ (run, fact.pid) ∷ [] = one.1 in
+          let full : living t ≡ (record { run = run; pid = fact.pid }) ∷ [] = one.1 in
           cc,
     )
 sound (Loaded d at ∷ t) (follows, lawful) = sound t lawful
@@ -151,12 +152,12 @@ awaited-present (Ordered (Spawn run conn) ∷ t) (follows, lawful) act e =
 awaited-present (Ordered (Term run) ∷ t) (follows, lawful) act e =
     let fact = due-Term t run follows.1 in
     let same : Term run ≡ act = cc in
-    let number : run ≡ runs t = (child-present t (run, fact.pid) (sound t lawful).0 fact.present).0 in
+    let number : run ≡ runs t = (child-present t (record { run = run; pid = fact.pid }) (sound t lawful).0 fact.present).0 in
     rw (← same, number) (eqb-self (runs t))
 awaited-present (Ordered (Kill run) ∷ t) (follows, lawful) act e =
     let fact = due-Kill t run follows.1 in
     let same : Kill run ≡ act = cc in
-    let number : run ≡ runs t = (child-present t (run, fact.pid) (sound t lawful).0 fact.present).0 in
+    let number : run ≡ runs t = (child-present t (record { run = run; pid = fact.pid }) (sound t lawful).0 fact.present).0 in
     rw (← same, number) (eqb-self (runs t))
 awaited-present (Ordered (Close conn) ∷ t) (follows, lawful) act e = absurd (due-rest t (Close conn) follows.1 (λ r c h. cc) (λ r h. cc) (λ r h. cc))
 awaited-present (Ordered Gone ∷ t) (follows, lawful) act e = absurd (due-rest t Gone follows.1 (λ r c h. cc) (λ r h. cc) (λ r h. cc))

@@ -77,7 +77,7 @@ until_empty = refl
 
 -- a job that is kept alive while p is there, or q is absent
 abbrev pub keeper : Definition
-keeper = record no_definition { path_state = (p, true) ∷ (q, false) ∷ []; throttle_interval = 0 }
+keeper = record no_definition { path_state = record { path = p; present = true } ∷ record { path = q; present = false } ∷ []; throttle_interval = 0 }
 
 -- the path that is to be there
 pub there : play (load keeper ∷ saw p false false 0 ∷ saw q true false 0 ∷ saw p true false 0 ∷ []) ≡ none ∷ none ∷ none ∷ gives (Spawn 1 None) ∷ []

@@ -10,7 +10,7 @@ use Rattle.history_model.specs.declared.Refusal.{Refusal}
 use Rattle.history_model.specs.declared.Refusal.TheVariants.{BadRequest}
 use Rattle.history_model.specs.Items.{Definition, Item, Read, Saw, Asked, Came, Left, Ordered, Answered, RunEnded, WaitRefused}
 use Rattle.history_model.specs.Search.{is_same_text, or_else, latest}
-use Rattle.history_model.specs.Clock.{definition_of, load_in, no_definition, no_reading}
+use Rattle.history_model.specs.Clock.{definition_of, load_in, absent_load, LoadedAt}
 use Rattle.history_model.specs.Runs.{is_gone}
 use Rattle.history_model.specs.Due.{due}
 use Rattle.history_model.specs.Demands.{obs_of, last_seen}
@@ -44,7 +44,7 @@ module _ (path : List ℕ) (obs : Obs) where
   sees-item : (x : Item) → load_in x ≡ None → obs_of path x ≡ None → (job : Job) → Sees job → Sees (with_item job (Some x))
   sees-item x no_load no_look job sees = λ listed. looks ∙ sees (ap (λ d. lists d path) (sym same) ∙ listed) where
     same : definition_of (x ∷ job.past) ≡ definition_of job.past
-    same = ap (λ (o : Option (Definition × Reading)). (unwrap_or (or_else o (latest load_in job.past)) (no_definition, no_reading)).0) no_load
+    same = ap (λ (o : Option LoadedAt). (unwrap_or (or_else o (latest load_in job.past)) absent_load).definition) no_load
 
     looks : last_seen path (x ∷ job.past) ≡ last_seen path job.past
     looks = ap (λ (o : Option Obs). or_else o (last_seen path job.past)) no_look

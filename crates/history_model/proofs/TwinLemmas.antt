@@ -44,10 +44,10 @@ module _ (a b : Job) (twin : IsTwin a b) where
   definition-twin = ap (λ (f : Facts). f.definition) twin.facts
 
   pub removed-twin : is_removed a.past ≡ is_removed b.past
-  removed-twin = ap (λ (f : Facts). f.removes) twin.facts
+  removed-twin = ap (λ (f : Facts). f.is_removing) twin.facts
 
   pub gone-twin : is_gone a.past ≡ is_gone b.past
-  gone-twin = ap (λ (f : Facts). f.removes && not (is_some f.living_child || is_some_spawn f.awaited_act)) twin.facts
+  gone-twin = ap (λ (f : Facts). f.is_removing && not (is_some f.living_child || is_some_spawn f.awaited_act)) twin.facts
 
   pub waiting-twin : waiting a.past ≡ waiting b.past
   waiting-twin = ap (λ (f : Facts). f.queue) twin.facts

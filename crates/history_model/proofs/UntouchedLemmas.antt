@@ -18,6 +18,7 @@ use Rattle.history_model.specs.declared.Entry.{Entry}
 use Rattle.history_model.specs.Calendar.{Zone, allows, matches, crossed, calendar_fires}
 use Rattle.history_model.proofs.BooleanLemmas.{or-false}
 use Rattle.history_model.specs.declared.TheConstants.{SECOND}
+use Rattle.history_model.specs.declared.Child.{Child}
 
 any-++ : {X : Type 0} (p : X → Bool) (xs ys : List X) → list_any p (xs ++ ys) ≡ false → (list_any p xs ≡ false) × (list_any p ys ≡ false)
 any-++ p [] ys none = (refl, none)
@@ -71,15 +72,15 @@ pub kill-shape : (struck stopped e o o' r r' : Bool) → (e && o) ≡ (e && o') 
 kill-shape struck true e o o' r r' same retry = λ i. (struck || same i) && retry i
 kill-shape struck false e o o' r r' same retry = λ i. (struck || false) && retry i
 
-module _ (t : History) (at : Reading) (later : (now t).up ≤ at.up) (c : ℕ × ℕ) (beside : list_any (is_reached (now t).up at.up) (child_moments (Some c) t) ≡ false) where
+module _ (t : History) (at : Reading) (later : (now t).up ≤ at.up) (c : Child) (beside : list_any (is_reached (now t).up at.up) (child_moments (Some c) t) ≡ false) where
   abbrev terms : List ℕ
-  terms = later_by SECOND (moments (is_term_answer false c.0) t)
+  terms = later_by SECOND (moments (is_term_answer false c.run) t)
 
   abbrev kills : List ℕ
-  kills = later_by SECOND (moments (is_kill_answer false c.0) t)
+  kills = later_by SECOND (moments (is_kill_answer false c.run) t)
 
   abbrev outs : List ℕ
-  outs = timeouts (definition_of t).exit_timeout (last (moments (is_term_order c.0) t))
+  outs = timeouts (definition_of t).exit_timeout (last (moments (is_term_order c.run) t))
 
   outer : (list_any (is_reached (now t).up at.up) (outs ++ terms) ≡ false) × (list_any (is_reached (now t).up at.up) kills ≡ false)
   outer = any-++ (is_reached (now t).up at.up) (outs ++ terms) kills beside
@@ -87,23 +88,23 @@ module _ (t : History) (at : Reading) (later : (now t).up ≤ at.up) (c : ℕ ×
   inner : (list_any (is_reached (now t).up at.up) outs ≡ false) × (list_any (is_reached (now t).up at.up) terms ≡ false)
   inner = any-++ (is_reached (now t).up at.up) outs terms outer.0
 
-  kill-same : may_kill c.0 (Read at false ∷ t) ≡ may_kill c.0 t
+  kill-same : may_kill c.run (Read at false ∷ t) ≡ may_kill c.run t
   kill-same =
       kill-shape (is_struck t) (is_stopped t) (nat_lt 0 (definition_of t).exit_timeout)
-      (is_over (SECOND * (definition_of t).exit_timeout) at.up (last (moments (is_term_order c.0) t))) (is_over (SECOND * (definition_of t).exit_timeout) (now t).up (last (moments (is_term_order c.0) t)))
-      (may_retry is_kill_answer c.0 (Read at false ∷ t)) (may_retry is_kill_answer c.0 t)
-      (timeout-same (now t).up at.up later (definition_of t).exit_timeout (last (moments (is_term_order c.0) t)) inner.0)
-      (rw (within-same (now t).up at.up later SECOND (moments (is_kill_answer false c.0) t) outer.1) refl)
+      (is_over (SECOND * (definition_of t).exit_timeout) at.up (last (moments (is_term_order c.run) t))) (is_over (SECOND * (definition_of t).exit_timeout) (now t).up (last (moments (is_term_order c.run) t)))
+      (may_retry is_kill_answer c.run (Read at false ∷ t)) (may_retry is_kill_answer c.run t)
+      (timeout-same (now t).up at.up later (definition_of t).exit_timeout (last (moments (is_term_order c.run) t)) inner.0)
+      (rw (within-same (now t).up at.up later SECOND (moments (is_kill_answer false c.run) t) outer.1) refl)
 
-  term-same : may_term c.0 (Read at false ∷ t) ≡ may_term c.0 t
-  term-same = rw (within-same (now t).up at.up later SECOND (moments (is_term_answer false c.0) t) inner.1) refl
+  term-same : may_term c.run (Read at false ∷ t) ≡ may_term c.run t
+  term-same = rw (within-same (now t).up at.up later SECOND (moments (is_term_answer false c.run) t) inner.1) refl
 
   beside-same : due_beside (Some c) (Read at false ∷ t) ≡ due_beside (Some c) t
-  beside-same = λ i. cond (kill-same i) (Some (Kill c.0)) (cond (term-same i) (Some (Term c.0)) None)
+  beside-same = λ i. cond (kill-same i) (Some (Kill c.run)) (cond (term-same i) (Some (Term c.run)) None)
 
 -- the orders are the same
 pub untouched-due : (t : History) (at : Reading) → (now t).up ≤ at.up →
-    crosses_interval (definition_of t).start_interval (load_of t).1.up (now t).up at.up ≡ false →
+    crosses_interval (definition_of t).start_interval (load_of t).at.up (now t).up at.up ≡ false →
     list_any (is_reached (now t).up at.up) (waits t) ≡ false → due (Read at false ∷ t) ≡ due t
 untouched-due t at later no_period none = go (awaited t) (child t) refl where
   reached : ℕ → Bool
@@ -129,10 +130,10 @@ untouched-due t at later no_period none = go (awaited t) (child t) refl where
         within-same (now t).up at.up later SECOND (moments is_spawn_refusal t) spawns.1,
       ) refl
 
-  go : (o : Option Act) (c : Option (ℕ × ℕ)) → c ≡ child t → cond (is_some o) None (due_beside c (Read at false ∷ t)) ≡ cond (is_some o) None (due_beside c t)
+  go : (o : Option Act) (c : Option Child) → c ≡ child t → cond (is_some o) None (due_beside c (Read at false ∷ t)) ≡ cond (is_some o) None (due_beside c t)
   go (Some act) c e = refl
   go None None e = λ i. cond (spawn-same i) (Some (Spawn (runs t + 1) (first (waiting t)))) None
-  go None (Some c) e = beside-same t at later c (subst (λ (o : Option (ℕ × ℕ)). list_any (is_reached (now t).up at.up) (child_moments o t) ≡ false) (sym e) parts.1)
+  go None (Some c) e = beside-same t at later c (subst (λ (o : Option Child). list_any (is_reached (now t).up at.up) (child_moments o t) ≡ false) (sym e) parts.1)
 
 -- ---- calendars
 
@@ -163,9 +164,9 @@ none_at zone ms (entry ∷ entries) none =
 pub untouched : (zone : Zone) (at : Reading) (t : History) → (now t).up ≤ at.up → touches zone at t ≡ false →
     due (Read at (calendar_fires zone (definition_of t).calendar (now t).wall at.wall) ∷ t) ≡ due t
 untouched zone at t later none =
-    let outer = or-false (crosses_interval (definition_of t).start_interval (load_of t).1.up (now t).up at.up || list_any (is_reached (now t).up at.up) (waits t))
+    let outer = or-false (crosses_interval (definition_of t).start_interval (load_of t).at.up (now t).up at.up || list_any (is_reached (now t).up at.up) (waits t))
     (list_any (is_minute_crossed zone (crossed (now t).wall at.wall)) (definition_of t).calendar) none in
-    let inner = or-false (crosses_interval (definition_of t).start_interval (load_of t).1.up (now t).up at.up) (list_any (is_reached (now t).up at.up) (waits t)) outer.0 in
+    let inner = or-false (crosses_interval (definition_of t).start_interval (load_of t).at.up (now t).up at.up) (list_any (is_reached (now t).up at.up) (waits t)) outer.0 in
     (λ i. due (Read at (none_at zone (crossed (now t).wall at.wall) (definition_of t).calendar outer.1 i) ∷ t))
     ∙ untouched-due t at later inner.0 inner.1
 

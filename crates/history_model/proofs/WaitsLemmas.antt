@@ -22,6 +22,7 @@ use Rattle.history_model.proofs.BooleanLemmas.{and-false}
 use Rattle.history_model.proofs.LawfulLemmas.{unless-None}
 use Rattle.history_model.proofs.ByFactsLemmas.{due-by, facts-after}
 use Rattle.history_model.specs.declared.TheConstants.{SECOND}
+use Rattle.history_model.specs.declared.Child.{Child}
 
 abbrev pub weigh_one : Option Act → ℕ
 weigh_one None = 0
@@ -51,9 +52,9 @@ within-now : (up : ℕ) → is_newest_within SECOND up (Some up) ≡ true
 within-now up = lt-later up SECOND (omega arith)
 
 -- beside a child no spawn is due
-beside-child : (f : Facts) (up : ℕ) (c : ℕ × ℕ) → f.living_child ≡ Some c → weigh_one (due_by f up) ≤ 2
+beside-child : (f : Facts) (up : ℕ) (c : Child) → f.living_child ≡ Some c → weigh_one (due_by f up) ≤ 2
 beside-child f up c e = rw e (go (is_some f.awaited_act) (may_kill_by f up) (may_term_by f up)) where
-  go : (a k m : Bool) → weigh_one (cond a None (cond k (Some (Kill c.0)) (cond m (Some (Term c.0)) None))) ≤ 2
+  go : (a k m : Bool) → weigh_one (cond a None (cond k (Some (Kill c.run)) (cond m (Some (Term c.run)) None))) ≤ 2
   go true k m = omega arith
   go false true m = omega arith
   go false false true = omega arith
@@ -62,26 +63,26 @@ beside-child f up c e = rw e (go (is_some f.awaited_act) (may_kill_by f up) (may
 -- nor if one may not be given
 unless-spawn : (f : Facts) (up : ℕ) → may_spawn_by f up ≡ false → weigh_one (due_by f up) ≤ 2
 unless-spawn f up e = pick (is_some f.awaited_act) f.living_child where
-  pick : (a : Bool) (o : Option (ℕ × ℕ)) → weigh_one (cond a None (due_beside_by o f up)) ≤ 2
+  pick : (a : Bool) (o : Option Child) → weigh_one (cond a None (due_beside_by o f up)) ≤ 2
   pick true o = omega arith
   pick false None = rw e (omega arith)
   pick false (Some c) = go (may_kill_by f up) (may_term_by f up) where
-    go : (k m : Bool) → weigh_one (cond k (Some (Kill c.0)) (cond m (Some (Term c.0)) None)) ≤ 2
+    go : (k m : Bool) → weigh_one (cond k (Some (Kill c.run)) (cond m (Some (Term c.run)) None)) ≤ 2
     go true m = omega arith
     go false true = omega arith
     go false false = omega arith
 
 -- a TERM that is due is no KILL that is due, and so it stays at the same moment
-term-not-kill : (f : Facts) (up run : ℕ) → due_by f up ≡ Some (Term run) → (may_kill_by f up ≡ false) × (c : ℕ × ℕ) × (f.living_child ≡ Some c)
+term-not-kill : (f : Facts) (up run : ℕ) → due_by f up ≡ Some (Term run) → (may_kill_by f up ≡ false) × (c : Child) × (f.living_child ≡ Some c)
 term-not-kill f up run e = pick (is_some f.awaited_act) f.living_child refl e where
-  pick : (a : Bool) (o : Option (ℕ × ℕ)) → f.living_child ≡ o → cond a None (due_beside_by o f up) ≡ Some (Term run) → (may_kill_by f up ≡ false) × (c : ℕ × ℕ) × (f.living_child ≡ Some c)
+  pick : (a : Bool) (o : Option Child) → f.living_child ≡ o → cond a None (due_beside_by o f up) ≡ Some (Term run) → (may_kill_by f up ≡ false) × (c : Child) × (f.living_child ≡ Some c)
   pick true o is e = cc
   pick false None is e = go (may_spawn_by f up) e where
-    go : (v : Bool) → cond v (Some (Spawn (f.run_count + 1) (first f.queue))) None ≡ Some (Term run) → (may_kill_by f up ≡ false) × (c : ℕ × ℕ) × (f.living_child ≡ Some c)
+    go : (v : Bool) → cond v (Some (Spawn (f.run_count + 1) (first f.queue))) None ≡ Some (Term run) → (may_kill_by f up ≡ false) × (c : Child) × (f.living_child ≡ Some c)
     go true e = cc
     go false e = cc
   pick false (Some c) is e = go (may_kill_by f up) refl e where
-    go : (v : Bool) → may_kill_by f up ≡ v → cond v (Some (Kill c.0)) (cond (may_term_by f up) (Some (Term c.0)) None) ≡ Some (Term run) → (may_kill_by f up ≡ false) × (c : ℕ × ℕ) × (f.living_child ≡ Some c)
+    go : (v : Bool) → may_kill_by f up ≡ v → cond v (Some (Kill c.run)) (cond (may_term_by f up) (Some (Term c.run)) None) ≡ Some (Term run) → (may_kill_by f up ≡ false) × (c : Child) × (f.living_child ≡ Some c)
     go true k e = cc
     go false k e = (k, c, is)
 
@@ -101,7 +102,7 @@ no-more true true = refl
 no-more true false = refl
 no-more false b = refl
 
-none-left : (c : ℕ × ℕ) (k m : Bool) → k ≡ false → m ≡ false → weigh_one (cond k (Some (Kill c.0)) (cond m (Some (Term c.0)) None)) ≡ 0
+none-left : (c : Child) (k m : Bool) → k ≡ false → m ≡ false → weigh_one (cond k (Some (Kill c.run)) (cond m (Some (Term c.run)) None)) ≡ 0
 none-left c k m e1 e2 = rw (e1, e2) refl
 
 termed-light : (f : Facts) (up run : ℕ) (ok : Bool) → due_by f up ≡ Some (Term run) → weigh_one (due_by (facts_after (Answered (Termed run ok)) up (facts_after (Ordered (Term run)) up f)) up) ≡ 0
@@ -112,24 +113,24 @@ termed-light f up run ok e =
       g ok = facts_after (Answered (Termed run ok)) up (facts_after (Ordered (Term run)) up f)
 
       later : (o : Option ℕ) →
-          ((f.strikes || (f.stops && ltb 0 f.definition.exit_timeout && is_over (SECOND * f.definition.exit_timeout) up o)) && (not f.is_kill_done && not (is_newest_within SECOND up f.kill_refused))) ≡ false →
-          ((f.strikes || (f.stops && ltb 0 f.definition.exit_timeout && is_over (SECOND * f.definition.exit_timeout) up (or_else o (Some up)))) && (not f.is_kill_done && not (is_newest_within SECOND up f.kill_refused))) ≡ false
+          ((f.is_struck || (f.is_stopping && ltb 0 f.definition.exit_timeout && is_over (SECOND * f.definition.exit_timeout) up o)) && (not f.is_kill_done && not (is_newest_within SECOND up f.kill_refused))) ≡ false →
+          ((f.is_struck || (f.is_stopping && ltb 0 f.definition.exit_timeout && is_over (SECOND * f.definition.exit_timeout) up (or_else o (Some up)))) && (not f.is_kill_done && not (is_newest_within SECOND up f.kill_refused))) ≡ false
       later (Some moment) e = e
       later None e =
-          still-quiet f.strikes f.stops (ltb 0 f.definition.exit_timeout) (leb (up + SECOND * f.definition.exit_timeout) up) (not f.is_kill_done && not (is_newest_within SECOND up f.kill_refused))
+          still-quiet f.is_struck f.is_stopping (ltb 0 f.definition.exit_timeout) (leb (up + SECOND * f.definition.exit_timeout) up) (not f.is_kill_done && not (is_newest_within SECOND up f.kill_refused))
           (zero-over f.definition.exit_timeout up) e
 
-      go : (c : ℕ × ℕ) → f.living_child ≡ Some c → may_kill_by (g true) up ≡ false → (b : Bool) → weigh_one (due_by (g b) up) ≡ 0
+      go : (c : Child) → f.living_child ≡ Some c → may_kill_by (g true) up ≡ false → (b : Bool) → weigh_one (due_by (g b) up) ≡ 0
       go c is quiet true = rw is (none-left c (may_kill_by (g true) up) (may_term_by (g true) up) quiet (and-false _))
       go c is quiet false = rw is (none-left c (may_kill_by (g true) up) (may_term_by (g false) up) quiet (rw (within-now up) (no-more _ _)))
 
 -- once KILL was ordered and answered, it is not due again
-killed-light : (f : Facts) (up run : ℕ) (ok : Bool) (c : ℕ × ℕ) → f.living_child ≡ Some c → weigh_one (due_by (facts_after (Answered (Killed run ok)) up (facts_after (Ordered (Kill run)) up f)) up) ≤ 1
+killed-light : (f : Facts) (up run : ℕ) (ok : Bool) (c : Child) → f.living_child ≡ Some c → weigh_one (due_by (facts_after (Answered (Killed run ok)) up (facts_after (Ordered (Kill run)) up f)) up) ≤ 1
 killed-light f up run ok c is = go ok where
   g : Bool → Facts
   g ok = facts_after (Answered (Killed run ok)) up (facts_after (Ordered (Kill run)) up f)
 
-  one : (k m : Bool) → k ≡ false → weigh_one (cond k (Some (Kill c.0)) (cond m (Some (Term c.0)) None)) ≤ 1
+  one : (k m : Bool) → k ≡ false → weigh_one (cond k (Some (Kill c.run)) (cond m (Some (Term c.run)) None)) ≤ 1
   one k true e = rw e (omega arith)
   one k false e = rw e (omega arith)
 
@@ -137,12 +138,12 @@ killed-light f up run ok c is = go ok where
   go true = rw is (one (may_kill_by (g true) up) (may_term_by (g true) up) (and-false _))
   go false = rw is (one (may_kill_by (g false) up) (may_term_by (g false) up) (rw (within-now up) (no-more _ _)))
 
-kill-child : (f : Facts) (up run : ℕ) → due_by f up ≡ Some (Kill run) → (c : ℕ × ℕ) × (f.living_child ≡ Some c)
+kill-child : (f : Facts) (up run : ℕ) → due_by f up ≡ Some (Kill run) → (c : Child) × (f.living_child ≡ Some c)
 kill-child f up run e = pick (is_some f.awaited_act) f.living_child refl e where
-  pick : (a : Bool) (o : Option (ℕ × ℕ)) → f.living_child ≡ o → cond a None (due_beside_by o f up) ≡ Some (Kill run) → (c : ℕ × ℕ) × (f.living_child ≡ Some c)
+  pick : (a : Bool) (o : Option Child) → f.living_child ≡ o → cond a None (due_beside_by o f up) ≡ Some (Kill run) → (c : Child) × (f.living_child ≡ Some c)
   pick true o is e = cc
   pick false None is e = go (may_spawn_by f up) e where
-    go : (v : Bool) → cond v (Some (Spawn (f.run_count + 1) (first f.queue))) None ≡ Some (Kill run) → (c : ℕ × ℕ) × (f.living_child ≡ Some c)
+    go : (v : Bool) → cond v (Some (Spawn (f.run_count + 1) (first f.queue))) None ≡ Some (Kill run) → (c : Child) × (f.living_child ≡ Some c)
     go true e = cc
     go false e = cc
   pick false (Some c) is e = (c, is)
@@ -150,7 +151,7 @@ kill-child f up run e = pick (is_some f.awaited_act) f.living_child refl e where
 -- a refused spawn is not ordered again at the same moment
 refused-light : (f : Facts) (up run run' : ℕ) (conn : Option ℕ) → weigh_one (due_by (facts_after (Answered (SpawnRefused run')) up (facts_after (Ordered (Spawn run conn)) up f)) up) ≤ 2
 refused-light f up run run' conn =
-    unless-spawn g up (rw (within-now up) (closed (not g.removes && _) (is_newest_within (SECOND * f.definition.throttle_interval) up (Some up)) _ _)) where
+    unless-spawn g up (rw (within-now up) (closed (not g.is_removing && _) (is_newest_within (SECOND * f.definition.throttle_interval) up (Some up)) _ _)) where
       g : Facts
       g = facts_after (Answered (SpawnRefused run')) up (facts_after (Ordered (Spawn run conn)) up f)
 
@@ -162,7 +163,7 @@ refused-light f up run run' conn =
 
 -- by the facts
 light : (act : Act) (a : Answer) (f : Facts) (up : ℕ) → is_answer_to a act ≡ true → due_by f up ≡ Some act → weigh_one (due_by (facts_after (Answered a) up (facts_after (Ordered act) up f)) up) < weight act
-light (Spawn run conn) (Spawned run' pid) f up fits e = omega (arith, beside-child (facts_after (Answered (Spawned run' pid)) up (facts_after (Ordered (Spawn run conn)) up f)) up (run', pid) refl)
+light (Spawn run conn) (Spawned run' pid) f up fits e = omega (arith, beside-child (facts_after (Answered (Spawned run' pid)) up (facts_after (Ordered (Spawn run conn)) up f)) up (record { run = run'; pid = pid }) refl)
 light (Spawn run conn) (SpawnRefused run') f up fits e = omega (arith, refused-light f up run run' conn)
 light (Spawn run conn) (Termed run' ok) f up fits e = cc
 light (Spawn run conn) (Killed run' ok) f up fits e = cc

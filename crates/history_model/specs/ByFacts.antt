@@ -63,13 +63,13 @@ abbrev pub facts_after : Item → ℕ → Facts → Facts
 facts_after (Read at calendar) up f =
     fired_by (calendar || crosses_interval f.definition.start_interval f.load_up up at.up)
     (cond calendar kinds.Calendar kinds.Interval) f
-facts_after (Asked Start) up f = fired_by (not (is_busy_by f) || f.stops) kinds.Start f
-facts_after (Asked Stop) up f = record f { stops = is_busy_by f }
-facts_after (Asked Unload) up f = record f { stops = is_busy_by f; removes = true }
-facts_after (Asked Shutdown) up f = record f { stops = is_busy_by f; removes = true }
+facts_after (Asked Start) up f = fired_by (not (is_busy_by f) || f.is_stopping) kinds.Start f
+facts_after (Asked Stop) up f = record f { is_stopping = is_busy_by f }
+facts_after (Asked Unload) up f = record f { is_stopping = is_busy_by f; is_removing = true }
+facts_after (Asked Shutdown) up f = record f { is_stopping = is_busy_by f; is_removing = true }
 facts_after (Asked (Kickstart kills_first)) up f =
-    record (fired_by (kills_first || (not (is_busy_by f) || f.stops)) kinds.Kickstart f)
-    { strikes = is_busy_by f && kills_first || f.strikes }
+    record (fired_by (kills_first || (not (is_busy_by f) || f.is_stopping)) kinds.Kickstart f)
+    { is_struck = is_busy_by f && kills_first || f.is_struck }
 facts_after (Ordered (Spawn run conn)) up f = record f {
   run_count = run;
   awaited_act = Some (Spawn run conn);
@@ -82,8 +82,8 @@ facts_after (Ordered (Spawn run conn)) up f = record f {
   is_term_done = false;
   is_kill_done = false;
   is_ordered_to_end = false;
-  stops = false;
-  strikes = false;
+  is_stopping = false;
+  is_struck = false;
 }
 facts_after (Ordered (Term run)) up f =
     record f {
@@ -96,7 +96,7 @@ facts_after (Ordered (Kill run)) up f =
 facts_after (Ordered (Close conn)) up f = f
 facts_after (Ordered Gone) up f = f
 facts_after (Answered (Spawned run pid)) up f = record f {
-  living_child = Some (run, pid);
+  living_child = Some (record { run = run; pid = pid });
   awaited_act = None;
   has_demand = f.has_new_demand;
   demand = f.new_demand;
@@ -104,7 +104,7 @@ facts_after (Answered (Spawned run pid)) up f = record f {
   queue = filter (λ c. not (carries c (conn_of f.awaited_act))) f.queue;
 }
 facts_after (Answered (SpawnRefused run)) up f =
-    record f { awaited_act = None; spawn_refused = Some up; stops = false; strikes = false }
+    record f { awaited_act = None; spawn_refused = Some up; is_stopping = false; is_struck = false }
 facts_after (Answered (Termed run ok)) up f =
     record f {
       awaited_act = None;
@@ -120,17 +120,17 @@ facts_after (Answered (Killed run ok)) up f =
 facts_after (RunEnded run how) up f = record f {
   living_child = None;
   awaited_act = settle (RunEnded run how) f.awaited_act;
-  ended = Some (run, how);
+  ended = Some (record { run = run; how = how });
   has_crashed = is_crash_end f.is_ordered_to_end how;
-  stops = false;
-  strikes = false;
+  is_stopping = false;
+  is_struck = false;
 }
 facts_after (WaitRefused run) up f = f
 facts_after (Loaded d at) up f = f
 facts_after (Saw path obs) up f =
     record (fired_by (watch_fires_by path obs f) kinds.Path f) {
       seen_watched = seen_after (λ p. p) f.definition.watch_paths path obs f.seen_watched;
-      seen_states = seen_after (λ state. state.0) f.definition.path_state path obs f.seen_states;
+      seen_states = seen_after (λ state. state.path) f.definition.path_state path obs f.seen_states;
       seen_queues = seen_after (λ p. p) f.definition.queue_directories path obs f.seen_queues;
     }
 facts_after (Came conn) up f = record f { queue = f.queue ++ conn ∷ []; last_number = Some conn }

@@ -3,12 +3,7 @@ use Rattle.std.specs.Prelude.{ℕ, Bool, List, map, length, not, ◌==◌}
 use Rattle.history_model.specs.Items.{Definition}
 use Rattle.history_model.specs.Machine.{Given}
 use Rattle.history_model.specs.Described.{Described}
-use Rattle.history_model.specs.declared.definition.parts.PathState.{PathState}
 use Rattle.history_model.specs.declared.definition.parts.Socket.{Socket}
-
--- a path, and whether something is to be there
-abbrev pub path_wish : PathState → List ℕ × Bool
-path_wish wish = (wish.path, wish.present)
 
 -- there is one at least
 abbrev pub has_some : List Socket → Bool
@@ -26,7 +21,7 @@ definition d = record {
   keep_alive = d.keep_alive;
   successful_exit = d.successful_exit;
   crashed = d.crashed;
-  path_state = map path_wish d.path_state;
+  path_state = d.path_state;
   watch_paths = d.watch_paths;
   queue_directories = d.queue_directories;
   start_interval = d.start_interval;

@@ -21,6 +21,8 @@ use Rattle.history_model.specs.Levels.{end_holds_of, presence_holds, queue_holds
 use Rattle.history_model.specs.Due.{is_within, is_over}
 use Rattle.history_model.specs.Refusals.{unless, is_clock_refused, is_awaited_answer, is_child, is_number_used}
 use Rattle.history_model.specs.Facts.{Facts}
+use Rattle.history_model.specs.declared.Child.{Child}
+use Rattle.history_model.specs.declared.LastEnd.{LastEnd}
 
 -- `is_busy`
 abbrev pub is_busy_by : Facts → Bool
@@ -52,14 +54,14 @@ first_seen holds (x ∷ xs) (obs ∷ seen) =
     if holds x obs then Some x else first_seen holds xs seen
 
 -- `end_holds`: a condition of the definition holds of the last end
-abbrev pub end_holds_by : Definition → Bool → Option (ℕ × Ended) → Bool
+abbrev pub end_holds_by : Definition → Bool → Option LastEnd → Bool
 end_holds_by d has_crashed end = end_holds_of d.successful_exit d.crashed has_crashed end
 
 -- `level_holds`
 abbrev pub level_by : Facts → Bool
 level_by f =
     f.definition.keep_alive || end_holds_by f.definition f.has_crashed f.ended
-    || any_seen (λ state. presence_holds state.1) f.definition.path_state f.seen_states
+    || any_seen (λ state. presence_holds state.present) f.definition.path_state f.seen_states
     || any_seen (λ path. queue_holds) f.definition.queue_directories f.seen_queues
 
 -- `is_wanted`
@@ -69,29 +71,29 @@ is_wanted_by f = f.has_demand || is_some (first f.queue) || level_by f
 -- `may_spawn`
 abbrev pub may_spawn_by : Facts → ℕ → Bool
 may_spawn_by f up =
-    not f.removes && is_wanted_by f && not (is_throttled_by f up)
+    not f.is_removing && is_wanted_by f && not (is_throttled_by f up)
     && not (f.definition.launch_only_once && f.spawned_before)
     && nat_lt f.run_count (2 ^ 63)
 
 -- `may_kill`, of the present run
 abbrev pub may_kill_by : Facts → ℕ → Bool
 may_kill_by f up =
-    (f.strikes || (f.stops && nat_lt 0 f.definition.exit_timeout
+    (f.is_struck || (f.is_stopping && nat_lt 0 f.definition.exit_timeout
     && is_over (SECOND * f.definition.exit_timeout) up f.term_ordered))
     && (not f.is_kill_done && not (is_newest_within SECOND up f.kill_refused))
 
 -- `may_term`, of the present run
 abbrev pub may_term_by : Facts → ℕ → Bool
 may_term_by f up =
-    not f.strikes && f.stops && not f.is_kill_done
+    not f.is_struck && f.is_stopping && not f.is_kill_done
     && (not f.is_term_done && not (is_newest_within SECOND up f.term_refused))
 
 -- `due_beside`
-abbrev pub due_beside_by : Option (ℕ × ℕ) → Facts → ℕ → Option Act
+abbrev pub due_beside_by : Option Child → Facts → ℕ → Option Act
 due_beside_by None f up =
     if may_spawn_by f up then Some (Spawn (f.run_count + 1) (first f.queue)) else None
 due_beside_by (Some c) f up =
-    if may_kill_by f up then Some (Kill c.0) else if may_term_by f up then Some (Term c.0) else None
+    if may_kill_by f up then Some (Kill c.run) else if may_term_by f up then Some (Term c.run) else None
 
 -- `due`
 abbrev pub due_by : Facts → ℕ → Option Act
@@ -102,14 +104,14 @@ abbrev pub refusal_by : Item → Reading → Facts → Option Refusal
 refusal_by (Loaded d at) now f = None
 refusal_by (Read at calendar) now f = unless (not (is_clock_refused now at)) ClockRefused
 refusal_by (Saw path obs) now f = None
-refusal_by (Asked Start) now f = unless (not f.removes) Removing
+refusal_by (Asked Start) now f = unless (not f.is_removing) Removing
 refusal_by (Asked Stop) now f =
-    if f.removes then Some Removing else unless (is_busy_by f) NotRunning
-refusal_by (Asked Unload) now f = unless (not f.removes) Removing
+    if f.is_removing then Some Removing else unless (is_busy_by f) NotRunning
+refusal_by (Asked Unload) now f = unless (not f.is_removing) Removing
 refusal_by (Asked Shutdown) now f = None
-refusal_by (Asked (Kickstart kills_first)) now f = unless (not f.removes) Removing
+refusal_by (Asked (Kickstart kills_first)) now f = unless (not f.is_removing) Removing
 refusal_by (Came conn) now f =
-    if f.removes then Some Removing
+    if f.is_removing then Some Removing
     else if not f.definition.has_sockets || is_number_used f.last_number conn then Some Stale
     else unless (nat_lt (length f.queue) MAX_CONNECTIONS) TooManyConnections
 refusal_by (Left conn) now f = unless (list_any (λ c. c == conn) f.queue) Stale

@@ -7,6 +7,7 @@ use Rattle.history_model.specs.declared.Ask.TheVariants.{Stop, Unload, Shutdown,
 use Rattle.history_model.specs.declared.Answer.{Answer}
 use Rattle.history_model.specs.declared.Answer.TheVariants.{Spawned, SpawnRefused, Termed, Killed}
 use Rattle.history_model.specs.Items.{Item, Asked, Ordered, Answered, RunEnded}
+use Rattle.history_model.specs.declared.Child.{Child}
 
 -- ---- orders
 
@@ -68,13 +69,13 @@ is_stopping_order r _ = false
 
 -- ---- answers and ends
 
--- the run and the process id of a spawn, if the answer is that it succeeded
-abbrev pub spawned_by : Answer → Option (ℕ × ℕ)
-spawned_by (Spawned run pid) = Some (run, pid)
+-- the child that began, if the answer is that its spawn succeeded
+abbrev pub spawned_by : Answer → Option Child
+spawned_by (Spawned run pid) = Some (record { run = run; pid = pid })
 spawned_by _ = None
 
--- the run and the process id of a spawn, if the item says that it succeeded
-abbrev pub spawned_in : Item → Option (ℕ × ℕ)
+-- the child that began, if the item says that its spawn succeeded
+abbrev pub spawned_in : Item → Option Child
 spawned_in (Answered answer) = spawned_by answer
 spawned_in _ = None
 

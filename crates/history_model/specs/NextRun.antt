@@ -3,7 +3,7 @@
 -- ThrottleInterval).
 use Rattle.std.specs.Prelude.{◌≡◌, ℕ, ◌+◌, ◌-◌, ◌*◌, ◌/◌, ◌<◌, ◌≤◌, min, Bool, true, false, ◌∷◌, Option, Some, None}
 use Rattle.history_model.specs.declared.Reading.{Reading}
-use Rattle.history_model.specs.declared.TheConstants.{MAX_UP, MAX_WALL, SECOND}
+use Rattle.history_model.specs.declared.TheConstants.{CALENDAR_REACH, MAX_UP, MAX_WALL, SECOND}
 use Rattle.history_model.specs.Items.{Read, History}
 use Rattle.history_model.specs.Clock.{now, definition_of}
 use Rattle.history_model.specs.Kinds.{is_some_spawn}
@@ -24,7 +24,7 @@ spawns_after zone t d =
 -- far a reading looks back for minutes of the calendar, and no further than a reading may go
 abbrev pub looked_ahead : Reading → ℕ → ℕ
 looked_ahead at within =
-    min (min within 34560000) (min ((MAX_UP - at.up) / SECOND) (MAX_WALL - at.wall))
+    min (min within CALENDAR_REACH) (min ((MAX_UP - at.up) / SECOND) (MAX_WALL - at.wall))
 
 -- the least number of seconds, of so many that are looked ahead, after which a reading makes the
 -- job's spawn due; none if there is none

@@ -18,16 +18,18 @@ use Rattle.history_model.specs.Demands.{is_pending, waiting, last_seen}
 use Rattle.history_model.specs.Levels.{last_end, is_success, agrees, crash_of, presence_holds, queue_holds}
 use Rattle.history_model.specs.Due.{is_wanted, is_throttled_at, is_throttled, has_ever_spawned}
 use Rattle.history_model.specs.Moments.{spawn_moments, next_period}
+use Rattle.history_model.specs.declared.Child.{Child}
+use Rattle.history_model.specs.declared.LastEnd.{LastEnd}
 
 -- ---- what wants a job
 
 -- there is an end, and it is as the condition SuccessfulExit says
-abbrev pub exit_wants : Option Bool → Option (ℕ × Ended) → Bool
+abbrev pub exit_wants : Option Bool → Option LastEnd → Bool
 exit_wants successful_exit None = false
-exit_wants successful_exit (Some end) = agrees successful_exit (is_success end.1)
+exit_wants successful_exit (Some end) = agrees successful_exit (is_success end.how)
 
 -- there is an end, and it is as the condition Crashed says
-abbrev pub crash_wants : Option Bool → Bool → Option (ℕ × Ended) → Bool
+abbrev pub crash_wants : Option Bool → Bool → Option LastEnd → Bool
 crash_wants crashed has_crashed None = false
 crash_wants crashed has_crashed (Some end) = agrees crashed has_crashed
 
@@ -39,7 +41,7 @@ wants_of t = record {
   keep_alive = (definition_of t).keep_alive;
   successful_exit = exit_wants (definition_of t).successful_exit (last_end t);
   crashed = crash_wants (definition_of t).crashed (crash_of t (last_end t)) (last_end t);
-  path_state = list_any (λ state. presence_holds state.1 (last_seen state.0 t))
+  path_state = list_any (λ state. presence_holds state.present (last_seen state.path t))
       (definition_of t).path_state;
   queue_directories = list_any (λ path. queue_holds (last_seen path t))
       (definition_of t).queue_directories;
@@ -54,8 +56,8 @@ some_want w =
 -- the first path of PathState, in the definition's order, that was last seen as its condition wants it
 abbrev pub state_that_holds : History → Option (List ℕ)
 state_that_holds t =
-    option_map (λ state. state.0)
-    (first (filter (λ state. presence_holds state.1 (last_seen state.0 t))
+    option_map (λ state. state.path)
+    (first (filter (λ state. presence_holds state.present (last_seen state.path t))
     (definition_of t).path_state))
 
 -- the first queue directory that was last seen non-empty
@@ -86,9 +88,9 @@ throttled_until t = if is_throttled t then Some (free_from t) else None
 -- ---- all reasons
 
 -- the child, and whether its end was asked for
-abbrev pub standing_child : Bool → Bool → ℕ × ℕ → StandingChild
+abbrev pub standing_child : Bool → Bool → Child → StandingChild
 standing_child stopped struck c =
-    record { run = c.0; pid = c.1; is_stopped = stopped; is_struck = struck }
+    record { run = c.run; pid = c.pid; is_stopped = stopped; is_struck = struck }
 
 -- what keeps the next spawn from being due
 abbrev pub reasons_of : History → Reasons
@@ -120,10 +122,10 @@ needs_event r =
     r.is_removing || is_some r.child || is_some r.awaited || r.is_launch_spent || r.are_runs_spent
 
 -- there is no order, or it is a TERM or a KILL for the child
-abbrev pub is_none_or_stops : Option (ℕ × ℕ) → Option Act → Bool
+abbrev pub is_none_or_stops : Option Child → Option Act → Bool
 is_none_or_stops c None = true
 is_none_or_stops None (Some act) = false
-is_none_or_stops (Some c) (Some act) = is_stopping_act c.0 act
+is_none_or_stops (Some c) (Some act) = is_stopping_act c.run act
 
 -- the moment is the least at which the job is not throttled
 abbrev pub IsFirstFree : History → ℕ → Type 0
@@ -142,7 +144,7 @@ not_before free (Some m) = Some (max free m)
 abbrev pub wanted_from : History → Option ℕ
 wanted_from t =
     if is_wanted t then Some 0
-    else first (next_period (definition_of t).start_interval (load_of t).1.up (now t).up)
+    else first (next_period (definition_of t).start_interval (load_of t).at.up (now t).up)
 
 -- the moment from which a reading makes its spawn due, if nothing but readings happens and no
 -- calendar entry fires; none if no reading does

@@ -20,15 +20,15 @@ wants_by f = record {
   keep_alive = f.definition.keep_alive;
   successful_exit = exit_wants f.definition.successful_exit f.ended;
   crashed = crash_wants f.definition.crashed f.has_crashed f.ended;
-  path_state = any_seen (λ state. presence_holds state.1) f.definition.path_state f.seen_states;
+  path_state = any_seen (λ state. presence_holds state.present) f.definition.path_state f.seen_states;
   queue_directories = any_seen (λ path. queue_holds) f.definition.queue_directories f.seen_queues;
 }
 
 -- `path_that_holds`
 abbrev pub path_by : Facts → Option (List ℕ)
 path_by f =
-    or_else (option_map (λ state. state.0)
-    (first_seen (λ state. presence_holds state.1) f.definition.path_state f.seen_states))
+    or_else (option_map (λ state. state.path)
+    (first_seen (λ state. presence_holds state.present) f.definition.path_state f.seen_states))
     (first_seen (λ path. queue_holds) f.definition.queue_directories f.seen_queues)
 
 -- so many milliseconds after the moment, 0 if there is none
@@ -49,8 +49,8 @@ throttled_until_by f up = if is_throttled_by f up then Some (free_by f) else Non
 -- `reasons_of`
 abbrev pub reasons_by : Facts → ℕ → Reasons
 reasons_by f up = record {
-  is_removing = f.removes;
-  child = option_map (standing_child f.stops f.strikes) f.living_child;
+  is_removing = f.is_removing;
+  child = option_map (standing_child f.is_stopping f.is_struck) f.living_child;
   awaited = f.awaited_act;
   wants = wants_by f;
   throttled_until = throttled_until_by f up;
@@ -61,7 +61,7 @@ reasons_by f up = record {
 -- `needs_event`
 abbrev pub needs_by : Facts → Bool
 needs_by f =
-    f.removes || is_some f.living_child || is_some f.awaited_act
+    f.is_removing || is_some f.living_child || is_some f.awaited_act
     || (f.definition.launch_only_once && f.spawned_before) || not (nat_lt f.run_count (2 ^ 63))
 
 -- `wanted_from`

@@ -116,6 +116,20 @@ pub enum Ended {
     Signal(u8),
 }
 
+/// The child of a job: the run that lives, and its process id.
+#[derive(Clone, Copy)]
+pub struct Child {
+    pub run: u64,
+    pub pid: u32,
+}
+
+/// The last end of a job: the run, and how it ended.
+#[derive(Clone, Copy)]
+pub struct LastEnd {
+    pub run: u64,
+    pub how: Ended,
+}
+
 /// What a job orders: the spawn of its next run, with the connection that it carries if one waits; TERM or KILL for its child's
 /// run; the close of a connection that waits if the job leaves; and that it is gone.
 #[derive(Clone, Copy, PartialEq, Eq)]
@@ -268,6 +282,9 @@ pub const MAX_WALL: u64 = 250_000_000_000;
 
 /// A second, in milliseconds of `up`.
 pub const SECOND: u64 = 1_000;
+
+/// How far back a reading looks for minutes of the calendar, in seconds of `wall`: 400 days.
+pub const CALENDAR_REACH: u64 = 34_560_000;
 
 /// How many jobs may be loaded.
 pub const MAX_JOBS: usize = 1024;

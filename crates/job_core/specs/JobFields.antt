@@ -53,9 +53,9 @@ facts c = record {
   is_kill_done = c.ending.is_kill_done;
   is_ordered_to_end = c.is_ordered_to_end;
   spawned_before = c.spawned_before;
-  stops = c.stops;
-  strikes = c.ending.strikes;
-  removes = c.removes;
+  is_stopping = c.is_stopping;
+  is_struck = c.ending.is_struck;
+  is_removing = c.is_removing;
 }
 
 -- the run's spawn is the order whose answer is awaited

@@ -33,4 +33,4 @@ pub record AreMoments (past : History) (m : Moments) : Type 0 where
   pub term : (up : ℕ) → has_come m.term up ≡ may_term_when up past
   pub kill : (up : ℕ) → has_come m.kill up ≡ may_kill_when up past
   pub interval : m.interval
-      ≡ first (next_period (definition_of past).start_interval (load_of past).1.up (now past).up)
+      ≡ first (next_period (definition_of past).start_interval (load_of past).at.up (now past).up)

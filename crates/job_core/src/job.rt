@@ -18,7 +18,8 @@ use crate::paths::{Queues, Watches};
 use conditions::Conditions;
 use history_model::definition::Def;
 use history_model::{
-    Act, Answer, DemandKind, JobItem, JobState, MAX_UP, MAX_WALL, Obs, Reading, Refusal, ShownJob,
+    Act, Answer, Child, DemandKind, JobItem, JobState, MAX_UP, MAX_WALL, Obs, Reading, Refusal,
+    ShownJob,
 };
 pub use moments::Moments;
 use pace::{Ending, Interval, Signal, Throttle};
@@ -43,13 +44,13 @@ pub struct Job {
     ending: Ending,
     is_ordered_to_end: bool,
     runs: u64,
-    child: Option<(u64, u32)>,
+    child: Option<Child>,
     awaited: Option<Act>,
     demand: Option<DemandKind>,
     new_demand: Option<DemandKind>,
     spawned_before: bool,
-    stops: bool,
-    removes: bool,
+    is_stopping: bool,
+    is_removing: bool,
 }
 
 impl Job {
@@ -95,8 +96,8 @@ impl Job {
             demand,
             new_demand: demand,
             spawned_before: false,
-            stops: false,
-            removes: false,
+            is_stopping: false,
+            is_removing: false,
         })
     }
 
@@ -157,9 +158,9 @@ impl Job {
     {
         ShownJob {
             state: self.state(),
-            pid: self.child.map(|c| c.1),
+            pid: self.child.map(|c| c.pid),
             runs: self.runs,
-            last_end: self.conditions.last_end().map(|e| e.1),
+            last_end: self.conditions.last_end().map(|e| e.how),
             demand: self.demand.is_some(),
             connections: self.waiting.len(),
         }
@@ -169,13 +170,13 @@ impl Job {
     fn state(&self) -> JobState
         ensures { result ≡ state_by (facts self.now) }
     {
-        if self.removes {
+        if self.is_removing {
             JobState::Removing
         } else if matches!(self.awaited, Some(Act::Spawn { .. })) {
             JobState::Spawning
         } else if self.child.is_none() {
             JobState::Idle
-        } else if self.stops || self.ending.is_struck() {
+        } else if self.is_stopping || self.ending.is_struck() {
             JobState::Stopping
         } else {
             JobState::Running
@@ -184,16 +185,16 @@ impl Job {
 
     /// Whether an unload or a shutdown was asked.
     pub fn is_removing(&self) -> bool
-        ensures { result ≡ (facts self.now).removes }
+        ensures { result ≡ (facts self.now).is_removing }
     {
-        self.removes
+        self.is_removing
     }
 
     /// Whether the job is being removed, and nothing of it runs.
     pub fn is_gone(&self) -> bool
-        ensures { result ≡ ((facts self.now).removes && not (is_busy_by (facts self.now))) }
+        ensures { result ≡ ((facts self.now).is_removing && not (is_busy_by (facts self.now))) }
     {
-        self.removes && !self.is_busy()
+        self.is_removing && !self.is_busy()
     }
 
     /// The waiting connection at a position, counted from 0.

@@ -5,6 +5,7 @@ use Rattle.std.proofs.lemmas.Bool.Decides.{nat_tests}
 use Rattle.std.specs.List.{list_any, filter, cons_option, position}
 use Rattle.std.specs.Option.{option_map}
 use Rattle.history_model.specs.declared.Reading.{Reading}
+use Rattle.history_model.specs.declared.Child.{Child}
 use Rattle.history_model.specs.Items.{History}
 use Rattle.history_model.specs.Search.{first}
 use Rattle.history_model.specs.Runs.{child, runs}
@@ -40,7 +41,7 @@ module _ (at : Reading) where
       go false [] keeps later = absurd keeps
       go false (job ∷ jobs) keeps later = one (child job.past)
         where
-          one : (o : Option (ℕ × ℕ)) → list_any (is_same n.described.label) (cons_option (option_map (λ c. job.label) o) (with_child jobs)) ≡ false
+          one : (o : Option Child) → list_any (is_same n.described.label) (cons_option (option_map (λ c. job.label) o) (with_child jobs)) ≡ false
           one None = later jobs keeps.1
           one (Some c) = λ i. (ap (is_same n.described.label) (sym keeps.0.label) ∙ other.1) i || later jobs keeps.1 i
 
@@ -58,15 +59,15 @@ module _ (at : Reading) where
       go false [] keeps among later = absurd keeps
       go false (job ∷ jobs) keeps among later = pick (is_same label job.label) refl (child job.past) refl among
         where
-          skip : (o : Option (ℕ × ℕ)) → is_same label job.label ≡ false → list_any (is_same label) (cons_option (option_map (λ c. job.label) o) (with_child jobs)) ≡ true →
+          skip : (o : Option Child) → is_same label job.label ≡ false → list_any (is_same label) (cons_option (option_map (λ c. job.label) o) (with_child jobs)) ≡ true →
               list_any (is_same label) (with_child jobs) ≡ true
           skip None apart among = among
           skip (Some c) apart among = sym (ap (λ b. b || list_any (is_same label) (with_child jobs)) apart) ∙ among
 
-          pick : (b : Bool) → is_same label job.label ≡ b → (o : Option (ℕ × ℕ)) → child job.past ≡ o →
+          pick : (b : Bool) → is_same label job.label ≡ b → (o : Option Child) → child job.past ≡ o →
               list_any (is_same label) (cons_option (option_map (λ c. job.label) o) (with_child jobs)) ≡ true →
               is_some (run_in (past_in (first (cond b (job ∷ filter (is_of label) jobs) (filter (is_of label) jobs))))) ≡ true
-          pick true is (Some c) stands among = ap (λ o. is_some (option_map (λ c. c.0) o)) stands
+          pick true is (Some c) stands among = ap (λ o. is_some (option_map (λ c. c.run) o)) stands
           pick true is None stands among =
               let same : label ≡ e.def.label = is-label label job.label is ∙ sym keeps.0.label in
               let clash : true ≡ false = sym among ∙ ap (λ l. list_any (is_same l) (with_child jobs)) same ∙ no-other (name e) es jobs once.0 keeps.1 in absurd (cc clash)
@@ -76,9 +77,9 @@ module _ (at : Reading) where
 pub run-present : (past : History) (o : Option History) → IsLawful past → o ≡ Some past → is_some (run_in o) ≡ true → run_in o ≡ Some (runs past)
 run-present past o lawful is some = ap run_in is ∙ go (child past) refl (sym (ap (λ p. is_some (run_in p)) is) ∙ some)
   where
-    go : (c : Option (ℕ × ℕ)) → child past ≡ c → is_some (option_map (λ c. c.0) (child past)) ≡ true → option_map (λ c. c.0) (child past) ≡ Some (runs past)
-    go None stands some = let clash : false ≡ true = sym (ap (λ c. is_some (option_map (λ c. c.0) c)) stands) ∙ some in absurd (cc clash)
-    go (Some c) stands some = ap (λ c. option_map (λ c. c.0) c) stands ∙ ap Some (child-present past c (sound past lawful).0 stands).0
+    go : (c : Option Child) → child past ≡ c → is_some (option_map (λ c. c.run) (child past)) ≡ true → option_map (λ c. c.run) (child past) ≡ Some (runs past)
+    go None stands some = let clash : false ≡ true = sym (ap (λ c. is_some (option_map (λ c. c.run) c)) stands) ∙ some in absurd (cc clash)
+    go (Some c) stands some = ap (λ c. option_map (λ c. c.run) c) stands ∙ ap Some (child-present past c (sound past lawful).0 stands).0
 
 -- ---- the first with a child behind a text
 
@@ -95,12 +96,12 @@ none-with-child at q (e ∷ es) jobs keeps none = go e.has_gone refl jobs keeps 
     go false going [] keeps later = absurd keeps
     go false going (job ∷ jobs) keeps later = one (child job.past) refl
       where
-        passes : (c : ℕ × ℕ) → child job.past ≡ Some c → (b : Bool) → q job.label ≡ b → b ≡ false
+        passes : (c : Child) → child job.past ≡ Some c → (b : Bool) → q job.label ≡ b → b ≡ false
         passes c is false apart = refl
         passes c is true held =
             let clash : true ≡ false = sym (ap is_some is) ∙ none 0 e refl (ap q keeps.0.label ∙ held) going job.past keeps.0.keeps in absurd (cc clash)
 
-        one : (o : Option (ℕ × ℕ)) → child job.past ≡ o → list_any q (cons_option (option_map (λ c. job.label) o) (with_child jobs)) ≡ false
+        one : (o : Option Child) → child job.past ≡ o → list_any q (cons_option (option_map (λ c. job.label) o) (with_child jobs)) ≡ false
         one None is = later jobs keeps.1
         one (Some c) is = λ i. passes c is (q job.label) refl i || later jobs keeps.1 i
 
@@ -123,7 +124,7 @@ one-with-child at (x ∷ xs) jobs zero e keeps there stay has =
         kept : Keeps e.core.facts job.past
         kept = subst (λ y. Keeps y.core.facts job.past) own keeps.0.keeps
 
-        one : (o : Option (ℕ × ℕ)) → child job.past ≡ o → list_any (is_same e.def.label) (cons_option (option_map (λ c. job.label) o) (with_child jobs)) ≡ true
+        one : (o : Option Child) → child job.past ≡ o → list_any (is_same e.def.label) (cons_option (option_map (λ c. job.label) o) (with_child jobs)) ≡ true
         one None is = let clash : false ≡ true = sym (ap is_some is) ∙ has job.past kept in absurd (cc clash)
         one (Some c) is =
             let label : job.label ≡ e.def.label = sym keeps.0.label ∙ ap (λ y. y.def.label) own in
@@ -136,7 +137,7 @@ one-with-child at (x ∷ xs) jobs (suc k) e keeps there stay has = go x.has_gone
     go false [] keeps later = absurd keeps
     go false (job ∷ jobs) keeps later = one (child job.past)
       where
-        one : (o : Option (ℕ × ℕ)) → list_any (is_same e.def.label) (cons_option (option_map (λ c. job.label) o) (with_child jobs)) ≡ true
+        one : (o : Option Child) → list_any (is_same e.def.label) (cons_option (option_map (λ c. job.label) o) (with_child jobs)) ≡ true
         one None = later jobs keeps.1
         one (Some c) = or-second (is_same e.def.label job.label) (list_any (is_same e.def.label) (with_child jobs)) (later jobs keeps.1)
 

@@ -12,7 +12,7 @@ use Rattle.history_model.specs.Demands.{is_same_path}
 use Rattle.history_model.specs.Labels.{is_same}
 use Rattle.history_model.specs.Step.{lists}
 use Rattle.history_model.specs.Described.{Described}
-use Rattle.history_model.specs.Definitions.{definition, path_wish}
+use Rattle.history_model.specs.Definitions.{definition}
 use Rattle.history_model.specs.declared.definition.parts.PathState.{PathState}
 use Rattle.loaded_jobs.specs.Seats.{name}
 use Rattle.loaded_jobs.specs.Index.{ArePlaced, is_minute_among}
@@ -109,11 +109,10 @@ listed-path path d =
     list_any-append f (map (λ due. Minute due.minute) d.calendar) (states ++ rest)
     ∙ (λ i. (any-map f (λ due. Minute due.minute) d.calendar ∙ any-none (λ due. f (Minute due.minute)) d.calendar (λ k due at. no-minute due.minute)) i || list_any-append f states rest i)
     ∙ (λ i. any-map f (λ (state : PathState). Path state.path) d.path_state i || list_any-append f (map Path d.watch_paths) (map Path d.queue_directories) i)
-    ∙ (λ i. (any-agree (λ (state : PathState). f (Path state.path)) (λ (state : PathState). is_same_path path state.path) d.path_state (λ k state at. ranked state.path)
-    ∙ sym (any-map (λ (wish : List ℕ × Bool). is_same_path path wish.0) path_wish d.path_state)) i
+    ∙ (λ i. any-agree (λ (state : PathState). f (Path state.path)) (λ (state : PathState). is_same_path path state.path) d.path_state (λ k state at. ranked state.path) i
     || ((any-map f Path d.watch_paths ∙ any-agree (λ x. f (Path x)) (is_same_path path) d.watch_paths (λ k x at. ranked x)) i
     || (any-map f Path d.queue_directories ∙ any-agree (λ x. f (Path x)) (is_same_path path) d.queue_directories (λ k x at. ranked x)) i))
-    ∙ or-assoc (list_any (λ (wish : List ℕ × Bool). is_same_path path wish.0) (map path_wish d.path_state)) (list_any (is_same_path path) d.watch_paths) (list_any (is_same_path path) d.queue_directories)
+    ∙ or-assoc (list_any (λ (wish : PathState). is_same_path path wish.path) d.path_state) (list_any (is_same_path path) d.watch_paths) (list_any (is_same_path path) d.queue_directories)
   where
     ranked : (x : List ℕ) → is_same (1 ∷ path) (1 ∷ x) ≡ is_same_path path x
     ranked x = refl

@@ -6,7 +6,7 @@ use Rattle.history_model.specs.declared.Reading.{Reading}
 use Rattle.history_model.specs.declared.Refusal.{Refusal}
 use Rattle.history_model.specs.Items.{Item, Loaded, Read, Saw, Asked, Came, Left, Ordered, Answered, RunEnded, WaitRefused, History}
 use Rattle.history_model.specs.Search.{first, first as head_of, or_else, latest}
-use Rattle.history_model.specs.Clock.{now, definition_of, reading_in, load_in, no_reading, no_definition}
+use Rattle.history_model.specs.Clock.{now, definition_of, reading_in, load_in, no_reading, absent_load}
 use Rattle.history_model.specs.Refusals.{refusal_of}
 use Rattle.history_model.specs.FactsOfPast.{Keeps, reply}
 use Rattle.history_model.specs.Labels.{Label, is_same}
@@ -96,7 +96,7 @@ no-load (RunEnded run how) silent = refl
 no-load (WaitRefused run) silent = refl
 
 same-definition : (item : Item) (past : History) → IsSilent item → definition_of (item ∷ past) ≡ definition_of past
-same-definition item past silent = ap (λ o. (unwrap_or (or_else o (latest load_in past)) (no_definition, no_reading)).0) (no-load item silent)
+same-definition item past silent = ap (λ o. (unwrap_or (or_else o (latest load_in past)) absent_load).definition) (no-load item silent)
 
 module _ (at : Reading) (label : Label) (item : Item) (new : Seat) (silent : IsSilent item) where
   heard-at : (es : List Seat) (k : ℕ) (d : Seat) (jobs : List Job) → KeepsJobs at (map row es) jobs → IsFirstAt label es k →

@@ -79,8 +79,8 @@ touch-moment zone at f past m keeps positive next due =
     let one = is-one past positive m moment in
     go one.1 one.0 where
       go : IsMoment past m → (now past).up < m → touches zone at past ≡ true
-      go (inl period) after = or-left-true (crosses_interval (definition_of past).start_interval (load_of past).1.up (now past).up at.up) (list_any (is_reached (now past).up at.up) (waits past)) (list_any (is_minute_crossed zone (crossed (now past).wall at.wall)) (definition_of past).calendar) (period-crossed (definition_of past).start_interval (load_of past).1.up (now past).up at.up m positive period after due)
-      go (inr there) after = or-middle-true (crosses_interval (definition_of past).start_interval (load_of past).1.up (now past).up at.up) (list_any (is_reached (now past).up at.up) (waits past)) (list_any (is_minute_crossed zone (crossed (now past).wall at.wall)) (definition_of past).calendar) (any-in (now past).up at.up m (waits past) after due there)
+      go (inl period) after = or-left-true (crosses_interval (definition_of past).start_interval (load_of past).at.up (now past).up at.up) (list_any (is_reached (now past).up at.up) (waits past)) (list_any (is_minute_crossed zone (crossed (now past).wall at.wall)) (definition_of past).calendar) (period-crossed (definition_of past).start_interval (load_of past).at.up (now past).up at.up m positive period after due)
+      go (inr there) after = or-middle-true (crosses_interval (definition_of past).start_interval (load_of past).at.up (now past).up at.up) (list_any (is_reached (now past).up at.up) (waits past)) (list_any (is_minute_crossed zone (crossed (now past).wall at.wall)) (definition_of past).calendar) (any-in (now past).up at.up m (waits past) after due there)
 
 -- ---- minutes
 
@@ -110,7 +110,7 @@ pub touch-minute : (zone : Zone) (at : Moment) (past : History) (minutes : List 
 touch-minute zone at past minutes is among = go (list_any (is_minute_crossed zone (crossed (now past).wall at.wall)) (definition_of past).calendar) refl where
   go : (b : Bool) → list_any (is_minute_crossed zone (crossed (now past).wall at.wall)) (definition_of past).calendar ≡ b → touches zone at past ≡ true
   go true there =
-      or-right-true (crosses_interval (definition_of past).start_interval (load_of past).1.up (now past).up at.up) (list_any (is_reached (now past).up at.up) (waits past))
+      or-right-true (crosses_interval (definition_of past).start_interval (load_of past).at.up (now past).up at.up) (list_any (is_reached (now past).up at.up) (waits past))
       (list_any (is_minute_crossed zone (crossed (now past).wall at.wall)) (definition_of past).calendar) there
   go false none =
       let clash : true ≡ false = sym among ∙ ap (is_minute_among (definition_of past).calendar) is ∙ none-swapped zone (definition_of past).calendar (crossed (now past).wall at.wall) none in

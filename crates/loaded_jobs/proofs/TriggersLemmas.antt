@@ -7,7 +7,7 @@ use Rattle.std.proofs.lemmas.Option.{slice_get_within}
 use Rattle.std.proofs.lemmas.List.Folds.{list_any-append}
 use Rattle.history_model.specs.Labels.{is_same, is_before}
 use Rattle.history_model.specs.Described.{Described}
-use Rattle.history_model.specs.Definitions.{definition, path_wish}
+use Rattle.history_model.specs.Definitions.{definition}
 use Rattle.history_model.specs.declared.definition.parts.PathState.{PathState}
 use Rattle.loaded_jobs.specs.Seats.{row, rows, name, seat_stays}
 use Rattle.loaded_jobs.specs.Index.{place_in, ArePlaced}
@@ -136,9 +136,9 @@ definition-paths q d =
     ∙ ap (λ b. b || list_any (on-path q) (states ++ rest)) (any-map (on-path q) (λ due. Minute due.minute) d.calendar ∙ any-none (λ due. false) d.calendar (λ j x at. refl))
     ∙ list_any-append (on-path q) states rest
     ∙ (λ i. any-map (on-path q) (λ (state : PathState). Path state.path) d.path_state i || list_any-append (on-path q) (map Path d.watch_paths) (map Path d.queue_directories) i)
-    ∙ (λ i. sym (any-map (λ (wish : List ℕ × Bool). q wish.0) path_wish d.path_state) i || (any-map (on-path q) Path d.watch_paths i || any-map (on-path q) Path d.queue_directories i))
-    ∙ (λ i. sym (any-map q (λ (wish : List ℕ × Bool). wish.0) (map path_wish d.path_state)) i || sym (list_any-append q d.watch_paths d.queue_directories) i)
-    ∙ sym (list_any-append q (map (λ (wish : List ℕ × Bool). wish.0) (map path_wish d.path_state)) (d.watch_paths ++ d.queue_directories))
+    ∙ (λ i. list_any (λ (wish : PathState). q wish.path) d.path_state || (any-map (on-path q) Path d.watch_paths i || any-map (on-path q) Path d.queue_directories i))
+    ∙ (λ i. sym (any-map q (λ (wish : PathState). wish.path) d.path_state) i || sym (list_any-append q d.watch_paths d.queue_directories) i)
+    ∙ sym (list_any-append q (map (λ (wish : PathState). wish.path) d.path_state) (d.watch_paths ++ d.queue_directories))
 
 rows-paths : (q : List ℕ → Bool) (es : List Seat) → list_any q (paths_in (rows es)) ≡ list_any (λ e. seat_stays e && list_any (on-path q) (triggers_of e.def)) es
 rows-paths q [] = refl

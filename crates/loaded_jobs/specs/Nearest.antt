@@ -26,7 +26,7 @@ IsNearestOf sought texts (Some found) = IsNearest sought texts found
 
 -- the paths that a definition lists
 abbrev pub paths_of : Definition → List (List ℕ)
-paths_of d = map (λ state. state.0) d.path_state ++ (d.watch_paths ++ d.queue_directories)
+paths_of d = map (λ state. state.path) d.path_state ++ (d.watch_paths ++ d.queue_directories)
 
 -- those of all loaded jobs
 abbrev pub listed_paths : List Job → List (List ℕ)
@@ -49,7 +49,7 @@ with_child jobs = filter_map parent_in jobs
 -- the run of the child, if the label is loaded and its job has one
 abbrev pub run_in : Option History → Option ℕ
 run_in None = None
-run_in (Some past) = option_map (λ c. c.0) (child past)
+run_in (Some past) = option_map (λ c. c.run) (child past)
 
 -- the label is the nearest one with a child, the number stands for it, and the run is that of its
 -- child; or there is none

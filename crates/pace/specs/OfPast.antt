@@ -14,7 +14,7 @@ use Rattle.history_model.specs.declared.TheConstants.{SECOND}
 
 -- the interval of a past
 abbrev pub every_of : History → Every
-every_of t = record { seconds = (definition_of t).start_interval; load_up = (load_of t).1.up }
+every_of t = record { seconds = (definition_of t).start_interval; load_up = (load_of t).at.up }
 
 -- the throttle of a past: its newest spawn order, and its newest refusal of a spawn
 abbrev pub spacing_of : History → Spacing
@@ -33,7 +33,7 @@ ends_of t = record {
   kill_refused = first (moments (is_kill_answer false (runs t)) t);
   is_term_done = list_any (is_term_answer true (runs t)) t;
   is_kill_done = list_any (is_kill_answer true (runs t)) t;
-  strikes = is_struck t;
+  is_struck = is_struck t;
 }
 
 -- at this moment of `up` TERM may be ordered for a run that is being stopped

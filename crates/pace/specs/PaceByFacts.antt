@@ -21,14 +21,14 @@ next_spawn_of s up =
 -- answered ok, and no TERM was refused less than a second ago
 abbrev pub may_term_of : Ends → ℕ → Bool
 may_term_of e up =
-    not e.strikes && not e.is_kill_done
+    not e.is_struck && not e.is_kill_done
     && (not e.is_term_done && not (is_newest_within SECOND up e.term_refused))
 
 -- at this moment KILL may be ordered: for a struck run, or the timeout after the first TERM, if
 -- no KILL was answered ok, and none was refused less than a second ago
 abbrev pub may_kill_of : Ends → ℕ → Bool
 may_kill_of e up =
-    (e.strikes || (nat_lt 0 e.timeout && is_over (SECOND * e.timeout) up e.term_ordered))
+    (e.is_struck || (nat_lt 0 e.timeout && is_over (SECOND * e.timeout) up e.term_ordered))
     && (not e.is_kill_done && not (is_newest_within SECOND up e.kill_refused))
 
 -- the next moment after this one at which the timeout, or the second after a refusal, is over

@@ -47,7 +47,7 @@ impl Model for Ending {
       kill_refused = e.kill_refusal;
       is_term_done = e.is_term_done;
       is_kill_done = e.is_kill_done;
-      strikes = e.is_struck;
+      is_struck = e.is_struck;
     } };
 
     ghost invariant = { λ e. ForSome e.first_term (λ u. u ≤ MAX_UP)
@@ -120,21 +120,21 @@ impl Ending {
 
     /// A kickstart asks for KILL at once.
     pub fn struck(&mut self)
-        ensures { self.new ≡ record self.old { strikes = true } }
+        ensures { self.new ≡ record self.old { is_struck = true } }
     {
         self.is_struck = true;
     }
 
     /// No kickstart asks for it any more, since the run is over or was not spawned.
     pub fn spared(&mut self)
-        ensures { self.new ≡ record self.old { strikes = false } }
+        ensures { self.new ≡ record self.old { is_struck = false } }
     {
         self.is_struck = false;
     }
 
     /// Whether a kickstart asks for KILL.
     pub fn is_struck(&self) -> bool
-        ensures { result ≡ self.now.strikes }
+        ensures { result ≡ self.now.is_struck }
     {
         self.is_struck
     }

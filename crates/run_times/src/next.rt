@@ -1,7 +1,7 @@
 //! When a job runs next by the clocks alone, if both run alike: one number of seconds, of throttle, interval and calendar together.
 
 ghost use Rattle.std.specs.Prelude.{◌≡◌, ◌≤◌, ◌+◌, ◌*◌, ℕ, nat_le, not, ◌&&◌, ◌||◌, Option, None, unwrap_or, IfSome};
-ghost use Rattle.history_model.specs.declared.TheConstants.{MAX_UP, MAX_WALL, SECOND};
+ghost use Rattle.history_model.specs.declared.TheConstants.{CALENDAR_REACH, MAX_UP, MAX_WALL, SECOND};
 ghost use Rattle.history_model.specs.Items.{History};
 ghost use Rattle.history_model.specs.Calendar.{calendar_fires};
 ghost use Rattle.history_model.specs.NextMomentByFacts.{has_come, sooner};
@@ -11,10 +11,7 @@ ghost use Rattle.calendar_due.specs.ZoneRules.{minute_at};
 ghost use Rattle.run_times.specs.Told.{IsTold};
 
 use calendar_due::{Calendar, Zone};
-use history_model::{Entry, MAX_UP, MAX_WALL, Reading, Reasons, SECOND};
-
-/// How far a reading looks back for minutes of the calendar, in seconds: 400 days.
-const FARTHEST: u64 = 34_560_000;
+use history_model::{CALENDAR_REACH, Entry, MAX_UP, MAX_WALL, Reading, Reasons, SECOND};
 
 /// The least number of whole seconds after which a reading makes the job's spawn due, if nothing else happens and both clocks
 /// run alike: `wall` goes on by a second with every 1,000 milliseconds of `up`. At most `within` seconds are looked ahead, at
@@ -64,7 +61,7 @@ fn first_second(
     now: Reading,
     ahead: u64,
 ) -> Option<u64>
-    requires days { ahead ≤ 34560000 }
+    requires days { ahead ≤ CALENDAR_REACH }
     requires in_range { now.wall + ahead ≤ MAX_WALL }
     ensures { (d : ℕ) → d ≤ ahead →
         has_come result d
@@ -93,12 +90,12 @@ fn looked_ahead(now: Reading, within: u64) -> u64
     requires up { now.up ≤ MAX_UP }
     requires wall { now.wall ≤ MAX_WALL }
     ensures value { result ≡ looked_ahead now within }
-    ensures days { result ≤ 34560000 }
+    ensures days { result ≤ CALENDAR_REACH }
     ensures in_range { now.wall + result ≤ MAX_WALL }
 {
     let of_up = (MAX_UP - now.up) / SECOND;
     let of_wall = MAX_WALL - now.wall;
-    within.min(FARTHEST).min(of_up.min(of_wall))
+    within.min(CALENDAR_REACH).min(of_up.min(of_wall))
 }
 
 /// The least number of seconds after which the moment is over.
@@ -122,7 +119,7 @@ fn by_calendar(
     now: Reading,
     ahead: u64,
 ) -> Option<u64>
-    requires days { ahead ≤ 34560000 }
+    requires days { ahead ≤ CALENDAR_REACH }
     requires in_range { now.wall + ahead ≤ MAX_WALL }
     ensures { (d : ℕ) → d ≤ ahead →
         has_come result d

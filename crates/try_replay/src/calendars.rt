@@ -2,7 +2,7 @@
 //! Writes counts, and if that is asked for the times too, to standard error.
 
 use calendar_due::{Calendar, Zone};
-use history_model::{CivilMinute, Entry};
+use history_model::{CALENDAR_REACH, CivilMinute, Entry};
 use std::alloc::Global;
 use std::io::{self, Eprint, Print};
 use std::time::{Clock, Instant};
@@ -10,8 +10,6 @@ use std::time::{Clock, Instant};
 const RULE: &str = "EST5EDT,M3.2.0,M11.1.0";
 
 const NOW: u64 = 1_700_000_000;
-
-const DAYS_400: u64 = 34_560_000;
 
 // The calendar that never fires.
 const NEVER: Entry = Entry {
@@ -52,7 +50,7 @@ fn show(rt: &impl Eprint, is_timed: bool, name: &str, micros: u128) -> io::Resul
 /// The crossed minutes of the 400 days, and how many microseconds it took to find them.
 fn crossed(rt: &impl Clock, alloc: Global, zone: &Zone) -> io::Result<(Vec<CivilMinute>, u128)> {
     let start = Instant::now(rt)?;
-    let minutes = zone.crossed(alloc, NOW - DAYS_400, NOW)?;
+    let minutes = zone.crossed(alloc, NOW - CALENDAR_REACH, NOW)?;
     Ok((minutes, start.elapsed(rt)?.as_micros()))
 }
 

@@ -9,7 +9,7 @@ ghost use Rattle.history_model.specs.ByFacts.{fired_by, conn_of, Follows};
 ghost use Rattle.history_model.specs.DueByFacts.{is_busy_by};
 
 use super::Job;
-use history_model::{Act, Ask, DemandKind, Ended, MAX_UP, MAX_WALL, Obs, Reading, Refusal};
+use history_model::{Act, Ask, Child, DemandKind, Ended, MAX_UP, MAX_WALL, Obs, Reading, Refusal};
 use pace::Signal;
 use socket_demand::Waiting;
 
@@ -48,7 +48,7 @@ impl Job {
         ensures follows { Follows (facts self.old) (Came conn) now result (facts self.new) }
         ensures unchanged { OnErr result (self.new ≡ self.old) }
     {
-        if self.removes {
+        if self.is_removing {
             return Err(Refusal::Removing);
         }
         if !self.has_sockets || self.is_used(conn) {
@@ -86,7 +86,7 @@ impl Job {
         ensures follows { Follows (facts self.old) (Asked ask) now result (facts self.new) }
         ensures unchanged { OnErr result (self.new ≡ self.old) }
     {
-        if self.removes && ask != Ask::Shutdown {
+        if self.is_removing && ask != Ask::Shutdown {
             return Err(Refusal::Removing);
         }
         match ask {
@@ -101,11 +101,11 @@ impl Job {
                 if !self.is_busy() {
                     return Err(Refusal::NotRunning);
                 }
-                self.stops = true;
+                self.is_stopping = true;
             }
             Ask::Unload | Ask::Shutdown => {
-                self.stops = self.is_busy();
-                self.removes = true;
+                self.is_stopping = self.is_busy();
+                self.is_removing = true;
             }
         }
         Ok(())
@@ -114,10 +114,10 @@ impl Job {
     /// A start was asked. It makes a demand, unless a run that nobody stops stands already; with the flag then too.
     fn started(&mut self, again: bool, kind: DemandKind)
         ensures { facts self.new
-            ≡ fired_by (again || (not (is_busy_by (facts self.old)) || (facts self.old).stops))
+            ≡ fired_by (again || (not (is_busy_by (facts self.old)) || (facts self.old).is_stopping))
             kind (facts self.old) }
     {
-        if again || !self.is_busy() || self.stops {
+        if again || !self.is_busy() || self.is_stopping {
             self.fired(kind);
         }
     }
@@ -172,7 +172,7 @@ impl Job {
         ensures { Follows (facts self.now) (WaitRefused run) now result (facts self.now) }
     {
         match self.child {
-            Some((child, _)) if child == run => Ok(()),
+            Some(child) if child.run == run => Ok(()),
             _ => Err(Refusal::Stale),
         }
     }
@@ -207,7 +207,7 @@ impl Job {
         }
         let conn = self.carried();
         take_out(&mut self.waiting, conn);
-        self.child = Some((run, pid));
+        self.child = Some(Child { run, pid });
         self.awaited = None;
         self.demand = self.new_demand;
         self.spawned_before = true;
@@ -225,7 +225,7 @@ impl Job {
         }
         self.awaited = None;
         self.throttle.refused(now.up);
-        self.stops = false;
+        self.is_stopping = false;
         self.ending.spared();
         Ok(())
     }
@@ -235,7 +235,7 @@ impl Job {
         ensures unchanged { OnErr result (self.new ≡ self.old) }
     {
         match self.child {
-            Some((child, _)) if child == run => {}
+            Some(child) if child.run == run => {}
             _ => return Err(Refusal::Stale),
         }
         self.child = None;
@@ -247,7 +247,7 @@ impl Job {
             _ => {}
         }
         self.conditions.ended(run, how, self.is_ordered_to_end);
-        self.stops = false;
+        self.is_stopping = false;
         self.ending.spared();
         Ok(())
     }

@@ -41,7 +41,7 @@ impl Job {
     fn term_from(&self) -> Option<u64>
         ensures { (at : ℕ) → has_come result at ≡ may_term_by (facts self.now) at }
     {
-        if self.stops {
+        if self.is_stopping {
             self.ending.term_at()
         } else {
             None
@@ -51,7 +51,7 @@ impl Job {
     fn kill_from(&self) -> Option<u64>
         ensures { (at : ℕ) → has_come result at ≡ may_kill_by (facts self.now) at }
     {
-        if self.ending.is_struck() || self.stops {
+        if self.ending.is_struck() || self.is_stopping {
             self.ending.kill_at()
         } else {
             None

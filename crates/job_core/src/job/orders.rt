@@ -40,7 +40,7 @@ impl Job {
     fn may_spawn(&self, up: u64) -> bool
         ensures { result ≡ may_spawn_by (facts self.now) up }
     {
-        !self.removes
+        !self.is_removing
             && self.is_wanted()
             && !self.is_throttled(up)
             && !(self.launch_only_once && self.spawned_before)
@@ -50,13 +50,13 @@ impl Job {
     fn may_kill(&self, up: u64) -> bool
         ensures { result ≡ may_kill_by (facts self.now) up }
     {
-        (self.ending.is_struck() || self.stops) && has_come(self.ending.kill_at(), up)
+        (self.ending.is_struck() || self.is_stopping) && has_come(self.ending.kill_at(), up)
     }
 
     fn may_term(&self, up: u64) -> bool
         ensures { result ≡ may_term_by (facts self.now) up }
     {
-        self.stops && has_come(self.ending.term_at(), up)
+        self.is_stopping && has_come(self.ending.term_at(), up)
     }
 
     fn due(&self, up: u64) -> Option<Act>
@@ -71,8 +71,8 @@ impl Job {
                 conn: self.waiting.first(),
             }),
             None => None,
-            Some((run, _)) if self.may_kill(up) => Some(Act::Kill { run }),
-            Some((run, _)) if self.may_term(up) => Some(Act::Term { run }),
+            Some(child) if self.may_kill(up) => Some(Act::Kill { run: child.run }),
+            Some(child) if self.may_term(up) => Some(Act::Term { run: child.run }),
             Some(_) => None,
         }
     }
@@ -88,7 +88,7 @@ impl Job {
                 self.throttle.ordered(up);
                 self.ending.next_run();
                 self.is_ordered_to_end = false;
-                self.stops = false;
+                self.is_stopping = false;
             }
             Act::Term { .. } => {
                 self.ending.termed_at(up);

@@ -55,15 +55,15 @@ impl Job {
     /// The child, and whether its end was asked for.
     fn standing_child(&self) -> Option<StandingChild>
         ensures { result ≡ option_map
-            (standing_child (facts self.now).stops (facts self.now).strikes)
+            (standing_child (facts self.now).is_stopping (facts self.now).is_struck)
             (facts self.now).living_child }
     {
         match self.child {
             None => None,
-            Some((run, pid)) => Some(StandingChild {
-                run,
-                pid,
-                is_stopped: self.stops,
+            Some(child) => Some(StandingChild {
+                run: child.run,
+                pid: child.pid,
+                is_stopped: self.is_stopping,
                 is_struck: self.ending.is_struck(),
             }),
         }
@@ -74,7 +74,7 @@ impl Job {
         ensures { result ≡ reasons_by (facts self.now) up }
     {
         Reasons {
-            is_removing: self.removes,
+            is_removing: self.is_removing,
             child: self.standing_child(),
             awaited: self.awaited,
             wants: self.wants(),
@@ -88,7 +88,7 @@ impl Job {
     fn needs_event(&self) -> bool
         ensures { result ≡ needs_by (facts self.now) }
     {
-        self.removes
+        self.is_removing
             || self.child.is_some()
             || self.awaited.is_some()
             || (self.launch_only_once && self.spawned_before)

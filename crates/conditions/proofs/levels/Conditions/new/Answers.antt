@@ -1,6 +1,6 @@
 -- The goals of `Conditions::new` that the prover leaves open.
 use Rattle.std.proofs.Common.{◌∙◌, ap, map, None, [], ◌∷◌}
-use Rattle.history_model.specs.Definitions.{definition, path_wish}
+use Rattle.history_model.specs.Definitions.{definition}
 use Rattle.conditions.specs.ConditionFacts.{kept_of}
 use Rattle.history_model.specs.Items.{Loaded}
 use Rattle.conditions.proofs.SightsLemmas.{unseen}
@@ -13,6 +13,6 @@ returns c =
       keep_alive = c.keep_alive.ensures i;
       successful_exit = c.successful_exit.ensures i;
       crashed = c.crashed.ensures i;
-      path_state = (e.wanted ∙ ap (map path_wish) c.path_state.ensures) i;
+      path_state = (e.wanted ∙ c.path_state.ensures) i;
       seen = (e.unseen ∙ ap (map (λ _. None)) c.path_state.ensures ∙ unseen (definition c.args.def.now) at c.args.def.now.path_state) i;
     }

@@ -41,6 +41,6 @@ returns c =
       demand = fires i;
       new_demand = fires i;
       spawned_before = false;
-      stops = false;
-      removes = false;
+      is_stopping = false;
+      is_removing = false;
     })) ∙ (λ i. record whole { has_demand = is-load (run || exit) i; has_new_demand = is-load (run || exit) i })

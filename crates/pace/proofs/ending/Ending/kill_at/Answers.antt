@@ -15,6 +15,6 @@ use Rattle.history_model.specs.declared.TheConstants.{SECOND}
 pub returns-clause-past : goal.returns-clause-past
 returns-clause-past c = λ past lawful is up.
     c.kill_from.ensures up
-    ∙ ap (λ (e : Ends). (e.strikes || (nat_lt 0 e.timeout && is_over (SECOND * e.timeout) up e.term_ordered)) && (not e.is_kill_done && not (is_newest_within SECOND up e.kill_refused))) is
+    ∙ ap (λ (e : Ends). (e.is_struck || (nat_lt 0 e.timeout && is_over (SECOND * e.timeout) up e.term_ordered)) && (not e.is_kill_done && not (is_newest_within SECOND up e.kill_refused))) is
     ∙ ap (λ b. (is_struck past || (nat_lt 0 (definition_of past).exit_timeout && is_over (SECOND * (definition_of past).exit_timeout) up (last (moments (is_term_order (runs past)) past)))) && (not (list_any (is_kill_answer true (runs past)) past) && not b))
     (sym (any-within SECOND up (is_kill_answer false (runs past)) past lawful))
