@@ -2,7 +2,7 @@
 
     typed_page.py PAGE MARK PROGRAMS FOLDER
 
-A block is the indented lines behind a line `<!-- MARK -->`. What is typed stands behind `$`, with the lines of a document (`<<'END'`) up to its end;
+What is typed are the indented lines behind a line `<!-- MARK -->`, up to a line `<!-- end -->` or the page's end. What is typed stands behind `$`, with the lines of a document (`<<'END'`) up to its end;
 what comes of it stands below. Process ids, clock times and dates may differ: in both they are put as PID, TIME and DATE. A line that ends in `&` is waited
 for until all that the page shows of it came. The shell runs in FOLDER with PROGRAMS before the other folders of its PATH. The status is 1 at the first
 difference. As a module it gives `type_page`, which answers how many lines were typed, or 0.
@@ -20,8 +20,9 @@ def steps_of(text, mark):
     """What is typed, with what is shown behind it."""
     steps, in_document = [], False
     for part in text.split(f"<!-- {mark} -->")[1:]:
-        # a block may be parted by sentences; the next heading ends it
-        rows = [row for row in re.split(r"\n(?=#)", part)[0].split("\n") if row.startswith("    ")]
+        part = part.split("<!-- end -->")[0]
+        # sentences and headings may stand between the lines
+        rows = [row for row in part.split("\n") if row.startswith("    ")]
         for row in [it[4:] for it in rows]:
             if in_document:
                 steps[-1][0].append(row)
@@ -36,7 +37,7 @@ def steps_of(text, mark):
 
 def plain(rows):
     """The lines without what differs from run to run."""
-    forms = [(r"^\d+\t", "PID\t"), (r"(?<=pid = )\d+", "PID"), (r"\b\d{4}-\d\d-\d\d\b( [A-Z][a-z]{2}\b)?", "DATE"), (r"\b\d\d:\d\d:\d\d\b", "TIME"),
+    forms = [(r"^\d+\t", "PID\t"), (r"(?<=pid = )\d+", "PID"), (r"\b\d{4}-\d\d-\d\d\b( [A-Z][a-z]{2}\b)?", "DATE"), (r"\b\d\d:\d\d:\d\d\b", "TIME"), (r"\bafter \d+\.\d s", "after SPAN"),
              (r"[+-]\d{4}\b", "ZONE")]
     for form, word in forms:
         rows = [re.sub(form, word, row) for row in rows]
