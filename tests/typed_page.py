@@ -60,18 +60,18 @@ def came_of(shell, typed, shown):
     return [*came, "the shell has ended"]
 
 
-def type_page(page, mark, programs, folder, before=lambda line: None):
-    """Types the blocks; `before` is called with each line before it is typed. Answers how many lines were typed, or 0."""
+def type_page(page, mark, programs, folder, variables=()):
+    """Types the blocks in a shell with these variables too. Answers how many lines were typed, or 0."""
     with open(page, encoding="utf-8") as it:
         steps = steps_of(it.read(), mark)
     environment = {key: value for key, value in os.environ.items() if not key.startswith("JOBD_") and key != "JOBCTL_TIMEOUT"}
+    environment.update(variables)
     environment["PATH"] = programs + ":" + environment["PATH"]
     shell = subprocess.Popen(
         ["bash"], cwd=folder, env=environment, stdin=subprocess.PIPE, stdout=subprocess.PIPE, stderr=subprocess.STDOUT, text=True)
     # As a shell at a terminal: what runs in the background ignores no signal.
     shell.stdin.write("set -m\n")
     for typed, shown in steps:
-        before(typed[0])
         came = came_of(shell, typed, shown)
         if plain(came) != plain(shown):
             print(f"{page}: {typed[0]}\ncame:\n" + "\n".join(came) + "\nshown:\n" + "\n".join(shown), file=sys.stderr)
