@@ -1,5 +1,5 @@
 #!/usr/bin/env python3
-"""Draws bench/history.csv as bench/history.svg: a small chart for each figure, its values in the order of the file.
+"""Draws bench/history.csv as bench/history.svg: a small chart for each figure that was measured twice or more, its values in the order of the file.
 
     bench/plot.py
 
@@ -36,6 +36,7 @@ def main():
     kinds = {}
     for it in rows:
         kinds.setdefault((it["what"], it["unit"]), []).append(it)
+    kinds = {kind: of_kind for kind, of_kind in kinds.items() if len(of_kind) > 1}
     lines = []
     for k, ((what, unit), of_kind) in enumerate(kinds.items()):
         lines += chart(what, unit, of_kind, (k % ACROSS) * WIDTH, (k // ACROSS) * HEIGHT)
