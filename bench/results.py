@@ -43,7 +43,7 @@ def compared(line, of_lines, last):
         elif float(found[0].replace(",", "")) != last[what, unit]:
             faults.append(f"{what}: {found[0]}, and the last is {written(last[what, unit])} {unit}")
             cells[place] = written(last[what, unit]) + cells[place][found.end() :]
-    return "| " + " | ".join(cells) + " |", faults
+    return f"| {' | '.join(cells)} |".replace("|  |", "| |"), faults
 
 
 def main(words):
