@@ -11,11 +11,12 @@ bench/RESULTS.md. What is looked for:
 - Of `File.name`, as `Due.is_throttled`, a file of that name has to be there and to hold the name.
 - Of `Type::call` or `call` with clauses behind it, as `Throttle::free_at` (`past`), some function of that name has to have a clause of
   each of these names; in the README of a crate, some function of this crate, if it has one of that name.
-- A file that a code span names by its ending, as `due.rt`, has to be there; in a drawing, as `outside/order.rt`, below `src/` of that crate.
-- No row of a table in the pages that a reader begins with (SHORT) is longer than 200 characters.
+- A file that a code span names by its ending, as `due.rt`, has to be there.
 - Each wrong body has to be named in a document, or the edit that it is a part of. They stand in crates/CRATE/must-fail/ and in
   tests/wrong_bodies/CRATE/.
 - Where a comment names specs/NAME or proofs/NAME, its crate has to have that file.
+- A file that a drawing names, as outside/order.rt, has to be there, below src/ of that crate.
+- No row of a table in the pages that a reader begins with (SHORT) is longer than 200 characters.
 
 One line a fault; the status is 1 if there is one.
 """
@@ -162,7 +163,6 @@ def main():
     for path in documents():
         short, text = os.path.relpath(path, TOP), text_of(path)
         faults += [*faults_in_clauses(path, text, clauses, crates), *faults_in_spans(path, text, known, files)]
-        faults += [*faults_in_drawings(path, text, files), *faults_in_rows(path, text)]
         for number, line in enumerate(text.splitlines(), 1):
             words = set(WORD.findall(line))
             named |= words
@@ -187,6 +187,8 @@ def main():
     for name, edit, path in wrong_bodies():
         if name not in named and edit not in named:
             faults.append(f"{path}: no document names {name}")
+    for path in documents():
+        faults += [*faults_in_drawings(path, text_of(path), files), *faults_in_rows(path, text_of(path))]
     print("\n".join([*faults, f"{len(faults)} faults"]))
     return 1 if faults else 0
 
