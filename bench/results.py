@@ -1,5 +1,6 @@
 #!/usr/bin/env python3
-"""Compares the figures of bench/RESULTS.md with bench/history.csv: each has to be the last one under the words of its row's first column.
+"""Compares the figures of bench/RESULTS.md, and those of README.md beside other supervisors, with bench/history.csv: each has to be the last one under the
+words of its row's first column.
 
     bench/results.py            tells which is not; the status is 1 if there is one
     bench/results.py --write    puts the last one in its place
@@ -13,6 +14,14 @@ import sys
 
 HERE = os.path.dirname(os.path.abspath(__file__))
 PAGE = f"{HERE}/RESULTS.md"
+README = f"{os.path.dirname(HERE)}/README.md"
+# The rows of README with figures: what history.csv says behind `1000 jobs under NAME: `, and the unit; and whose figure stands in which column.
+README_ROWS = {
+    "1,000 jobs started, seconds": ("all started", "s"),
+    "memory beside 1,000 jobs, MB": ("memory, shared pages parted", "MB"),
+    "processes beside 1,000 jobs": ("processes beside the jobs", "processes"),
+}
+README_COLUMNS = {1: "jobd", 4: "runit", 5: "s6"}
 NUMBER = re.compile(r"[\d,]+(?:\.\d+)?")
 
 
@@ -46,6 +55,26 @@ def compared(line, of_lines, last):
     return f"| {' | '.join(cells)} |".replace("|  |", "| |"), faults
 
 
+def readme_compared(last):
+    """README with the last figures in it, and what differs."""
+    lines, faults, rows = [], [], set()
+    with open(README, encoding="utf-8") as file:
+        for line in file.read().splitlines():
+            cells = [it.strip() for it in line.strip("|").split("|")]
+            if line.startswith("| ") and cells[0] in README_ROWS:
+                rows.add(cells[0])
+                what, unit = README_ROWS[cells[0]]
+                for place, name in README_COLUMNS.items():
+                    figure = written(last[f"1000 jobs under {name}: {what}", unit])
+                    if cells[place] != figure:
+                        faults.append(f"README: {cells[0]}, {name}: {cells[place]}, and the last is {figure}")
+                        cells[place] = figure
+                line = f"| {' | '.join(cells)} |".replace("|  |", "| |")
+            lines.append(line)
+    faults += [f"README has no row: {it}" for it in README_ROWS.keys() - rows]
+    return "\n".join(lines) + "\n", faults
+
+
 def main(words):
     last, lines, faults, of_lines = last_figures(), [], [], False
     with open(PAGE, encoding="utf-8") as file:
@@ -58,8 +87,12 @@ def main(words):
                 line = row if new else line
                 faults += new
             lines.append(line)
+    readme, new = readme_compared(last)
+    faults += new
     print("\n".join([*faults, f"{len(faults)} figures are not the last"]))
     if words == ["--write"]:
+        with open(README, "w", encoding="utf-8") as file:
+            file.write(readme)
         with open(PAGE, "w", encoding="utf-8") as file:
             file.write("\n".join(lines) + "\n")
         return 0

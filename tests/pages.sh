@@ -242,9 +242,25 @@ print(
 )
 END
 if command -v mandoc >/dev/null; then
-    cd man
-    mandoc -Tlint -W style -- *.[158] >&2
+    (cd man && mandoc -Tlint -W style -- *.[158] >&2)
     echo "pages: mandoc's lint is clean"
 else
     echo "pages: mandoc is not here, so its lint was not run"
 fi
+# ---- figures, and sentences that were mended once
+python3 bench/results.py > /dev/null || { python3 bench/results.py >&2; exit 1; }
+python3 - README.md SECURITY.md docs/USING.md docs/WHY-NOT-RUNNING.md docs/OPERATING.md docs/FAQ.md docs/COOKBOOK.md docs/TUTORIAL.md docs/MOVING.md man/*.[158] <<'END'
+import re, sys
+
+with open("tests/old_sentences.txt", encoding="utf-8") as it:
+    old = [re.compile(r"\s+".join(re.escape(word) for word in row.split())) for row in it]
+old += [re.compile(r"\bis no such\b"), re.compile(r"\bAs many\b")]
+faults = []
+for page in sys.argv[1:]:
+    with open(page, encoding="utf-8") as it:
+        text = it.read()
+    faults += [f"pages: {page}: a sentence that was mended stands there again: {found[0]!r}" for form in old if (found := form.search(text))]
+print("\n".join(faults), file=sys.stderr, end="\n" if faults else "")
+sys.exit(1 if faults else 0)
+END
+echo "pages: the figures are the last ones of bench/history.csv"
