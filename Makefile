@@ -1,4 +1,5 @@
 # make run    builds the replay of a journal without a proof and runs the first example: a look, in about a minute
+# make try    runs what is tried of calls, without a proof, in some seven minutes: for whoever changes a text, or only looks
 # make test   the gate: every proof, the wrong bodies, the tests, the programs; with kit 13f, what an earlier run on this machine
 #             passed over the same files is not proved or tried again; with 13b everything is. It leaves the program in build/ too
 # make times  the build and then the gate, with nothing kept from earlier runs: how long the build took, and what each crate cost in processor seconds
@@ -7,7 +8,7 @@
 # make dist   the archive of the program in build/, with what belongs to it; make deb, the Debian package of it
 # make bench  times build/jobd, the calendar and the live launcher, and counts the instructions of a line; BASELINE=PROGRAM takes turns
 #             with another program
-.PHONY: run test times bench need_rt build install uninstall dist deb
+.PHONY: run try test times bench need_rt build install uninstall dist deb
 
 # One job a check, as many checks side by side as there are processors: two jobs of one check cost a quarter more.
 RT_JOBS ?= $(shell nproc)
@@ -16,6 +17,15 @@ run: need_rt
 	@mkdir -p build
 	@cd crates/try_replay && { rt try -- look < ../../examples/first.jsonl 2> ../../build/run.log || { cat ../../build/run.log >&2; exit 1; }; }
 	@echo "make run: nothing was proved for this look; make build proves the program and leaves it as build/jobd, build/jobctl and build/jobscope" >&2
+
+# The lines that a case writes are those of crates/trials/stdout; another one is a fault.
+try: need_rt
+	@mkdir -p build
+	@cd crates/trials && { rt try --seconds 1200 -- calls > ../../build/try.out 2> ../../build/try.log; echo $$? > ../../build/try.status; }
+	@[ "$$(cat build/try.status)" -eq 0 ] || tail -n 20 build/try.log >&2
+	@awk 'NR == FNR { known[$$0]; next } $$0 in known { good++; next } { print; bad++ } \
+	    END { printf "%d passed, %d failed, nothing was proved\n", good, bad; exit bad > 0 || good == 0 }' crates/trials/stdout build/try.out \
+	    && [ "$$(cat build/try.status)" -eq 0 ]
 
 # What the gate said last is kept for `make dist`, and so is the program that it proved and ran.
 test: need_rt
