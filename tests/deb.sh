@@ -12,8 +12,8 @@ cd "$(dirname "$0")/.."
 . tests/machine.sh
 root=$(realpath -m "${1:?the folder of the scratch system}")
 old=${2:-}
-version=$(packaging/version.sh)
-package=dist/jobd_${version}_amd64.deb
+package=$(newest_package)
+version=$(dpkg-deb -f "$package" Version)
 fail() {
     echo "deb: $*" >&2
     exit 1
@@ -22,7 +22,6 @@ enter=(chroot "$root" env -i PATH=/usr/sbin:/usr/bin:/sbin:/bin HOME=/root LC_AL
 inside() {
     "${enter[@]}" "$@"
 }
-[ -f "$package" ] || fail "$package is not there: make deb first"
 if command -v lintian >/dev/null; then
     errors=$(lintian --allow-root --tag-display-limit 0 "$package" 2>/dev/null | grep '^E:' || true)
     [ -z "$errors" ] || fail "$errors"
@@ -117,7 +116,7 @@ if [ -n "$old" ]; then
 else
     dpkg-deb -R "$package" "$root/root/old"
     sed -i "s/^Version: .*/Version: 0.0.0/" "$root/root/old/DEBIAN/control"
-    sed -i "s/Kivgrond $(cat VERSION)/Kivgrond $(tr 1-9 0 <VERSION)/" "$root/root/old/usr/bin/jobd"
+    older_program "$root/root/old/usr/bin/jobd"
     dpkg-deb -b "$root/root/old" "$root/root/old.deb" >/dev/null
     rm -rf "$root/root/old"
 fi

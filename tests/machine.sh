@@ -4,6 +4,22 @@
 
 machine_words=(PATH=/usr/sbin:/usr/bin:/sbin:/bin HOME=/root LC_ALL=C DEBIAN_FRONTEND=noninteractive)
 
+# newest_package: the package in dist/ that was made last.
+newest_package() {
+    local package
+    package=$(find "$PWD/dist" -maxdepth 1 -name 'jobd_*_amd64.deb' -printf '%T@ %p\n' 2>/dev/null | sort -n | tail -n 1)
+    [ -n "$package" ] || { echo "dist/ has no package: make deb first" >&2; return 1; }
+    echo "${package#* }"
+}
+
+# older_program FILE: makes the program tell 0.0.0, or the like, as its version. The compiler has the text in pieces of eight bytes too.
+older_program() {
+    local text
+    text="Kivgrond $(cat VERSION)"
+    text=${text: -8}
+    LC_ALL=C sed -i "s/$text/$(tr 1-9 0 <<<"$text")/g" "$1"
+}
+
 # machine_make FOLDER: a Debian in this folder, unless one is there. MIRROR names the mirror.
 machine_make() {
     [ -d "$1/etc/apt" ] ||

@@ -10,8 +10,8 @@ cd "$(dirname "$0")/.."
 . tests/machine.sh
 base=$(realpath -m "${1:?the folder of the scratch system}")
 old=${2:-}
-version=$(packaging/version.sh)
-package=$PWD/dist/jobd_${version}_amd64.deb
+package=$(newest_package)
+version=$(dpkg-deb -f "$package" Version)
 scratch=$(mktemp -d)
 tree=$scratch/tree
 fail() {
@@ -19,7 +19,6 @@ fail() {
     exit 1
 }
 trap 'machine_end; rm -rf "$scratch"' EXIT
-[ -f "$package" ] || fail "$package is not there: make deb first"
 machine_make "$base"
 machine_copy "$base" "$tree"
 machine_webd "$tree"
@@ -29,7 +28,7 @@ again() {
     dpkg-deb -R "$package" "$scratch/$1"
     sed -i "s/^Version: .*/Version: $2/" "$scratch/$1/DEBIAN/control"
     sed -i "${3:-}" "$scratch/$1/DEBIAN/postinst"
-    sed -i "s/Kivgrond $(cat VERSION)/Kivgrond $(tr 1-9 0 <VERSION)/" "$scratch/$1/usr/bin/jobd"
+    older_program "$scratch/$1/usr/bin/jobd"
     dpkg-deb -b "$scratch/$1" "$tree/root/$1.deb" >/dev/null
     rm -rf "${scratch:?}/$1"
 }
@@ -41,7 +40,7 @@ printf '%s\n' "$(dpkg-deb -f "$tree/root/safe.deb" Version)" | grep -qx 99.0
 # files: each file of the machine, but for what apt, dpkg and systemd write down.
 files() {
     (cd "$tree" && find . -xdev \( -path ./proc -o -path ./sys -o -path ./dev -o -path ./run -o -path ./tmp -o -path ./root -o -path ./mnt -o \
-        -path ./var/cache -o -path ./var/log -o -path ./var/lib/apt -o -path ./var/lib/dpkg -o -path ./var/lib/systemd -o -path ./var/tmp -o \
+        -path ./var/cache -o -path ./var/log -o -path ./var/lib/apt -o -path ./var/lib/dpkg -o -path ./var/lib/systemd -o -path ./var/lib/logrotate -o -path ./var/tmp -o \
         -name __pycache__ \) -prune -o -print | sort)
 }
 # until CMD..: it succeeds within 30 seconds.
@@ -79,7 +78,7 @@ define() {
 
 # ---- an upgrade
 
-apt install -y /root/old.deb
+apt install -y --no-install-recommends /root/old.deb
 until_true machine_in jobctl list
 body='["/bin/sh", "-c", "trap '"'echo LABEL TERM >>/root/ends; exit'"' TERM; while :; do sleep 0.1; done"]'
 define etc/jobd/kept.json "{\"Label\": \"kept\", \"KeepAlive\": true, \"ThrottleInterval\": 0, \"ProgramArguments\": ${body/LABEL/kept}}"
@@ -143,7 +142,21 @@ if said '3 jobs loaded, 2 not' -p warning; then fail "the number of jobs is a wa
 said 'jobd: ready' || fail "the launcher's output is not the unit's"
 rm "$tree"/etc/jobd/{bad,shared,stdout}.json
 [ "$(machine_in systemctl show -p OOMPolicy --value jobd)" = continue ] || fail "OOMPolicy"
-[ "$(awk '/^Max open files/ { print $4, $5 }' <(machine_in cat "/proc/$(pid_of kept)/limits"))" = '65536 524288' ] || fail "descriptors of a job"
+# The descriptors that process $1 may have: the soft limit and the hard one.
+files_of() {
+    machine_in cat "/proc/$1/limits" | awk '/^Max open files/ { print $4, $5 }'
+}
+[ "$(machine_in systemctl show -p LimitNOFILESoft --value jobd) $(machine_in systemctl show -p LimitNOFILE --value jobd)" = '65536 524288' ] ||
+    fail "LimitNOFILE"
+most=$(files_of 1)
+most=${most#* }
+if [ "$most" -lt 524288 ] && ! (ulimit -Hn 524288) 2>/dev/null; then
+    echo "units: this machine allows no more than $most descriptors, so that is what a job gets"
+    wanted="$((most < 65536 ? most : 65536)) $most"
+else
+    wanted='65536 524288'
+fi
+[ "$(files_of "$(pid_of kept)")" = "$wanted" ] || fail "descriptors of a job: $(files_of "$(pid_of kept)")"
 machine_in cat "/proc/$(pid_of kept)/environ" | tr '\0' '\n' >"$scratch/variables"
 grep -q '^JOBD_MARK=' "$scratch/variables" || fail "the job has no mark"
 if grep -E '^(NOTIFY_SOCKET|WATCHDOG_)' "$scratch/variables"; then fail "a job may speak to systemd"; fi
@@ -201,7 +214,7 @@ for label in org.example.as-user org.example.other-root org.example.few-files or
         ;;
     *.other-root) [ "$user" = www-data ] || fail "$label: $user" ;;
     *.few-files)
-        [ "$(awk '/^Max open files/ { print $4, $5 }' <(machine_in cat "/proc/$process/limits"))" = '1024 4096' ] || fail "$label: limits"
+        [ "$(files_of "$process")" = '1024 4096' ] || fail "$label: limits: $(files_of "$process")"
         ;;
     *.nice) [ "$(machine_in ps -o ni= -p "$process" | tr -d ' ')" = 10 ] || fail "$label: priority" ;;
     esac
