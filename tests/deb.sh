@@ -41,6 +41,8 @@ mountpoint -q "$root/proc" || mount -t proc proc "$root/proc"
 inside apt-get -qq update
 inside apt-get -qq install -y --no-install-recommends python3-minimal libpython3-stdlib systemd libgcc-s1 runit >/dev/null 2>&1
 
+# What an earlier run left.
+inside dpkg -P jobd >/dev/null 2>&1 || true
 # Each file of the system, but for what apt and dpkg write down.
 files() {
     (cd "$root" && find . -xdev \( -path ./proc -o -path ./sys -o -path ./dev -o -path ./tmp -o -path ./root -o -path ./var/cache -o \
@@ -61,10 +63,10 @@ for path in usr/bin/jobd usr/bin/jobctl usr/bin/jobscope usr/bin/jobctl-reload u
     [ -x "$root/$path" ] || fail "no program /$path"
 done
 for name in jobctl jobscope; do
-    inside "$name" --help | grep -q "^Usage: $name " || fail "$name does not act by its name"
+    inside "$name" --help | grep "^Usage: $name " >/dev/null || fail "$name does not act by its name"
 done
 [ "$(stat -c %a "$root/etc/jobd")" = 755 ] || fail "/etc/jobd is not there"
-inside jobd --help | grep -qx "Kivgrond $(cat VERSION)" || fail "the help does not tell the version"
+inside jobd --help | grep -x "Kivgrond $(cat VERSION)" >/dev/null || fail "the help does not tell the version"
 inside systemd-analyze verify --man=no /lib/systemd/system/jobd.service /lib/systemd/system/jobd@.service 2>"$root/root/verified" || true
 if grep 'jobd' "$root/root/verified" >&2; then fail "systemd-analyze has a complaint"; fi
 grep -qx "Kivgrond $version" "$root/usr/share/doc/jobd/PROVED.txt" || fail "PROVED.txt names another version than $version"
@@ -120,7 +122,7 @@ else
     dpkg-deb -b "$root/root/old" "$root/root/old.deb" >/dev/null
     rm -rf "$root/root/old"
 fi
-inside apt-get -qq install -y --allow-downgrades /root/old.deb >"$root/root/log" 2>&1 || fail "$(cat "$root/root/log")"
+inside apt-get -qq install -y --no-install-recommends --allow-downgrades /root/old.deb >"$root/root/log" 2>&1 || fail "$(cat "$root/root/log")"
 echo '{"Label": "asked", "ProgramArguments": ["/bin/sleep", "3000"]}' >"$root/root/asked.json"
 start /usr/libexec/jobd-run
 inside jobctl load /root/asked.json
@@ -136,15 +138,15 @@ state() {
     echo "$(launcher) $(pid_of hello) $(pid_of asked)"
 }
 before=$(state)
-inside apt-get -qq install -y /root/jobd.deb >"$root/root/log" 2>&1 || fail "$(cat "$root/root/log")"
+inside apt-get -qq install -y --no-install-recommends /root/jobd.deb >"$root/root/log" 2>&1 || fail "$(cat "$root/root/log")"
 [ "$(state)" = "$before" ] || fail "the upgrade ended something: $before, then $(state)"
 case $before in *' '[0-9]*' '[0-9]*) ;; *) fail "not all ran before the upgrade: $before" ;; esac
 if ! cmp -s "/proc/$(launcher)/exe" "$root/usr/bin/jobd"; then
     grep -q "^jobd: the launcher goes on as version .*; a restart by its supervisor ends its jobs and starts version $version" "$root/root/log" ||
         fail "the upgrade is not told: $(cat "$root/root/log")"
 fi
-inside jobctl print asked | grep -qx '.state = running' || fail "the new jobctl is not answered"
-inside jobscope why --journal /var/lib/jobd/journal.jsonl asked | grep -q '^asked is running' || fail "the new jobscope does not read the old journal"
+inside jobctl print asked | grep -x '.state = running' >/dev/null || fail "the new jobctl is not answered"
+inside jobscope why --journal /var/lib/jobd/journal.jsonl asked | grep '^asked is running' >/dev/null || fail "the new jobscope does not read the old journal"
 
 # A removal ends what runs, and tells what goes on.
 mkdir -p "$root/root/spool"
@@ -163,7 +165,7 @@ kill -KILL "$own"
 wait "$own" 2>/dev/null || true
 
 # The same under runit, which would start it again.
-inside apt-get -qq install -y /root/jobd.deb >"$root/root/log" 2>&1 || fail "$(cat "$root/root/log")"
+inside apt-get -qq install -y --no-install-recommends /root/jobd.deb >"$root/root/log" 2>&1 || fail "$(cat "$root/root/log")"
 mkdir -p "$root/root/sv"
 cp "$root/usr/share/doc/jobd/contrib/jobd.runit" "$root/root/sv/run"
 start runsv /root/sv
@@ -173,7 +175,7 @@ for pid in $before; do
     [ "$pid" = - ] || [ ! -d "/proc/$pid" ] || fail "the removal left $pid: $(tr '\0' ' ' <"/proc/$pid/cmdline")"
 done
 if grep -q 'goes on' "$root/root/log"; then fail "told, though it ended: $(cat "$root/root/log")"; fi
-inside sv status /root/sv | grep -q '^down:' || fail "runit starts it again: $(inside sv status /root/sv)"
+inside sv status /root/sv | grep '^down:' >/dev/null || fail "runit starts it again: $(inside sv status /root/sv)"
 kill -TERM "$keeper"
 wait "$keeper" || true
 keeper=

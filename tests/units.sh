@@ -35,7 +35,7 @@ again() {
 cp "$package" "$tree/root/new.deb"
 if [ -n "$old" ]; then cp "$old" "$tree/root/old.deb"; else again old 0.0.0; fi
 again safe 99.0 's/^# Faults of security.*/99.0 anybody may do anything (a test)/; s/^version=.*/version=99.0/'
-printf '%s\n' "$(dpkg-deb -f "$tree/root/safe.deb" Version)" | grep -qx 99.0
+printf '%s\n' "$(dpkg-deb -f "$tree/root/safe.deb" Version)" | grep -x 99.0 >/dev/null
 
 # files: each file of the machine, but for what apt, dpkg and systemd write down.
 files() {
@@ -99,7 +99,7 @@ if ! cmp -s <(dpkg-deb --fsys-tarfile "$tree/root/old.deb" | tar -xO ./usr/bin/j
     [[ $line == "jobd: the launcher goes on as version $old_version"*"; systemctl restart jobd ends its jobs and starts version $version" ]] ||
         fail "the upgrade is not told: $(cat "$scratch/log")"
     if grep -q SECURITY "$scratch/log"; then fail "a fault of security, though none is mended"; fi
-    machine_in jobscope why --journal /var/lib/jobd/journal.jsonl kept | grep -q '^kept is running' || fail "the new jobscope does not read the old journal"
+    machine_in jobscope why --journal /var/lib/jobd/journal.jsonl kept | grep '^kept is running' >/dev/null || fail "the new jobscope does not read the old journal"
     apt install -y /root/safe.deb
     grep -q '^jobd: \*\*\* SECURITY: version 99.0 mends this: anybody may do anything (a test)$' "$scratch/log" || fail "the fault is not told: $(cat "$scratch/log")"
     [ "$(state)" = "$before" ] || fail "the second upgrade ended something: $before, then $(state)"
@@ -131,10 +131,10 @@ told() {
     machine_in journalctl -u jobd -o cat "$@"
 }
 said() {
-    told "${@:2}" | grep -qF -- "$1"
+    told "${@:2}" | grep -F -- "$1" >/dev/null
 }
 until_true said 'stdout: run 1: ' -p warning
-told -p warning | grep -q 'stdout: run 1: .* is a socket' || fail "a socket as a stream is not told: $(told)"
+told -p warning | grep 'stdout: run 1: .* is a socket' >/dev/null || fail "a socket as a stream is not told: $(told)"
 said 'bad.json: not loaded: bad definition: Missing ProgramArguments' -p warning || fail "a bad definition is no warning"
 said 'shared.json: not loaded: another user owns it or may write to it' -p warning || fail "what others may write is not told"
 said '3 jobs loaded, 2 not' -p info || fail "the number of jobs is not told"
@@ -175,7 +175,7 @@ recipe() {
 spoken() {
     local label=$1 process=$2
     shift 2
-    said_so() { "${@:2}" | grep -q "^webd $process $1"; }
+    said_so() { "${@:2}" | grep "^webd $process $1" >/dev/null; }
     until_true said_so begins "$@"
     until_true said_so complains "$@"
     machine_in jobctl unload "/root/$label.json"
@@ -200,7 +200,7 @@ rm -r "$tree/etc/logrotate.d/jobd" "$tree/var/log/jobd"
 echo "units: org.example.to-file: logrotate cut its file, and it went on"
 # The words before a program. The program's own process id is seen by its name.
 is_webd() {
-    machine_in cat "/proc/$1/cmdline" | tr '\0' ' ' | grep -q '^/bin/sh /usr/local/bin/webd '
+    machine_in cat "/proc/$1/cmdline" | tr '\0' ' ' | grep '^/bin/sh /usr/local/bin/webd ' >/dev/null
 }
 for label in org.example.as-user org.example.other-root org.example.few-files org.example.nice; do
     process=$(recipe $label)
@@ -209,7 +209,7 @@ for label in org.example.as-user org.example.other-root org.example.few-files or
     case $label in
     *.as-user)
         [ "$user" = www-data ] || fail "$label: $user"
-        machine_in cat "/proc/$process/environ" | tr '\0' '\n' | grep -qx HOME=/var/www || fail "$label: HOME"
+        machine_in cat "/proc/$process/environ" | tr '\0' '\n' | grep -x HOME=/var/www >/dev/null || fail "$label: HOME"
         [ "$(machine_in ps -o group= -p "$process")" = www-data ] || fail "$label: group"
         ;;
     *.other-root) [ "$user" = www-data ] || fail "$label: $user" ;;
