@@ -173,6 +173,22 @@ kill -TERM "$machine_first"
 ended 0
 calm
 
+# ---- jobd alone, which the page advises against
+
+entry=("${words[@]}")
+words=(/usr/bin/jobd serve --socket /run/alone.sock --store /var/lib/alone.db --spool /run)
+start "$scratch/out"
+for _ in $(seq 100); do
+    if grep -qx 'jobd: ready' "$scratch/out"; then break; fi
+    sleep 0.1
+done
+kill -TERM "$machine_first"
+sleep 2
+is_alive || fail "jobd alone takes TERM as a first process, and the page says that it does not"
+inside jobctl --socket /run/alone.sock shutdown
+ended 0
+words=("${entry[@]}")
+
 # ---- the six orders
 
 # blow WHOM: kills it, if it is there. A container that ended is started again first, as its engine does.

@@ -23,7 +23,7 @@ older_program() {
 # machine_make FOLDER: a Debian in this folder, unless one is there. MIRROR names the mirror.
 machine_make() {
     [ -d "$1/etc/apt" ] ||
-        debootstrap --variant=minbase --include=systemd,systemd-sysv,dbus,procps,python3-minimal,libpython3-stdlib,libgcc-s1,logrotate,bsdutils,runit \
+        debootstrap --variant=minbase --include=systemd,systemd-sysv,dbus,procps,python3-minimal,libpython3-stdlib,libgcc-s1,logrotate,bsdutils,runit,needrestart,libmodule-find-perl \
             bookworm "$1" "${MIRROR:-http://deb.debian.org/debian}" >"$1.log" 2>&1
 }
 

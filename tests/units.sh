@@ -113,6 +113,14 @@ fi
 machine_in perl -e 'our %nrconf; do "/etc/needrestart/conf.d/jobd.conf" or die; my @k = keys %{$nrconf{override_rc}};
     for my $unit (qw(jobd.service jobd@redis.service)) { die $unit unless grep { $unit =~ /$_/ && $nrconf{override_rc}{$_} == 0 } @k }
     die "another" if grep { "jobdx.service" =~ /$_/ } @k' || fail "needrestart would restart jobd"
+if [ -x "$tree/usr/sbin/needrestart" ]; then
+    machine_in needrestart -r a >"$scratch/needrestart" 2>&1 || true
+    sed -n '/being deferred/,$p' "$scratch/needrestart" | grep 'restart jobd.service' >/dev/null || fail "needrestart: $(cat "$scratch/needrestart")"
+    [ "$(state)" = "$before" ] || fail "needrestart ended something: $before, then $(state)"
+    echo "units: needrestart -r a leaves jobd"
+else
+    echo "units: needrestart is not here, so it was not asked itself"
+fi
 # With a restart all is of the new version: each job ended in order, and the restart waited for the loads.
 define etc/jobd/bad.json '{"Label": "bad"}'
 define etc/jobd/shared.json '{"Label": "shared", "Program": "/bin/true"}'
