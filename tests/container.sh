@@ -176,7 +176,7 @@ calm
 # ---- jobd alone, which the page advises against
 
 entry=("${words[@]}")
-words=(/usr/bin/jobd serve --socket /run/alone.sock --store /var/lib/alone.db --spool /run)
+words=(sh -c 'mkdir -m 700 /run/spool; exec jobd serve --socket /run/alone.sock --store /run/alone.db --spool /run/spool')
 start "$scratch/out"
 for _ in $(seq 100); do
     if grep -qx 'jobd: ready' "$scratch/out"; then break; fi

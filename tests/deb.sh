@@ -154,6 +154,10 @@ mkdir -p "$root/root/spool"
 own=$!
 until_true inside jobctl --socket /root/own.sock list
 inside apt-get -qq remove -y jobd >"$root/root/log" 2>&1 || fail "$(cat "$root/root/log")"
+keeper_is_gone() {
+    ! kill -0 "$keeper"
+}
+until_true keeper_is_gone
 wait "$keeper" || fail "the removal did not end jobd-run in order: $?: $(cat "$root/root/told")"
 keeper=
 for pid in $before; do
