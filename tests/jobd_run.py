@@ -538,8 +538,8 @@ def systemd_is_told(place):
     place.check_told(f"<4>jobd-run: {place.jobs}/b.json: not loaded: bad definition: Missing ProgramArguments\n")
     wait_for(lambda: os.path.exists(f"{place.folder}/variables"), "the job's variables")
     time.sleep(0.2)
-    variables = open(f"{place.folder}/variables").read()
-    check("JOBD_MARK=" in variables and "NOTIFY_SOCKET" not in variables and "WATCHDOG" not in variables, variables)
+    names = {row.split("=")[0] for row in open(f"{place.folder}/variables")}
+    check("JOBD_MARK" in names and not names & {"NOTIFY_SOCKET", "WATCHDOG_USEC", "WATCHDOG_PID"}, f"variables of a job: {sorted(names)}")
     # A launcher that does not answer gets no sign of life.
     launcher = place.launchers()[0]
     os.kill(launcher, signal.SIGSTOP)
@@ -574,9 +574,14 @@ def many_definitions(place):
             it.write('{"Label":"x"}')
     os.unlink(f"{place.jobs}/j120.json")
     os.symlink("nowhere", f"{place.jobs}/j120.json")
-    place.start()
+    # A stand-in that writes each call down and makes it.
+    stand_in(place, "jobctl", f'echo "$*" >>{place.folder}/calls; exec {options.programs}/jobctl "$@"')
+    os.symlink(f"{options.programs}/jobd", f"{place.folder}/bin/jobd")
+    place.start(JOBD_PROGRAMS=f"{place.folder}/bin")
     wait_for(lambda: "jobs loaded" in place.told(), f"that all are loaded: {place.told()}")
     place.check_told("jobd-run: 246 jobs loaded, 4 not\n")
+    calls = [row for row in open(f"{place.folder}/calls") if " load " in row]
+    check(len(calls) == 3, f"{len(calls)} calls for 250 definitions")
     rows = [row.split(f"{place.jobs}/")[-1] for row in place.told().splitlines() if f"{place.jobs}/" in row]
     bad = "not loaded: bad definition: Missing ProgramArguments"
     named = "not acted on: Nice"

@@ -23,12 +23,12 @@ machine_make "$base"
 machine_copy "$base" "$tree"
 machine_webd "$tree"
 
-# again NAME VERSION [EDIT]: the package with another version, and its postinst edited by sed. The program's help tells 0.0.0.
+# again NAME VERSION [EDIT]: the package with another version, and its postinst edited by sed. That of 0.0.0 has a program that tells so.
 again() {
     dpkg-deb -R "$package" "$scratch/$1"
     sed -i "s/^Version: .*/Version: $2/" "$scratch/$1/DEBIAN/control"
     sed -i "${3:-}" "$scratch/$1/DEBIAN/postinst"
-    older_program "$scratch/$1/usr/bin/jobd"
+    [ "$2" != 0.0.0 ] || older_program "$scratch/$1/usr/bin/jobd"
     dpkg-deb -b "$scratch/$1" "$tree/root/$1.deb" >/dev/null
     rm -rf "${scratch:?}/$1"
 }
