@@ -10,6 +10,7 @@ import ctypes
 import glob
 import json
 import os
+import select
 import shutil
 import signal
 import subprocess
@@ -480,6 +481,33 @@ def output_is_the_supervisors(place):
         wait_for(lambda: "here\n" in open(output).read(), "the job's word")
     check(open(output).read().startswith("jobd: ready\n"), f"{open(output).read()!r}")
     check(os.listdir(place.run) and "ready" not in os.listdir(place.run), f"{os.listdir(place.run)}")
+
+
+@scene
+def output_is_the_supervisors_terminal(place):
+    place.define("a", "echo here; exec sleep 1000", StandardOutPath="/dev/stdout")
+    ours, its = os.openpty()
+    place.start(output=its)
+    os.close(its)
+    text = b""
+    end = time.time() + MOST
+    while b"here" not in text and time.time() < end:
+        if select.select([ours], [], [], 1)[0]:
+            text += os.read(ours, 4096)
+    check(b"here" in text, f"{text!r}; told: {place.told()}")
+    place.running("a")
+    os.close(ours)
+
+
+@scene
+def output_by_a_pipe_is_refused_and_told(place):
+    """An open of a pipe may wait, so a definition can't name one; the recipe of docs/OPERATING.md writes into it all the same."""
+    place.define("a", "echo here; exec sleep 1000", StandardOutPath="/dev/stdout")
+    ours, its = os.pipe()
+    place.start(output=its)
+    os.close(its)
+    wait_for(lambda: "a: run 1: cannot" in place.told() and "FIFO" in place.told(), f"that it is refused: {place.told()}")
+    os.close(ours)
 
 
 @scene
