@@ -709,6 +709,9 @@ def bad_definitions_are_told(place):
         with open(f"{place.jobs}/{name}", "w") as it:
             it.write(text)
     os.symlink("nowhere", f"{place.jobs}/e.json")
+    os.mkfifo(f"{place.folder}/fifo")
+    os.symlink(f"{place.folder}/fifo", f"{place.jobs}/f.json")
+    os.mkdir(f"{place.jobs}/g.json")
     place.define("z", Nice=1)
     place.start()
     place.running("z")
