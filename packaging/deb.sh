@@ -3,7 +3,7 @@
 set -eu
 
 cd "${0%/*}/.."
-version=$(cat VERSION)
+version=$(packaging/version.sh)
 source=dist/kivgrond-$version-x86_64-linux
 debian=packaging/debian
 umask 022
@@ -32,7 +32,7 @@ done
 
 root=dist/deb
 rm -rf "$root"
-mkdir -p "$root/DEBIAN" "$root/etc/jobd" "$root/lib/systemd/system"
+mkdir -p "$root/DEBIAN" "$root/etc/jobd" "$root/etc/needrestart/conf.d" "$root/lib/systemd/system"
 PREFIX=/usr DESTDIR=$PWD/$root sh "$source/install.sh"
 doc=$root/usr/share/doc/jobd
 mv "$doc/contrib/jobd.service" "$doc/contrib/jobd@.service" "$root/lib/systemd/system"
@@ -49,7 +49,12 @@ gzip -n -9 "$doc/changelog" "$root"/usr/share/man/man*/*
 
 size=$(find "$root/usr" "$root/etc" "$root/lib" -type f -printf '%s\n' | awk '{ sum += int(($1 + 1023) / 1024) } END { print sum }')
 sed "s/@VERSION@/$version/; s/@DEPENDS@/$depends/; s/@SIZE@/$size/" "$debian/control" >"$root/DEBIAN/control"
-install -m 755 "$debian/postinst" "$debian/prerm" "$debian/postrm" "$root/DEBIAN"
+install -m 755 "$debian/preinst" "$debian/prerm" "$debian/postrm" "$root/DEBIAN"
+# What is mended stands in postinst, which tells it to a launcher that goes on without it.
+sed -e "s/@VERSION@/$version/" -e "/@MENDED@/r $debian/mended" -e '/@MENDED@/d' "$debian/postinst" >"$root/DEBIAN/postinst"
+chmod 755 "$root/DEBIAN/postinst"
+install -m 644 "$debian/needrestart.conf" "$root/etc/needrestart/conf.d/jobd.conf"
+(cd "$root" && find etc -type f | sed 's|^|/|' | sort >DEBIAN/conffiles)
 (cd "$root" && find usr lib etc -type f | sort | xargs md5sum >DEBIAN/md5sums)
 find "$root" -exec touch -h -d "@$SOURCE_DATE_EPOCH" {} +
 dpkg-deb --root-owner-group -Zxz -b "$root" "dist/jobd_${version}_amd64.deb" >/dev/null

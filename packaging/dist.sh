@@ -1,10 +1,11 @@
 #!/bin/sh
-# Makes dist/kivgrond-VERSION-x86_64-linux.tar.gz of the program in build/ and the files beside it. Two runs over one tree give
-# the same bytes: names are sorted, each file has the moment of the commit, and root owns it. Needs git, GNU tar and binutils.
+# Makes dist/kivgrond-VERSION-x86_64-linux.tar.gz of the program in build/ and the files beside it. VERSION is that of version.sh, which
+# tells a build that is no release from one that is. Two runs over one tree give the same bytes: names are sorted, each file has the
+# moment of the commit, and root owns it. Needs git, GNU tar and binutils.
 set -eu
 
 cd "${0%/*}/.."
-version=$(cat VERSION)
+version=$(packaging/version.sh)
 name=kivgrond-$version-x86_64-linux
 umask 022
 LC_ALL=C
@@ -15,7 +16,7 @@ fail() {
     exit 1
 }
 [ -x build/jobd ] || fail "build/jobd is not there: make build first"
-grep -aqF "Kivgrond $version" build/jobd || fail "build/jobd is not of version $version"
+grep -aqF "Kivgrond $(cat VERSION)" build/jobd || fail "build/jobd is not of version $(cat VERSION)"
 SOURCE_DATE_EPOCH=${SOURCE_DATE_EPOCH:-$(git log -1 --format=%ct)}
 
 stage=dist/$name
@@ -27,11 +28,16 @@ ln -s jobd "$stage/bin/jobctl"
 ln -s jobd "$stage/bin/jobscope"
 install -m 644 man/*.[158] "$stage/man"
 cp -r completions "$stage"
-install -m 644 contrib/jobd.service contrib/jobd@.service contrib/jobd.logrotate "$stage/contrib"
-install -m 755 contrib/jobd-run contrib/jobd.openrc contrib/jobd.runit contrib/jobctl-reload contrib/split-users "$stage/contrib"
-install -m 644 docs/USING.md docs/OPERATING.md docs/WHY-NOT-RUNNING.md docs/DIFFERENCES.md "$stage/docs"
+install -m 644 contrib/jobd.service contrib/jobd@.service contrib/jobd.logrotate contrib/Containerfile contrib/moving.py "$stage/contrib"
+install -m 755 contrib/jobd-run contrib/jobd.openrc contrib/jobd.runit contrib/jobctl-reload contrib/jobd-split-users contrib/from-systemd contrib/from-supervisor "$stage/contrib"
+for page in TUTORIAL COOKBOOK FAQ MOVING USING OPERATING WHY-NOT-RUNNING DIFFERENCES; do
+    install -m 644 "docs/$page.md" "$stage/docs"
+done
+install -m 644 docs/night.svg "$stage/docs"
 install -m 644 examples/jobs/*.json "$stage/examples/jobs"
-install -m 644 README.md CHANGELOG.md LICENSE-MIT LICENSE-APACHE VERSION "$stage"
+install -m 644 README.md SECURITY.md CHANGELOG.md LICENSE-MIT LICENSE-APACHE "$stage"
+echo "$version" >"$stage/VERSION"
+chmod 644 "$stage/VERSION"
 install -m 755 packaging/install.sh "$stage"
 
 # The newest version of the C library that the program asks for.

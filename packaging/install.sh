@@ -31,36 +31,40 @@ put() {
     install -d "$root/bin" "$root/libexec" "$root/share/man/man1" "$root/share/man/man5" "$root/share/man/man8" \
         "$doc/contrib" "$doc/examples" "$root/share/bash-completion/completions" "$root/share/fish/vendor_completions.d" \
         "$root/share/zsh/site-functions"
-    install -m 755 "$programs/jobd" contrib/jobctl-reload "$root/bin"
+    install -m 755 "$programs/jobd" contrib/jobctl-reload contrib/jobd-split-users "$root/bin"
     for name in jobctl jobscope; do
         ln -sfn jobd "$root/bin/$name"
     done
     install -m 644 man/jobctl.1 man/jobctl-reload.1 man/jobscope.1 "$root/share/man/man1"
     install -m 644 man/jobd.json.5 "$root/share/man/man5"
-    install -m 644 man/jobd.8 man/jobd-run.8 "$root/share/man/man8"
+    install -m 644 man/jobd.8 man/jobd-run.8 man/jobd-split-users.8 "$root/share/man/man8"
     install -m 644 completions/bash/jobctl completions/bash/jobd completions/bash/jobscope "$root/share/bash-completion/completions"
     install -m 644 completions/fish/jobctl.fish completions/fish/jobd.fish completions/fish/jobscope.fish "$root/share/fish/vendor_completions.d"
     install -m 644 completions/zsh/_jobctl completions/zsh/_jobd completions/zsh/_jobscope "$root/share/zsh/site-functions"
-    install -m 644 README.md CHANGELOG.md LICENSE-MIT LICENSE-APACHE docs/USING.md docs/WHY-NOT-RUNNING.md \
-        docs/DIFFERENCES.md docs/OPERATING.md "$doc"
+    install -m 644 README.md SECURITY.md CHANGELOG.md LICENSE-MIT LICENSE-APACHE "$doc"
+    for page in TUTORIAL COOKBOOK FAQ MOVING USING WHY-NOT-RUNNING DIFFERENCES OPERATING; do
+        install -m 644 "docs/$page.md" "$doc"
+    done
+    install -d "$doc/docs"
+    install -m 644 docs/night.svg "$doc/docs"
     if [ -f PROVED.txt ]; then install -m 644 PROVED.txt "$doc"; fi
     install -m 644 examples/jobs/*.json "$doc/examples"
     filled contrib/jobd-run "$root/libexec/jobd-run" 755
-    for file in jobd.service jobd@.service jobd.logrotate; do
+    for file in jobd.service jobd@.service jobd.logrotate Containerfile moving.py; do
         filled "contrib/$file" "$doc/contrib/$file" 644
     done
-    for file in jobd.openrc jobd.runit split-users; do
+    for file in jobd.openrc jobd.runit from-systemd from-supervisor; do
         filled "contrib/$file" "$doc/contrib/$file" 755
     done
 }
 
 # The folder of documents is this project's own; of the others only those that it left empty go.
 remove() {
-    rm -f "$root/bin/jobd" "$root/bin/jobctl" "$root/bin/jobscope" "$root/bin/jobctl-reload" "$root/libexec/jobd-run" \
+    rm -f "$root/bin/jobd" "$root/bin/jobctl" "$root/bin/jobscope" "$root/bin/jobctl-reload" "$root/bin/jobd-split-users" "$root/libexec/jobd-run" \
         "$root/share/man/man1/jobctl.1" "$root/share/man/man1/jobctl-reload.1" "$root/share/man/man1/jobscope.1" \
         "$root/share/man/man5/jobd.json.5" "$root/share/bash-completion/completions/jobscope" \
         "$root/share/fish/vendor_completions.d/jobscope.fish" "$root/share/zsh/site-functions/_jobscope" \
-        "$root/share/man/man8/jobd.8" "$root/share/man/man8/jobd-run.8" "$root/share/bash-completion/completions/jobctl" \
+        "$root/share/man/man8/jobd.8" "$root/share/man/man8/jobd-run.8" "$root/share/man/man8/jobd-split-users.8" "$root/share/bash-completion/completions/jobctl" \
         "$root/share/bash-completion/completions/jobd" "$root/share/fish/vendor_completions.d/jobctl.fish" \
         "$root/share/fish/vendor_completions.d/jobd.fish" "$root/share/zsh/site-functions/_jobctl" \
         "$root/share/zsh/site-functions/_jobd"

@@ -12,7 +12,7 @@ line() {
 }
 sum=$(cd build && sha256sum jobd)
 
-echo "Kivgrond $(cat VERSION)"
+echo "Kivgrond $(packaging/version.sh)"
 echo
 echo "Commit: $commit${changed:+, with changes that are not committed}"
 if [ -z "$changed" ] && [ "$(line Commit proved.txt)" = "$commit" ] && [ "$(line Program proved.txt)" = "$sum" ]; then

@@ -1,13 +1,19 @@
 #!/usr/bin/env bash
 # The Debian package in a Debian made by debootstrap: it is installed, README's first job is typed there, jobd-run keeps a job of
-# /etc/jobd, the units pass systemd-analyze, and after a removal and a purge nothing is left. lintian finds no error. It is run by
-# hand, as root, after `make deb`: deb.sh FOLDER, where FOLDER is taken for the new system, or is one made before. MIRROR names
-# the mirror.
+# /etc/jobd, the units pass systemd-analyze, and after a removal and a purge nothing is left. lintian finds no error. An upgrade from
+# OLD.deb leaves the launcher and its jobs their process ids, and the new jobctl and jobscope are answered by the old launcher. No systemd
+# runs here (units.sh has one): a removal ends the launcher of jobd-run, also one that runit keeps, and tells one that goes on. It is run
+# by hand, as root, after `make deb`: deb.sh FOLDER [OLD.deb], where FOLDER is taken for the new system, or is one made before. MIRROR
+# names the mirror. Without OLD.deb the upgrade is from the package itself, with a lower version.
 set -euo pipefail
 
 cd "$(dirname "$0")/.."
+# shellcheck source=tests/machine.sh
+. tests/machine.sh
 root=$(realpath -m "${1:?the folder of the scratch system}")
-package=dist/jobd_$(cat VERSION)_amd64.deb
+old=${2:-}
+package=$(newest_package)
+version=$(dpkg-deb -f "$package" Version)
 fail() {
     echo "deb: $*" >&2
     exit 1
@@ -16,7 +22,6 @@ enter=(chroot "$root" env -i PATH=/usr/sbin:/usr/bin:/sbin:/bin HOME=/root LC_AL
 inside() {
     "${enter[@]}" "$@"
 }
-[ -f "$package" ] || fail "$package is not there: make deb first"
 if command -v lintian >/dev/null; then
     errors=$(lintian --allow-root --tag-display-limit 0 "$package" 2>/dev/null | grep '^E:' || true)
     [ -z "$errors" ] || fail "$errors"
@@ -25,14 +30,19 @@ else
     echo "deb: lintian is not here, so it was not asked"
 fi
 
-if [ ! -d "$root/etc/apt" ]; then
-    debootstrap --variant=minbase bookworm "$root" "${MIRROR:-http://deb.debian.org/debian}" >/dev/null
-fi
-trap 'umount -q "$root/proc" || true' EXIT
+machine_make "$root"
+keeper=
+clear() {
+    [ -z "$keeper" ] || kill -TERM "$keeper" 2>/dev/null || true
+    umount -q "$root/proc" || true
+}
+trap clear EXIT
 mountpoint -q "$root/proc" || mount -t proc proc "$root/proc"
 inside apt-get -qq update
-inside apt-get -qq install -y --no-install-recommends python3-minimal libpython3-stdlib systemd libgcc-s1 >/dev/null 2>&1
+inside apt-get -qq install -y --no-install-recommends python3-minimal libpython3-stdlib systemd libgcc-s1 runit >/dev/null 2>&1
 
+# What an earlier run left.
+inside dpkg -P jobd >/dev/null 2>&1 || true
 # Each file of the system, but for what apt and dpkg write down.
 files() {
     (cd "$root" && find . -xdev \( -path ./proc -o -path ./sys -o -path ./dev -o -path ./tmp -o -path ./root -o -path ./var/cache -o \
@@ -49,19 +59,20 @@ files >"$root/root/before"
 
 inside apt-get -qq install -y --no-install-recommends /root/jobd.deb >"$root/root/log" 2>&1 || fail "$(cat "$root/root/log")"
 inside dpkg --verify jobd
-for path in usr/bin/jobd usr/bin/jobctl usr/bin/jobscope usr/bin/jobctl-reload usr/libexec/jobd-run; do
+for path in usr/bin/jobd usr/bin/jobctl usr/bin/jobscope usr/bin/jobctl-reload usr/bin/jobd-split-users usr/libexec/jobd-run; do
     [ -x "$root/$path" ] || fail "no program /$path"
 done
 for name in jobctl jobscope; do
-    inside "$name" --help | grep -q "^Usage: $name " || fail "$name does not act by its name"
+    inside "$name" --help | grep "^Usage: $name " >/dev/null || fail "$name does not act by its name"
 done
 [ "$(stat -c %a "$root/etc/jobd")" = 755 ] || fail "/etc/jobd is not there"
-inside jobd --help | grep -qx "Kivgrond $(cat VERSION)" || fail "the help does not tell the version"
+inside jobd --help | grep -x "Kivgrond $(cat VERSION)" >/dev/null || fail "the help does not tell the version"
 inside systemd-analyze verify --man=no /lib/systemd/system/jobd.service /lib/systemd/system/jobd@.service 2>"$root/root/verified" || true
 if grep 'jobd' "$root/root/verified" >&2; then fail "systemd-analyze has a complaint"; fi
+grep -qx "Kivgrond $version" "$root/usr/share/doc/jobd/PROVED.txt" || fail "PROVED.txt names another version than $version"
 inside sh -c '[ -L /etc/systemd/system/multi-user.target.wants/jobd.service ]' || fail "jobd.service is not enabled"
 inside bash /root/try/tests/readme_job.sh /usr/bin
-for path in contrib/split-users contrib/jobd.runit contrib/jobd.logrotate PROVED.txt USING.md OPERATING.md copyright; do
+for path in contrib/Containerfile contrib/jobd.runit contrib/jobd.logrotate PROVED.txt USING.md OPERATING.md copyright; do
     [ -f "$root/usr/share/doc/jobd/$path" ] || fail "no document $path"
 done
 
@@ -70,25 +81,109 @@ cp "$root/usr/share/doc/jobd/contrib/jobd.runit" "$root/root/run"
 cat >"$root/etc/jobd/hello.json" <<'JSON'
 {"Label": "hello", "ProgramArguments": ["/bin/sleep", "1000"], "KeepAlive": true}
 JSON
-"${enter[@]}" /usr/libexec/jobd-run 2>"$root/root/log" &
-keeper=$!
-running() {
-    inside env JOBD_SOCKET=/run/jobd/jobd.sock jobctl list 2>/dev/null | awk -F '\t' '$3 == "hello" && $1 != "-" { print $1 }'
+enter+=(JOBD_SOCKET=/run/jobd/jobd.sock)
+# until_true CMD..: it succeeds within 60 seconds.
+until_true() {
+    for _ in $(seq 300); do
+        if "$@" >/dev/null 2>&1; then return; fi
+        sleep 0.2
+    done
+    fail "not within 60 s: $*: $(cat "$root/root/told")"
 }
-for _ in $(seq 600); do
-    [ -z "$(running)" ] || break
-    sleep 0.2
-done
+start() {
+    "${enter[@]}" "$@" </dev/null >>"$root/root/told" 2>&1 &
+    keeper=$!
+    until_true running
+}
+running() {
+    pid_of hello | grep .
+}
+pid_of() {
+    inside jobctl list 2>/dev/null | awk -F '\t' -v label="$1" '$3 == label && $1 != "-" { print $1 }'
+}
+: >"$root/root/told"
+start /usr/libexec/jobd-run
 child=$(running)
-[ -n "$child" ] || fail "the job of /etc/jobd does not run: $(cat "$root/root/log")"
 sed -i 's/1000/2000/' "$root/etc/jobd/hello.json"
-inside env JOBD_SOCKET=/run/jobd/jobd.sock jobctl-reload /etc/jobd/hello.json
+inside jobctl-reload /etc/jobd/hello.json
 [ "$(running)" != "$child" ] || fail "jobctl-reload did not replace the job"
 kill -TERM "$keeper"
-wait "$keeper" || fail "jobd-run ended with $?: $(cat "$root/root/log")"
+wait "$keeper" || fail "jobd-run ended with $?: $(cat "$root/root/told")"
+keeper=
 [ "$(stat -c %a "$root/var/lib/jobd/journal.jsonl")" = 600 ] || fail "others may read the journal"
 
+# An upgrade. The program of the package that is made here tells 0.0.0, and is otherwise the same.
+if [ -n "$old" ]; then
+    cp "$old" "$root/root/old.deb"
+else
+    dpkg-deb -R "$package" "$root/root/old"
+    sed -i "s/^Version: .*/Version: 0.0.0/" "$root/root/old/DEBIAN/control"
+    older_program "$root/root/old/usr/bin/jobd"
+    dpkg-deb -b "$root/root/old" "$root/root/old.deb" >/dev/null
+    rm -rf "$root/root/old"
+fi
+inside apt-get -qq install -y --no-install-recommends --allow-downgrades /root/old.deb >"$root/root/log" 2>&1 || fail "$(cat "$root/root/log")"
+echo '{"Label": "asked", "ProgramArguments": ["/bin/sleep", "3000"]}' >"$root/root/asked.json"
+start /usr/libexec/jobd-run
+inside jobctl load /root/asked.json
+inside jobctl start asked
+asked() {
+    pid_of asked | grep .
+}
+until_true asked
+launcher() {
+    cut -d ' ' -f 2 "$root/var/lib/jobd/mark"
+}
+state() {
+    echo "$(launcher) $(pid_of hello) $(pid_of asked)"
+}
+before=$(state)
+inside apt-get -qq install -y --no-install-recommends /root/jobd.deb >"$root/root/log" 2>&1 || fail "$(cat "$root/root/log")"
+[ "$(state)" = "$before" ] || fail "the upgrade ended something: $before, then $(state)"
+case $before in *' '[0-9]*' '[0-9]*) ;; *) fail "not all ran before the upgrade: $before" ;; esac
+if ! cmp -s "/proc/$(launcher)/exe" "$root/usr/bin/jobd"; then
+    grep -q "^jobd: the launcher goes on as version .*; a restart by its supervisor ends its jobs and starts version $version" "$root/root/log" ||
+        fail "the upgrade is not told: $(cat "$root/root/log")"
+fi
+inside jobctl print asked | grep -x '.state = running' >/dev/null || fail "the new jobctl is not answered"
+inside jobscope why --journal /var/lib/jobd/journal.jsonl asked | grep '^asked is running' >/dev/null || fail "the new jobscope does not read the old journal"
+
+# A removal ends what runs, and tells what goes on.
+mkdir -p "$root/root/spool"
+"${enter[@]}" setsid jobd serve --socket /root/own.sock --store /root/own.db --spool /root/spool >/dev/null 2>&1 &
+own=$!
+until_true inside jobctl --socket /root/own.sock list
 inside apt-get -qq remove -y jobd >"$root/root/log" 2>&1 || fail "$(cat "$root/root/log")"
+keeper_is_gone() {
+    ! kill -0 "$keeper"
+}
+until_true keeper_is_gone
+wait "$keeper" || fail "the removal did not end jobd-run in order: $?: $(cat "$root/root/told")"
+keeper=
+for pid in $before; do
+    [ ! -d "/proc/$pid" ] || fail "the removal left $pid: $(tr '\0' ' ' <"/proc/$pid/cmdline")"
+done
+grep -q "^jobd: the launcher $own goes on, with no jobctl; its socket is /root/own.sock" "$root/root/log" || fail "not told: $(cat "$root/root/log")"
+kill -0 "$own" || fail "the removal ended a launcher that is not the package's"
+kill -KILL "$own"
+wait "$own" 2>/dev/null || true
+
+# The same under runit, which would start it again.
+inside apt-get -qq install -y --no-install-recommends /root/jobd.deb >"$root/root/log" 2>&1 || fail "$(cat "$root/root/log")"
+mkdir -p "$root/root/sv"
+cp "$root/usr/share/doc/jobd/contrib/jobd.runit" "$root/root/sv/run"
+start runsv /root/sv
+before=$(state)
+inside apt-get -qq remove -y jobd >"$root/root/log" 2>&1 || fail "$(cat "$root/root/log")"
+for pid in $before; do
+    [ "$pid" = - ] || [ ! -d "/proc/$pid" ] || fail "the removal left $pid: $(tr '\0' ' ' <"/proc/$pid/cmdline")"
+done
+if grep -q 'goes on' "$root/root/log"; then fail "told, though it ended: $(cat "$root/root/log")"; fi
+inside sv status /root/sv | grep '^down:' >/dev/null || fail "runit starts it again: $(inside sv status /root/sv)"
+kill -TERM "$keeper"
+wait "$keeper" || true
+keeper=
+
 [ ! -e "$root/usr/bin/jobd" ] || fail "a removal left the program"
 [ -f "$root/etc/jobd/hello.json" ] || fail "a removal took a definition"
 inside apt-get -qq purge -y jobd >"$root/root/log" 2>&1 || fail "$(cat "$root/root/log")"

@@ -43,16 +43,16 @@ tries() {
     touch "$root/bin/other" "$root/share/man/man1/other.1"
     find "$scratch/root" | sort >"$scratch/before"
     "$way" install "$1" >"$scratch/log" 2>&1 || fail "$(cat "$scratch/log")"
-    for path in bin/jobd bin/jobctl bin/jobscope bin/jobctl-reload libexec/jobd-run share/doc/jobd/contrib/split-users share/doc/jobd/contrib/jobd.openrc share/doc/jobd/contrib/jobd.runit; do
+    for path in bin/jobd bin/jobctl bin/jobscope bin/jobctl-reload bin/jobd-split-users libexec/jobd-run share/doc/jobd/contrib/jobd.openrc share/doc/jobd/contrib/jobd.runit; do
         [ -x "$root/$path" ] || fail "$1: no program $path"
     done
     for path in bin/jobctl bin/jobscope; do
         [ "$(readlink "$root/$path")" = jobd ] || fail "$1: $path is no link to jobd"
-        [ "$stand_ins" -gt 0 ] || "$root/$path" --help | grep -q "^Usage: ${path#bin/} " || fail "$1: $path does not act by its name"
+        [ "$stand_ins" -gt 0 ] || "$root/$path" --help | grep "^Usage: ${path#bin/} " >/dev/null || fail "$1: $path does not act by its name"
     done
-    for path in share/man/man1/jobctl.1 share/man/man1/jobctl-reload.1 share/man/man1/jobscope.1 share/man/man5/jobd.json.5 share/man/man8/jobd.8 share/man/man8/jobd-run.8 \
+    for path in share/man/man1/jobctl.1 share/man/man1/jobctl-reload.1 share/man/man1/jobscope.1 share/man/man5/jobd.json.5 share/man/man8/jobd.8 share/man/man8/jobd-run.8 share/man/man8/jobd-split-users.8 \
         share/bash-completion/completions/{jobctl,jobd,jobscope} share/fish/vendor_completions.d/{jobctl,jobd,jobscope}.fish \
-        share/zsh/site-functions/{_jobctl,_jobd,_jobscope} share/doc/jobd/contrib/{jobd.service,jobd@.service,jobd.logrotate} \
+        share/zsh/site-functions/{_jobctl,_jobd,_jobscope} share/doc/jobd/contrib/{jobd.service,jobd@.service,jobd.logrotate,Containerfile} \
         share/doc/jobd/{README.md,CHANGELOG.md,LICENSE-MIT,LICENSE-APACHE,USING.md,OPERATING.md,WHY-NOT-RUNNING.md,DIFFERENCES.md} \
         share/doc/jobd/examples/kept_alive.json; do
         [ -f "$root/$path" ] || fail "$1: no file $path"

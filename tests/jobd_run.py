@@ -6,9 +6,11 @@ jobd_run.py [--programs FOLDER] [--shell SHELL] [SCENE..]. FOLDER holds jobd and
 """
 
 import argparse
+import ctypes
 import glob
 import json
 import os
+import select
 import shutil
 import signal
 import subprocess
@@ -80,9 +82,17 @@ class Place:
         with open(f"{self.jobs}/{label}.json", "w") as it:
             json.dump(keys, it)
 
-    def start(self, **more):
+    def start(self, first=None, output=None, **more):
+        """Starts the script; FIRST is done in its process before it begins, and OUTPUT is its standard output."""
         log = open(self.log, "a")
-        child = subprocess.Popen([options.shell, SCRIPT], env=self.environment(**more), stdin=subprocess.DEVNULL, stdout=log, stderr=log)
+        child = subprocess.Popen(
+            [options.shell, SCRIPT],
+            env=self.environment(**more),
+            stdin=subprocess.DEVNULL,
+            stdout=output or log,
+            stderr=log,
+            preexec_fn=first,
+        )
         self.started.append(child)
         return child
 
@@ -270,6 +280,31 @@ def killed_launcher_then_script(place):
     killed_both(place, False)
 
 
+def take_orphans_in():
+    """The children of a process that ends become children of this one, as with the first process of a container."""
+    PR_SET_CHILD_SUBREAPER = 36
+    if ctypes.CDLL(None, use_errno=True).prctl(PR_SET_CHILD_SUBREAPER, 1, 0, 0, 0) != 0:
+        raise OSError(ctypes.get_errno(), "prctl")
+
+
+@scene
+def killed_launcher_of_one_that_takes_orphans_in(place):
+    """A loop whose own children begin and end, as a child of the script: one TERM for each that is left, and it ends."""
+    place.define("a", "while :; do sleep 0.05; done")
+    place.define("b", "trap exit TERM; sleep 1000 & wait")
+    keeper = place.start(first=take_orphans_in)
+    children = [place.running(label) for label in "ab"]
+    begin = time.time()
+    os.kill(place.launchers()[0], signal.SIGKILL)
+    check(keeper.wait(MOST) == 128 + 9, f"status {keeper.returncode}: {place.told()}")
+    check(time.time() - begin < 15, f"{time.time() - begin} s until the jobs were ended")
+    check(all(map(gone, children)), f"left: {place.told()}")
+    rows = [row for row in place.told().splitlines() if "gets TERM" in row]
+    check(len(rows) <= 10, f"{len(rows)} lines of TERM")
+    check("can't be ended" not in place.told(), place.told())
+    place.check_nothing_left()
+
+
 @scene
 def stopped_launcher(place):
     """A launcher that answers nobody is ended by KILL, and its job by TERM."""
@@ -413,6 +448,246 @@ def journal_is_kept(place):
 
 
 @scene
+def many_journals_are_kept(place):
+    place.define("a")
+    journal = f"{place.state}/journal.jsonl"
+    texts = []
+    for _ in range(4):
+        keeper = place.start(JOBD_JOURNALS="3")
+        place.running("a")
+        keeper.terminate()
+        keeper.wait(MOST)
+        texts.append(open(journal).read())
+    names = sorted(os.path.basename(path) for path in glob.glob(f"{journal}*"))
+    check(names == ["journal.jsonl", "journal.jsonl.1", "journal.jsonl.2", "journal.jsonl.3"], f"{names}")
+    for number in (1, 2, 3):
+        check(open(f"{journal}.{number}").read() == texts[3 - number], f"journal {number} is another")
+    place.start(JOBD_JOURNALS="0")
+    place.running("a")
+    check(open(f"{journal}.1").read() == texts[2], "a journal was kept, though none is wanted")
+    keeper = place.start(JOBD_JOURNALS="-1")
+    check(keeper.wait(MOST) == 1, "a number that is none")
+    place.check_told("JOBD_JOURNALS is -1, wanted 0 to 99")
+
+
+@scene
+def output_is_the_supervisors(place):
+    """A job that writes to /dev/stdout writes where the supervisor of the script reads."""
+    place.define("a", "echo here; exec sleep 1000", StandardOutPath="/dev/stdout")
+    output = f"{place.folder}/output"
+    with open(output, "w") as it:
+        place.start(output=it)
+        place.running("a")
+        wait_for(lambda: "here\n" in open(output).read(), "the job's word")
+    check(open(output).read().startswith("jobd: ready\n"), f"{open(output).read()!r}")
+    check(os.listdir(place.run) and "ready" not in os.listdir(place.run), f"{os.listdir(place.run)}")
+
+
+@scene
+def output_is_the_supervisors_terminal(place):
+    place.define("a", "echo here; exec sleep 1000", StandardOutPath="/dev/stdout")
+    ours, its = os.openpty()
+    place.start(output=its)
+    os.close(its)
+    text = b""
+    end = time.time() + MOST
+    while b"here" not in text and time.time() < end:
+        if select.select([ours], [], [], 1)[0]:
+            text += os.read(ours, 4096)
+    check(b"here" in text, f"{text!r}; told: {place.told()}")
+    place.running("a")
+    os.close(ours)
+
+
+@scene
+def output_by_a_pipe_is_refused_and_told(place):
+    """An open of a pipe may wait, so a definition can't name one; the recipe of docs/OPERATING.md writes into it all the same."""
+    place.define("a", "echo here; exec sleep 1000", StandardOutPath="/dev/stdout")
+    ours, its = os.pipe()
+    place.start(output=its)
+    os.close(its)
+    wait_for(lambda: "a: run 1: cannot" in place.told() and "FIFO" in place.told(), f"that it is refused: {place.told()}")
+    os.close(ours)
+
+
+@scene
+def ended_launcher_is_told(place):
+    """A launcher that ends before it answers is told with its status, and nothing is loaded by another."""
+    place.define("a")
+    keeper = place.start(JOBD_OPTIONS="--zone nonsense")
+    check(keeper.wait(MOST) == 7, f"status {keeper.returncode}: {place.told()}")
+    place.check_told("the launcher ended with status 7 before it answered")
+
+
+@scene
+def other_launcher_is_left_alone(place):
+    place.define("a")
+    os.mkdir(place.run, 0o700)
+    os.mkdir(f"{place.folder}/spool", 0o700)
+    words = ["serve", "--socket", f"{place.run}/jobd.sock", "--store", f"{place.folder}/other.db", "--spool", f"{place.folder}/spool"]
+    other = subprocess.Popen([f"{options.programs}/jobd", *words], stdin=subprocess.DEVNULL, stdout=subprocess.DEVNULL)
+    try:
+        wait_for(lambda: place.control("list")[0] == 0, "the other launcher")
+        keeper = place.start()
+        check(keeper.wait(MOST) == 1, f"status {keeper.returncode}: {place.told()}")
+        place.check_told("another launcher answers there")
+        check(place.control("list")[1] == "PID\tStatus\tLabel\n", "a job was loaded into the other launcher")
+    finally:
+        place.control("shutdown")
+        other.wait(MOST)
+
+
+def stand_in(place, name, line):
+    """A program of this name, which comes first on the PATH."""
+    folder = f"{place.folder}/bin"
+    os.makedirs(folder, exist_ok=True)
+    with open(f"{folder}/{name}", "w") as it:
+        it.write(f"#!/bin/sh\n{line}\n")
+    os.chmod(f"{folder}/{name}", 0o755)
+    return f"{folder}:{os.environ['PATH']}"
+
+
+@scene
+def systemd_is_told(place):
+    """With a stand-in for systemd-notify: after the loads, with their number; jobs get no variable of it."""
+    path = stand_in(place, "systemd-notify", f'echo "$NOTIFY_SOCKET $*" >>{place.folder}/notified')
+    place.define("a", f"env >{place.folder}/variables; exec sleep 1000")
+    with open(f"{place.jobs}/b.json", "w") as it:
+        it.write('{"Label":"b"}')
+    keeper = place.start(PATH=path, NOTIFY_SOCKET="@here", WATCHDOG_USEC="1000000", JOURNAL_STREAM="1:2")
+    place.running("a")
+    notified = f"{place.folder}/notified"
+    wait_for(lambda: os.path.exists(notified) and open(notified).read().count("WATCHDOG=1") >= 3, "three signs of life")
+    rows = open(notified).read().splitlines()
+    check(rows[0] == "@here --ready --status=1 jobs loaded, 1 not", f"{rows[0]}")
+    check(set(rows[1:]) == {"@here WATCHDOG=1"}, f"{rows}")
+    place.check_told("<6>jobd-run: 1 jobs loaded, 1 not\n")
+    place.check_told("<6>jobd-run: the watchdog is on: the launcher is asked each 0.500 s")
+    place.check_told(f"<4>jobd-run: {place.jobs}/b.json: not loaded: bad definition: Missing ProgramArguments\n")
+    wait_for(lambda: os.path.exists(f"{place.folder}/variables"), "the job's variables")
+    time.sleep(0.2)
+    names = {row.split("=")[0] for row in open(f"{place.folder}/variables")}
+    check("JOBD_MARK" in names and not names & {"NOTIFY_SOCKET", "WATCHDOG_USEC", "WATCHDOG_PID"}, f"variables of a job: {sorted(names)}")
+    # A launcher that does not answer gets no sign of life.
+    launcher = place.launchers()[0]
+    os.kill(launcher, signal.SIGSTOP)
+    time.sleep(2)
+    before = open(notified).read().count("WATCHDOG=1")
+    time.sleep(2)
+    check(open(notified).read().count("WATCHDOG=1") == before, "a stopped launcher lives")
+    os.kill(launcher, signal.SIGCONT)
+    wait_for(lambda: open(notified).read().count("WATCHDOG=1") > before, "a sign of life again")
+    keeper.terminate()
+    check(keeper.wait(MOST) == 0, f"status {keeper.returncode}: {place.told()}")
+    place.check_nothing_left()
+
+
+@scene
+def watchdog_of_another_process_is_left(place):
+    path = stand_in(place, "systemd-notify", f'echo "$*" >>{place.folder}/notified')
+    place.define("a")
+    place.start(PATH=path, NOTIFY_SOCKET="@here", WATCHDOG_USEC="100000", WATCHDOG_PID="1")
+    place.running("a")
+    time.sleep(1)
+    check(open(f"{place.folder}/notified").read() == "--ready --status=1 jobs loaded, 0 not\n", open(f"{place.folder}/notified").read())
+
+
+@scene
+def many_definitions(place):
+    """Some hundred at a time, in byte order; each text belongs to its file."""
+    for number in range(250):
+        place.define(f"j{number:03}", KeepAlive=False, **({"Nice": 1} if number % 100 == 7 else {}))
+    for number in (3, 150, 249):
+        with open(f"{place.jobs}/j{number:03}.json", "w") as it:
+            it.write('{"Label":"x"}')
+    os.unlink(f"{place.jobs}/j120.json")
+    os.symlink("nowhere", f"{place.jobs}/j120.json")
+    # A stand-in that writes each call down and makes it.
+    stand_in(place, "jobctl", f'echo "$*" >>{place.folder}/calls; exec {options.programs}/jobctl "$@"')
+    os.symlink(f"{options.programs}/jobd", f"{place.folder}/bin/jobd")
+    place.start(JOBD_PROGRAMS=f"{place.folder}/bin")
+    wait_for(lambda: "jobs loaded" in place.told(), f"that all are loaded: {place.told()}")
+    place.check_told("jobd-run: 246 jobs loaded, 4 not\n")
+    calls = [row for row in open(f"{place.folder}/calls") if " load " in row]
+    check(len(calls) == 3, f"{len(calls)} calls for 250 definitions")
+    rows = [row.split(f"{place.jobs}/")[-1] for row in place.told().splitlines() if f"{place.jobs}/" in row]
+    bad = "not loaded: bad definition: Missing ProgramArguments"
+    named = "not acted on: Nice"
+    rest = [row for row in rows if not row.startswith("j120")]
+    # Notes and refusals of one hundred come apart, each in byte order.
+    wanted = [f"j{number:03}.json: {text}" for text, numbers in ((bad, (3, 150, 249)), (named, (7, 107, 207))) for number in numbers]
+    check(sorted(rest) == sorted(wanted), f"{rows}")
+    check([row for row in rest if bad in row] == sorted(row for row in rest if bad in row), f"{rows}")
+    check(sum(row.startswith("j120.json: not loaded: ") for row in rows) == 1, f"{rows}")
+    journal = [json.loads(row) for row in open(f"{place.state}/journal.jsonl").read().splitlines()]
+    loads = [json.loads(row["def"])["Label"] for row in journal if row.get("ev") == "load"]
+    check(loads == [f"j{number:03}" if number not in (3, 150, 249) else "x" for number in range(250) if number != 120], "not in byte order")
+
+
+@scene
+def definitions_of_others_are_left_out(place):
+    for label in "abcd":
+        place.define(label)
+    os.chmod(f"{place.jobs}/a.json", 0o664)
+    os.chmod(f"{place.jobs}/b.json", 0o646)
+    os.rename(f"{place.jobs}/c.json", f"{place.folder}/c")
+    os.chmod(f"{place.folder}/c", 0o666)
+    os.symlink(f"{place.folder}/c", f"{place.jobs}/c.json")
+    left_out = "abc"
+    if os.getuid() == 0:
+        place.define("e")
+        os.chown(f"{place.jobs}/e.json", 65534, 0)
+        left_out = "abce"
+    place.start()
+    place.running("d")
+    wait_for(lambda: "jobs loaded" in place.told(), "that all are loaded")
+    for label in left_out:
+        place.check_told(f"{place.jobs}/{label}.json: not loaded: another user owns it or may write to it")
+    place.check_told(f"1 jobs loaded, {len(left_out)} not")
+
+
+@scene
+def folder_of_definitions_of_others_is_left_out(place):
+    place.define("a")
+    os.chmod(place.jobs, 0o777)
+    keeper = place.start()
+    wait_for(lambda: "jobs loaded" in place.told(), "that it is told")
+    place.check_told(f"{place.jobs}: another user owns this folder or may write to it, so no job is loaded")
+    place.check_told("0 jobs loaded, 0 not")
+    keeper.terminate()
+    check(keeper.wait(MOST) == 0, "status")
+
+
+@scene
+def folder_that_cannot_be_read_is_told(place):
+    """Root reads every folder, so root tries it as nobody."""
+    place.define("a")
+    os.chmod(place.jobs, 0)
+    first = None
+    if os.getuid() == 0:
+        os.chmod(place.folder, 0o711)
+        open(place.log, "a").close()
+        for folder in (place.run, place.state):
+            os.mkdir(folder, 0o700)
+            os.chown(folder, 65534, 65534)
+
+        def first():
+            os.setgroups([])
+            os.setgid(65534)
+            os.setuid(65534)
+
+        if not os.path.realpath(options.programs).startswith(("/usr/", "/tmp/")):
+            shutil.copytree(options.programs, f"{place.folder}/programs")
+            os.chmod(f"{place.folder}/programs", 0o755)
+    more = {"JOBD_PROGRAMS": f"{place.folder}/programs"} if os.path.isdir(f"{place.folder}/programs") else {}
+    keeper = place.start(first=first, **more)
+    wait_for(lambda: "jobs loaded" in place.told(), f"that it is told: {place.told()}")
+    place.check_told(f"{place.jobs}: this folder can't be read, so no job is loaded")
+    keeper.terminate()
+    check(keeper.wait(MOST) == 0, "status")
+
+
+@scene
 def no_folder_is_told(place):
     os.rmdir(place.jobs)
     keeper = place.start()
@@ -434,6 +709,9 @@ def bad_definitions_are_told(place):
         with open(f"{place.jobs}/{name}", "w") as it:
             it.write(text)
     os.symlink("nowhere", f"{place.jobs}/e.json")
+    os.mkfifo(f"{place.folder}/fifo")
+    os.symlink(f"{place.folder}/fifo", f"{place.jobs}/f.json")
+    os.mkdir(f"{place.jobs}/g.json")
     place.define("z", Nice=1)
     place.start()
     place.running("z")

@@ -90,7 +90,7 @@ fn put_fault(
 fn words_of(reason: Reason, key: KeyName) -> &'static str {
     match (reason, key) {
         (Reason::Unsupported, KeyName::UserName) =>
-            ": each job runs as the launcher's own user; leave the key out, and load the job into a jobd that this user runs",
+            ": each job runs as the launcher's own user; leave the key out, and put setpriv before the program under root's launcher, or load the job into a jobd that this user runs (jobd-split-users does either)",
         (Reason::Unsupported, KeyName::GroupName) =>
             ": each job runs in the launcher's own group; leave the key out, and load the job into a jobd that runs in this group",
         (Reason::Unsupported, KeyName::RootDirectory) =>
