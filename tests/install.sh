@@ -15,7 +15,7 @@ fail() {
 
 # A copy of what an install reads, so that a stand-in touches no build.
 mkdir -p "$scratch/tree/build"
-cp -r .gitignore Makefile crates.txt VERSION man completions contrib docs examples packaging README.md CHANGELOG.md LICENSE-MIT LICENSE-APACHE \
+cp -r .gitignore Makefile crates.txt VERSION man completions contrib docs examples packaging README.md SECURITY.md CHANGELOG.md LICENSE-MIT LICENSE-APACHE \
     "$scratch/tree"
 stand_ins=0
 if [ -x build/jobd ]; then
@@ -53,7 +53,8 @@ tries() {
     for path in share/man/man1/jobctl.1 share/man/man1/jobctl-reload.1 share/man/man1/jobscope.1 share/man/man5/jobd.json.5 share/man/man8/jobd.8 share/man/man8/jobd-run.8 share/man/man8/jobd-split-users.8 \
         share/bash-completion/completions/{jobctl,jobd,jobscope} share/fish/vendor_completions.d/{jobctl,jobd,jobscope}.fish \
         share/zsh/site-functions/{_jobctl,_jobd,_jobscope} share/doc/jobd/contrib/{jobd.service,jobd@.service,jobd.logrotate,Containerfile} \
-        share/doc/jobd/{README.md,CHANGELOG.md,LICENSE-MIT,LICENSE-APACHE,USING.md,OPERATING.md,WHY-NOT-RUNNING.md,DIFFERENCES.md} \
+        share/doc/jobd/{README.md,SECURITY.md,CHANGELOG.md,LICENSE-MIT,LICENSE-APACHE,USING.md,OPERATING.md,WHY-NOT-RUNNING.md,DIFFERENCES.md} \
+        share/doc/jobd/{TUTORIAL.md,COOKBOOK.md,FAQ.md,MOVING.md,docs/night.svg} \
         share/doc/jobd/examples/kept_alive.json; do
         [ -f "$root/$path" ] || fail "$1: no file $path"
         [ "$(stat -c %a "$root/$path")" = 644 ] || fail "$1: $path has mode $(stat -c %a "$root/$path")"

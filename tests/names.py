@@ -3,8 +3,8 @@
 
     tests/names.py
 
-The documents are README.md, CHANGELOG.md, CONTRIBUTING.md, SECURITY.md, docs/, the README.md of each crate and contrib/, and
-bench/RESULTS.md. What is looked for:
+The documents are README.md, CHANGELOG.md, CONTRIBUTING.md, SECURITY.md, docs/ (but for the pages that a script types), the README.md of each crate
+and contrib/, and bench/RESULTS.md. What is looked for:
 
 - A word of small letters with an underscore, as no_order_remains, and in a code span a word in CamelCase, as `JobTable`, has to stand
   in a source, a definition, a proof, an edit, a script or a path, or below in OUTSIDE.
@@ -30,7 +30,8 @@ WORD = re.compile(r"[A-Za-z0-9_]+")
 # Names of the standard library, of ported crates, of the kernel, of processors and of systemd, and keys of launchd.plist(5).
 OUTSIDE = {"include_str", "get_flag", "tcp_wmem", "x86_64"} | set(
     "IfNone TasksMax MemoryMax OnCalendar OtherJobEnabled AfterInitialDemand SockPathOwner MulticastGroup MachServices"
-    " StartOnMount ProcessType LimitLoadToHosts AbandonProcessGroup TimeOut".split()
+    " StartOnMount ProcessType LimitLoadToHosts AbandonProcessGroup TimeOut EnableGlobbing LaunchEvents SoftResourceLimits"
+    " HardResourceLimits".split()
 )
 
 # A word in CamelCase, a call with its clauses, and the ending of a file, in documents.
@@ -44,6 +45,9 @@ CLAUSE = re.compile(r"^\s*(?:ensures|requires)\*?\s+(\w+)\s*\{", re.M)
 # `make dist` writes.
 NO_FILES = {"KeepAlive", "Sockets", "StartCalendarInterval", "NAME", "File", "PROVED"}
 
+
+# Pages whose names are of other programs and of jobs that they define; a script types their lines.
+TYPED = {f"{TOP}/docs/{name}.md" for name in ("TUTORIAL", "COOKBOOK", "MOVING")}
 
 # Pages whose tables are read first, and the longest row that they may have.
 SHORT = {"docs/MAP.md", "docs/GLOSSARY.md", "docs/CHANGING.md", "docs/CHEAP_TO_PROVE.md"}
@@ -65,7 +69,7 @@ def text_of(path):
 def documents():
     tops = ("README.md", "CHANGELOG.md", "CONTRIBUTING.md", "SECURITY.md", "bench/RESULTS.md")
     yield from (f"{TOP}/{name}" for name in tops)
-    yield from (it for it in files_below("docs") if it.endswith(".md"))
+    yield from (it for it in files_below("docs") if it.endswith(".md") and it not in TYPED)
     yield from (it for it in files_below("crates", "contrib") if os.path.basename(it) == "README.md")
 
 
