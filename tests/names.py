@@ -17,7 +17,7 @@ bench/RESULTS.md. What is looked for:
   clauses that are printed, word for word but for the white space.
 - A file that a code span names by its ending, as `due.rt`, has to be there.
 - Each wrong body has to be named in a document, or the edit that it is a part of. They stand in crates/CRATE/must-fail/ and in
-  wrong_bodies/CRATE/.
+  wrong_bodies/CRATE/. One of must-fail/ has no parts: the gate would try them together, and pass all if it refuses one.
 - Where a comment names specs/NAME or proofs/NAME, its crate has to have that file.
 
 One line a fault; the status is 1 if there is one.
@@ -240,6 +240,8 @@ def main():
     for name, edit, path in wrong_bodies():
         if name not in named and edit not in named:
             faults.append(f"{path}: no document names {name}")
+        if name != edit and path.startswith("crates/"):
+            faults.append(f"{path}: the gate tries {name} with other parts of this edit, and not alone")
     print("\n".join([*faults, f"{len(faults)} faults"]))
     return 1 if faults else 0
 
