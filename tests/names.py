@@ -11,9 +11,13 @@ and contrib/, and bench/RESULTS.md. What is looked for:
 - Of `File.name`, as `Due.is_throttled`, a file of that name has to be there and to hold the name.
 - Of `Type::call` or `call` with clauses behind it, as `Throttle::free_at` (`past`), some function of that name has to have a clause of
   each of these names; in the README of a crate, some function of this crate, if it has one of that name.
+- Of a code span `Type::call`, or `crate::module::call`, there has to be a `fn` of that name in the crate of that type, or in that crate; and of a
+  call with its arguments, as `own_label(&self)`, in some crate, or in that whose README it is. A module, a type or a constant will do too.
+- A contract that a page prints, indented by four spaces, has to stand in a source: the head of the function, if it is printed, and each of the
+  clauses that are printed, word for word but for the white space.
 - A file that a code span names by its ending, as `due.rt`, has to be there.
 - Each wrong body has to be named in a document, or the edit that it is a part of. They stand in crates/CRATE/must-fail/ and in
-  tests/wrong_bodies/CRATE/.
+  tests/wrong_bodies/CRATE/. One of must-fail/ has no parts: the gate would try them together, and pass all if it refuses one.
 - Where a comment names specs/NAME or proofs/NAME, its crate has to have that file.
 - A file that a drawing names, as outside/order.rt, has to be there, below src/ of that crate.
 - No row of a table in the pages that a reader begins with (SHORT) is longer than 200 characters.
@@ -28,7 +32,7 @@ TOP = os.path.dirname(os.path.dirname(os.path.abspath(__file__)))
 WORD = re.compile(r"[A-Za-z0-9_]+")
 
 # Names of the standard library, of ported crates, of the kernel, of processors and of systemd, and keys of launchd.plist(5).
-OUTSIDE = {"include_str", "get_flag", "tcp_wmem", "x86_64"} | set(
+OUTSIDE = {"include_str", "get_flag", "tcp_wmem", "x86_64", "drop"} | set(
     "IfNone TasksMax MemoryMax OnCalendar OtherJobEnabled AfterInitialDemand SockPathOwner MulticastGroup MachServices"
     " StartOnMount ProcessType LimitLoadToHosts AbandonProcessGroup TimeOut EnableGlobbing LaunchEvents SoftResourceLimits"
     " HardResourceLimits".split()
@@ -39,6 +43,14 @@ CAMEL = re.compile(r"\b[A-Z][a-z0-9]+(?:[A-Z][a-z0-9]*)+\b")
 CLAUSES = re.compile(r"`(?:\w+::)*(\w+)`\s+\(((?:`\w+`(?:,?\s+(?:and\s+)?)?)+)\)")
 FILE = re.compile(r"(?<![\w*<>{/.-])((?:[\w-]+/)*[\w-]+\.(?:rt|antt|py|sh|md|mk|edit))\b")
 FUNCTION = re.compile(r"\bfn (\w+)")
+DEFINED = re.compile(r"\b(?:fn|mod|const|static|struct|enum|trait|type|macro_rules!) (\w+)")
+HANDED_ON = re.compile(r"(?m)^pub use ([^;]*);")
+TYPE = re.compile(r"\b(?:struct|enum|trait|type) ([A-Z]\w*)")
+PATH = re.compile(r"\b((?:\w+::)+)(?:(\w+)|\{([^}]*)\})")
+CALL = re.compile(r"`([a-z_]\w*)\([a-z_&, ]*\)`")
+# A contract in a page: lines that are indented so, and begin a clause.
+BLOCK = re.compile(r"(?:^    .*\n)+", re.M)
+CLAUSE_BEGINS = re.compile(r"\b(?=(?:ensures|requires)\*?\s+(?:\w+\s+)?\{)")
 CLAUSE = re.compile(r"^\s*(?:ensures|requires)\*?\s+(\w+)\s*\{", re.M)
 
 # Words before a dot that name no file: keys of a definition, as in `KeepAlive.NetworkState`, words that stand for any name, and what
@@ -116,6 +128,71 @@ def faults_in_clauses(path, text, clauses, crates):
                 yield f"{os.path.relpath(path, TOP)}:{line}: {it[1]} has no clause {name}"
 
 
+def one_spaced(text):
+    return " ".join(text.split())
+
+
+def contracts_of():
+    """Of each function each of its heads with the clauses behind it, white space as one blank: what stands before its body."""
+    found = {}
+    for path in files_below("crates"):
+        if path.endswith(".rt"):
+            text = text_of(path)
+            starts = [it.start() for it in FUNCTION.finditer(text)]
+            for start, after in zip(starts, [*starts[1:], len(text)]):
+                name = FUNCTION.match(text, start)[1]
+                found.setdefault(name, []).append(one_spaced(re.sub(r"(?m)^\s*//.*$", "", text[start:after])))
+    return found
+
+
+def faults_in_blocks(path, text, contracts):
+    """A page prints a contract in other words than a source has."""
+    for it in BLOCK.finditer(text):
+        if not CLAUSE_BEGINS.search(it[0]):
+            continue
+        head, *clauses = (one_spaced(part) for part in CLAUSE_BEGINS.split(it[0]))
+        name = (FUNCTION.search(head) or re.search(r"(\w+)", head) or [""])[1 if head else 0]
+        wanted = [head[head.index("fn ") :]] if "fn " in head else []
+        line = text.count("\n", 0, it.start()) + 1
+        lacking = [[part for part in [*wanted, *clauses] if part not in told] for told in contracts.get(name, [])]
+        if not lacking:
+            yield f"{os.path.relpath(path, TOP)}:{line}: a contract is printed, and there is no fn {name}"
+        elif all(lacking):
+            least = min(lacking, key=len)
+            yield f"{os.path.relpath(path, TOP)}:{line}: no source has these words of {name}: {least[0][:80]}"
+
+
+def defined_in():
+    """What each crate defines or hands on, and the crates that have a type of a name."""
+    names, types = {}, {}
+    for path in files_below("crates"):
+        if path.endswith(".rt"):
+            crate, text = path[len(TOP) :].split("/")[2], text_of(path)
+            handed_on = (name for uses in HANDED_ON.findall(text) for name in WORD.findall(uses))
+            names.setdefault(crate, set()).update([*DEFINED.findall(text), *handed_on])
+            for name in TYPE.findall(text):
+                types.setdefault(name, set()).add(crate)
+    return names, types
+
+
+def faults_in_calls(path, text, names, types):
+    """A page names a call that its crate does not have."""
+    short = os.path.relpath(path, TOP)
+    parts = short.split("/")
+    own = {parts[1]} if parts[0] == "crates" else set(names)
+    for number, line in enumerate(text.splitlines(), 1):
+        for name in CALL.findall(line):
+            if name not in OUTSIDE and not any(name in names[crate] for crate in own if crate in names):
+                yield f"{short}:{number}: no crate has a call {name}" if len(own) > 1 else f"{short}:{number}: {parts[1]} has no call {name}"
+        for span in re.findall(r"`([^`]+)`", line):
+            for front, last, several in PATH.findall(span):
+                first, before = front.split("::")[0], front.split("::")[-2]
+                crates = types.get(before) or ({first} if first in names else set())
+                for name in [last] if last else re.findall(r"\w+", several):
+                    if crates and name.islower() and not any(name in names[crate] for crate in crates):
+                        yield f"{short}:{number}: {' and '.join(sorted(crates))} has no {name}"
+
+
 def faults_in_spans(path, text, known, files):
     """A document names in a code span a type that is nowhere, or a file that is not there."""
     short = os.path.relpath(path, TOP)
@@ -156,6 +233,7 @@ def main():
     known, holders = set(), {}
     clauses, files = clauses_of(), {os.path.relpath(it, TOP) for it in files_below("")}
     crates = set(os.listdir(f"{TOP}/crates"))
+    contracts, (names, types) = contracts_of(), defined_in()
     for path in sources():
         words = set(WORD.findall(text_of(path))) | set(WORD.findall(os.path.relpath(path, TOP)))
         known |= words
@@ -167,6 +245,7 @@ def main():
     for path in documents():
         short, text = os.path.relpath(path, TOP), text_of(path)
         faults += [*faults_in_clauses(path, text, clauses, crates), *faults_in_spans(path, text, known, files)]
+        faults += [*faults_in_blocks(path, text, contracts), *faults_in_calls(path, text, names, types)]
         for number, line in enumerate(text.splitlines(), 1):
             words = set(WORD.findall(line))
             named |= words
@@ -191,6 +270,8 @@ def main():
     for name, edit, path in wrong_bodies():
         if name not in named and edit not in named:
             faults.append(f"{path}: no document names {name}")
+        if name != edit and path.startswith("crates/"):
+            faults.append(f"{path}: the gate tries {name} with other parts of this edit, and not alone")
     for path in documents():
         faults += [*faults_in_drawings(path, text_of(path), files), *faults_in_rows(path, text_of(path))]
     print("\n".join([*faults, f"{len(faults)} faults"]))

@@ -4,8 +4,8 @@
 #   tests/wrong_bodies.sh [--gate] [--only-stale] [CRATE..]
 #   tests/wrong_bodies.sh --stale
 #
-# A wrong body is an edit of tests/wrong_bodies/CRATE/, or one part of a joined edit there or in crates/CRATE/must-fail/ (the gate
-# tries the parts of a joined edit together). With --gate the other edits of must-fail/ are tried too. Without CRATE those of each crate are.
+# A wrong body is an edit of tests/wrong_bodies/CRATE/, or one part of a joined edit there. With --gate those of crates/CRATE/must-fail/ are tried
+# too, each of which is a wrong body of its own. Without CRATE those of each crate are.
 # RT_JOBS says how many are tried side by side (as many as there are processors and memory allows). One line a wrong body, at the end:
 #
 #   refused CRATE/NAME by src/FILE:LINE ..       a goal of the code's own contracts is open
@@ -35,9 +35,11 @@ part_edits() {
   for edit in "$top/tests/wrong_bodies/$1"/*.edit "$top/crates/$1/must-fail"/*.edit; do
     [ -f "$edit" ] || continue
     name=$(basename "$edit" .edit)
-    if grep -q '^# part: ' "$edit"; then
+    if [ -z "$gate" ] && [ "$(dirname "$edit")" != "$top/tests/wrong_bodies/$1" ]; then
+      continue
+    elif grep -q '^# part: ' "$edit"; then
       awk -v to="$2/$name." '/^# part: /{ if (out) close(out); out = to substr($0, 9) ".edit"; next } out { print > out }' "$edit"
-    elif [ -n "$gate" ] || [ "$(dirname "$edit")" = "$top/tests/wrong_bodies/$1" ]; then
+    else
       cp "$edit" "$2/"
     fi
   done

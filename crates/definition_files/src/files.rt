@@ -1,17 +1,18 @@
-//! The files of definitions that are looked at, and their bytes.
+//! The files of definitions that are looked at, and what they come to.
+
+ghost use Rattle.std.specs.Prelude.{List, [], ◌∷◌, Option, None, IfOk};
+ghost use Rattle.std.specs.String.{string_bytes};
+ghost use Rattle.definition_files.specs.Reads.{FileRead, Tells};
 
 use calendar_due::Zone;
 use files_and_process::path_files::{Found, Kind, read_file};
-use history_model::Text;
 use run_times::telling::{tell_error, tell_of};
 use std::alloc::{AllocError, Global};
 use std::io;
 
-/// Which definitions are looked at, and as of when.
+/// As of when definitions are looked at, and how.
 #[derive(Clone, Copy)]
 pub struct Asked<'a> {
-    /// Their files, and folders of them.
-    pub paths: &'a [Text],
     /// The longest file that a load would take, in bytes.
     pub longest: usize,
     /// The zone of the entries of calendars.
@@ -20,21 +21,54 @@ pub struct Asked<'a> {
     pub from: u64,
 }
 
-/// Whether it is a folder without a definition.
-pub(crate) fn is_empty_folder(file: &Found) -> bool {
-    match file.kind {
-        Kind::Empty => true,
-        _ => false,
+/// What a file of definitions came to.
+#[derive(Drop)]
+pub enum Contents {
+    /// These bytes were read.
+    Bytes(Vec<u8>),
+    /// It can't be read, or is too long; and this was told.
+    Unread,
+    /// It is a folder without a definition; and this was told.
+    Nothing,
+}
+
+/// Reads the files of definitions.
+pub trait DefinitionSource {
+    /// What was read, oldest first: each file's path, and what it came to. A source that does not tell it has none.
+    ghost told: { Self → Option (List FileRead) };
+
+    /// What the file came to. The one refusal is of memory.
+    fn read(&mut self, alloc: Global, longest: usize, file: &Found) -> Result<Contents, AllocError>
+        ensures { IfOk result (λ contents. Tells (Self.told self.old)
+            ((string_bytes file.now.path, contents) ∷ []) (Self.told self.new)) };
+}
+
+/// The files of the system. They don't tell what was read of them.
+#[derive(Clone, Copy)]
+pub struct HostFiles<'a> {
+    pub host: &'a HostRuntime,
+}
+
+impl DefinitionSource for HostFiles<'_> {
+    ghost told = { λ _. None };
+
+    fn read(
+        &mut self,
+        alloc: Global,
+        longest: usize,
+        file: &Found,
+    ) -> Result<Contents, AllocError> {
+        contents_of(self.host, alloc, longest, file)
     }
 }
 
-/// The file's bytes. None: it can't be read, or it is a folder without a definition; and this was told.
-pub(crate) fn bytes_of(
+/// What the file comes to.
+fn contents_of(
     host: &HostRuntime,
     alloc: Global,
     longest: usize,
     file: &Found,
-) -> Result<Option<Vec<u8>>, AllocError> {
+) -> Result<Contents, AllocError> {
     let path = file.path.as_str();
     let read = match file.kind {
         Kind::Empty => {
@@ -43,20 +77,20 @@ pub(crate) fn bytes_of(
                 path,
                 &"no definition in this folder (*.plist, *.json)",
             );
-            return Ok(None);
+            return Ok(Contents::Nothing);
         }
         Kind::Unlisted(kind) => Err(io::Error::from(kind)),
         Kind::File => read_file(host, alloc, path, longest),
     };
     match read {
-        Ok(Some(bytes)) => Ok(Some(bytes)),
+        Ok(Some(bytes)) => Ok(Contents::Bytes(bytes)),
         Ok(None) => {
             tell_of(host, path, &"too long for a request");
-            Ok(None)
+            Ok(Contents::Unread)
         }
         Err(error) => {
             tell_error(host, path, &error)?;
-            Ok(None)
+            Ok(Contents::Unread)
         }
     }
 }

@@ -6,7 +6,9 @@ mod coming;
 pub mod cron;
 mod files;
 mod starts;
+mod verdict;
 
 pub use coming::calendar_after;
-pub use files::Asked;
+pub use files::{Asked, Contents, DefinitionSource, HostFiles};
 pub use starts::coming_starts;
+pub use verdict::Verdict;

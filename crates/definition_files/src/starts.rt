@@ -1,10 +1,14 @@
 //! The coming starts of calendars and intervals, in the order of time.
 
+ghost use Rattle.std.specs.Prelude.{◌≡◌, IfOk};
+ghost use Rattle.job_defs.specs.Keys.{def_of};
+ghost use Rattle.definition_files.specs.Reads.{AreVerdicts, Reads, ReadsOne, load_verdict, starts_status};
+
 use crate::coming::{calendar_after, interval_after};
-use crate::files::{Asked, bytes_of, is_empty_folder};
+use crate::files::{Asked, Contents, DefinitionSource};
+use crate::verdict::{Verdict, Verdicts};
 use calendar_due::Zone;
-use exit_status::BAD_FILE;
-use files_and_process::path_files::{Found, files_at};
+use files_and_process::path_files::Found;
 use job_defs::{Def, DefFault, read_def};
 use run_times::Ink;
 use run_times::Piece::{Number, Text};
@@ -19,24 +23,29 @@ struct Job {
     by_interval: Option<u64>,
 }
 
-/// So many coming starts of the definitions, in the order of time, each after the second. An interval is counted
-/// from there, as if the job were loaded then. 65 if a file can't be read or is no definition: the others' starts are written all the
-/// same. A job that the clock never starts is told.
-pub fn coming_starts(
+/// So many coming starts of the definitions, in the order of time, each after the second. Each file is read once. An interval is counted
+/// from there, as if the job were loaded then. The status is 65 if a file can't be read or is no definition: the others' starts are
+/// written all the same. A job that the clock never starts is told.
+pub fn coming_starts<S: DefinitionSource>(
     host: &HostRuntime,
     alloc: Global,
+    source: &mut S,
+    files: &[Found],
     of: &Asked<'_>,
     count: u64,
-) -> Result<Outcome, AllocError> {
+) -> Result<Outcome, AllocError>
+    ensures status { IfOk result (λ outcome. Reads files.now
+        (λ found. outcome.status ≡ starts_status found) (S.told source.old) (S.told source.new)) }
+{
     let mut jobs = Vec::new(alloc);
-    let is_well = add_jobs(host, alloc, of, &mut jobs);
+    let added = add_jobs(host, alloc, source, files, of, &mut jobs);
     let text = starts_text(alloc, count, of.from, of.zone, &mut jobs);
     drop(jobs);
-    match (is_well, text) {
-        (Ok(is_well), Ok(text)) => {
-            let status = if is_well { 0 } else { BAD_FILE };
-            Ok(Outcome { text, status })
-        }
+    match (added, text) {
+        (Ok(verdicts), Ok(text)) => Ok(Outcome {
+            text,
+            status: verdicts.starts_status(),
+        }),
         (_, text) => {
             drop(text);
             Err(AllocError)
@@ -44,56 +53,90 @@ pub fn coming_starts(
     }
 }
 
-// Adds the jobs of the paths; false if a file has a fault.
-fn add_jobs(
+// Adds the jobs of the files, and answers the verdicts on them.
+fn add_jobs<S: DefinitionSource>(
     host: &HostRuntime,
     alloc: Global,
+    source: &mut S,
+    files: &[Found],
     of: &Asked<'_>,
     jobs: &mut Vec<Job>,
-) -> Result<bool, AllocError> {
-    let files = files_at(host, of.paths)?;
-    let mut is_well = true;
-    for file in files.iter() {
-        let is_read = add_job(host, alloc, of, file, jobs)?;
-        is_well = is_well && is_read;
+) -> Result<Verdicts, AllocError>
+    ensures { IfOk result (λ verdicts. Reads files.now (AreVerdicts verdicts)
+        (S.told source.old) (S.told source.new)) }
+{
+    let mut verdicts = Verdicts::none();
+    for file in files {
+        match add_job(host, alloc, source, of, file, jobs) {
+            Ok(verdict) => verdicts = verdicts.with(verdict),
+            Err(error) => return Err(error),
+        }
     }
-    Ok(is_well)
+    Ok(verdicts)
 }
 
-// Adds the file's job; false if the file has a fault, which was told. A folder without a definition has none.
-fn add_job(
+// Adds the file's job, if it has one. A fault was told.
+fn add_job<S: DefinitionSource>(
     host: &HostRuntime,
     alloc: Global,
+    source: &mut S,
     of: &Asked<'_>,
     file: &Found,
     jobs: &mut Vec<Job>,
-) -> Result<bool, AllocError> {
-    let path = file.path.as_str();
-    let Some(bytes) = bytes_of(host, alloc, of.longest, file)? else {
-        return Ok(is_empty_folder(file));
-    };
-    match read_def(alloc, bytes.as_slice()) {
+) -> Result<Verdict, AllocError>
+    ensures { IfOk result (λ verdict. ReadsOne file.now verdict (S.told source.old)
+        (S.told source.new)) }
+{
+    match source.read(alloc, of.longest, file) {
+        Ok(Contents::Bytes(bytes)) => {
+            let path = file.path.as_str();
+            let verdict = add_definition(host, alloc, of, path, bytes.as_slice(), jobs);
+            drop(bytes);
+            verdict
+        }
+        Ok(Contents::Unread) => Ok(Verdict::Unread),
+        Ok(Contents::Nothing) => Ok(Verdict::Well),
+        Err(error) => Err(error),
+    }
+}
+
+fn add_definition(
+    host: &HostRuntime,
+    alloc: Global,
+    of: &Asked<'_>,
+    path: &str,
+    bytes: &[u8],
+    jobs: &mut Vec<Job>,
+) -> Result<Verdict, AllocError>
+    ensures { IfOk result (λ verdict. verdict ≡ load_verdict (def_of bytes.now)) }
+{
+    match read_def(alloc, bytes) {
         Ok(def) => {
-            let by_calendar = calendar_after(def.calendar(), of.zone, of.from);
-            let by_interval = match def.start_interval() {
-                Some(every) => interval_after(every, of.from),
-                None => None,
-            };
-            if by_calendar.is_none() && by_interval.is_none() {
-                tell_of(host, path, &never_words(&def));
-            }
-            jobs.push(Job {
-                def,
-                by_calendar,
-                by_interval,
-            })?;
-            Ok(true)
+            jobs.push(job_of(host, of, path, def))?;
+            Ok(Verdict::Well)
         }
         Err(DefFault::NoMemory) => Err(AllocError),
         Err(fault) => {
             tell_of(host, path, &fault);
-            Ok(false)
+            Ok(Verdict::Refused)
         }
+    }
+}
+
+// When the clock wants the job first. If it never does, that is told.
+fn job_of(host: &HostRuntime, of: &Asked<'_>, path: &str, def: Def) -> Job {
+    let by_calendar = calendar_after(def.calendar(), of.zone, of.from);
+    let by_interval = match def.start_interval() {
+        Some(every) => interval_after(every, of.from),
+        None => None,
+    };
+    if by_calendar.is_none() && by_interval.is_none() {
+        tell_of(host, path, &never_words(&def));
+    }
+    Job {
+        def,
+        by_calendar,
+        by_interval,
     }
 }
 

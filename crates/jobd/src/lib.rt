@@ -16,7 +16,7 @@ pub use launcher::{Host, HostFault, Input};
 pub use live_loop::{ServeFault, round, serve};
 pub use news::is_news;
 use replay::replay_input;
-pub use replay::{ReplayFault, replay};
+pub use replay::{ReplayFault, replay, replay_within};
 pub use round_edge::RoundEdge;
 pub use round_launcher::RoundLauncher;
 use startup::{Places, list_store};

@@ -1,7 +1,14 @@
--- Where a moment stands on the axis of a chart.
-use Rattle.std.specs.Prelude.{ℕ, ◌-◌, ◌*◌, ◌/◌, min}
+-- Where a moment stands on the axis of a chart, which goes from one second to another over so many places.
+use Rattle.std.specs.Prelude.{ℕ, ◌-◌, ◌*◌, ◌≤◌}
 
--- the place of a second on an axis: its share of the span, in whole places; what is before the axis stands at its beginning, and what is
--- after it at its end
-abbrev pub place_of : ℕ → ℕ → ℕ → ℕ → ℕ
-place_of from until places at = min (at - from) (until - from) * places / (until - from)
+-- The place has begun at the second: of the axis's span at least the share is over that `place` has of
+-- all places.
+abbrev pub HasBegun : ℕ → ℕ → ℕ → ℕ → ℕ → Type 0
+HasBegun from until places at place = place * (until - from) ≤ (at - from) * places
+
+-- The last place that has begun at the second. Before the axis that is its beginning, and behind it its
+-- end.
+abbrev pub IsPlace : ℕ → ℕ → ℕ → ℕ → ℕ → Type 0
+IsPlace from until places at place =
+    (place ≤ places) × HasBegun from until places at place
+    × ((other : ℕ) → other ≤ places → HasBegun from until places at other → other ≤ place)

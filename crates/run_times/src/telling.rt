@@ -1,6 +1,7 @@
 //! What a run writes and tells.
 
-ghost use Rattle.std.specs.Prelude.{◌≡◌, ◌↔◌, [], IsErr, IfOk, OnErr};
+ghost use Rattle.std.specs.Prelude.{◌≡◌, ◌↔◌, [], IsErr, IfOk, OnErr, OnOk};
+ghost use Rattle.std.specs.Io.KnownBytes.{Appends};
 ghost use Rattle.std.specs.String.{string_bytes};
 ghost use Rattle.std.specs.IoError.{error_kind};
 ghost use Rattle.std.specs.declared.io.ErrorKind.TheVariants.{OutOfMemory};
@@ -11,7 +12,7 @@ use exit_status::{BAD_OUTPUT, NO_MEMORY, READER_GONE};
 use std::alloc::{AllocError, Global};
 use std::fmt::Display;
 use std::io;
-use std::io::ErrorKind;
+use std::io::{ErrorKind, Write};
 
 /// What a subcommand came to: what it writes, and its exit status.
 #[derive(Drop)]
@@ -56,15 +57,21 @@ pub fn put_made(host: &HostRuntime, made: Result<String, AllocError>) -> io::Res
 }
 
 /// Writes what a subcommand came to, and answers its exit status. An error if its text could not be written, or if there was no
-/// memory for it.
-pub fn put_outcome(host: &HostRuntime, made: Result<Outcome, AllocError>) -> io::Result<u8>
+/// memory for it. For each writer that tells what it holds, the text was then written whole.
+pub fn put_outcome<W: Write>(writer: &mut W, made: Result<Outcome, AllocError>) -> io::Result<u8>
     ensures status { IfOk made (λ outcome. IfOk result (λ status. status ≡ outcome.status)) }
+    ensures written { IfOk made (λ outcome. OnOk result (Appends (W.contents writer.old)
+        (W.contents writer.new) (string_bytes outcome.text))) }
     ensures memory { OnErr made (WantsMemory result) }
 {
     match made {
         Ok(Outcome { text, status }) => {
-            put_made(host, Ok(text))?;
-            Ok(status)
+            let is_put = writer.write_all(text.as_bytes());
+            drop(text);
+            match is_put {
+                Ok(()) => Ok(status),
+                Err(error) => Err(error),
+            }
         }
         Err(_) => Err(io::Error::from(ErrorKind::OutOfMemory)),
     }

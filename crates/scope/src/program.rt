@@ -7,8 +7,9 @@ use calendar_due::Zone;
 use ctl_protocol::LINE_LIMIT;
 use definition_files::check::check_files;
 use definition_files::cron::crontab;
-use definition_files::{Asked, coming_starts};
+use definition_files::{Asked, HostFiles, coming_starts};
 use exit_status::{BAD_CLOCK, BAD_FILE, USAGE};
+use files_and_process::path_files::files_at;
 use history_model::MAX_WALL;
 use launchctl_words::{Meaning, ScopeCommand, Task, WordFault, explain_scope, read_scope_words};
 use run_times::telling::{Outcome, put, put_outcome, tell_end, want_memory};
@@ -55,8 +56,13 @@ fn run<W: Wait>(
     command: &ScopeCommand,
 ) -> io::Result<u8> {
     match command.task {
-        Task::Check | Task::Next => put_outcome(host, by_zone(host, alloc, command)),
-        Task::Cron => put_outcome(host, crontab(host, alloc, command.words.as_slice())),
+        Task::Check | Task::Next => {
+            put_outcome(&mut host.stdout(), by_zone(host, alloc, command))
+        }
+        Task::Cron => put_outcome(
+            &mut host.stdout(),
+            crontab(host, alloc, command.words.as_slice()),
+        ),
         _ => report(host, waits, alloc, command),
     }
 }
@@ -86,15 +92,22 @@ fn made_of(
     from: u64,
 ) -> Result<Outcome, AllocError> {
     let asked = Asked {
-        paths: of.words.as_slice(),
         longest: LINE_LIMIT,
         zone,
         from,
     };
-    match of.task {
-        Task::Check => check_files(host, alloc, &asked, of.is_strict),
-        _ => coming_starts(host, alloc, &asked, of.count.unwrap_or(COUNT)),
-    }
+    let files = files_at(host, of.words.as_slice())?;
+    let mut source = HostFiles { host };
+    let listed = files.as_slice();
+    let made = match of.task {
+        Task::Check => check_files(host, alloc, &mut source, listed, &asked, of.is_strict),
+        _ => {
+            let count = of.count.unwrap_or(COUNT);
+            coming_starts(host, alloc, &mut source, listed, &asked, count)
+        }
+    };
+    drop(files);
+    made
 }
 
 // The help goes to the standard output, and what is wrong with the words to the standard error.

@@ -744,10 +744,8 @@ def settings_in_the_log(stage):
             shutil.copyfile(stage.at(f"store{end}"), stage.at(f"copy{end}"))
     shown = stage.run(["overrides", "--store", "copy"]).stdout
     check([line.split("\t")[:2] for line in shown.splitlines()] == [["one", "disabled"], ["two", "disabled"]], f"the copy has {shown!r}")
-    try:
-        import sqlite3
-    except ImportError:
-        return
+    import sqlite3
+
     database = sqlite3.connect(stage.at("store"))
     database.execute("PRAGMA wal_checkpoint(TRUNCATE)").fetchall()
     database.close()
@@ -765,10 +763,7 @@ INSERT INTO overrides VALUES ('a', 1), ('b', 0);
 
 def settings_of_the_first_version(stage):
     """A file of the first version is listed with second 0; a setting, with that of the journal's reading before it."""
-    try:
-        import sqlite3
-    except ImportError:
-        return
+    import sqlite3
 
     def write(statements):
         database = sqlite3.connect(stage.at("store"))
@@ -858,19 +853,17 @@ def a_journal_that_may_not_grow(stage):
 def what_is_no_store(stage):
     """`jobd overrides` of a file that is no store of ours does not write to it."""
     files = {"text": b"a text\n" * 100, "noise": bytes(range(256)) * 32, "empty": b""}
-    try:
-        import sqlite3
-        for name, mode in (("theirs", "delete"), ("logged", "wal")):
-            database = sqlite3.connect(stage.at("other"))
-            database.execute(f"PRAGMA journal_mode={mode}").fetchall()
-            database.execute("CREATE TABLE theirs (word TEXT)")
-            database.execute("INSERT INTO theirs VALUES ('precious')")
-            database.commit()
-            database.close()
-            files[name] = bytes_at(stage.at("other"))
-            os.remove(stage.at("other"))
-    except ImportError:
-        pass
+    import sqlite3
+
+    for name, mode in (("theirs", "delete"), ("logged", "wal")):
+        database = sqlite3.connect(stage.at("other"))
+        database.execute(f"PRAGMA journal_mode={mode}").fetchall()
+        database.execute("CREATE TABLE theirs (word TEXT)")
+        database.execute("INSERT INTO theirs VALUES ('precious')")
+        database.commit()
+        database.close()
+        files[name] = bytes_at(stage.at("other"))
+        os.remove(stage.at("other"))
     for name, held in files.items():
         folder = stage.at(f"folder.{name}")
         os.mkdir(folder)

@@ -13,6 +13,7 @@ import re
 import subprocess
 
 from edge_scenes import BOUND, HERE, check, make, text_at
+from pictures import faults_of
 
 # A case may look through years minute by minute.
 LONGEST = 6 * BOUND
@@ -88,6 +89,17 @@ def jobscope_cron(stage):
 def jobscope_journal(stage):
     """`jobscope why`, `log`, `runs` and `picture` over journals."""
     play_cases(stage, "journal")
+
+
+# Three jobs of which one lives, one is stopped by KILL, and runs that end by a code, by a signal and at once.
+DRAWN = ("three_runs", "killed", "live_end")
+
+
+def jobscope_pictures(stage):
+    """The SVG, the page and the terminal's blocks show each run of a journal, from its begin to its end, and no other."""
+    for name in DRAWN:
+        faults = list(faults_of(stage.given.jobscope, os.path.join(HERE, "scope", "journal", f"{name}.jsonl")))
+        check(not faults, f"{name}: {'; '.join(faults)}")
 
 
 def jobscope_next(stage):
@@ -233,4 +245,4 @@ def zones_that_are_none(stage):
         check(replay.returncode == 2 and not replay.stdout, f"a replay with {zone} ended with {replay.returncode}, {replay.stdout!r}")
 
 
-SCENES = [jobscope_check, jobscope_cron, jobscope_journal, jobscope_next, times_as_the_c_library_shows_them, zones_that_are_none]
+SCENES = [jobscope_check, jobscope_cron, jobscope_journal, jobscope_next, jobscope_pictures, times_as_the_c_library_shows_them, zones_that_are_none]

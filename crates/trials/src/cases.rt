@@ -2,8 +2,8 @@
 
 use crate::edges::{control_stage, further_clients, memory, refused, system};
 use crate::memory_stage::Stage;
-use crate::parts::{definitions, exchange, heap, lines};
-use crate::rounds::{pair, refusals, step};
+use crate::parts::{definitions, exchange, feed, heap, lines, zones};
+use crate::rounds::{ends, pair, refusals, step};
 use crate::stores::{files, on_disks, stops};
 use crate::tables::{rows, visits};
 use crate::turns::{journals, launchers, openings};
@@ -14,6 +14,9 @@ pub enum Case {
     Definition(&'static definitions::Read),
     Exchange(&'static [exchange::Step]),
     Heap(&'static [heap::Step]),
+    Feed(&'static feed::Fed),
+    Offset(&'static zones::Offset),
+    NoOffsets(&'static [i32]),
     Lines(lines::Kind, bool, &'static str),
     Outcomes(&'static [lines::outcomes::Told]),
     Table(bool, u32, &'static [rows::Row]),
@@ -24,6 +27,7 @@ pub enum Case {
     Refusing(&'static refused::Refused),
     System(&'static system::Scene),
     RefusedRounds,
+    Ends(&'static ends::Ends),
     Spared(&'static step::Stream),
     Stored(&'static on_disks::Listed<'static>),
     ManyStored,
@@ -45,6 +49,9 @@ fn goes(rt: &HostRuntime, case: &Case) -> bool {
         Case::Definition(read) => definitions::is_read(alloc, read),
         Case::Exchange(steps) => exchange::all_go(alloc, steps) == Some(true),
         Case::Heap(steps) => heap::all_go(alloc, steps) == Some(true),
+        Case::Feed(fed) => feed::all_go(alloc, fed),
+        Case::Offset(offset) => zones::is_so(alloc, offset),
+        Case::NoOffsets(offsets) => zones::are_none(offsets),
         Case::Lines(kind, are_taken, lines) => lines::are_kept(alloc, kind, are_taken, lines),
         Case::Outcomes(told) => lines::outcomes::are_told(alloc, told),
         Case::Table(is_full, times, rows) => {
@@ -57,6 +64,7 @@ fn goes(rt: &HostRuntime, case: &Case) -> bool {
         Case::Refusing(refused) => refused::is_so(rt, refused) == Some(true),
         Case::System(scene) => system::is_played(rt, scene) == Some(true),
         Case::RefusedRounds => refusals::are_taken(rt) == Some(true),
+        Case::Ends(ends) => ends::is_so(rt, ends) == Some(true),
         Case::Spared(stream) => pair::is_spared(alloc, stream) == Some(true),
         Case::Stored(listed) => on_disks::is_listed(alloc, listed),
         Case::ManyStored => on_disks::has_many(alloc) == Some(true),

@@ -1,9 +1,11 @@
-//! What is read, and one job's parts: definitions, exchanges, the heap of moments, and lines.
+//! What is read, and one job's parts: definitions, exchanges, the heap of moments, feeds of lines, zones, and lines.
 
 pub mod definitions;
 pub mod exchange;
+pub mod feed;
 pub mod heap;
 pub mod lines;
+pub mod zones;
 
 use crate::cases::{Case, Line};
 use crate::parts::lines::Kind::{Event, Header, Request, Target};
@@ -51,6 +53,18 @@ static JOBS: &[Line] = &[
             Case::Heap(heap::WITHOUT_ROOM),
             Case::Heap(heap::GROWING),
         ],
+    ),
+    (
+        "each_feed_gives_its_lines",
+        &[
+            Case::Feed(feed::CUT),
+            Case::Feed(feed::LONG),
+            Case::Feed(feed::LONG_FRONT),
+        ],
+    ),
+    (
+        "a_clock_of_an_offset_shows_its_minutes",
+        &[Case::Offset(zones::HOUR), Case::NoOffsets(zones::NONE)],
     ),
 ];
 

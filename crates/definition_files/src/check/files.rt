@@ -1,12 +1,16 @@
 //! What a load would say of definitions, and what may be wrong with them.
 
+ghost use Rattle.std.specs.Prelude.{◌≡◌, IfOk};
+ghost use Rattle.job_defs.specs.Keys.{def_of};
+ghost use Rattle.definition_files.specs.Reads.{AreVerdicts, IsCheckStatus, Reads, ReadsOne, load_verdict};
+
 use crate::check::there::{add_missing, add_warning};
 use crate::check::{
     Change, Checked, Grade, Remark, changes_in_year, check_def, finding_line, summary_of,
 };
-use crate::files::{Asked, bytes_of, is_empty_folder};
-use exit_status::{BAD_FILE, REFUSED};
-use files_and_process::path_files::{Found, files_at};
+use crate::files::{Asked, Contents, DefinitionSource};
+use crate::verdict::{Verdict, Verdicts};
+use files_and_process::path_files::Found;
 use history_model::KeyName;
 use job_defs::Def;
 use run_times::Ink;
@@ -14,97 +18,140 @@ use run_times::Piece::Text;
 use run_times::telling::Outcome;
 use std::alloc::{AllocError, Global};
 
-/// What was found so far.
+/// What was found so far, beside the verdicts.
 #[derive(Drop)]
 struct Findings {
     ink: Ink,
     /// The labels so far, each with the file that has it.
     labels: Vec<(String, String)>,
-    has_errors: bool,
     has_warnings: bool,
-    is_unread: bool,
 }
 
-/// For each file of the paths a line if all is well with its definition, else a line for each finding. The status is 0 if all would be
-/// read by a load; 1 if one would not, or if one has a warning and the check is strict; 65 if a file can't be read. In the zone the
-/// entries of calendars are looked at, a year on from the second.
-pub fn check_files(
+/// For each of the files a line if all is well with its definition, else a line for each finding. Each is read once. The status is 0 if
+/// all would be read by a load; 1 if one would not, or if one has a warning and the check is strict; 65 if a file can't be read. In the
+/// zone the entries of calendars are looked at, a year on from the second.
+pub fn check_files<S: DefinitionSource>(
     host: &HostRuntime,
     alloc: Global,
+    source: &mut S,
+    files: &[Found],
     of: &Asked<'_>,
     is_strict: bool,
-) -> Result<Outcome, AllocError> {
+) -> Result<Outcome, AllocError>
+    ensures status { IfOk result (λ outcome. Reads files.now
+        (IsCheckStatus is_strict outcome.status) (S.told source.old) (S.told source.new)) }
+{
     let changes = changes_in_year(alloc, of.zone, of.from)?;
     let mut findings = Findings {
         ink: Ink::new(alloc),
         labels: Vec::new(alloc),
-        has_errors: false,
         has_warnings: false,
-        is_unread: false,
     };
-    let checked = check_each(host, alloc, of, changes.as_slice(), &mut findings);
+    let checked = check_each(
+        host,
+        alloc,
+        source,
+        files,
+        of.longest,
+        changes.as_slice(),
+        &mut findings,
+    );
     drop(changes);
-    let status = status_of(&findings, is_strict);
+    match checked {
+        Ok(verdicts) => {
+            let is_warned = is_strict && findings.has_warnings;
+            outcome_of(findings, verdicts.check_status(is_warned))
+        }
+        Err(error) => {
+            drop(findings);
+            Err(error)
+        }
+    }
+}
+
+// What a check came to, with this exit status.
+fn outcome_of(findings: Findings, status: u8) -> Result<Outcome, AllocError>
+    ensures { IfOk result (λ outcome. outcome.status ≡ status) }
+{
     let Findings { ink, labels, .. } = findings;
     drop(labels);
-    let text = ink.into_text();
-    match (checked, text) {
-        (Ok(()), Ok(text)) => Ok(Outcome { text, status }),
-        (_, text) => {
-            drop(text);
-            Err(AllocError)
-        }
+    match ink.into_text() {
+        Ok(text) => Ok(Outcome { text, status }),
+        Err(error) => Err(error),
     }
 }
 
-fn status_of(findings: &Findings, is_strict: bool) -> u8 {
-    if findings.is_unread {
-        BAD_FILE
-    } else if findings.has_errors || (is_strict && findings.has_warnings) {
-        REFUSED
-    } else {
-        0
-    }
-}
-
-fn check_each(
+fn check_each<S: DefinitionSource>(
     host: &HostRuntime,
     alloc: Global,
-    of: &Asked<'_>,
+    source: &mut S,
+    files: &[Found],
+    longest: usize,
     changes: &[Change],
     findings: &mut Findings,
-) -> Result<(), AllocError> {
-    let files = files_at(host, of.paths)?;
-    for file in files.iter() {
-        match bytes_of(host, alloc, of.longest, file)? {
-            Some(bytes) => check_bytes(host, alloc, file, bytes.as_slice(), changes, findings)?,
-            None => findings.is_unread = findings.is_unread || !is_empty_folder(file),
+) -> Result<Verdicts, AllocError>
+    ensures { IfOk result (λ verdicts. Reads files.now (AreVerdicts verdicts)
+        (S.told source.old) (S.told source.new)) }
+{
+    let mut verdicts = Verdicts::none();
+    for file in files {
+        match check_file(host, alloc, source, file, longest, changes, findings) {
+            Ok(verdict) => verdicts = verdicts.with(verdict),
+            Err(error) => return Err(error),
         }
     }
-    Ok(())
+    Ok(verdicts)
+}
+
+fn check_file<S: DefinitionSource>(
+    host: &HostRuntime,
+    alloc: Global,
+    source: &mut S,
+    file: &Found,
+    longest: usize,
+    changes: &[Change],
+    findings: &mut Findings,
+) -> Result<Verdict, AllocError>
+    ensures { IfOk result (λ verdict. ReadsOne file.now verdict (S.told source.old)
+        (S.told source.new)) }
+{
+    match source.read(alloc, longest, file) {
+        Ok(Contents::Bytes(bytes)) => {
+            let path = file.path.as_str();
+            let verdict = check_bytes(host, alloc, path, bytes.as_slice(), changes, findings);
+            drop(bytes);
+            verdict
+        }
+        Ok(Contents::Unread) => Ok(Verdict::Unread),
+        Ok(Contents::Nothing) => Ok(Verdict::Well),
+        Err(error) => Err(error),
+    }
 }
 
 fn check_bytes(
     host: &HostRuntime,
     alloc: Global,
-    file: &Found,
+    path: &str,
     bytes: &[u8],
     changes: &[Change],
     findings: &mut Findings,
-) -> Result<(), AllocError> {
-    let path = file.path.as_str();
+) -> Result<Verdict, AllocError>
+    ensures { IfOk result (λ verdict. verdict ≡ load_verdict (def_of bytes.now)) }
+{
     match check_def(alloc, bytes, changes)? {
         Checked::Loads { def, mut remarks } => {
             let added = add_definition(host, alloc, path, bytes, &def, &mut remarks, findings);
             drop(remarks);
             drop(def);
-            added
+            match added {
+                Ok(()) => Ok(Verdict::Well),
+                Err(error) => Err(error),
+            }
         }
         Checked::Refused { place, text, .. } => {
-            findings.has_errors = true;
             let line = finding_line(alloc, path, place, Grade::Error, text.as_str());
             findings.ink.put_made(line);
-            Ok(())
+            Ok(Verdict::Refused)
         }
     }
 }

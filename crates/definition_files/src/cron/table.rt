@@ -1,5 +1,9 @@
 //! Lines of a crontab as definitions.
 
+ghost use Rattle.std.specs.Prelude.{◌≡◌, ◌⊎◌, IfOk};
+ghost use Rattle.exit_status.specs.declared.TheConstants as statuses;
+ghost use Rattle.definition_files.specs.LineStatus.{GoesOn, line_status};
+
 use crate::cron::{Line, LineFault, definition_of, read_line};
 use exit_status::{BAD_FILE, REFUSED};
 use history_model::Text;
@@ -16,7 +20,10 @@ const INPUT: &str = "standard input";
 /// A definition for each line that runs a command, a line each; the line `-` alone stands for those of standard input. What is wrong
 /// with a line is told, and so is a variable, which no definition takes over. The status is 1 if a line was refused: the others'
 /// definitions are written all the same. It is 65 if standard input can't be read.
-pub fn crontab(host: &HostRuntime, alloc: Global, lines: &[Text]) -> Result<Outcome, AllocError> {
+pub fn crontab(host: &HostRuntime, alloc: Global, lines: &[Text]) -> Result<Outcome, AllocError>
+    ensures status { IfOk result (λ outcome. GoesOn 0 outcome.status
+        ⊎ (outcome.status ≡ statuses.BAD_FILE)) }
+{
     let mut made = Outcome::failed(alloc, 0);
     match lines {
         [only] if only.as_str() == "-" => match input_of(host, alloc)? {
@@ -39,7 +46,9 @@ fn add_text(
     alloc: Global,
     text: &str,
     made: &mut Outcome,
-) -> Result<(), AllocError> {
+) -> Result<(), AllocError>
+    ensures { GoesOn made.old.status made.new.status }
+{
     let mut number: usize = 0;
     for line in text.lines() {
         number = number.saturating_add(1);
@@ -76,7 +85,9 @@ fn add_line(
     number: usize,
     line: &str,
     made: &mut Outcome,
-) -> Result<(), AllocError> {
+) -> Result<(), AllocError>
+    ensures { GoesOn made.old.status made.new.status }
+{
     let read = match read_line(alloc, line) {
         Ok(Line::Nothing) => return Ok(()),
         Ok(Line::Variable(name)) => {
@@ -86,6 +97,18 @@ fn add_line(
         Ok(Line::Command { when, command }) => definition_of(alloc, number, when, command),
         Err(fault) => Err(fault),
     };
+    take_in(host, number, read, made)
+}
+
+// Adds the definition that was made of a line, or tells why there is none.
+fn take_in(
+    host: &HostRuntime,
+    number: usize,
+    read: Result<String, LineFault>,
+    made: &mut Outcome,
+) -> Result<(), AllocError>
+    ensures { made.new.status ≡ line_status read made.old.status }
+{
     match read {
         Ok(text) => made.text.push_str(text.as_str()),
         Err(LineFault::NoMemory) => Err(AllocError),

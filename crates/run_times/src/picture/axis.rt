@@ -1,8 +1,8 @@
 //! The axis of a chart: a span of Unix time over a number of places.
 
-ghost use Rattle.std.specs.Prelude.{◌≡◌, ◌≤◌, ◌<◌, ◌+◌, ◌-◌, min, max};
+ghost use Rattle.std.specs.Prelude.{◌≡◌, ◌≤◌, ◌<◌, ◌+◌, ◌-◌, ℕ, min, max};
 ghost use Rattle.history_model.specs.declared.TheConstants.{MAX_WALL};
-ghost use Rattle.run_times.specs.Axis.{place_of};
+ghost use Rattle.run_times.specs.Axis.{IsPlace};
 
 use history_model::MAX_WALL;
 
@@ -32,10 +32,11 @@ impl Axis {
         }
     }
 
-    /// Where the second stands. What is before the axis stands at its beginning, and what is after it at its end.
+    /// Where the second stands: at the last place that has begun by then. What is before the axis stands at its beginning, and what is
+    /// after it at its end.
     #[tactic(auto, using(crate::proofs::AxisLemmas::place_fits, crate::proofs::AxisLemmas::product_fits))]
     pub fn place(&self, at: u64) -> u16
-        ensures value { result ≡ place_of self.now.from self.now.until self.now.places at }
+        ensures last { IsPlace self.now.from self.now.until self.now.places at result }
         ensures within { result ≤ self.now.places }
     {
         let span = self.until - self.from;
@@ -44,10 +45,9 @@ impl Axis {
     }
 
     /// Where a span begins and ends. One that ends before it begins, since the clock was set back, ends where it begins.
-    #[tactic(auto, using(crate::proofs::AxisLemmas::place_rises))]
     pub fn edges(&self, from: u64, until: u64) -> (u16, u16)
-        ensures begin { result.0 ≡ place_of self.now.from self.now.until self.now.places from }
-        ensures end { result.1 ≡ place_of self.now.from self.now.until self.now.places (max from until) }
+        ensures begin { IsPlace self.now.from self.now.until self.now.places from result.0 }
+        ensures end { IsPlace self.now.from self.now.until self.now.places (max from until) result.1 }
         ensures ordered { result.0 ≤ result.1 }
         ensures within { result.1 ≤ self.now.places }
     {
@@ -56,8 +56,10 @@ impl Axis {
 
     /// Which places a span fills: from the first up to, and without, the second. It is one at least, and none is outside.
     pub fn filled(&self, from: u64, until: u64) -> (u16, u16)
-        ensures begin { result.0 ≡ min (place_of self.now.from self.now.until self.now.places from) (self.now.places - 1) }
-        ensures end { result.1 ≡ max (place_of self.now.from self.now.until self.now.places (max from until)) (result.0 + 1) }
+        ensures begin { (place : ℕ) → IsPlace self.now.from self.now.until self.now.places from place →
+            result.0 ≡ min place (self.now.places - 1) }
+        ensures end { (place : ℕ) → IsPlace self.now.from self.now.until self.now.places (max from until) place →
+            result.1 ≡ max place (result.0 + 1) }
         ensures some { result.0 < result.1 }
         ensures within { result.1 ≤ max self.now.places 1 }
     {

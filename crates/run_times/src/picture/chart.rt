@@ -1,7 +1,7 @@
 //! What a chart shows: a row for each job, with its runs as bars, and with the demands, throttles and refusals as marks.
 
-ghost use Rattle.std.specs.Prelude.{◌≡◌, ◌≤◌, ◌+◌, OnOk, IfSome};
-ghost use Rattle.run_times.specs.Bars.{runs_in, bar_end};
+ghost use Rattle.std.specs.Prelude.{◌≡◌, ◌≤◌, ◌↔◌, ◌+◌, ℕ, OnOk, IfSome};
+ghost use Rattle.run_times.specs.Bars.{Covers, IsAdded, Joins, WasThere, bar_end, runs_in};
 
 use crate::picture::axis::Axis;
 use std::alloc::AllocError;
@@ -76,6 +76,8 @@ impl Bar {
     pub fn of_run(axis: &Axis, run: u64, end: End, begun: u64, ended: u64) -> Bar
         ensures begin { result.from ≡ begun }
         ensures end { result.until ≡ bar_end end axis.now.until ended }
+        // It is drawn at just those seconds of the axis at which the run was there.
+        ensures covers { (at : ℕ) → at ≤ axis.now.until → Covers result at ↔ WasThere end begun ended at }
         ensures kind { result.end ≡ end }
         ensures one { (result.run ≡ run) × (result.runs ≡ 1) }
     {
@@ -109,7 +111,7 @@ pub(crate) fn grade(end: End) -> (usize, u64)
 
 // The bar that stands for both, if both lie in one place of the axis.
 fn joined(axis: &Axis, last: Bar, next: Bar) -> Option<Bar>
-    ensures { IfSome result (λ bar. bar.runs ≡ last.runs + next.runs) }
+    ensures { IfSome result (λ bar. Joins axis.now last next bar) }
 {
     // All four moments lie in one place, if the first and the last of them do.
     let first = last.from.min(next.from);
@@ -147,7 +149,8 @@ impl Row {
     /// be seen; none is lost.
     #[tactic(auto, using(crate::proofs::BarsLemmas::one_more))]
     pub fn add(&mut self, axis: &Axis, bar: Bar) -> Result<(), AllocError>
-        ensures { OnOk result (runs_in self.new.bars.items ≡ runs_in self.old.bars.items + bar.runs) }
+        ensures runs { OnOk result (runs_in self.new.bars.items ≡ runs_in self.old.bars.items + bar.runs) }
+        ensures added { OnOk result (IsAdded axis.now bar self.old.bars.items self.new.bars.items) }
     {
         let mut next = bar;
         if let Some(last) = self.bars.pop() {

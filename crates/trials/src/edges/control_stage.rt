@@ -233,7 +233,7 @@ fn send(
 }
 
 /// Takes what is there for the client to be read, and says whether the end came behind it. None if that can't be told.
-fn heard(client: &mut UnixStream, heard: &mut Vec<u8>) -> Option<bool> {
+pub fn heard(client: &mut UnixStream, heard: &mut Vec<u8>) -> Option<bool> {
     let mut piece = [0u8; 4096];
     for _ in 0..1_000u32 {
         match client.read(&mut piece) {

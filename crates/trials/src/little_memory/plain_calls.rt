@@ -6,20 +6,24 @@ ghost use Rattle.std.specs.Prelude.{◌≤◌};
 
 use crate::little_memory::hoard::Hoard;
 use crate::little_memory::trial::{Answer, Trial, tried};
-use crate::little_memory::{feeding, replaying};
+use crate::little_memory::{feeding, growing, replaying};
+use crate::memory_stage::header;
 use crate::parts::lines::{Kind, again};
 use anyhow::{Result, bail};
 use calendar_due::{Zone, ZoneFault};
 use child_edge::MemoryEdge;
 use conditions::Conditions;
-use ctl_protocol::{LineFeed, ReadFault, outcome_line, reply_line};
-use history_model::{Act, MAX_UP, Reading, Reply, Text};
+use ctl_protocol::{
+    Header, LineFeed, ReadFault, event_line, header_line, outcome_line, reply_line,
+};
+use history_model::{Act, Event, MAX_UP, Reading, Reply, Text};
 use job_core::JobCore;
 use job_defs::{Def, DefFault, read_def};
 use launchctl_words::{Command, DaemonCommand, WordFault, read_daemon_words, read_words};
 use socket_demand::{Exchange, Waiting};
 use std::alloc::{AllocError, Global};
 use std::mem;
+use timer_heap::TimerHeap;
 
 /// Which call is made.
 #[derive(Clone, Copy)]
@@ -31,6 +35,9 @@ enum Call {
     Definition,
     /// A line is read, and then written so.
     Line(Kind, &'static str, &'static str),
+    EventLine,
+    HeaderLine,
+    Heap,
     Reply,
     Outcome,
     Words,
@@ -52,6 +59,13 @@ static CALLS: &[(&str, Call)] = &[
     ("read_header", Call::Line(Kind::Header, HEADER, HEADER_LINE)),
     ("read_event", Call::Line(Kind::Event, LOAD, LOAD_LINE)),
     ("read_target", Call::Line(Kind::Target, TARGET, LABEL_LINE)),
+    (
+        "read_request",
+        Call::Line(Kind::Request, REQUEST, REQUEST_LINE),
+    ),
+    ("event_line", Call::EventLine),
+    ("header_line", Call::HeaderLine),
+    ("TimerHeap::reserve", Call::Heap),
     ("reply_line", Call::Reply),
     ("outcome_line", Call::Outcome),
     ("read_words", Call::Words),
@@ -79,6 +93,18 @@ const LOAD: &str = "{\"ev\":\"load\",\"def\":\"{\\\"Label\\\":\\\"a\\\"}\",\"F\"
 /// The same, as it is written.
 const LOAD_LINE: &str =
     "{\"F\":true,\"bind\":true,\"def\":\"{\\\"Label\\\":\\\"a\\\"}\",\"ev\":\"load\",\"store\":true,\"w\":false}\n";
+
+const REQUEST: &str = "{\"req\":\"load\",\"def\":\"{\\\"Label\\\":\\\"a\\\"}\",\"w\":true}";
+
+/// The same, as it is written.
+const REQUEST_LINE: &str =
+    "{\"F\":false,\"def\":\"{\\\"Label\\\":\\\"a\\\"}\",\"req\":\"load\",\"w\":true}\n";
+
+/// The line of the reading of the load, and that of a header of this reading.
+const CLOCK_LINE: &[u8] = b"{\"ev\":\"clock\",\"up\":0,\"wall\":1700000000}\n";
+
+const PLAIN_HEADER_LINE: &[u8] =
+    b"{\"overrides\":{},\"up\":0,\"wall\":1700000000,\"zone\":\"UTC0\"}\n";
 
 const TARGET: &str = "gui/501/com.example.a-label-of-some-length";
 
@@ -118,6 +144,7 @@ struct Given {
     words: Vec<String>,
     daemon_words: Vec<String>,
     reply: Reply,
+    header: Header,
 }
 
 /// A call, and what it is made on.
@@ -126,6 +153,7 @@ struct Plain<'a> {
     call: Call,
     given: &'a Given,
     feed: Option<LineFeed>,
+    heap: Option<TimerHeap>,
     written: Vec<u8>,
 }
 
@@ -246,8 +274,10 @@ fn what_is_given(alloc: Global) -> Option<Given> {
     let daemon_words = words_of(alloc, DAEMON_WORDS).ok()?;
     let text = Text::copy_of(alloc, TEXT).ok()?;
     let def = read_def(alloc, DEFINITION.as_bytes()).ok()?;
+    let header = header(alloc, "UTC0", 0)?;
     Some(Given {
         def,
+        header,
         words,
         daemon_words,
         reply: Reply {
@@ -272,6 +302,10 @@ impl Trial for Plain<'_> {
                 drop(mem::replace(&mut self.feed, feeding::fed(alloc, is_taking)));
                 self.feed.is_some()
             }
+            Call::Heap => {
+                drop(mem::replace(&mut self.heap, growing::heap_of(alloc)));
+                self.heap.is_some()
+            }
             Call::Replay => {
                 self.written.clear();
                 self.written.reserve(replaying::ROOM).is_ok()
@@ -289,6 +323,12 @@ impl Trial for Plain<'_> {
             Call::JobCore => made(JobCore::new(alloc, &given.def, at_load())),
             Call::Definition => definition_read(alloc),
             Call::Line(kind, line, wanted) => line_again(alloc, kind, line, wanted),
+            Call::EventLine => written(event_line(alloc, &Event::Clock(at_load())), CLOCK_LINE),
+            Call::HeaderLine => written(header_line(alloc, &given.header), PLAIN_HEADER_LINE),
+            Call::Heap => match self.heap.as_mut() {
+                Some(heap) => growing::grown(alloc, heap),
+                None => Answer::Other,
+            },
             Call::Reply => written(reply_line(alloc, &given.reply), REPLY),
             Call::Outcome => written(outcome_line(alloc, &given.reply, ORDERS), OUTCOME),
             Call::Words => words_read(alloc, given.words.as_slice()),
@@ -307,6 +347,10 @@ impl Trial for Plain<'_> {
         match self.call {
             Call::Feed(is_taking) => match self.feed.as_mut() {
                 Some(feed) => feeding::is_kept(feed, is_taking, answer),
+                None => false,
+            },
+            Call::Heap => match self.heap.as_mut() {
+                Some(heap) => growing::is_kept(alloc, heap),
                 None => false,
             },
             Call::Replay => {
@@ -332,6 +376,7 @@ pub fn try_all(rt: &HostRuntime, hoard: &mut Hoard) -> Result<()> {
             call: *call,
             given: &given,
             feed: None,
+            heap: None,
             written: Vec::new(rt.alloc()),
         };
         done = tried(rt, hoard, name, plain);

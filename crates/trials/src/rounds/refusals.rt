@@ -34,7 +34,10 @@ const FOUND: Option<Found> = Some(Found {
 });
 
 /// A launcher with no job over the runtime's system, which spools in the folder.
-fn launcher_over<R: System>(own: R, folder: &str) -> Option<Host<MemoryStore, OsEdge<R>, Sink>> {
+pub fn launcher_over<R: System>(
+    own: R,
+    folder: &str,
+) -> Option<Host<MemoryStore, OsEdge<R>, Sink>> {
     let alloc = own.alloc();
     let edge = edge_over(own, folder)?;
     let Some(header) = header(alloc, "UTC0", 0) else {
