@@ -26,7 +26,7 @@ use loaded_jobs::{Jobs, all_gone, list};
 pub use loaded_jobs::{NewSetting, Ready};
 use std::alloc::Global;
 use std::marker::Model;
-pub use take::Taken;
+pub use take::{Taken, refused_outside};
 
 /// The loaded jobs. To a contract, the values of a machine that it keeps.
 #[derive(Drop)]
@@ -88,7 +88,7 @@ impl JobTable {
     ghost use Rattle.loaded_jobs.specs.Opening.{opening_refusal};
     ghost use Rattle.loaded_jobs.specs.Minutes.{has_calendars};
     ghost use Rattle.loaded_jobs.specs.Numbers.{IsNumbered};
-    ghost use Rattle.loaded_jobs.specs.Waking.{waking, spawning, demanding, holding, HasMoments};
+    ghost use Rattle.loaded_jobs.specs.Waking.{spawning, demanding, holding, HasMoments};
     ghost use Rattle.loaded_jobs.specs.Triggers.{listed_in};
     ghost use Rattle.history_model.specs.JobItems.{item_of};
 
@@ -231,15 +231,6 @@ impl JobTable {
             result ≡ option_map reasons_of (past_of s label.now) }
     {
         self.jobs.reasons(label)
-    }
-
-    /// The next moment, in milliseconds of `up` and after the last reading, at which time alone may make an order of the job with
-    /// this label due, by its interval, its throttle, its time to end or a refused order; those of its calendar are left aside.
-    /// None if there is no such moment, and if no such job is loaded. It takes no memory, and changes nothing.
-    pub fn wakes(&self, label: &str) -> Option<u64>
-        ensures { (s : State) → KeepsState self.now s → result ≡ waking (past_of s label.now) }
-    {
-        self.jobs.wakes(label)
     }
 
     /// From when on TERM and KILL are due for the run of the job with this label if nothing but readings happens, and when its interval

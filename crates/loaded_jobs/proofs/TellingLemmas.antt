@@ -20,6 +20,7 @@ use Rattle.loaded_jobs.specs.Seats.{row, name, rows, has_label, has_number}
 use Rattle.loaded_jobs.specs.Alike.{IsAlike}
 use Rattle.loaded_jobs.specs.Counts.{counts, Counts, IsCounted}
 use Rattle.loaded_jobs.specs.Loads.{refused_with}
+use Rattle.loaded_jobs.specs.Room.{HasSameRoom}
 use Rattle.loaded_jobs.specs.Numbers.{row_names, KeepsNames}
 use Rattle.loaded_jobs.specs.TableOutcomes.{plain_outcome, IsOrderedFrom}
 use Rattle.loaded_jobs.specs.Sound.{seen_table}
@@ -70,6 +71,18 @@ counts-from (Err refusal) old begun new same counted = counted ∙ same
 pub names-from : (result : Result (Unit {0}) Refusal) (old begun new : Table) → begun.rows ≡ old.rows → KeepsNames result begun new → KeepsNames result old new
 names-from (Ok done) old begun new same named = named ∙ ap row_names same
 names-from (Err refusal) old begun new same named = tt
+
+pub same-room : {old begun new : Table} → HasSameRoom old begun → HasSameRoom begun new → HasSameRoom old new
+same-room first then = record {
+  jobs = then.jobs ∙ first.jobs;
+  orders = then.orders ∙ first.orders;
+  settings = then.settings ∙ first.settings;
+  numbers = then.numbers ∙ first.numbers;
+  moments = then.moments ∙ first.moments;
+  marks = then.marks ∙ first.marks;
+  places = then.places ∙ first.places;
+  triggers = then.triggers ∙ first.triggers;
+}
 
 -- ---- the place
 

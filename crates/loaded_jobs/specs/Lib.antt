@@ -29,3 +29,4 @@ pub mod Touching
 pub mod Touched
 pub mod Telling
 pub mod Waking
+pub mod Goes

@@ -1,19 +1,13 @@
--- When time alone may next make an order of one job due, what made its demand, and which path holds
+-- From when on time alone may make an order of one job due, what made its demand, and which path holds
 -- it wanted (launchd.plist(5): StartInterval, ThrottleInterval, ExitTimeOut, KeepAlive,
 -- QueueDirectories).
 use Rattle.std.specs.Prelude.{ℕ, List, Option, Some, None}
 use Rattle.history_model.specs.declared.reasons.DemandKind.{DemandKind}
 use Rattle.history_model.specs.Items.{History}
-use Rattle.history_model.specs.Moments.{next_moment}
 use Rattle.history_model.specs.Demands.{latest_demand}
 use Rattle.history_model.specs.Reasons.{spawns_from, path_that_holds}
 use Rattle.job_core.specs.JobMoments.{AreMoments}
 use Rattle.job_core.specs.declared.job.moments.Moments.{Moments}
-
--- the next moment of the job with this past, if it is loaded
-abbrev pub waking : Option History → Option ℕ
-waking None = None
-waking (Some past) = next_moment past
 
 -- the moment from which a reading makes its spawn due, if nothing but readings happens and no
 -- calendar entry fires

@@ -8,6 +8,7 @@ ghost use Rattle.history_model.specs.Items.{Answered};
 ghost use Rattle.history_model.specs.Machine.{OfJob, UnloadJob, ShutDown, Tick, Sight};
 ghost use Rattle.history_model.specs.JobItems.{item_of};
 ghost use Rattle.history_model.specs.declared.Refusal.TheVariants.{NoMemory};
+ghost use Rattle.loaded_jobs.specs.Goes.{Goes};
 ghost use Rattle.loaded_jobs.specs.TableOutcomes.{IsOutcome, IsNextTable, UnlessMemory, IsNextTableUnless};
 ghost use Rattle.loaded_jobs.specs.Minutes.{AreMinutes, has_calendars};
 ghost use Rattle.loaded_jobs.specs.Tables.{label_of};
@@ -32,18 +33,10 @@ impl Jobs {
 
     /// Tells the job with this label what happened to it, then asks it.
     pub fn hear(&mut self, label: &str, item: JobItem) -> Result<(), Refusal>
-        requires sound { IsWhole self.old }
-        ensures answer { IsOutcome (OfJob label.now (item_of item)) (seen_table self.old) result
-            (seen_table self.new) }
-        ensures kept { IsNextTable (OfJob label.now (item_of item)) (seen_table self.old)
-            (seen_table self.new) }
-        ensures counted { Counts result (seen_table self.old) (seen_table self.new) }
-        ensures spared { SparesOthers (OfJob label.now (item_of item)) (seen_table self.old)
-            (seen_table self.new) }
-        ensures names { KeepsNames result (seen_table self.old) (seen_table self.new) }
-        ensures room { HasSameRoom (seen_table self.old) (seen_table self.new) }
+        requires { IsWhole self.old }
+        ensures goes { Goes (OfJob label.now (item_of item)) (seen_table self.old) result (seen_table self.new) }
         ensures memory { NeedsNoMemory result }
-        ensures sound { IsWhole self.new }
+        ensures whole { IsWhole self.new }
     {
         if !is_label(label) || !is_heard(item) {
             return Err(Refusal::BadRequest);
@@ -55,19 +48,10 @@ impl Jobs {
 
     /// Tells the job with this number the outside's answer to an order, then asks it. Its place is known: no label is looked for.
     pub fn hear_answer(&mut self, number: JobNo, answer: Answer) -> Result<(), Refusal>
-        requires sound { IsWhole self.old }
-        ensures answer { IsOutcome (OfJob (label_of (seen_table self.old).names number) (Answered answer))
-            (seen_table self.old) result (seen_table self.new) }
-        ensures kept { IsNextTable (OfJob (label_of (seen_table self.old).names number) (Answered answer))
-            (seen_table self.old) (seen_table self.new) }
-        ensures counted { Counts result (seen_table self.old) (seen_table self.new) }
-        ensures spared { SparesOthers
-            (OfJob (label_of (seen_table self.old).names number) (Answered answer)) (seen_table self.old)
-            (seen_table self.new) }
-        ensures names { KeepsNames result (seen_table self.old) (seen_table self.new) }
-        ensures room { HasSameRoom (seen_table self.old) (seen_table self.new) }
+        requires { IsWhole self.old }
+        ensures goes { Goes (OfJob (label_of (seen_table self.old).names number) (Answered answer)) (seen_table self.old) result (seen_table self.new) }
         ensures memory { NeedsNoMemory result }
-        ensures sound { IsWhole self.new }
+        ensures whole { IsWhole self.new }
     {
         let item = JobItem::Answered(answer);
         if !is_label(self.label(number)) || !is_heard(item) {
@@ -104,15 +88,9 @@ impl Jobs {
 
     /// Takes in a sight of a path.
     pub fn saw(&mut self, path: &str, obs: Obs)
-        requires sound { IsWhole self.old }
-        ensures answer { IsOutcome (Sight path.now obs) (seen_table self.old) (Ok tt) (seen_table self.new) }
-        ensures kept { IsNextTable (Sight path.now obs) (seen_table self.old) (seen_table self.new) }
-        ensures spared { SparesOthers (Sight path.now obs) (seen_table self.old) (seen_table self.new) }
-        ensures counted { IsCounted (counts (seen_table self.old).rows) (seen_table self.new).rows
-            (seen_table self.new).gone (seen_table self.new).visited }
-        ensures names { (seen_table self.new).names ≡ row_names (seen_table self.old).rows }
-        ensures room { HasSameRoom (seen_table self.old) (seen_table self.new) }
-        ensures sound { IsWhole self.new }
+        requires { IsWhole self.old }
+        ensures goes { Goes (Sight path.now obs) (seen_table self.old) (Ok tt) (seen_table self.new) }
+        ensures whole { IsWhole self.new }
     {
         self.begin();
         self.ask_touched(Touch::Sight(path, obs));
@@ -120,15 +98,10 @@ impl Jobs {
 
     /// Removes every job.
     pub fn shut_down(&mut self) -> Result<(), Refusal>
-        requires sound { IsWhole self.old }
-        ensures answer { IsOutcome ShutDown (seen_table self.old) result (seen_table self.new) }
-        ensures kept { IsNextTable ShutDown (seen_table self.old) (seen_table self.new) }
-        ensures spared { SparesOthers ShutDown (seen_table self.old) (seen_table self.new) }
-        ensures counted { Counts result (seen_table self.old) (seen_table self.new) }
-        ensures names { KeepsNames result (seen_table self.old) (seen_table self.new) }
-        ensures room { HasSameRoom (seen_table self.old) (seen_table self.new) }
+        requires { IsWhole self.old }
+        ensures goes { Goes ShutDown (seen_table self.old) result (seen_table self.new) }
         ensures memory { NeedsNoMemory result }
-        ensures sound { IsWhole self.new }
+        ensures whole { IsWhole self.new }
     {
         if self.is_shutting_down {
             return Err(Refusal::ShuttingDown);

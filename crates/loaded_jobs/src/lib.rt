@@ -28,7 +28,6 @@ pub use all_seats::{all_gone, is_some_with_calendar};
 pub use gone_jobs::Gone;
 pub use jobs::Jobs;
 pub use loading::Ready;
-pub use places::place_before;
 pub use questions::list;
 pub use settings_change::NewSetting;
 pub use triggers::path_after;

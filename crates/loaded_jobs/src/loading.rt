@@ -32,7 +32,7 @@ ghost use Rattle.loaded_jobs.specs.Seats.{name, AllStay, place_for, seats_with};
 
 use crate::index::{grow, place_all};
 use crate::jobs::Jobs;
-use crate::places::place_of;
+use crate::places::{place_before, place_of};
 use crate::seat::{ORDERS, Seat};
 use crate::settings::{Settings, is_disabled, set_if};
 use crate::trigger::{Listed, Trigger, triggers_of};
@@ -242,11 +242,10 @@ impl Jobs {
         })
     }
 
-    /// Loads the job that was made ready, at its place among the others (`place_before`), and asks it alone.
-    pub fn load(&mut self, ready: Ready, place: usize)
+    /// Loads the job that was made ready, at its place among the others, and asks it alone.
+    pub fn load(&mut self, ready: Ready)
         requires sound { IsWhole self.old }
         requires ready { IsReady (seen_table self.old) ready }
-        requires place { place ≡ place_for ready.seat.def.label self.old.seats.items }
         ensures loads { Loads (seen_table self.old) ready (seen_table self.new) }
         ensures counted { IsCounted (counts (seen_table self.old).rows) (seen_table self.new).rows
             (seen_table self.new).gone (seen_table self.new).visited }
@@ -267,6 +266,7 @@ impl Jobs {
             setting,
             triggers,
         } = ready;
+        let place = place_before(&self.seats, seat.def.label());
         set_if(&mut self.settings, setting);
         self.enter(seat, triggers, place);
         place_all(&mut self.index.places, &self.seats);

@@ -5,7 +5,7 @@ ghost use Rattle.std.specs.Option.{option_map};
 ghost use Rattle.history_model.specs.Machine.{State, past_of};
 ghost use Rattle.history_model.specs.Reasons.{reasons_of};
 ghost use Rattle.loaded_jobs.specs.StandsFor.{KeepsState};
-ghost use Rattle.loaded_jobs.specs.Waking.{waking, spawning, demanding, holding, HasMoments};
+ghost use Rattle.loaded_jobs.specs.Waking.{spawning, demanding, holding, HasMoments};
 
 use crate::jobs::Jobs;
 use history_model::{DemandKind, Reasons};
@@ -23,18 +23,6 @@ impl Jobs {
         match self.here(label) { // for the proof
             None => None,
             Some(seat) => Some(seat.core.reasons(self.reading)),
-        }
-    }
-
-    /// The next moment, after the last reading, at which time alone may make an order of the job due.
-    pub fn wakes(&self, label: &str) -> Option<u64>
-        requires { IsSound self.now }
-        ensures { (s : State) → KeepsState (seen_table self.now) s →
-            result ≡ waking (past_of s label.now) }
-    {
-        match self.here(label) { // for the proof
-            None => None,
-            Some(seat) => seat.core.next_moment(self.reading),
         }
     }
 

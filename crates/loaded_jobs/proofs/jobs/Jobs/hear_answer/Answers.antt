@@ -16,7 +16,7 @@ use Rattle.loaded_jobs.specs.Sound.{seen_table}
 use Rattle.loaded_jobs.specs.Telling.{IsTold}
 use Rattle.loaded_jobs.proofs.EventsLemmas.{past-refused}
 use Rattle.loaded_jobs.proofs.OutcomesLemmas.{IsDone}
-use Rattle.loaded_jobs.proofs.TellingLemmas.{told-done, counts-from, names-from, number-label, place-inside}
+use Rattle.loaded_jobs.proofs.TellingLemmas.{told-done, counts-from, names-from, same-room, number-label, place-inside}
 use Rattle.loaded_jobs.proofs.jobs.Jobs.hear_answer.Goals as goal
 
 abbrev label-in : goal.After-tell → Label
@@ -29,14 +29,14 @@ told : (c : goal.After-tell) → IsTold (label-in c) (Answered c.args.answer) (s
 told c =
     c.tell.ensures.told (label-in c)
     (c.place_of_number-found.ensures ∙ ap (position (has_number c.args.number)) c.deref.ensures.value
-    ∙ number-label c.args.self.now.seats.items c.begin.new.self.seats.items c.args.number c.requires.sound.sound.once c.begin.ensures.names (known c))
+    ∙ number-label c.args.self.now.seats.items c.begin.new.self.seats.items c.args.number c.requires.sound.once c.begin.ensures.names (known c))
 
 done : (c : goal.After-tell) (s : State) → KeepsState (seen_table c.args.self.now) s →
     IsDone s (OfJob (label-in c) (Answered c.args.answer)) (seen_table c.tell.new.self) (plain_outcome c.tell.result (seen_table c.tell.new.self))
 done c s keeps =
     let item = Answered c.args.answer in
     told-done c.args.self.now c.begin.new.self c.tell.new.self s (OfJob (label-in c) item) (label-in c) item c.tell.result c.begin.ensures.alike c.begin.ensures.rows c.tell.ensures.alike
-    c.requires.sound.sound.in_range (told c) refl (past-refused (is_label (label-in c)) (is_heard item) BadRequest _ (known c) (sym c.is_heard.ensures ∙ c.if-not-is_heard.false)) refl keeps
+    c.requires.sound.in_range (told c) refl (past-refused (is_label (label-in c)) (is_heard item) BadRequest _ (known c) (sym c.is_heard.ensures ∙ c.if-not-is_heard.false)) refl keeps
 
 pub place_of_number-found-requires : goal.place_of_number-found-requires
 place_of_number-found-requires c =
@@ -47,17 +47,12 @@ pub tell-requires-clause-inside : goal.tell-requires-clause-inside
 tell-requires-clause-inside c =
     place-inside (has_number c.args.number) c.begin.new.self.seats.items c.place_of_number-found.result (c.place_of_number-found.ensures ∙ ap (position (has_number c.args.number)) c.deref.ensures.value)
 
-pub returns-clause-answer : goal.returns-clause-answer
-returns-clause-answer c = λ s keeps. (done c s keeps).outcome
-
-pub returns-clause-kept : goal.returns-clause-kept
-returns-clause-kept c = λ s keeps. (done c s keeps).kept
-
-pub returns-clause-counted : goal.returns-clause-counted
-returns-clause-counted c = counts-from c.tell.result (seen_table c.args.self.now) (seen_table c.begin.new.self) (seen_table c.tell.new.self) c.begin.ensures.rows c.tell.ensures.counted
-
-pub returns-clause-names : goal.returns-clause-names
-returns-clause-names c = names-from c.tell.result (seen_table c.args.self.now) (seen_table c.begin.new.self) (seen_table c.tell.new.self) c.begin.ensures.rows c.tell.ensures.names
-
-pub returns-clause-spared : goal.returns-clause-spared
-returns-clause-spared c = λ s keeps label past found apart. (told c).spared label apart ∙ ap (λ rs. count_in (counts rs) label) c.begin.ensures.rows
+pub returns-clause-goes : goal.returns-clause-goes
+returns-clause-goes c = record {
+  answer = λ s keeps. (done c s keeps).outcome;
+  kept = λ s keeps. (done c s keeps).kept;
+  counted = counts-from c.tell.result (seen_table c.args.self.now) (seen_table c.begin.new.self) (seen_table c.tell.new.self) c.begin.ensures.rows c.tell.ensures.counted;
+  spared = λ s keeps label past found apart. (told c).spared label apart ∙ ap (λ rs. count_in (counts rs) label) c.begin.ensures.rows;
+  names = names-from c.tell.result (seen_table c.args.self.now) (seen_table c.begin.new.self) (seen_table c.tell.new.self) c.begin.ensures.rows c.tell.ensures.names;
+  room = same-room c.begin.ensures.room c.tell.ensures.room;
+}

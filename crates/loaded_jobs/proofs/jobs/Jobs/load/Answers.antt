@@ -1,5 +1,5 @@
 -- The new job stands among the others, which rest, and the label's setting before the others.
-use Rattle.std.proofs.Common.{◌≡◌, ◌≤◌, ◌<◌, suc, Some, map, refl, ap, sym, subst, ◌∙◌, [], ◌∷◌, drop, length, arith}
+use Rattle.std.proofs.Common.{◌≡◌, ℕ, List, ◌≤◌, ◌<◌, suc, Some, map, refl, ap, sym, subst, ◌∙◌, [], ◌∷◌, drop, length, arith}
 use Rattle.std.specs.Prelude.{is_some, Ok}
 use Rattle.std.specs.List.{filter, position, AllByRecursion}
 use Rattle.std.specs.Vec.{with_items}
@@ -12,7 +12,8 @@ use Rattle.history_model.specs.Machine.{Job, Load, sets}
 use Rattle.history_model.specs.Step.{taken, with_job}
 use Rattle.history_model.specs.Texts.{load_text}
 use Rattle.history_model.specs.Definitions.{definition, given}
-use Rattle.loaded_jobs.specs.Tables.{IsOnce, Row, definition_of_number}
+use Rattle.history_model.specs.MachineLaws.{AreInOrder}
+use Rattle.loaded_jobs.specs.Tables.{IsOnce, Row, definition_of_number, labels_in}
 use Rattle.loaded_jobs.specs.StandsFor.{KeepsJob, KeepsJobs}
 use Rattle.loaded_jobs.specs.Seats.{row, name, rows, AllStay, is_above, place_for}
 use Rattle.loaded_jobs.specs.Counts.{counts, count_in}
@@ -21,6 +22,7 @@ use Rattle.loaded_jobs.specs.Sound.{seen_table}
 use Rattle.loaded_jobs.specs.Touched.{RestBut}
 use Rattle.loaded_jobs.specs.Touch.{is_at}
 use Rattle.loaded_jobs.specs.declared.jobs.Jobs.{Jobs}
+use Rattle.loaded_jobs.specs.declared.seat.Seat.{Seat}
 use Rattle.loaded_jobs.proofs.CountsLemmas.{counted-from, counts-placed}
 use Rattle.loaded_jobs.proofs.NewJobLemmas.{place-low, more-seats, new-apart, rest-entered, entered-sound, replaced-sound, timed-entered}
 use Rattle.loaded_jobs.proofs.EnteringLemmas.{stay-names, stay-placed, entered-kept}
@@ -33,10 +35,20 @@ use Rattle.loaded_jobs.proofs.OutcomesLemmas.{accepted}
 use Rattle.loaded_jobs.proofs.TouchedLemmas.{heard-already}
 use Rattle.loaded_jobs.proofs.jobs.Jobs.load.Goals as goal
 
+-- the place that was looked for is that of the label among all seats
+at-place : (es seen : List Seat) (label named : Label) (place : ℕ) → place ≡ place_for named seen → named ≡ label → seen ≡ es → place ≡ place_for label es
+at-place es seen label named place is text same = is ∙ (λ i. place_for (text i) (same i))
+
+pub place_before-place-requires : goal.place_before-place-requires
+place_before-place-requires c = subst (λ es. AreInOrder (labels_in (map name es))) (sym c.deref.ensures.value) c.requires.sound.sound.order
+
+pub enter-requires-clause-place : goal.enter-requires-clause-place
+enter-requires-clause-place c = at-place c.args.self.now.seats.items _ c.args.ready.seat.def.label _ _ c.place_before-place.ensures c.label.ensures c.deref.ensures.value
+
 pub place_all-requires-clause-once : goal.place_all-requires-clause-once
 place_all-requires-clause-once c =
     let e = c.enter.ensures in
-    subst (λ all. IsOnce (map name all)) (sym c.deref.ensures.value)
+    subst (λ all. IsOnce (map name all)) (sym c.deref-2.ensures.value)
     (entered-sound c.args.self.now c.enter.new.self c.args.ready c.requires.sound.sound c.requires.ready e.alike.reading e.seats e.count e.orders e.vacant e.numbers e.index e.period e.calendars e.exact e.listed).once
 
 pub place_all-requires-clause-fits : goal.place_all-requires-clause-fits
@@ -44,7 +56,7 @@ place_all-requires-clause-fits c = λ number named.
     let e = c.enter.ensures in
     subst (λ ps. number < length ps) (sym c.deref_mut.ensures.value)
     ((entered-sound c.args.self.now c.enter.new.self c.args.ready c.requires.sound.sound c.requires.ready e.alike.reading e.seats e.count e.orders e.vacant e.numbers e.index e.period e.calendars e.exact e.listed).named.fits number
-    (ap (λ all. is_some (definition_of_number (map name all) number)) (sym c.deref.ensures.value) ∙ named))
+    (ap (λ all. is_some (definition_of_number (map name all) number)) (sym c.deref-2.ensures.value) ∙ named))
 
 pub ask_at-requires-clause-can : goal.ask_at-requires-clause-can
 ask_at-requires-clause-can c =
@@ -69,15 +81,15 @@ ask_at-requires-clause-can c =
           let t = c.enter.new.self in
           let after = c.place_all.new.places in
           let lent = lent-back after (drop (length after) t.index.places.items) t.index.places.len (omega arith) in
-          subst (λ ps. ArePlaced ps t.seats.items) (sym lent) (subst (ArePlaced after) c.deref.ensures.value c.place_all.ensures.placed)
+          subst (λ ps. ArePlaced ps t.seats.items) (sym lent) (subst (ArePlaced after) c.deref-2.ensures.value c.place_all.ensures.placed)
           );
       timed = (
           let old = c.args.self.now in
           let es = old.seats.items in
           let new = c.args.ready.seat in
           let t = c.enter.new.self in
-          timed-entered old (record t { index = record t.index { places = with_items t.index.places c.place_all.new.places } }) new (place_for new.def.label es) c.args.place c.enter.ensures.seats
-          c.requires.place (place-low (is_above new.def.label) es (position (is_above new.def.label) es) refl) c.requires.sound.indexed
+          timed-entered old (record t { index = record t.index { places = with_items t.index.places c.place_all.new.places } }) new (place_for new.def.label es) c.place_before-place.result c.enter.ensures.seats
+          (at-place c.args.self.now.seats.items _ c.args.ready.seat.def.label _ _ c.place_before-place.ensures c.label.ensures c.deref.ensures.value) (place-low (is_above new.def.label) es (position (is_above new.def.label) es) refl) c.requires.sound.indexed
           (ap (λ i. i.timers) c.enter.ensures.index) c.enter.ensures.alike.reading
           );
     }
@@ -89,7 +101,7 @@ ask_at-requires-clause-inside c =
     let k = place_for new.def.label es in
     let low : k ≤ length es = place-low (is_above new.def.label) es (position (is_above new.def.label) es) refl in
     let more : length c.enter.new.self.seats.items ≡ suc (length es) = ap length c.enter.ensures.seats ∙ more-seats new es k in
-    let at : c.args.place ≡ k = c.requires.place in
+    let at : c.place_before-place.result ≡ k = (at-place c.args.self.now.seats.items _ c.args.ready.seat.def.label _ _ c.place_before-place.ensures c.label.ensures c.deref.ensures.value) in
     omega (arith, low, more, at)
 
 pub returns-clause-loads : goal.returns-clause-loads
@@ -114,8 +126,8 @@ returns-clause-loads c = λ s force bind store keeps none.
     let here : KeepsJobs t.reading (rows t.seats.items) (with_job job s.jobs) =
     subst (λ at. KeepsJobs at (rows t.seats.items) (with_job job s.jobs)) (sym alike.reading)
     (subst (λ all. KeepsJobs old.reading (rows all) (with_job job s.jobs)) (sym c.enter.ensures.seats) jobs) in
-    let rests : RestBut (is_at c.args.place) 0 (rows t.seats.items) (with_job job s.jobs) =
-    subst (λ place. RestBut (is_at place) 0 (rows t.seats.items) (with_job job s.jobs)) (sym c.requires.place)
+    let rests : RestBut (is_at c.place_before-place.result) 0 (rows t.seats.items) (with_job job s.jobs) =
+    subst (λ place. RestBut (is_at place) 0 (rows t.seats.items) (with_job job s.jobs)) (sym (at-place c.args.self.now.seats.items _ c.args.ready.seat.def.label _ _ c.place_before-place.ensures c.label.ensures c.deref.ensures.value))
     (rest-entered old.reading new job this (rows t.seats.items) es s.jobs (position (is_above label) es) (subst (λ rs. KeepsJobs old.reading rs s.jobs) (rows-all es stay) before) refl keeps.rests) in
     let after : IsHead t (taken s e) = record {
       reading = alike.reading ∙ keeps.reading;
@@ -125,7 +137,7 @@ returns-clause-loads c = λ s force bind store keeps none.
       shutdown = alike.shutdown ∙ keeps.shutdown;
     } in
     let done = accepted (seen_table old) (seen_table c.ask_at.new.self) s e (load_text new.def.not_acted_on) c.requires.sound.sound.in_range keeps none
-    (heard-already t c.ask_at.new.self (taken s e) c.args.place c.ask_at.ensures.alike after here rests c.ask_at.ensures.kept c.ask_at.ensures.orders) refl in
+    (heard-already t c.ask_at.new.self (taken s e) c.place_before-place.result c.ask_at.ensures.alike after here rests c.ask_at.ensures.kept c.ask_at.ensures.orders) refl in
     record { kept = done.kept; outcome = done.outcome }
 
 pub returns-clause-counted : goal.returns-clause-counted
@@ -145,7 +157,7 @@ returns-clause-spared c = λ force bind store s keeps label past found apart.
     let k = place_for new.def.label es in
     let t = c.enter.new.self in
     c.ask_at.ensures.spared label
-    (new-apart new es t.seats.items k c.args.place label c.enter.ensures.seats c.requires.place
+    (new-apart new es t.seats.items k c.place_before-place.result label c.enter.ensures.seats (at-place c.args.self.now.seats.items _ c.args.ready.seat.def.label _ _ c.place_before-place.ensures c.label.ensures c.deref.ensures.value)
     (place-low (is_above new.def.label) es (position (is_above new.def.label) es) refl) apart)
     ∙ ap (λ all. count_in (counts (rows all)) label) c.enter.ensures.seats
     ∙ counts-placed new es k label (stay-names es c.requires.ready.tidy) c.requires.ready.stays c.requires.ready.absent c.requires.ready.fresh

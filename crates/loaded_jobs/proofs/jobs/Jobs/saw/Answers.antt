@@ -1,11 +1,11 @@
 -- The sight is heard by the jobs that list the path.
-use Rattle.std.proofs.Common.{refl, [], ap, ◌∙◌}
+use Rattle.std.proofs.Common.{refl, [], ap, subst, ◌∙◌}
 use Rattle.history_model.specs.Items.{Saw}
 use Rattle.history_model.specs.Machine.{State, Sight}
 use Rattle.history_model.specs.Step.{sight_of, taken}
 use Rattle.loaded_jobs.specs.StandsFor.{KeepsState}
-use Rattle.loaded_jobs.specs.Counts.{counts, count_in}
-use Rattle.loaded_jobs.specs.Seats.{rows}
+use Rattle.loaded_jobs.specs.Counts.{counts, count_in, IsCounted}
+use Rattle.loaded_jobs.specs.Seats.{rows, gone}
 use Rattle.loaded_jobs.specs.TableOutcomes.{plain_outcome}
 use Rattle.loaded_jobs.specs.Sound.{seen_table}
 use Rattle.loaded_jobs.specs.Touch.{reaches}
@@ -13,6 +13,7 @@ use Rattle.loaded_jobs.specs.declared.seat.Touch.TheVariants as touch
 use Rattle.loaded_jobs.proofs.HearingLemmas.{sight-brings}
 use Rattle.loaded_jobs.proofs.OutcomesLemmas.{IsDone, accepted}
 use Rattle.loaded_jobs.proofs.EventsLemmas.{alike-state, own-jobs, head, with_orders-so, sights, sights-fine}
+use Rattle.loaded_jobs.proofs.TellingLemmas.{same-room}
 use Rattle.loaded_jobs.proofs.TouchedLemmas.{rest-each, unlisted-spared}
 use Rattle.std.specs.Prelude.{Ok}
 use Rattle.loaded_jobs.proofs.jobs.Jobs.saw.Goals as goal
@@ -42,21 +43,22 @@ done c s keeps =
     let for = sights begun.reading path obs (rows begun.seats.items) s.jobs jobs in
     let same = head c.args.self.now begun s c.begin.ensures.alike keeps in
     let rests = rest-each (reaches (touch.Sight path obs)) 0 (rows begun.seats.items) s.jobs keeps.rests in
-    accepted (seen_table c.args.self.now) (seen_table after) s (Sight path.now obs) [] c.requires.sound.sound.in_range keeps refl
+    accepted (seen_table c.args.self.now) (seen_table after) s (Sight path.now obs) [] c.requires.sound.in_range keeps refl
     (with_orders-so begun after (taken s (Sight path.now obs)) c.ask_touched.ensures.alike
     (record { reading = same.reading; zone = same.zone; settings = same.settings; shutdown = same.shutdown })
     (c.ask_touched.ensures.kept s.jobs item for (sights-fine begun.reading path.now obs) rests jobs)
     (c.ask_touched.ensures.orders s.jobs item for (sights-fine begun.reading path.now obs) rests jobs)) refl
 
-pub returns-clause-answer : goal.returns-clause-answer
-returns-clause-answer c = λ s keeps. (done c s keeps).outcome
-
-pub returns-clause-kept : goal.returns-clause-kept
-returns-clause-kept c = λ s keeps. (done c s keeps).kept
-
-pub returns-clause-spared : goal.returns-clause-spared
-returns-clause-spared c = λ s keeps label past found apart.
-    let begun = c.begin.new.self in
-    let start = alike-state c.args.self.now begun s c.begin.ensures.alike keeps c.begin.ensures.rows in
-    unlisted-spared c.args.path c.args.obs begun c.ask_touched.new.self s label past (own-jobs begun s start) c.begin.ensures.stay c.begin.ensures.sound.once c.ask_touched.ensures.spared found apart
-    ∙ ap (λ rs. count_in (counts rs) label) c.begin.ensures.rows
+pub returns-clause-goes : goal.returns-clause-goes
+returns-clause-goes c = record {
+  answer = λ s keeps. (done c s keeps).outcome;
+  kept = λ s keeps. (done c s keeps).kept;
+  counted = subst (λ rs. IsCounted (counts rs) (rows c.ask_touched.new.self.seats.items) (gone c.ask_touched.new.self.seats.items) c.ask_touched.new.self.visited) c.begin.ensures.rows c.ask_touched.ensures.counted;
+  spared = λ s keeps label past found apart.
+      let begun = c.begin.new.self in
+      let start = alike-state c.args.self.now begun s c.begin.ensures.alike keeps c.begin.ensures.rows in
+      unlisted-spared c.args.path c.args.obs begun c.ask_touched.new.self s label past (own-jobs begun s start) c.begin.ensures.stay c.begin.ensures.sound.once c.ask_touched.ensures.spared found apart
+      ∙ ap (λ rs. count_in (counts rs) label) c.begin.ensures.rows;
+  names = c.ask_touched.ensures.names ∙ c.begin.ensures.names;
+  room = same-room c.begin.ensures.room c.ask_touched.ensures.room;
+}

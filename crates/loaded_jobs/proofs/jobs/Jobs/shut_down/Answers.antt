@@ -1,5 +1,5 @@
 -- The shutdown is heard by every job.
-use Rattle.std.proofs.Common.{Option, true, refl, ap, sym, [], Some, None, ◌∙◌}
+use Rattle.std.proofs.Common.{Option, true, refl, ap, sym, subst, [], Some, None, ◌∙◌}
 use Rattle.std.specs.Prelude.{Ok}
 use Rattle.history_model.specs.declared.Ask.TheVariants.{Shutdown}
 use Rattle.history_model.specs.declared.Refusal.TheVariants.{ShuttingDown}
@@ -8,7 +8,8 @@ use Rattle.history_model.specs.Acceptance.{refused_if}
 use Rattle.history_model.specs.Machine.{State, Job, ShutDown}
 use Rattle.history_model.specs.Step.{taken}
 use Rattle.loaded_jobs.specs.StandsFor.{KeepsState}
-use Rattle.loaded_jobs.specs.Seats.{rows}
+use Rattle.loaded_jobs.specs.Counts.{counts, IsCounted}
+use Rattle.loaded_jobs.specs.Seats.{rows, gone}
 use Rattle.loaded_jobs.specs.TableOutcomes.{plain_outcome}
 use Rattle.loaded_jobs.specs.Sound.{seen_table}
 use Rattle.loaded_jobs.specs.Touch.{reaches}
@@ -17,6 +18,7 @@ use Rattle.loaded_jobs.proofs.HearingLemmas.{shutdown-brings}
 use Rattle.loaded_jobs.specs.declared.jobs.Jobs.{Jobs}
 use Rattle.loaded_jobs.proofs.OutcomesLemmas.{IsDone, accepted}
 use Rattle.loaded_jobs.proofs.EventsLemmas.{alike-state, own-jobs, head, with_orders-so, shutdowns}
+use Rattle.loaded_jobs.proofs.TellingLemmas.{same-room}
 use Rattle.loaded_jobs.proofs.TouchedLemmas.{rest-each}
 use Rattle.loaded_jobs.proofs.jobs.Jobs.shut_down.Goals as goal
 
@@ -46,15 +48,28 @@ done c s keeps =
     let rests = rest-each (reaches touch.Shutdown) 0 (rows begun.seats.items) s.jobs keeps.rests in
     let same = head c.args.self.now begun s c.begin.ensures.alike keeps in
     let alike = c.ask_touched.ensures.alike in
-    accepted (seen_table c.args.self.now) (seen_table (going-as c)) s ShutDown [] c.requires.sound.sound.in_range keeps (ap (λ b. refused_if b ShuttingDown None) (sym keeps.shutdown ∙ c.if-self.false))
+    accepted (seen_table c.args.self.now) (seen_table (going-as c)) s ShutDown [] c.requires.sound.in_range keeps (ap (λ b. refused_if b ShuttingDown None) (sym keeps.shutdown ∙ c.if-self.false))
     (with_orders-so (record begun { is_shutting_down = true }) (going-as c) (taken s ShutDown)
     (record { reading = alike.reading; zone = alike.zone; settings = alike.settings; shutdown = refl })
     (record { reading = same.reading; zone = same.zone; settings = same.settings; shutdown = refl })
     (c.ask_touched.ensures.kept s.jobs item for (λ job present. refl) rests jobs)
     (c.ask_touched.ensures.orders s.jobs item for (λ job present. refl) rests jobs)) refl
 
-pub returns-clause-answer : goal.returns-clause-answer
-returns-clause-answer c = λ s keeps. (done c s keeps).outcome
-
-pub returns-clause-kept : goal.returns-clause-kept
-returns-clause-kept c = λ s keeps. (done c s keeps).kept
+pub returns-clause-goes : goal.returns-clause-goes
+returns-clause-goes c = record {
+  answer = λ s keeps. (done c s keeps).outcome;
+  kept = λ s keeps. (done c s keeps).kept;
+  counted = subst (λ rs. IsCounted (counts rs) (rows c.ask_touched.new.self.seats.items) (gone c.ask_touched.new.self.seats.items) c.ask_touched.new.self.visited) c.begin.ensures.rows c.ask_touched.ensures.counted;
+  spared = λ s keeps label past found apart. cc;
+  names = c.ask_touched.ensures.names ∙ c.begin.ensures.names;
+  room = record {
+    jobs = (same-room c.begin.ensures.room c.ask_touched.ensures.room).jobs;
+    orders = (same-room c.begin.ensures.room c.ask_touched.ensures.room).orders;
+    settings = (same-room c.begin.ensures.room c.ask_touched.ensures.room).settings;
+    numbers = (same-room c.begin.ensures.room c.ask_touched.ensures.room).numbers;
+    moments = (same-room c.begin.ensures.room c.ask_touched.ensures.room).moments;
+    marks = (same-room c.begin.ensures.room c.ask_touched.ensures.room).marks;
+    places = (same-room c.begin.ensures.room c.ask_touched.ensures.room).places;
+    triggers = (same-room c.begin.ensures.room c.ask_touched.ensures.room).triggers;
+  };
+}
