@@ -1,5 +1,6 @@
 -- What the table does on an event of a journal, in which the outside's answers stand.
-use Rattle.std.specs.Prelude.{◌≡◌, List, [], None, Result, Ok, Err}
+use Rattle.std.specs.Prelude.{◌≡◌, false, true, List, [], Some, None, Result, Ok, Err}
+use Rattle.std.specs.List.{AllByRecursion}
 use Rattle.history_model.specs.declared.event.Event as journal
 use Rattle.history_model.specs.declared.event.Event.TheVariants as journaled
 use Rattle.history_model.specs.declared.Refusal.{Refusal}
@@ -7,9 +8,12 @@ use Rattle.history_model.specs.declared.Refusal.TheVariants.{NoMemory}
 use Rattle.history_model.specs.JobItems.{item_of}
 use Rattle.history_model.specs.Machine.{State, Event, UnloadJob, Set, ListJobs, PrintJob, ShutDown, Tick, Sight, OfJob}
 use Rattle.history_model.specs.Step.{Outcome, outcome, step, refused}
-use Rattle.loaded_jobs.specs.Tables.{Table}
+use Rattle.job_core.specs.Memory.{NeedsNoMemory}
+use Rattle.loaded_jobs.specs.Tables.{Table, definition_of_number}
 use Rattle.loaded_jobs.specs.StandsFor.{KeepsState, acts_in}
 use Rattle.loaded_jobs.specs.TableOutcomes.{IsSameFor}
+use Rattle.loaded_jobs.specs.Numbers.{KeepsNames}
+use Rattle.loaded_jobs.specs.Minutes.{has_calendars}
 use Rattle.job_table.specs.declared.take.Taken.{Taken}
 use Rattle.job_table.specs.declared.take.Taken.TheVariants.{Made, Told}
 use Rattle.job_table.specs.LoadOfBytes.{load_of_bytes}
@@ -43,3 +47,31 @@ abbrev pub Takes : Event → Table → Result Taken Refusal → Table → Type 0
 Takes e old (Ok taken) new = Steps e old (outcome_of taken new) new
 Takes e old (Err NoMemory) new = IsSameFor old new
 Takes e old (Err refusal) new = Steps e old (refused refusal) new
+
+-- after a load that was accepted each number that a loaded job had is still its own
+abbrev pub KeepsNumbers : {A : Type 0} → Result A Refusal → Table → Table → Type 0
+KeepsNumbers (Ok a) old new = AllByRecursion
+    (λ row. definition_of_number new.names row.number ≡ Some row.described) old.rows
+KeepsNumbers (Err refusal) old new = Unit {0}
+
+-- A question changes nothing, and a load leaves each job its number. After any other event that was
+-- accepted the names are those of the jobs that were loaded before it
+abbrev pub NamesGoOn : journal.Event → Result Taken Refusal → Table → Table → Type 0
+NamesGoOn (journaled.Load def writes_setting force bind store) result old new =
+    KeepsNumbers result old new
+NamesGoOn journaled.List result old new = new ≡ old
+NamesGoOn (journaled.Print job) result old new = new ≡ old
+NamesGoOn e result old new = KeepsNames result old new
+
+-- Memory may be wanting for a load, for a setting, for a text, and for a reading if a loaded job has
+-- calendar entries; for no other event
+abbrev pub WantsMemory : journal.Event → Table → Result Taken Refusal → Type 0
+WantsMemory (journaled.Load def writes_setting force bind store) table result = Unit {0}
+WantsMemory (journaled.Unload job writes_setting store) table result =
+    writes_setting ≡ false → NeedsNoMemory result
+WantsMemory (journaled.Set job disabled store) table result = Unit {0}
+WantsMemory journaled.List table result = Unit {0}
+WantsMemory (journaled.Print job) table result = Unit {0}
+WantsMemory (journaled.Clock at) table result =
+    result ≡ Err NoMemory → has_calendars table.rows ≡ true
+WantsMemory e table result = NeedsNoMemory result

@@ -26,7 +26,7 @@ use loaded_jobs::{Jobs, all_gone, list};
 pub use loaded_jobs::{NewSetting, Ready};
 use std::alloc::Global;
 use std::marker::Model;
-pub use take::Taken;
+pub use take::{Taken, refused_outside};
 
 /// The loaded jobs. To a contract, the values of a machine that it keeps.
 #[derive(Drop)]

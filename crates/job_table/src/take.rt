@@ -1,13 +1,15 @@
 //! The step of the machine: an event of a journal goes to the table, with the outside's answers that stand in it.
 
-ghost use Rattle.std.specs.Prelude.{◌≡◌, true, []};
+ghost use Rattle.std.specs.Prelude.{◌≡◌, true, false, [], OnErr};
 ghost use Rattle.history_model.specs.Machine.{State, UnloadJob};
 ghost use Rattle.history_model.specs.Step.{step};
 ghost use Rattle.loaded_jobs.specs.StandsFor.{KeepsState};
 ghost use Rattle.loaded_jobs.specs.Loads.{refusal_outside};
 ghost use Rattle.loaded_jobs.specs.SettingChanges.{set_of};
 ghost use Rattle.job_table.specs.LoadOfBytes.{load_of_bytes};
-ghost use Rattle.job_table.specs.Taking.{machine_event, Takes};
+ghost use Rattle.loaded_jobs.specs.Numbers.{KeepsNames};
+ghost use Rattle.job_core.specs.Memory.{NeedsNoMemory};
+ghost use Rattle.job_table.specs.Taking.{machine_event, Takes, NamesGoOn, KeepsNumbers, WantsMemory};
 ghost use Rattle.job_table.specs.declared.take.Taken.TheVariants.{Made};
 
 use crate::JobTable;
@@ -24,15 +26,6 @@ pub enum Taken {
     Told(Text),
 }
 
-/// The words of a load, and what the outside answers to it.
-#[derive(Clone, Copy)]
-struct LoadWords {
-    writes_setting: bool,
-    force: bool,
-    bind: bool,
-    store: bool,
-}
-
 /// A step that has no text.
 fn made(alloc: Global) -> Taken
     ensures { result ≡ Made [] }
@@ -40,23 +33,30 @@ fn made(alloc: Global) -> Taken
     Taken::Made(Text::new(String::new(alloc)))
 }
 
-/// What the outside refuses of a load: the sockets of a job that has any, then the store, if a setting is written.
-fn refused_outside(def: &Def, words: LoadWords) -> Option<Refusal>
-    ensures { result ≡ refusal_outside def.now words.writes_setting words.bind words.store }
+/// What the outside refuses of the load of a definition, if it answers so: the sockets of a job that has any, then the store, if a
+/// setting is written.
+pub fn refused_outside(def: &Def, writes_setting: bool, bind: bool, store: bool) -> Option<Refusal>
+    ensures { result ≡ refusal_outside def.now writes_setting bind store }
 {
-    if def.has_sockets() && !words.bind {
+    if def.has_sockets() && !bind {
         return Some(Refusal::SocketRefused);
     }
-    if words.writes_setting && !words.store {
+    if writes_setting && !store {
         return Some(Refusal::StoreRefused);
     }
     None
 }
 
 impl JobTable {
-    /// The machine's step on an event of a journal. Refusals: those of the machine, and NoMemory, after which the table is as before.
+    /// The machine's step on an event of a journal. Refusals: those of the machine, and NoMemory, after which the table stands for what it
+    /// stood for: only to a load, to a setting that is written, to a question, and to a reading if a loaded job has calendar entries. A
+    /// refused event leaves each row. After one that was accepted each loaded job has the number that it had, and `last_step` lends the
+    /// names.
     pub fn take(&mut self, alloc: Global, event: &Event<'_>) -> Result<Taken, Refusal>
-        ensures { Takes (machine_event event.now) self.old result self.new }
+        ensures takes { Takes (machine_event event.now) self.old result self.new }
+        ensures names { NamesGoOn event.now result self.old self.new }
+        ensures rows { OnErr result (self.new.rows ≡ self.old.rows) }
+        ensures memory { WantsMemory event.now self.old result }
     {
         match event {
             Event::Load {
@@ -65,15 +65,7 @@ impl JobTable {
                 force,
                 bind,
                 store,
-            } => {
-                let words = LoadWords {
-                    writes_setting: *writes_setting,
-                    force: *force,
-                    bind: *bind,
-                    store: *store,
-                };
-                self.take_load(alloc, def.as_str(), words)
-            }
+            } => self.take_load(alloc, def.as_str(), *writes_setting, *force, *bind, *store),
             Event::Unload {
                 job,
                 writes_setting,
@@ -119,13 +111,22 @@ impl JobTable {
     }
 
     /// A definition is handed in; `bind` and `store` are what the outside answers, if it is asked.
-    fn take_load(&mut self, alloc: Global, def: &str, words: LoadWords) -> Result<Taken, Refusal>
-        ensures { Takes
-            (load_of_bytes def.now words.writes_setting words.force words.bind words.store)
+    fn take_load(
+        &mut self,
+        alloc: Global,
+        def: &str,
+        writes_setting: bool,
+        force: bool,
+        bind: bool,
+        store: bool,
+    ) -> Result<Taken, Refusal>
+        ensures takes { Takes (load_of_bytes def.now writes_setting force bind store)
             self.old result self.new }
+        ensures names { KeepsNumbers result self.old self.new }
+        ensures rows { OnErr result (self.new.rows ≡ self.old.rows) }
     {
-        let ready = self.prepare_load(alloc, def.as_bytes(), words.writes_setting, words.force)?;
-        if let Some(refusal) = refused_outside(ready.def(), words) {
+        let ready = self.prepare_load(alloc, def.as_bytes(), writes_setting, force)?;
+        if let Some(refusal) = refused_outside(ready.def(), writes_setting, bind, store) {
             return Err(refusal);
         }
         match loaded(alloc, ready.def().not_acted_on()) {
@@ -146,7 +147,9 @@ impl JobTable {
         unload: bool,
         store: bool,
     ) -> Result<Taken, Refusal>
-        ensures { Takes (set_of job.now disabled unload store) self.old result self.new }
+        ensures takes { Takes (set_of job.now disabled unload store) self.old result self.new }
+        ensures names { KeepsNames result self.old self.new }
+        ensures rows { OnErr result (self.new.rows ≡ self.old.rows) }
     {
         let ready = self.prepare_set(alloc, job, disabled, unload)?;
         if !store {
@@ -164,7 +167,10 @@ impl JobTable {
         writes_setting: bool,
         store: bool,
     ) -> Result<Taken, Refusal>
-        ensures { Takes (UnloadJob job.now writes_setting store) self.old result self.new }
+        ensures takes { Takes (UnloadJob job.now writes_setting store) self.old result self.new }
+        ensures names { KeepsNames result self.old self.new }
+        ensures rows { OnErr result (self.new.rows ≡ self.old.rows) }
+        ensures memory { writes_setting ≡ false → NeedsNoMemory result }
     {
         if writes_setting {
             return self.take_set(alloc, job, true, true, store);

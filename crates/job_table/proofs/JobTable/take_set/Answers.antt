@@ -2,8 +2,8 @@
 use Rattle.job_table.proofs.TakingLemmas.{changed}
 use Rattle.job_table.proofs.JobTable.take_set.Goals as goal
 
-pub returns : goal.returns
-returns c =
+pub returns-clause-takes : goal.returns-clause-takes
+returns-clause-takes c =
     let made = c.in_ok-ready.ensures in
     changed c.args.self.now c.prepare_set.new.self c.commit_set.new.self c.in_ok-ready.ready c.args.job.now c.args.disabled c.args.unload c.args.store c.made.result
     made.label made.disabled made.unload made.admitted c.if-not-store.false made.same c.commit_set.ensures.changes c.made.ensures
