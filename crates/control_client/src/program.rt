@@ -4,9 +4,10 @@ use crate::fault::{Fault, tell};
 use crate::request::{label_of, text_at};
 use crate::session::Session;
 use crate::settings::{SettingFault, Settings, settings_of};
+use ctl_protocol::{LoadRequest, Request};
 use exit_status::{NO_MEMORY, USAGE};
 use files_and_process::path_files::{Found, Kind, files_at};
-use history_model::{Ask, Event, JobItem, Text, TextRef};
+use history_model::{Ask, Text, TextRef};
 use launchctl_words::{Command, Paths, WordFault, Words, explain, read_words, read_words_beside};
 use std::alloc::Global;
 use std::fs::Files;
@@ -24,21 +25,20 @@ enum Deed {
 /// What the words come to.
 enum Task<'a> {
     Files(Deed, &'a Paths),
-    Request(Event<'a>),
+    Request(Request<'a>),
 }
 
 fn asked(label: &Text, ask: Ask) -> Task<'_> {
-    Task::Request(Event::OfJob {
+    Task::Request(Request::Ask {
         job: TextRef::new(label.as_str()),
-        item: JobItem::Asked(ask),
+        ask,
     })
 }
 
 fn set(label: &Text, disabled: bool) -> Task<'_> {
-    Task::Request(Event::Set {
+    Task::Request(Request::Set {
         job: TextRef::new(label.as_str()),
         disabled,
-        store: true,
     })
 }
 
@@ -69,11 +69,11 @@ fn task_of(command: &Command) -> Task<'_> {
         Command::Enable { label } => set(label, false),
         Command::Disable { label } => set(label, true),
         Command::Kickstart { kills_first, label } => asked(label, Ask::Kickstart(*kills_first)),
-        Command::List => Task::Request(Event::List),
-        Command::Print { label } => Task::Request(Event::Print {
+        Command::List => Task::Request(Request::List),
+        Command::Print { label } => Task::Request(Request::Print {
             job: TextRef::new(label.as_str()),
         }),
-        Command::Shutdown => Task::Request(Event::Shutdown),
+        Command::Shutdown => Task::Request(Request::Shutdown),
     }
 }
 
@@ -105,7 +105,7 @@ pub fn jobctl<R: Net + Files + Env + Print + Eprint + AllocGlobal + Clone + Drop
             let mut session = Session::new(socket, patience);
             match task_of(&command) {
                 Task::Files(deed, paths) => hand_in(rt, alloc, &mut session, deed, paths),
-                Task::Request(event) => session.ask_once(rt, alloc, &event),
+                Task::Request(request) => session.ask_once(rt, alloc, &request),
             }
             drop(command);
             let status = session.status();
@@ -225,23 +225,20 @@ fn text_for<R: Files>(rt: &R, alloc: Global, deed: Deed, path: &str) -> Result<T
 }
 
 /// The request that says this.
-fn request_with(deed: Deed, text: &Text) -> Event<'_> {
+fn request_with(deed: Deed, text: &Text) -> Request<'_> {
     let said = TextRef::new(text.as_str());
     match deed {
         Deed::Load {
             writes_setting,
             force,
-        } => Event::Load {
+        } => Request::Load(LoadRequest {
             def: said,
             writes_setting,
             force,
-            bind: true,
-            store: true,
-        },
-        Deed::Unload { writes_setting } => Event::Unload {
+        }),
+        Deed::Unload { writes_setting } => Request::Unload {
             job: said,
             writes_setting,
-            store: true,
         },
     }
 }

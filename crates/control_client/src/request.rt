@@ -1,9 +1,9 @@
 //! What is asked of the launcher.
 
 use crate::fault::Fault;
-use ctl_protocol::{LINE_LIMIT, event_line, request_line};
+use ctl_protocol::{LINE_LIMIT, Outside, Request, event_line, request_line};
 use files_and_process::path_files::read_front;
-use history_model::{Event, Text};
+use history_model::Text;
 use job_defs::{DefFault, read_def};
 use std::alloc::Global;
 use std::fs::Files;
@@ -42,21 +42,21 @@ pub(crate) fn label_of(alloc: Global, text: Text) -> Result<Text, Fault> {
 // The journal may say `false` where the event has `true`, once of the job's sockets and once of the store.
 const REFUSED_MORE: usize = 2;
 
-/// The line that asks for the event, with its newline. TooLong: it has more than [`LINE_LIMIT`] bytes before it. LongRecord:
-/// the line that the launcher's journal may get for it has.
-pub fn request_of(alloc: Global, event: &Event<'_>) -> Result<Vec<u8>, Fault> {
-    let line = request_line(alloc, event)?;
+/// The line that asks this, with its newline. TooLong: it has more than [`LINE_LIMIT`] bytes before it. LongRecord: the line that the
+/// launcher's journal may get for it has.
+pub fn request_of(alloc: Global, request: &Request<'_>) -> Result<Vec<u8>, Fault> {
+    let line = request_line(alloc, request)?;
     if line.len() > LINE_LIMIT + 1 {
         return Err(Fault::TooLong);
     }
-    if record_len(alloc, event)? > LINE_LIMIT + 1 {
+    if record_len(alloc, request)? > LINE_LIMIT + 1 {
         return Err(Fault::LongRecord);
     }
     Ok(line)
 }
 
-// The longest that the journal's line for the event may be, with its newline.
-fn record_len(alloc: Global, event: &Event<'_>) -> Result<usize, Fault> {
-    let record = event_line(alloc, event)?;
+// The longest that the journal's line for the request may be, with its newline.
+fn record_len(alloc: Global, request: &Request<'_>) -> Result<usize, Fault> {
+    let record = event_line(alloc, &request.with(Outside::unasked()))?;
     Ok(record.len().saturating_add(REFUSED_MORE))
 }

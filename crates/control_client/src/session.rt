@@ -4,8 +4,9 @@ use crate::connection::Connection;
 use crate::fault::{Fault, tell};
 use crate::reply::Replied;
 use crate::request::request_of;
+use ctl_protocol::Request;
 use exit_status::{BAD_OUTPUT, NO_ANSWER};
-use history_model::{Event, Text};
+use history_model::Text;
 use std::alloc::Global;
 use std::net::Net;
 
@@ -41,28 +42,28 @@ impl Session {
         }
     }
 
-    /// Asks for the event and prints the reply's text, behind the name if there are both.
+    /// Asks this and prints the reply's text, behind the name if there are both.
     pub(crate) fn ask<R: Net + Print + Eprint>(
         &mut self,
         rt: &R,
         alloc: Global,
-        event: &Event<'_>,
+        request: &Request<'_>,
         name: Option<&str>,
     ) -> Result<(), Fault> {
-        let line = request_of(alloc, event)?;
+        let line = request_of(alloc, request)?;
         let reply = self.exchange(rt, alloc, line.as_slice())?;
         self.note(reply.code);
         print(rt, &reply, name)
     }
 
-    /// Asks for the event, prints the reply's text, and tells what kept the request from its reply.
+    /// Asks this, prints the reply's text, and tells what kept the request from its reply.
     pub(crate) fn ask_once<R: Net + Print + Eprint>(
         &mut self,
         rt: &R,
         alloc: Global,
-        event: &Event<'_>,
+        request: &Request<'_>,
     ) {
-        match self.ask(rt, alloc, event, None) {
+        match self.ask(rt, alloc, request, None) {
             Ok(()) => {}
             Err(fault) => self.fail(rt, "request", &fault),
         }

@@ -14,10 +14,13 @@ use Rattle.history_model.specs.declared.event.JobItem.TheVariants as happens
 use Rattle.history_model.specs.declared.Ask.TheVariants as asks
 use Rattle.history_model.specs.declared.Answer.TheVariants as answers
 use Rattle.ctl_protocol.specs.declared.members.Form.TheVariants as forms
+use Rattle.ctl_protocol.specs.declared.request.Request.{Request}
+use Rattle.ctl_protocol.specs.declared.request.Request.TheVariants as requests
+use Rattle.ctl_protocol.specs.Requests.{event_with, unasked}
 use Rattle.ctl_protocol.specs.Targets.{is_slash, behind_domain, label_named}
 use Rattle.ctl_protocol.specs.Members.{◌>>=◌, text_key, number_key, flag_key, flag_or, label_key, target_key, has_only}
-use Rattle.ctl_protocol.specs.EventLines.{load_shape, unload_shape, job_shape, target_shape, setting_shape, kickstart_shape, bare_shape, asked_shape, clock_shape, sight_keys, has_saw_keys, saw_shape, connection_shape, pid_key, spawned_shape, run_shape, answer_shape, byte_key, end_key, ended_shape, journal_shape, event_shape, request_shape_of, event_at, request_at}
-use Rattle.ctl_protocol.specs.EventWriter.{name_of, line_members, answer_members, event_object, is_writable, is_request}
+use Rattle.ctl_protocol.specs.EventLines.{load_shape, unload_shape, job_shape, target_shape, kickstart_shape, bare_shape, asked_shape, answers_in, answered_shape, clock_shape, sight_keys, has_saw_keys, saw_shape, connection_shape, pid_key, spawned_shape, run_shape, answer_shape, byte_key, end_key, ended_shape, journal_shape, event_shape, request_shape_of, event_at, request_at}
+use Rattle.ctl_protocol.specs.EventWriter.{name_of, line_members, answer_members, event_object, request_object, is_writable, is_request}
 use Rattle.ctl_protocol.proofs.ObjectsLemmas.{line_depth}
 use Rattle.history_model.proofs.BooleanLemmas.{and-left, and-right, false-or, not-true, or-false-first, or-false-second}
 
@@ -42,7 +45,7 @@ unfolding label_named behind_domain
 named job h = rw (label_alone job h) (kept (is_label job) job h)
 
 pub journal_shape_back : (e : Event) → is_writable e ≡ true → event_shape (event_object forms.Event e) ≡ Some e
-unfolding event_shape journal_shape asked_shape load_shape unload_shape job_shape target_shape setting_shape kickstart_shape bare_shape clock_shape sight_keys has_saw_keys saw_shape connection_shape pid_key spawned_shape run_shape answer_shape byte_key end_key ended_shape text_key number_key flag_key flag_or label_key target_key has_only
+unfolding event_shape journal_shape answered_shape answers_in asked_shape load_shape unload_shape job_shape target_shape kickstart_shape bare_shape clock_shape sight_keys has_saw_keys saw_shape connection_shape pid_key spawned_shape run_shape answer_shape byte_key end_key ended_shape text_key number_key flag_key flag_or label_key target_key has_only
 journal_shape_back (events.Load def writes_setting force bind store) h = refl
 journal_shape_back (events.Unload job writes_setting store) h = rw (kept (is_label job) job h) refl
 journal_shape_back (events.Set job true store) h = rw (named job h) refl
@@ -70,32 +73,20 @@ journal_shape_back (events.OfJob job (happens.Ended run (Signal n))) h =
     rw (kept (is_label job) job (and-left (is_label job) _ h), kept (nat_lt n 256) n (and-right (is_label job) _ h)) refl
 journal_shape_back (events.OfJob job (happens.WaitRefused run)) h = rw (kept (is_label job) job (and-left (is_label job) _ h)) refl
 
-pub request_shape_back : (e : Event) → is_request e ≡ true → request_shape_of (event_object forms.Request e) ≡ Some e
-unfolding request_shape_of asked_shape load_shape unload_shape job_shape target_shape setting_shape kickstart_shape bare_shape text_key flag_or label_key target_key has_only
-request_shape_back (events.Load def writes_setting force true true) h = refl
-request_shape_back (events.Load def writes_setting force false store) h = absurd (true≢false (sym h))
-request_shape_back (events.Load def writes_setting force true false) h = absurd (true≢false (sym h))
-request_shape_back (events.Unload job writes_setting true) h = rw (kept (is_label job) job (and-left (is_label job) _ h)) refl
-request_shape_back (events.Unload job writes_setting false) h = absurd (true≢false (sym (and-right (is_label job) _ h)))
-request_shape_back (events.Set job true true) h = rw (named job (and-left (is_label job) _ h)) refl
-request_shape_back (events.Set job false true) h = rw (named job (and-left (is_label job) _ h)) refl
-request_shape_back (events.Set job true false) h = absurd (true≢false (sym (and-right (is_label job) _ h)))
-request_shape_back (events.Set job false false) h = absurd (true≢false (sym (and-right (is_label job) _ h)))
-request_shape_back events.List h = refl
-request_shape_back (events.Print job) h = rw (named job h) refl
-request_shape_back events.Shutdown h = refl
-request_shape_back (events.Clock at) h = absurd (true≢false (sym h))
-request_shape_back (events.Saw path obs) h = absurd (true≢false (sym h))
-request_shape_back (events.OfJob job (happens.Asked asks.Start)) h = rw (kept (is_label job) job (and-left (is_label job) _ h)) refl
-request_shape_back (events.OfJob job (happens.Asked asks.Stop)) h = rw (kept (is_label job) job (and-left (is_label job) _ h)) refl
-request_shape_back (events.OfJob job (happens.Asked (asks.Kickstart kills_first))) h = rw (named job (and-left (is_label job) _ h)) refl
-request_shape_back (events.OfJob job (happens.Asked asks.Unload)) h = absurd (true≢false (sym (and-right (is_label job) _ h)))
-request_shape_back (events.OfJob job (happens.Asked asks.Shutdown)) h = absurd (true≢false (sym (and-right (is_label job) _ h)))
-request_shape_back (events.OfJob job (happens.Came conn)) h = absurd (true≢false (sym (and-right (is_label job) _ h)))
-request_shape_back (events.OfJob job (happens.Left conn)) h = absurd (true≢false (sym (and-right (is_label job) _ h)))
-request_shape_back (events.OfJob job (happens.Answered answer)) h = absurd (true≢false (sym (and-right (is_label job) _ h)))
-request_shape_back (events.OfJob job (happens.Ended run how)) h = absurd (true≢false (sym (and-right (is_label job) _ h)))
-request_shape_back (events.OfJob job (happens.WaitRefused run)) h = absurd (true≢false (sym (and-right (is_label job) _ h)))
+pub request_shape_back : (r : Request) → is_request r ≡ true → request_shape_of (request_object r) ≡ Some r
+unfolding request_shape_of asked_shape load_shape unload_shape job_shape target_shape kickstart_shape bare_shape text_key flag_or label_key target_key has_only
+request_shape_back (requests.Load load) h = refl
+request_shape_back (requests.Unload job writes_setting) h = rw (kept (is_label job) job h) refl
+request_shape_back (requests.Set job true) h = rw (named job h) refl
+request_shape_back (requests.Set job false) h = rw (named job h) refl
+request_shape_back requests.List h = refl
+request_shape_back (requests.Print job) h = rw (named job h) refl
+request_shape_back requests.Shutdown h = refl
+request_shape_back (requests.Ask job asks.Start) h = rw (kept (is_label job) job (and-left (is_label job) _ h)) refl
+request_shape_back (requests.Ask job asks.Stop) h = rw (kept (is_label job) job (and-left (is_label job) _ h)) refl
+request_shape_back (requests.Ask job (asks.Kickstart kills_first)) h = rw (named job (and-left (is_label job) _ h)) refl
+request_shape_back (requests.Ask job asks.Unload) h = absurd (true≢false (sym (and-right (is_label job) _ h)))
+request_shape_back (requests.Ask job asks.Shutdown) h = absurd (true≢false (sym (and-right (is_label job) _ h)))
 
 -- ---- whole lines
 
@@ -111,10 +102,11 @@ unfolding event_at
 event_back e d same read h =
     ap (λ o. o >>= event_shape) (read_at d (event_object forms.Event e) same (line_depth forms.Event (name_of e) (line_members e) (answer_members e)) read) ∙ journal_shape_back e h
 
-pub request_back : (e : Event) (d : Data) → d ≡ event_object forms.Request e → IsRead d → is_request e ≡ true → request_at (compact_text (event_object forms.Request e)) ≡ Some e
+pub request_back : (r : Request) (d : Data) → d ≡ request_object r → IsRead d → is_request r ≡ true → request_at (compact_text (request_object r)) ≡ Some r
 unfolding request_at
-request_back e d same read h =
-    ap (λ o. o >>= request_shape_of) (read_at d (event_object forms.Request e) same (line_depth forms.Request (name_of e) (line_members e) (answer_members e)) read) ∙ request_shape_back e h
+request_back r d same read h =
+    let e : Event = event_with unasked r in
+    ap (λ o. o >>= request_shape_of) (read_at d (request_object r) same (line_depth forms.Request (name_of e) (line_members e) (answer_members e)) read) ∙ request_shape_back r h
 
 pub on_ok : {X E : Type 0} {P Q : Type 0} (r : Result X E) → (P → Q) → OnOk r P → OnOk r Q
 on_ok (Ok x) f p = f p

@@ -1,7 +1,7 @@
 -- The lines of events, shape by shape: the keys that each must or may have, their kinds, and
 -- the event that they give. A request has the same shape under the key `req`, without the
--- answers of the outside.
-use Rattle.std.specs.Prelude.{ℕ, ◌^◌, List, [], ◌∷◌, ◌++◌, codes, Bool, true, false, ◌&&◌, Option, Some, None, nat_lt, if◌then◌else◌}
+-- answers of the outside; in a journal it is an event with them.
+use Rattle.std.specs.Prelude.{ℕ, ◌^◌, List, [], ◌∷◌, codes, Bool, true, false, ◌&&◌, Option, Some, None, nat_lt, if◌then◌else◌}
 use Rattle.std.specs.Str.{bytes_eq}
 use Rattle.serde_json.specs.Data.{Data}
 use Rattle.serde_json.specs.Find.{get}
@@ -16,6 +16,10 @@ use Rattle.history_model.specs.declared.Ask.TheVariants as asks
 use Rattle.history_model.specs.declared.Answer.TheVariants as answers
 use Rattle.ctl_protocol.specs.declared.members.Form.{Form}
 use Rattle.ctl_protocol.specs.declared.members.Form.TheVariants as forms
+use Rattle.ctl_protocol.specs.declared.request.Outside.{Outside}
+use Rattle.ctl_protocol.specs.declared.request.Request.{Request}
+use Rattle.ctl_protocol.specs.declared.request.Request.TheVariants as requests
+use Rattle.ctl_protocol.specs.Requests.{event_with}
 use Rattle.json_kinds.specs.Json.{json_in}
 use Rattle.ctl_protocol.specs.Members.{◌>>=◌, text_key, number_key, flag_key, flag_or, label_key, target_key, has_only, tag_of}
 
@@ -26,81 +30,90 @@ abbrev pub has_load_keys : Form → Data → Bool
 has_load_keys form d =
     has_only form (codes "def" ∷ codes "w" ∷ codes "F" ∷ []) (codes "bind" ∷ codes "store" ∷ []) d
 
--- `load`: the text `def`; the flags `w` and `F` (false); the answers `bind` and `store` (true)
-unfoldable pub load_shape : Form → Data → Option Event
+-- `load`: the text `def`; the flags `w` and `F` (false); the answers `bind` and `store`
+unfoldable pub load_shape : Form → Data → Option Request
 load_shape form d = if has_load_keys form d then (do
   def ← text_key (codes "def") d
   writes_setting ← flag_or (codes "w") false d
   force ← flag_or (codes "F") false d
-  bind ← flag_or (codes "bind") true d
-  store ← flag_or (codes "store") true d
-  Some (events.Load def writes_setting force bind store)) else None
+  Some (requests.Load (record { def = def; writes_setting = writes_setting; force = force })))
+    else None
 
--- `unload`: the label `job`; the flag `w` (false); the answer `store` (true)
-unfoldable pub unload_shape : Form → Data → Option Event
+-- `unload`: the label `job`; the flag `w` (false); the answer `store`
+unfoldable pub unload_shape : Form → Data → Option Request
 unload_shape form d =
     if has_only form (codes "job" ∷ codes "w" ∷ []) (codes "store" ∷ []) d then (do
       job ← label_key (codes "job") d
       writes_setting ← flag_or (codes "w") false d
-      store ← flag_or (codes "store") true d
-      Some (events.Unload job writes_setting store)) else None
+      Some (requests.Unload job writes_setting)) else None
 
 -- `start` and `stop`: the label `job`
-unfoldable pub job_shape : Ask → Form → Data → Option Event
+unfoldable pub job_shape : Ask → Form → Data → Option Request
 job_shape ask form d = if has_only form (codes "job" ∷ []) [] d then (do
   job ← label_key (codes "job") d
-  Some (events.OfJob job (happens.Asked ask))) else None
+  Some (requests.Ask job ask)) else None
 
--- `print`: the target `job`
-unfoldable pub target_shape : Form → Data → Option (List ℕ)
-target_shape form d =
-    if has_only form (codes "job" ∷ []) [] d then target_key (codes "job") d else None
-
--- `enable` and `disable`: the target `job`; the answer `store` (true)
-unfoldable pub setting_shape : Bool → Form → Data → Option Event
-setting_shape disabled form d = if has_only form (codes "job" ∷ []) (codes "store" ∷ []) d then (do
-  job ← target_key (codes "job") d
-  store ← flag_or (codes "store") true d
-  Some (events.Set job disabled store)) else None
+-- `print`, `enable` and `disable`: the target `job`; of the last two the answer `store`
+unfoldable pub target_shape : List (List ℕ) → Form → Data → Option (List ℕ)
+target_shape answers form d =
+    if has_only form (codes "job" ∷ []) answers d then target_key (codes "job") d else None
 
 -- `kickstart`: the target `job`; the flag `k` (false)
-unfoldable pub kickstart_shape : Form → Data → Option Event
+unfoldable pub kickstart_shape : Form → Data → Option Request
 kickstart_shape form d = if has_only form (codes "job" ∷ codes "k" ∷ []) [] d then (do
   job ← target_key (codes "job") d
   kills_first ← flag_or (codes "k") false d
-  Some (events.OfJob job (happens.Asked (asks.Kickstart kills_first)))) else None
+  Some (requests.Ask job (asks.Kickstart kills_first))) else None
 
 -- `list` and `shutdown`: no key beside the tag
-unfoldable pub bare_shape : Event → Form → Data → Option Event
-bare_shape event form d = if has_only form [] [] d then Some event else None
+unfoldable pub bare_shape : Request → Form → Data → Option Request
+bare_shape request form d = if has_only form [] [] d then Some request else None
 
 -- a shape under its name
-abbrev Shape : Type 0
-Shape = List ℕ × (Data → Option Event)
+abbrev Shape : Type 0 → Type 0
+Shape A = List ℕ × (Data → Option A)
 
--- the event that a line of this name tells
-abbrev shape_of : List ℕ → List Shape → Data → Option Event
-shape_of name [] d = None
-shape_of name (r ∷ rows) d = if bytes_eq name r.0 then r.1 d else shape_of name rows d
+-- what a line of this name tells, if none of the names is it, by the last
+abbrev shape_of : {A : Type 0} → List ℕ → List (Shape A) → (Data → Option A) → Data → Option A
+shape_of name [] last d = last d
+shape_of name (r ∷ rows) last d = if bytes_eq name r.0 then r.1 d else shape_of name rows last d
+
+-- no line is told
+abbrev no_shape : {A : Type 0} → Data → Option A
+no_shape d = None
 
 -- the shapes of what clients ask
-abbrev pub request_shapes : Form → List Shape
+abbrev pub request_shapes : Form → List (Shape Request)
 request_shapes form =
     (codes "load", load_shape form)
     ∷ (codes "unload", unload_shape form)
     ∷ (codes "start", job_shape asks.Start form)
     ∷ (codes "stop", job_shape asks.Stop form)
     ∷ (codes "kickstart", kickstart_shape form)
-    ∷ (codes "enable", setting_shape false form)
-    ∷ (codes "disable", setting_shape true form)
-    ∷ (codes "list", bare_shape events.List form)
-    ∷ (codes "print", λ d. target_shape form d >>= λ job. Some (events.Print job))
-    ∷ (codes "shutdown", bare_shape events.Shutdown form)
+    ∷ (codes "enable", λ d. target_shape (codes "store" ∷ []) form d >>= λ job. Some (requests.Set job false))
+    ∷ (codes "disable", λ d. target_shape (codes "store" ∷ []) form d >>= λ job. Some (requests.Set job true))
+    ∷ (codes "list", bare_shape requests.List form)
+    ∷ (codes "print", λ d. target_shape [] form d >>= λ job. Some (requests.Print job))
+    ∷ (codes "shutdown", bare_shape requests.Shutdown form)
     ∷ []
 
--- the event that a client asks for under this name
-unfoldable pub asked_shape : List ℕ → Form → Data → Option Event
-asked_shape name form d = shape_of name (request_shapes form) d
+-- what a client asks under this name
+unfoldable pub asked_shape : List ℕ → Form → Data → Option Request
+asked_shape name form d = shape_of name (request_shapes form) no_shape d
+
+-- the answers `bind` and `store` (true), of those that a shape may have
+unfoldable pub answers_in : Data → Option Outside
+answers_in d = do
+  bind ← flag_or (codes "bind") true d
+  store ← flag_or (codes "store") true d
+  Some (record { bind = bind; store = store })
+
+-- the event of a journal under this name: what a client asked, with the outside's answers
+unfoldable pub answered_shape : List ℕ → Data → Option Event
+answered_shape name d = do
+  request ← asked_shape name forms.Event d
+  outside ← answers_in d
+  Some (event_with outside request)
 
 -- ---- what the outside tells
 
@@ -197,7 +210,7 @@ ended_shape d = if has_ended_keys d then (do
   Some (events.OfJob job (happens.Ended run how))) else None
 
 -- the shapes of what the outside says
-abbrev pub journal_shapes : List Shape
+abbrev pub journal_shapes : List (Shape Event)
 journal_shapes =
     (codes "clock", clock_shape)
     ∷ (codes "saw", saw_shape)
@@ -229,7 +242,7 @@ journal_shapes =
 
 -- a line of a journal has a shape of either table
 unfoldable pub journal_shape : List ℕ → Data → Option Event
-journal_shape name d = shape_of name (journal_shapes ++ request_shapes forms.Event) d
+journal_shape name d = shape_of name journal_shapes (answered_shape name) d
 
 -- ---- whole lines
 
@@ -237,14 +250,14 @@ journal_shape name d = shape_of name (journal_shapes ++ request_shapes forms.Eve
 unfoldable pub event_shape : Data → Option Event
 event_shape d = text_key (tag_of forms.Event) d >>= λ name. journal_shape name d
 
--- the event that the object of a request asks for
-unfoldable pub request_shape_of : Data → Option Event
+-- what the object of a request asks
+unfoldable pub request_shape_of : Data → Option Request
 request_shape_of d = text_key (tag_of forms.Request) d >>= λ name. asked_shape name forms.Request d
 
 -- the event that a line of a journal is
 unfoldable pub event_at : List ℕ → Option Event
 event_at line = json_in line >>= event_shape
 
--- the event that a request asks for; the outside's answers count as given
-unfoldable pub request_at : List ℕ → Option Event
+-- what a client's line asks
+unfoldable pub request_at : List ℕ → Option Request
 request_at line = json_in line >>= request_shape_of

@@ -14,6 +14,8 @@ use Rattle.history_model.specs.declared.Answer.TheVariants as answers
 use Rattle.history_model.specs.Labels.{is_label}
 use Rattle.ctl_protocol.specs.declared.members.Form.{Form}
 use Rattle.ctl_protocol.specs.declared.members.Form.TheVariants as forms
+use Rattle.ctl_protocol.specs.declared.request.Request.{Request}
+use Rattle.ctl_protocol.specs.Requests.{event_with, unasked}
 use Rattle.ctl_protocol.specs.Members.{tag_of, has_answers}
 use Rattle.ctl_protocol.specs.Objects.{Plain, text, flag, count, with_members, line_of}
 
@@ -141,9 +143,13 @@ event_object form e = line_object form (name_of e) (line_members e) (answer_memb
 abbrev pub event_line : Event → List ℕ
 event_line e = line_of (event_object forms.Event e)
 
+-- the object of the line that asks for it: no answer stands in it
+abbrev pub request_object : Request → Data
+request_object r = event_object forms.Request (event_with unasked r)
+
 -- the line by which a client asks for it, with its newline
-abbrev pub request_line : Event → List ℕ
-request_line e = line_of (event_object forms.Request e)
+abbrev pub request_line : Request → List ℕ
+request_line r = line_of (request_object r)
 
 -- ---- which events a line can tell: the job is a label, and each number is one of its shape
 
@@ -177,18 +183,6 @@ is_writable (events.Clock at) = true
 is_writable (events.Saw path obs) = true
 is_writable (events.OfJob job item) = is_label job && is_writable_item item
 
--- a client asks for it
-abbrev is_asked : JobItem → Bool
-is_asked (happens.Asked ask) = is_ask_of_job ask
-is_asked _ = false
-
--- what a client may ask, with answers that count as given
-abbrev pub is_request : Event → Bool
-is_request (events.Load def writes_setting force bind store) = bind && store
-is_request (events.Unload job writes_setting store) = is_label job && store
-is_request (events.Set job disabled store) = is_label job && store
-is_request events.List = true
-is_request (events.Print job) = is_label job
-is_request events.Shutdown = true
-is_request (events.OfJob job item) = is_label job && is_asked item
-is_request _ = false
+-- a line can ask for it
+abbrev pub is_request : Request → Bool
+is_request r = is_writable (event_with unasked r)

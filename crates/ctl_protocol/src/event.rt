@@ -3,18 +3,20 @@
 ghost use Rattle.std.specs.Prelude.{◌≡◌};
 ghost use Rattle.ctl_protocol.specs.Members.{Reads};
 ghost use Rattle.ctl_protocol.specs.Line.{seen};
-ghost use Rattle.ctl_protocol.specs.EventLines.{event_at, event_shape, request_at, request_shape_of, asked_shape, journal_shape, load_shape, unload_shape, job_shape, target_shape, setting_shape, kickstart_shape, bare_shape, clock_shape, saw_shape, sight_keys, has_saw_keys as saw_keys, connection_shape, pid_key, spawned_shape, run_shape, answer_shape, byte_key, end_key, ended_shape};
+ghost use Rattle.json_kinds.specs.JsonKinds.{texts_in};
+ghost use Rattle.ctl_protocol.specs.EventLines.{event_at, event_shape, request_at, request_shape_of, asked_shape, journal_shape, load_shape, unload_shape, job_shape, target_shape, kickstart_shape, bare_shape, answers_in as answers_told, answered_shape, clock_shape, saw_shape, sight_keys, has_saw_keys as saw_keys, connection_shape, pid_key, spawned_shape, run_shape, answer_shape, byte_key, end_key, ended_shape};
 
 use crate::line::Line;
 use crate::members::{
     Form, ReadFault, flag_in, flag_or_in, has_only_keys, label_in, number_in, target_in, text_in,
 };
+use crate::request::{LoadRequest, Outside, Request};
 use history_model::{Answer, Ask, Ended, Event, JobItem, Obs, Reading, TextRef};
 use json::Scratch;
 use std::alloc::{AllocError, Global};
 
 #[tactic(auto, unfolding(crate::specs::EventLines::load_shape))]
-fn load_in<'a>(form: Form, line: &Line<'a>) -> Result<Event<'a>, ReadFault>
+fn load_in<'a>(form: Form, line: &Line<'a>) -> Result<Request<'a>, ReadFault>
     ensures { Reads result (load_shape form (seen line.now)) }
 {
     if !has_only_keys(form, line, &["def", "w", "F"], &["bind", "store"]) {
@@ -23,19 +25,15 @@ fn load_in<'a>(form: Form, line: &Line<'a>) -> Result<Event<'a>, ReadFault>
     let def = text_in(line, "def")?;
     let writes_setting = flag_or_in(line, "w", false)?;
     let force = flag_or_in(line, "F", false)?;
-    let bind = flag_or_in(line, "bind", true)?;
-    let store = flag_or_in(line, "store", true)?;
-    Ok(Event::Load {
+    Ok(Request::Load(LoadRequest {
         def: TextRef::new(def),
         writes_setting,
         force,
-        bind,
-        store,
-    })
+    }))
 }
 
 #[tactic(auto, unfolding(crate::specs::EventLines::unload_shape))]
-fn unload_in<'a>(form: Form, line: &Line<'a>) -> Result<Event<'a>, ReadFault>
+fn unload_in<'a>(form: Form, line: &Line<'a>) -> Result<Request<'a>, ReadFault>
     ensures { Reads result (unload_shape form (seen line.now)) }
 {
     if !has_only_keys(form, line, &["job", "w"], &["store"]) {
@@ -43,56 +41,39 @@ fn unload_in<'a>(form: Form, line: &Line<'a>) -> Result<Event<'a>, ReadFault>
     }
     let job = label_in(line, "job")?;
     let writes_setting = flag_or_in(line, "w", false)?;
-    let store = flag_or_in(line, "store", true)?;
-    Ok(Event::Unload {
+    Ok(Request::Unload {
         job,
         writes_setting,
-        store,
     })
 }
 
 #[tactic(auto, unfolding(crate::specs::EventLines::job_shape))]
-fn job_in<'a>(ask: Ask, form: Form, line: &Line<'a>) -> Result<Event<'a>, ReadFault>
+fn job_in<'a>(ask: Ask, form: Form, line: &Line<'a>) -> Result<Request<'a>, ReadFault>
     ensures { Reads result (job_shape ask form (seen line.now)) }
 {
     if !has_only_keys(form, line, &["job"], &[]) {
         return Err(ReadFault::BadRequest);
     }
     let job = label_in(line, "job")?;
-    Ok(Event::OfJob {
-        job,
-        item: JobItem::Asked(ask),
-    })
+    Ok(Request::Ask { job, ask })
 }
 
 #[tactic(auto, unfolding(crate::specs::EventLines::target_shape))]
-fn lone_target_in<'a>(form: Form, line: &Line<'a>) -> Result<TextRef<'a>, ReadFault>
-    ensures { Reads result (target_shape form (seen line.now)) }
+fn lone_target_in<'a>(
+    form: Form,
+    line: &Line<'a>,
+    answers: &[&str],
+) -> Result<TextRef<'a>, ReadFault>
+    ensures { Reads result (target_shape (texts_in answers.now) form (seen line.now)) }
 {
-    if !has_only_keys(form, line, &["job"], &[]) {
+    if !has_only_keys(form, line, &["job"], answers) {
         return Err(ReadFault::BadRequest);
     }
     target_in(line, "job")
 }
 
-#[tactic(auto, unfolding(crate::specs::EventLines::setting_shape))]
-fn setting_in<'a>(disabled: bool, form: Form, line: &Line<'a>) -> Result<Event<'a>, ReadFault>
-    ensures { Reads result (setting_shape disabled form (seen line.now)) }
-{
-    if !has_only_keys(form, line, &["job"], &["store"]) {
-        return Err(ReadFault::BadRequest);
-    }
-    let job = target_in(line, "job")?;
-    let store = flag_or_in(line, "store", true)?;
-    Ok(Event::Set {
-        job,
-        disabled,
-        store,
-    })
-}
-
 #[tactic(auto, unfolding(crate::specs::EventLines::kickstart_shape))]
-fn kickstart_in<'a>(form: Form, line: &Line<'a>) -> Result<Event<'a>, ReadFault>
+fn kickstart_in<'a>(form: Form, line: &Line<'a>) -> Result<Request<'a>, ReadFault>
     ensures { Reads result (kickstart_shape form (seen line.now)) }
 {
     if !has_only_keys(form, line, &["job", "k"], &[]) {
@@ -100,25 +81,25 @@ fn kickstart_in<'a>(form: Form, line: &Line<'a>) -> Result<Event<'a>, ReadFault>
     }
     let job = target_in(line, "job")?;
     let kills_first = flag_or_in(line, "k", false)?;
-    Ok(Event::OfJob {
+    Ok(Request::Ask {
         job,
-        item: JobItem::Asked(Ask::Kickstart(kills_first)),
+        ask: Ask::Kickstart(kills_first),
     })
 }
 
 #[tactic(auto, unfolding(crate::specs::EventLines::bare_shape))]
-fn bare_in<'a>(event: Event<'a>, form: Form, line: &Line<'_>) -> Result<Event<'a>, ReadFault>
-    ensures { Reads result (bare_shape event.entry form (seen line.now)) }
+fn bare_in<'a>(request: Request<'a>, form: Form, line: &Line<'_>) -> Result<Request<'a>, ReadFault>
+    ensures { Reads result (bare_shape request.entry form (seen line.now)) }
 {
     if !has_only_keys(form, line, &[], &[]) {
         return Err(ReadFault::BadRequest);
     }
-    Ok(event)
+    Ok(request)
 }
 
 /// The shape of what a client asks, of either form.
 #[tactic(auto, unfolding(crate::specs::EventLines::asked_shape))]
-fn request_named<'a>(name: &str, form: Form, line: &Line<'a>) -> Result<Event<'a>, ReadFault>
+fn request_named<'a>(name: &str, form: Form, line: &Line<'a>) -> Result<Request<'a>, ReadFault>
     ensures { Reads result (asked_shape name.now form (seen line.now)) }
 {
     match name {
@@ -127,16 +108,44 @@ fn request_named<'a>(name: &str, form: Form, line: &Line<'a>) -> Result<Event<'a
         "start" => job_in(Ask::Start, form, line),
         "stop" => job_in(Ask::Stop, form, line),
         "kickstart" => kickstart_in(form, line),
-        "enable" => setting_in(false, form, line),
-        "disable" => setting_in(true, form, line),
-        "list" => bare_in(Event::List, form, line),
-        "print" => {
-            let job = lone_target_in(form, line)?;
-            Ok(Event::Print { job })
+        "enable" => {
+            let job = lone_target_in(form, line, &["store"])?;
+            let disabled = false;
+            Ok(Request::Set { job, disabled })
         }
-        "shutdown" => bare_in(Event::Shutdown, form, line),
+        "disable" => {
+            let job = lone_target_in(form, line, &["store"])?;
+            let disabled = true;
+            Ok(Request::Set { job, disabled })
+        }
+        "list" => bare_in(Request::List, form, line),
+        "print" => {
+            let job = lone_target_in(form, line, &[])?;
+            Ok(Request::Print { job })
+        }
+        "shutdown" => bare_in(Request::Shutdown, form, line),
         _ => Err(ReadFault::BadRequest),
     }
+}
+
+/// What the outside answered, as a journal tells it. What is not told was not asked.
+#[tactic(auto, unfolding(crate::specs::EventLines::answers_in))]
+fn answers_in(line: &Line<'_>) -> Result<Outside, ReadFault>
+    ensures { Reads result (answers_told (seen line.now)) }
+{
+    let bind = flag_or_in(line, "bind", true)?;
+    let store = flag_or_in(line, "store", true)?;
+    Ok(Outside { bind, store })
+}
+
+/// The shape of what a client asked, with the outside's answers.
+#[tactic(auto, unfolding(crate::specs::EventLines::answered_shape))]
+fn answered_named<'a>(name: &str, line: &Line<'a>) -> Result<Event<'a>, ReadFault>
+    ensures { Reads result (answered_shape name.now (seen line.now)) }
+{
+    let request = request_named(name, Form::Event, line)?;
+    let outside = answers_in(line)?;
+    Ok(request.with(outside))
 }
 
 #[tactic(auto, unfolding(crate::specs::EventLines::clock_shape))]
@@ -300,7 +309,7 @@ fn ended_in<'a>(line: &Line<'a>) -> Result<Event<'a>, ReadFault>
 }
 
 /// The shape of any event.
-#[tactic(auto, unfolding(crate::specs::EventLines::journal_shape, crate::specs::EventLines::asked_shape))]
+#[tactic(auto, unfolding(crate::specs::EventLines::journal_shape))]
 fn journal_in<'a>(name: &str, line: &Line<'a>) -> Result<Event<'a>, ReadFault>
     ensures { Reads result (journal_shape name.now (seen line.now)) }
 {
@@ -339,7 +348,7 @@ fn journal_in<'a>(name: &str, line: &Line<'a>) -> Result<Event<'a>, ReadFault>
             let item = JobItem::WaitRefused { run };
             Ok(Event::OfJob { job, item })
         }
-        _ => request_named(name, Form::Event, line),
+        _ => answered_named(name, line),
     }
 }
 
@@ -352,7 +361,7 @@ fn event_in<'a>(line: &Line<'a>) -> Result<Event<'a>, ReadFault>
 }
 
 #[tactic(auto, unfolding(crate::specs::EventLines::request_shape_of))]
-fn request_in<'a>(line: &Line<'a>) -> Result<Event<'a>, ReadFault>
+fn request_in<'a>(line: &Line<'a>) -> Result<Request<'a>, ReadFault>
     ensures { Reads result (request_shape_of (seen line.now)) }
 {
     let name = text_in(line, Form::Request.tag())?;
@@ -408,14 +417,14 @@ pub fn read_event<'a>(
     event_in(&line)
 }
 
-/// The event that a control client's line asks for, the newline left out. The outside's answers, which a client
-/// doesn't tell, stand as given. BadRequest if it is no request. Its texts are borrowed of the line, or of the room.
+/// What a control client's line asks, the newline left out. BadRequest if it is no request. Its texts are borrowed of the line, or of the
+/// room.
 #[tactic(auto, unfolding(crate::specs::EventLines::request_at))]
 pub fn read_request<'a>(
     alloc: Global,
     line: &'a [u8],
     room: &'a mut LineRoom,
-) -> Result<Event<'a>, ReadFault>
+) -> Result<Request<'a>, ReadFault>
     ensures { Reads result (request_at line.now) }
 {
     let line = Line::read(alloc, line, room.lent(alloc)?)?;

@@ -11,10 +11,11 @@ ghost use Rattle.ctl_protocol.specs.EventLines.{event_at, request_at};
 ghost use Rattle.ctl_protocol.specs.declared.members.Form.TheVariants as forms;
 ghost use Rattle.ctl_protocol.specs.Objects.{flag, flags_of, plains_of, plain_of};
 ghost use Rattle.ctl_protocol.specs.EventWriter as lines;
-ghost use Rattle.ctl_protocol.specs.EventWriter.{end_member, event_object, name_of_setting, of_answer, of_connection, of_job, of_run, is_request, is_writable, line_object};
+ghost use Rattle.ctl_protocol.specs.EventWriter.{end_member, event_object, name_of_setting, of_answer, of_connection, of_job, of_run, is_request, is_writable, line_object, request_object};
 
 use crate::members::Form;
 use crate::object::{Cell, line_from, put_all, put_flags};
+use crate::request::{Outside, Request};
 use history_model::{Answer, Ask, Ended, Event, JobItem, Obs, Reading, TextRef};
 use serde_json::{Map, Value};
 use std::alloc::{AllocError, Global};
@@ -318,14 +319,15 @@ pub fn event_line(alloc: Global, event: &Event<'_>) -> Result<Vec<u8>, AllocErro
     line_from(alloc, &value)
 }
 
-/// The line by which a control client asks for an event, with its newline: the event's shape without the answers of the
-/// outside. `Err` says only that memory ran out.
-pub fn request_line(alloc: Global, event: &Event<'_>) -> Result<Vec<u8>, AllocError>
-    ensures text { IfOk result (λ line. line.items ≡ lines.request_line event.now) }
+/// The line by which a control client asks, with its newline: the event's shape without the answers of the outside. `Err` says only
+/// that memory ran out.
+pub fn request_line(alloc: Global, request: &Request<'_>) -> Result<Vec<u8>, AllocError>
+    ensures text { IfOk result (λ line. line.items ≡ lines.request_line request.now) }
     // The line, without its newline, is read as what was asked.
-    ensures reads_back { OnOk result (is_request event.now ≡ true
-        → request_at (compact_text (event_object forms.Request event.now)) ≡ Some event.now) }
+    ensures reads_back { OnOk result (is_request request.now ≡ true
+        → request_at (compact_text (request_object request.now)) ≡ Some request.now) }
 {
-    let value = event_value(alloc, Form::Request, event)?;
+    let event = request.with(Outside::unasked());
+    let value = event_value(alloc, Form::Request, &event)?;
     line_from(alloc, &value)
 }

@@ -1,12 +1,11 @@
 -- What the rounds of a live loop do to a launcher.
-use Rattle.std.specs.Prelude.{◌≡◌, ◌≢◌, ◌⊎◌, ◌≤◌, ℕ, Bool, true, false, ◌||◌, List, [], ◌∷◌, length, Option, Some, None, Result, Ok, Err, option_and_then}
+use Rattle.std.specs.Prelude.{◌≡◌, ◌≢◌, ◌⊎◌, ◌≤◌, ℕ, Bool, true, false, ◌||◌, List, [], ◌∷◌, length, Option, Some, None, Result, Ok, Err}
 use Rattle.std.specs.Result.{result_unwrap_or}
 use Rattle.history_model.specs.declared.Ended.{Ended}
 use Rattle.history_model.specs.declared.Obs.{Obs}
 use Rattle.history_model.specs.declared.Reading.{Reading}
 use Rattle.history_model.specs.declared.Refusal.{Refusal}
 use Rattle.history_model.specs.declared.Reply.{Reply}
-use Rattle.history_model.specs.declared.event.Event as journal
 use Rattle.history_model.specs.declared.event.Event.TheVariants as journaled
 use Rattle.history_model.specs.declared.event.JobItem.TheVariants as happens
 use Rattle.history_model.specs.declared.event.Setting.{Setting}
@@ -18,11 +17,10 @@ use Rattle.child_edge.specs.Calls.{ToldCall, TellsOne, poll_answer, look_answer,
 use Rattle.child_edge.specs.declared.plain.EdgeCall.TheVariants.{Poll, Close, Look, Clock}
 use Rattle.child_edge.specs.declared.plain.EdgeFault.{EdgeFault}
 use Rattle.child_edge.specs.declared.plain.Scripted.TheVariants.{Done}
-use Rattle.ctl_protocol.specs.EventLines.{request_at}
 use Rattle.outside.specs.Stores.{Stamp, StoreCall}
 use Rattle.launcher.specs.declared.host.Host.{Host}
 use Rattle.launcher.specs.Hosts.{HostHears, HostStamps}
-use Rattle.launcher.specs.Inputs.{asked_in, event_if_label}
+use Rattle.launcher.specs.Inputs.{Incoming, asked_by, event_if_label, happened}
 use Rattle.launcher.specs.Journals.{reported}
 use Rattle.launcher.specs.Accepting.{is_accepted_load}
 use Rattle.launcher.specs.Writable.{WritesWhat}
@@ -59,7 +57,7 @@ ListsNext round text next =
 module _ {T E W : Type 0} (calls : E → Option (List ToldCall)) (stores : T → Option (List StoreCall))
     (holds : T → List Setting → Type 0) (stamped : T → List Stamp → Type 0) where
   -- the launcher heard it, and answered so: all that a turn promises
-  pub record Heard (event : Option journal.Event) (refusal : Option Refusal) (words : List ℕ)
+  pub record Heard (event : Option Incoming) (refusal : Option Refusal) (words : List ℕ)
       (old new : Host T E W) : Type 0 where
     pub hears : HostHears calls stores holds event refusal words old new
     pub stamps : HostStamps stamped event refusal old new
@@ -70,7 +68,7 @@ module _ {T E W : Type 0} (calls : E → Option (List ToldCall)) (stores : T →
   pub record HeardReading (at : Reading) (old new : Host T E W) : Type 0 where
     pub refusal : Option Refusal
     pub words : List ℕ
-    pub heard : Heard (Some (journaled.Clock at)) refusal words old new
+    pub heard : Heard (Some (happened (journaled.Clock at))) refusal words old new
 
   -- a reading is handed in, unless it is the launcher's own already
   abbrev pub Reads : Reading → Host T E W → Host T E W → Type 0
@@ -78,7 +76,7 @@ module _ {T E W : Type 0} (calls : E → Option (List ToldCall)) (stores : T →
       ((old.table.reading ≡ at) × (new ≡ old)) ⊎ ((old.table.reading ≢ at) × HeardReading at old new)
 
   -- What happened was handed in, once, after the reading of the round.
-  pub record Gives (event : Option journal.Event) (refusal : Option Refusal) (words : List ℕ)
+  pub record Gives (event : Option Incoming) (refusal : Option Refusal) (words : List ℕ)
       (old new : RoundLauncher T E W) : Type 0 where
     pub mid : Host T E W
     pub reading : Reads old.at old.host mid
@@ -87,7 +85,7 @@ module _ {T E W : Type 0} (calls : E → Option (List ToldCall)) (stores : T →
     pub loaded : new.has_loaded ≡ old.has_loaded
 
   -- it was handed in, and some words were the answer
-  pub record Tells (event : Option journal.Event) (refusal : Option Refusal)
+  pub record Tells (event : Option Incoming) (refusal : Option Refusal)
       (old new : RoundLauncher T E W) : Type 0 where
     pub words : List ℕ
     pub gives : Gives event refusal words old new
@@ -149,7 +147,7 @@ module _ {T E W : Type 0} (calls : E → Option (List ToldCall)) (stores : T →
       × TellsOne (calls old.host.edge) (Look, look_answer answer) (calls edge)
       × (seen ≡ seen_by answer) × (new ≡ lent edge old)
   DoesPath (Sighted path obs) old new =
-      (refusal : Option Refusal) × Tells (Some (journaled.Saw path obs)) refusal old new
+      (refusal : Option Refusal) × Tells (Some (happened (journaled.Saw path obs))) refusal old new
 
   -- ---- clients
 
@@ -175,5 +173,5 @@ module _ {T E W : Type 0} (calls : E → Option (List ToldCall)) (stores : T →
   -- a control client's line was handed in, and this is its reply; a load that was accepted is noted
   pub record AnswersLine (line : List ℕ) (reply : Reply) (old new : RoundLauncher T E W) : Type 0 where
     pub mid : RoundLauncher T E W
-    pub gives : Gives (option_and_then asked_in (request_at line)) reply.refusal reply.text old mid
+    pub gives : Gives (asked_by line) reply.refusal reply.text old mid
     pub noted : new ≡ record mid { has_loaded = mid.has_loaded || mid.host.has_loaded }

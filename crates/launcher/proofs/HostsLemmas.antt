@@ -4,7 +4,6 @@ use Rattle.std.specs.Prelude.{Result, Ok, Err, if◌then◌else◌}
 use Rattle.std.proofs.lemmas.List.{append-nil}
 use Rattle.history_model.specs.declared.Refusal.{Refusal}
 use Rattle.history_model.specs.declared.Refusal.TheVariants.{NoMemory, BadRequest}
-use Rattle.history_model.specs.declared.event.Event as journal
 use Rattle.history_model.specs.declared.event.Setting.{Setting}
 use Rattle.history_model.specs.Machine.{State, Event}
 use Rattle.history_model.specs.Acceptance.{refusal_in}
@@ -24,7 +23,7 @@ use Rattle.launcher.specs.HostTurns.{IsLed}
 use Rattle.loaded_jobs.specs.Loads.{refused_with}
 use Rattle.launcher.specs.JournaledLines.{answer_texts}
 use Rattle.launcher.specs.LoadTurns.{is_memory, settings_after, Standing, standing}
-use Rattle.launcher.specs.Inputs.{answered}
+use Rattle.launcher.specs.Inputs.{Incoming, event_of}
 use Rattle.launcher.specs.Hosts.{HostTurnOf, IsSpared, HearsBy, Hears}
 
 -- nothing changed at all
@@ -37,7 +36,7 @@ spared old before = record {
 
 -- ---- by whether memory ran out
 
-pub hears : (event : journal.Event) (refusal : Option Refusal) (words : List ℕ) (old new : Standing) (before after : List Setting → Type 0) →
+pub hears : (event : Incoming) (refusal : Option Refusal) (words : List ℕ) (old new : Standing) (before after : List Setting → Type 0) →
     (is_memory refusal ≡ true → IsSpared old new before after × (new.journal ≡ old.journal)) →
     (is_memory refusal ≡ false → (s : State) → IsLed s → KeepsState old.table s → HostTurnOf s event refusal words old new before after) →
     Hears (Some event) refusal words old new before after
@@ -47,20 +46,20 @@ hears event refusal words old new before after memory other = go (is_memory refu
   go false is = other is
 
 -- the reply that was given
-pub as_replied : (event : Option journal.Event) (refusal found : Option Refusal) (words told : List ℕ) (old new : Standing) (before after : List Setting → Type 0) → refusal ≡ found → words ≡ told →
+pub as_replied : (event : Option Incoming) (refusal found : Option Refusal) (words told : List ℕ) (old new : Standing) (before after : List Setting → Type 0) → refusal ≡ found → words ≡ told →
     Hears event found told old new before after → Hears event refusal words old new before after
 as_replied event refusal found words told old new before after same_refusal same_words heard =
     subst (λ (r : Option Refusal). Hears event r words old new before after) (sym same_refusal) (subst (λ (w : List ℕ). Hears event found w old new before after) (sym same_words) heard)
 
 -- a line that is no event
-pub unheard : (event : Option journal.Event) (refusal : Option Refusal) (words : List ℕ) (old : Standing) (before : List Setting → Type 0) →
+pub unheard : (event : Option Incoming) (refusal : Option Refusal) (words : List ℕ) (old : Standing) (before : List Setting → Type 0) →
     refusal ≡ Some BadRequest → event ≡ None → Hears event refusal words old old before before
 unheard event refusal words old before is none =
     subst (λ (r : Option Refusal). Hears event r words old old before before) (sym is)
-    (subst (λ (e : Option journal.Event). Hears e (Some BadRequest) words old old before before) (sym none) (refl, spared old before))
+    (subst (λ (e : Option Incoming). Hears e (Some BadRequest) words old old before before) (sym none) (refl, spared old before))
 
 -- a line that found no memory
-pub unread : (event : Option journal.Event) (refusal : Option Refusal) (words : List ℕ) (old : Standing) (before : List Setting → Type 0) → refusal ≡ Some NoMemory → Hears event refusal words old old before before
+pub unread : (event : Option Incoming) (refusal : Option Refusal) (words : List ℕ) (old : Standing) (before : List Setting → Type 0) → refusal ≡ Some NoMemory → Hears event refusal words old old before before
 unread event refusal words old before is = subst (λ (r : Option Refusal). Hears event r words old old before before) (sym is) (spared old before, refl)
 
 -- ---- the flush
@@ -76,10 +75,10 @@ spared_flushed old table calls stores m n before after none grew = record {
   stored = none.stored;
 }
 
-pub flushed : (event : Option journal.Event) (refusal : Option Refusal) (words : List ℕ) (old : Standing) (table : Table) (calls : Option (List ToldCall)) (stores : Option (List StoreCall)) (m n : JournalState) (before after : List Setting → Type 0) → is_memory refusal ≡ false →
+pub flushed : (event : Option Incoming) (refusal : Option Refusal) (words : List ℕ) (old : Standing) (table : Table) (calls : Option (List ToldCall)) (stores : Option (List StoreCall)) (m n : JournalState) (before after : List Setting → Type 0) → is_memory refusal ≡ false →
     Hears event refusal words old (standing table calls stores m) before after → Grows m n [] → Hears event refusal words old (standing table calls stores n) before after
 flushed event refusal words old table calls stores m n before after other heard grew = go (is_memory refusal) event other heard where
-  go : (b : Bool) (e : Option journal.Event) → b ≡ false → HearsBy b e refusal words old (standing table calls stores m) before after → HearsBy b e refusal words old (standing table calls stores n) before after
+  go : (b : Bool) (e : Option Incoming) → b ≡ false → HearsBy b e refusal words old (standing table calls stores m) before after → HearsBy b e refusal words old (standing table calls stores n) before after
   go true e other none = cc
   go false None other (is, none) = (is, spared_flushed old table calls stores m n before after none grew)
   go false (Some e) other turned = λ s led keeps.
@@ -98,7 +97,7 @@ flushed event refusal words old table calls stores m n before after other heard 
           replies = turn.turn.replies;
           few = turn.turn.few;
           numbers = turn.turn.numbers;
-          noted = line_flushed old.journal m n (event_line (answered turn.outside e) ++ answer_texts turn.turn.names (answers_in turn.turn.entries)) turn.turn.noted grew;
+          noted = line_flushed old.journal m n (event_line (event_of turn.outside e) ++ answer_texts turn.turn.names (answers_in turn.turn.entries)) turn.turn.noted grew;
           tellable = turn.turn.tellable;
           named = turn.turn.named;
         };

@@ -1,6 +1,5 @@
 pub mod AcceptingLemmas
 pub mod LoadAskingLemmas
-pub mod QuestionLemmas
 pub mod SettingAskingLemmas
 pub mod CarryLemmas
 pub mod FinishingLemmas

@@ -19,7 +19,9 @@ use Rattle.loaded_jobs.specs.TableOutcomes.{IsSameFor, Means}
 use Rattle.loaded_jobs.specs.declared.loading.Ready.{Ready}
 use Rattle.child_edge.specs.Calls.{ToldCall}
 use Rattle.child_edge.proofs.CallsLemmas.{tells_nothing}
-use Rattle.outside.specs.declared.asking.Outside.{Outside}
+use Rattle.ctl_protocol.specs.declared.request.LoadRequest.{LoadRequest}
+use Rattle.ctl_protocol.specs.declared.request.Outside.{Outside}
+use Rattle.ctl_protocol.specs.Requests.{unasked}
 use Rattle.outside.specs.Asking.{Asks, told_of}
 use Rattle.outside.specs.Stores.{Stamp, StoreCall, stamp_if}
 use Rattle.outside.proofs.AskLemmas.{told_nothing}
@@ -29,7 +31,7 @@ use Rattle.launcher.proofs.NumbersLemmas.{AreNamed, rows-named, keeps-numbers, s
 use Rattle.loaded_jobs.specs.Numbers.{row_names}
 use Rattle.launcher.proofs.StoredSettingsLemmas.{load_settings}
 use Rattle.launcher.specs.JournaledLines.{load_line}
-use Rattle.launcher.specs.LoadTurns.{AsksFor, EndsLoad, LoadTurnOf, Makes, is_memory, label_read, label_written, load_request, settings_after, stamps_after, standing}
+use Rattle.launcher.specs.LoadTurns.{AsksFor, EndsLoad, LoadTurnOf, Makes, is_memory, label_read, label_written, settings_after, stamps_after, standing}
 
 pub clash : {P : Type 0} (o : Option Refusal) (r : Refusal) → o ≡ None → o ≡ Some r → P
 clash {P} o r none some = let no : None ≡ Some r = sym none ∙ some in cc
@@ -91,39 +93,39 @@ pub named-alike : (old mid : Table) (names : List Name) → mid.rows ≡ old.row
 named-alike old mid names same numbers = record { once = numbers.once; named = subst (λ (rows : List Row). AreNamed names rows) same numbers.named }
 
 -- a load that was refused before the outside was asked
-pub never_called : (s : State) (bytes : List ℕ) (writes_setting force : Bool) (r : Refusal) (old new : Table) (a : Option (List ToldCall)) (t : Option (List StoreCall)) (k n : JournalState) → new.rows ≡ old.rows →
-    ((bind store : Bool) → refusal_in s (load_of_bytes bytes writes_setting force bind store) ≡ Some r) → Grows k n (load_line bytes writes_setting force (record { bind = true; store = true })) → KeepsState new s → IsLed s →
-    LoadTurnOf s (load_request bytes writes_setting force) (record { bind = true; store = true }) (Some r) (standing old a t k) (standing new a t n)
-never_called s bytes writes_setting force r old new a t k n same is noted keeps led = record {
+pub never_called : (s : State) (load : LoadRequest) (r : Refusal) (old new : Table) (a : Option (List ToldCall)) (t : Option (List StoreCall)) (k n : JournalState) → new.rows ≡ old.rows →
+    ((bind store : Bool) → refusal_in s (load_of_bytes load.def load.writes_setting load.force bind store) ≡ Some r) → Grows k n (load_line load unasked) → KeepsState new s → IsLed s →
+    LoadTurnOf s load unasked (Some r) (standing old a t k) (standing new a t n)
+never_called s load r old new a t k n same is noted keeps led = record {
   job = 0;
   mid = a;
-  asks = subst (λ o. AsksFor o (def_of bytes) 0 writes_setting s.reading.wall (record { bind = true; store = true }) (told_of a t) (told_of a t)) (sym (is true true))
+  asks = subst (λ o. AsksFor o (def_of load.def) 0 load.writes_setting s.reading.wall unasked (told_of a t) (told_of a t)) (sym (is true true))
       (record { bind = refl; store = refl; tells = tells_nothing a; stores = told_nothing t });
-  turn = nothing_done s (load_of_bytes bytes writes_setting force true true) (load_line bytes writes_setting force (record { bind = true; store = true })) new r a k n (is true true) noted keeps led;
+  turn = nothing_done s (load_of_bytes load.def load.writes_setting load.force true true) (load_line load unasked) new r a k n (is true true) noted keeps led;
   own = λ none. let no : Some r ≡ None = none in cc;
   numbers = λ none. let no : Some r ≡ None = none in cc;
   stays = same-numbers old new same;
 }
 
-module _ (s : State) (bytes : List ℕ) (writes_setting force : Bool) (outside : Outside) (old mid new : Table) (ready : Ready) (a c : Option (List ToldCall)) (t u : Option (List StoreCall)) (k n : JournalState)
-    (admitted : IsReadAndAdmitted old bytes writes_setting force (described_in ready)) (setting : is_some (new_setting_in ready) ≡ writes_setting) (same : IsSameFor old mid) (rows : mid.rows ≡ old.rows) (led : IsLed s) (keeps : KeepsState old s) where
-  as_read : Load (Ok (given (described_in ready))) (is_some (new_setting_in ready)) force outside.bind outside.store ≡ load_of_bytes bytes writes_setting force outside.bind outside.store
-  as_read = λ i. Load (given_in (sym admitted.read i)) (setting i) force outside.bind outside.store
+module _ (s : State) (load : LoadRequest) (outside : Outside) (old mid new : Table) (ready : Ready) (a c : Option (List ToldCall)) (t u : Option (List StoreCall)) (k n : JournalState)
+    (admitted : IsReadAndAdmitted old load.def load.writes_setting load.force (described_in ready)) (setting : is_some (new_setting_in ready) ≡ load.writes_setting) (same : IsSameFor old mid) (rows : mid.rows ≡ old.rows) (led : IsLed s) (keeps : KeepsState old s) where
+  as_read : Load (Ok (given (described_in ready))) (is_some (new_setting_in ready)) load.force outside.bind outside.store ≡ load_of_bytes load.def load.writes_setting load.force outside.bind outside.store
+  as_read = λ i. Load (given_in (sym admitted.read i)) (setting i) load.force outside.bind outside.store
 
-  asks_for : (middle : Option (List ToldCall)) → Asks (number_in ready) (described_in ready) writes_setting mid.reading.wall outside (told_of a t) (told_of middle u) →
-      AsksFor (refusal_in s (load_of_bytes bytes writes_setting force true true)) (def_of bytes) (number_in ready) writes_setting s.reading.wall outside (told_of a t) (told_of middle u)
+  asks_for : (middle : Option (List ToldCall)) → Asks (number_in ready) (described_in ready) load.writes_setting mid.reading.wall outside (told_of a t) (told_of middle u) →
+      AsksFor (refusal_in s (load_of_bytes load.def load.writes_setting load.force true true)) (def_of load.def) (number_in ready) load.writes_setting s.reading.wall outside (told_of a t) (told_of middle u)
   asks_for middle asks =
-      subst (λ o. AsksFor o (def_of bytes) (number_in ready) writes_setting s.reading.wall outside (told_of a t) (told_of middle u)) (sym (admitted.remains s true true keeps ∙ well_answered (described_in ready) writes_setting))
-      (subst (λ d. AsksFor None d (number_in ready) writes_setting s.reading.wall outside (told_of a t) (told_of middle u)) (sym admitted.read)
-      (subst (λ n. Asks (number_in ready) (described_in ready) writes_setting n outside (told_of a t) (told_of middle u)) (ap (λ r. r.wall) (same s keeps).reading) asks))
+      subst (λ o. AsksFor o (def_of load.def) (number_in ready) load.writes_setting s.reading.wall outside (told_of a t) (told_of middle u)) (sym (admitted.remains s true true keeps ∙ well_answered (described_in ready) load.writes_setting))
+      (subst (λ d. AsksFor None d (number_in ready) load.writes_setting s.reading.wall outside (told_of a t) (told_of middle u)) (sym admitted.read)
+      (subst (λ n. Asks (number_in ready) (described_in ready) load.writes_setting n outside (told_of a t) (told_of middle u)) (ap (λ r. r.wall) (same s keeps).reading) asks))
 
   -- a load that the outside was asked about
-  pub load_ended : (refusal : Option Refusal) → EndsLoad ready writes_setting mid.reading.wall outside refusal (load_line bytes writes_setting force outside) (standing mid a t k) (standing new c u n) →
-      LoadTurnOf s (load_request bytes writes_setting force) outside refusal (standing old a t k) (standing new c u n)
+  pub load_ended : (refusal : Option Refusal) → EndsLoad ready load.writes_setting mid.reading.wall outside refusal (load_line load outside) (standing mid a t k) (standing new c u n) →
+      LoadTurnOf s load outside refusal (standing old a t k) (standing new c u n)
   load_ended None ends =
-      let none : refusal_in s (load_of_bytes bytes writes_setting force outside.bind outside.store) ≡ None = admitted.remains s outside.bind outside.store keeps ∙ sym ends.answer in
-      let first = ends.made refl s force outside.bind outside.store led (same s keeps) (ap (refusal_in s) as_read ∙ none) in
-      let made = subst (λ (x : Event). Makes s x (load_line bytes writes_setting force outside) ready mid new (trace ends.mid k) (trace c n)) as_read first in
+      let none : refusal_in s (load_of_bytes load.def load.writes_setting load.force outside.bind outside.store) ≡ None = admitted.remains s outside.bind outside.store keeps ∙ sym ends.answer in
+      let first = ends.made refl s load.force outside.bind outside.store led (same s keeps) (ap (refusal_in s) as_read ∙ none) in
+      let made = subst (λ (x : Event). Makes s x (load_line load outside) ready mid new (trace ends.mid k) (trace c n)) as_read first in
       let before_it : AreNumbered made.turn.names old = named-alike old mid made.turn.names rows made.numbers in
       record {
         job = number_in ready;
@@ -135,14 +137,14 @@ module _ (s : State) (bytes : List ℕ) (writes_setting force : Bool) (outside :
         stays = keeps-numbers made.turn.names old new before_it (made.turn.numbers refl);
       }
   load_ended (Some r) ends =
-      let refused : refusal_in s (load_of_bytes bytes writes_setting force outside.bind outside.store) ≡ Some r = admitted.remains s outside.bind outside.store keeps ∙ sym ends.answer in
+      let refused : refusal_in s (load_of_bytes load.def load.writes_setting load.force outside.bind outside.store) ≡ Some r = admitted.remains s outside.bind outside.store keeps ∙ sym ends.answer in
       let remains = ends.refused r refl in
       record {
         job = number_in ready;
         mid = ends.mid;
         asks = asks_for ends.mid ends.asks;
-        turn = subst (λ x. TurnsOf s (load_of_bytes bytes writes_setting force outside.bind outside.store) (load_line bytes writes_setting force outside) (Some r) new (trace ends.mid k) (trace x n)) (sym remains.1)
-            (nothing_done s (load_of_bytes bytes writes_setting force outside.bind outside.store) (load_line bytes writes_setting force outside) new r ends.mid k n refused remains.2 (subst (λ x. KeepsState x s) (sym remains.0) (same s keeps)) led);
+        turn = subst (λ x. TurnsOf s (load_of_bytes load.def load.writes_setting load.force outside.bind outside.store) (load_line load outside) (Some r) new (trace ends.mid k) (trace x n)) (sym remains.1)
+            (nothing_done s (load_of_bytes load.def load.writes_setting load.force outside.bind outside.store) (load_line load outside) new r ends.mid k n refused remains.2 (subst (λ x. KeepsState x s) (sym remains.0) (same s keeps)) led);
         own = λ none. let no : Some r ≡ None = none in cc;
         numbers = λ none. let no : Some r ≡ None = none in cc;
         stays = same-numbers old new (ap (λ (x : Table). x.rows) remains.0 ∙ rows);
@@ -163,13 +165,13 @@ unstamped None r second stamps = refl
 unstamped (Some label) r second stamps = refl
 
 -- a load that was accepted stored the second of the setting that it wrote, and a refused one stored none
-pub load_stamps : (bytes : List ℕ) (writes_setting force : Bool) (outside : Outside) (d : Described) (refusal : Option Refusal) (second : ℕ) (stamps : List Stamp) → def_of bytes ≡ Ok d →
-    refusal ≡ refusal_outside d writes_setting outside.bind outside.store → (has_sockets d ≡ false → outside.bind ≡ true) →
-    stamps_after (label_written (load_request bytes writes_setting force)) refusal second stamps ≡ stamp_if (writes_setting && (outside.bind && outside.store)) d.label second stamps
-load_stamps bytes writes_setting force outside d refusal second stamps read answer unbound =
-    ap (λ r. stamps_after (if writes_setting then label_read r else None) refusal second stamps) read
-    ∙ ap (λ o. stamps_after (if writes_setting then Some d.label else None) o second stamps) answer
-    ∙ go writes_setting (has_sockets d) outside.bind outside.store unbound where
+pub load_stamps : (load : LoadRequest) (outside : Outside) (d : Described) (refusal : Option Refusal) (second : ℕ) (stamps : List Stamp) → def_of load.def ≡ Ok d →
+    refusal ≡ refusal_outside d load.writes_setting outside.bind outside.store → (has_sockets d ≡ false → outside.bind ≡ true) →
+    stamps_after (label_written load) refusal second stamps ≡ stamp_if (load.writes_setting && (outside.bind && outside.store)) d.label second stamps
+load_stamps load outside d refusal second stamps read answer unbound =
+    ap (λ r. stamps_after (if load.writes_setting then label_read r else None) refusal second stamps) read
+    ∙ ap (λ o. stamps_after (if load.writes_setting then Some d.label else None) o second stamps) answer
+    ∙ go load.writes_setting (has_sockets d) outside.bind outside.store unbound where
       go : (w h bind store : Bool) → (h ≡ false → bind ≡ true) → stamps_after (if w then Some d.label else None) (refused_if (h && not bind) SocketRefused (refusal_stored w store)) second stamps ≡ stamp_if (w && (bind && store)) d.label second stamps
       go false h bind store unbound = refl
       go true true false store unbound = refl

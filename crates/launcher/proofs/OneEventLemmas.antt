@@ -1,8 +1,7 @@
 -- What one event of a launcher's turn leaves.
-use Rattle.std.proofs.Common.{◌≡◌, ◌≤◌, Bool, true, false, ◌&&◌, List, [], ◌∷◌, Option, Some, None, refl, sym, ap, subst, ◌∙◌}
-use Rattle.std.specs.Prelude.{Result, Ok, Err, IsOk, IfOk, OnErr, IsUtf8}
-use Rattle.std.proofs.lemmas.Bool.{false≢true}
-use Rattle.std.specs.List.{filter, list_all, AllByRecursion}
+use Rattle.std.proofs.Common.{◌≡◌, ◌≤◌, inl, inr, true, false, ◌&&◌, List, [], ◌∷◌, Option, Some, None, refl, sym, ap, subst, ◌∙◌}
+use Rattle.std.specs.Prelude.{ℕ, ◌⊎◌, Result, Ok, Err, IfOk, OnErr, IsUtf8}
+use Rattle.std.specs.List.{filter, flat_map, list_all, AllByRecursion}
 use Rattle.history_model.specs.declared.Refusal.{Refusal}
 use Rattle.history_model.specs.declared.TheConstants.{MAX_UP}
 use Rattle.history_model.specs.declared.Reading.{Reading}
@@ -10,19 +9,22 @@ use Rattle.history_model.specs.Items.{Item, Answered, History}
 use Rattle.history_model.specs.Search.{first}
 use Rattle.history_model.specs.Runs.{is_answer_to}
 use Rattle.history_model.specs.Labels.{Label, is_same}
-use Rattle.history_model.specs.Machine.{State, Event, Job, OfJob, UnloadJob, is_of, past_in}
+use Rattle.history_model.specs.Machine.{State, Event, Job, OfJob, is_of, past_in}
 use Rattle.history_model.specs.declared.event.Event as journal
 use Rattle.history_model.specs.declared.event.Event.TheVariants as journaled
-use Rattle.job_table.specs.Taking.{machine_event}
-use Rattle.launcher.specs.Inputs.{is_taken_in}
+use Rattle.history_model.specs.declared.Order.{Order}
+use Rattle.job_table.specs.Taking.{NamesGoOn, Steps, Takes, WantsMemory, machine_event}
+use Rattle.job_table.specs.declared.take.Taken.{Taken}
+use Rattle.launcher.specs.AtOnce.{NamesStay}
+use Rattle.launcher.specs.Inputs.{takes_none}
 use Rattle.history_model.specs.Acceptance.{refusal_in}
-use Rattle.history_model.specs.Step.{outcome, step, step_by, heard_one}
+use Rattle.history_model.specs.Step.{Outcome, outcome, outcome_by, orders_of, refused, step, step_by, heard_one, taken}
 use Rattle.history_model.specs.MachineLaws.{labels_of}
 use Rattle.history_model.proofs.StepLemmas.{IsGood}
 use Rattle.loaded_jobs.specs.Tables.{Table, Row, Name, IsOnce, is_known, label_of, definition_of_number}
 use Rattle.loaded_jobs.specs.StandsFor.{KeepsJobs, KeepsState, labelled}
 use Rattle.history_model.specs.Described.{Described}
-use Rattle.loaded_jobs.specs.TableOutcomes.{IsNextTable, IsNextTableUnless, UnlessMemory}
+use Rattle.loaded_jobs.specs.TableOutcomes.{IsNextTable, UnlessMemory}
 use Rattle.history_model.specs.declared.Refusal.TheVariants.{NoMemory}
 use Rattle.job_table.specs.Ends.{AreKnown, IsAnswer, Visits, Numbers, names_in}
 use Rattle.loaded_jobs.specs.Numbers.{row_names, IsNumbered}
@@ -38,15 +40,12 @@ use Rattle.job_core.specs.Memory.{NeedsNoMemory}
 use Rattle.ctl_protocol.specs.EventWriter.{event_line}
 use Rattle.launcher.specs.Journals.{JournalState, Grows}
 use Rattle.launcher.specs.JournaledLines.{journaled_answer}
-use Rattle.launcher.proofs.CarryLemmas.{none-called}
+use Rattle.launcher.proofs.CarryLemmas.{none_carried}
+use Rattle.child_edge.proofs.CallsLemmas.{tells_nothing}
 use Rattle.launcher.proofs.NumbersLemmas.{AreNamed, rows-named, label-is, named-next, orders-known, once-number, loaded, keeps-numbers, same-numbers, theirs-append, made-theirs}
 use Rattle.child_edge.specs.Calls.{ToldCall}
 use Rattle.loaded_jobs.proofs.OutcomesLemmas.{resting}
-
-pub unless : {A : Type 0} {P : Type 0} (result : Result A Refusal) → P → UnlessMemory result P
-unless (Ok a) holds = holds
-unless (Err NoMemory) holds = tt
-unless (Err _) holds = holds
+use Rattle.loaded_jobs.proofs.RestLemmas.{rests-with_orders}
 
 -- what the table answered, and the orders that were then carried out
 pub happens : (e : Event) (old new : Table) (result : Result Step Refusal) (before after : List Unheard) (told told' : Option (List ToldCall)) →
@@ -98,45 +97,124 @@ happens e old new (Err refusal) before after told told' answer known ends carrie
   );
 }
 
--- what is handed on: the answer is that of the table
-pub handed-on : (e e' : Event) (old new : Table) (lent : Result Step Refusal) (result : Result (Unit {0}) Refusal) (before after : List Unheard) (told told' : Option (List ToldCall)) → e ≡ e' →
-    refused_with result ≡ refused_with lent → IsAnswer e old lent → IfOk lent AreKnown → IsNextTable e old new × Visits lent old new × Numbers lent old new →
-    Carried (orders_lent lent) before after told told' → UnlessMemory result (Happens e' (refused_with result) old new before after told told')
-handed-on e e' old new lent result before after told told' is same answer known ends carried =
-    unless result
-    (subst (λ r. Happens e' r old new before after told told') (sym same)
-    (subst (λ x. Happens x (refused_with lent) old new before after told told') is (happens e old new lent before after told told' answer known ends carried)))
+-- no name, no order
+pub labelled-none : (names : List Name) (orders : List Order) → labelled names orders ≡ [] → orders ≡ []
+labelled-none names [] is = refl
+labelled-none names (order ∷ orders) is = cc
 
--- of a reading, which may find no memory
-pub read-on : (e e' : Event) (old new : Table) (lent : Result Step Refusal) (result : Result (Unit {0}) Refusal) (before after : List Unheard) (told told' : Option (List ToldCall)) → e ≡ e' →
-    refused_with result ≡ refused_with lent → UnlessMemory lent (IsAnswer e old lent) → IfOk lent AreKnown → IsNextTableUnless lent e old new × Visits lent old new × Numbers lent old new →
-    Carried (orders_lent lent) before after told told' → UnlessMemory result (Happens e' (refused_with result) old new before after told told')
-read-on e e' old new (Ok lent) result before after told told' is same answer known ends carried = handed-on e e' old new (Ok lent) result before after told told' is same answer known ends carried
-read-on e e' old new (Err NoMemory) (Ok done) before after told told' is same answer known ends carried = cc
-read-on e e' old new (Err NoMemory) (Err refusal) before after told told' is same answer known ends carried =
-    let none : NoMemory ≡ refusal = cc in subst (λ r. UnlessMemory {A = Unit {0}} (Err r) (Happens e' (Some r) old new before after told told')) none tt
-read-on e e' old new (Err _) result before after told told' is same answer known ends carried = handed-on e e' old new (Err _) result before after told told' is same answer known ends carried
+-- what changes nothing orders nothing
+orders-none : (table : Table) (s : State) (e : Event) → table.reading.up ≤ MAX_UP → KeepsState table s → taken s e ≡ s → (outcome s e).orders ≡ []
+orders-none table s e range keeps same = go (refusal_in s e) where
+  go : (o : Option Refusal) → (outcome_by o s e).orders ≡ []
+  go (Some refusal) = refl
+  go None = ap (λ (t : State). flat_map orders_of t.jobs) same ∙ (rests-with_orders table s range keeps).1
 
--- ---- want of memory
+-- what the table took in, and the orders that were then carried out
+pub took : (e : journal.Event) (old new : Table) (answer : Taken) (orders : List Order) (before after : List Unheard) (told told' : Option (List ToldCall)) → NamesStay e → NamesGoOn e (Ok answer) old new →
+    ((s : State) → KeepsState old s → (((outcome s (machine_event e)).refusal ≡ None) × ((outcome s (machine_event e)).orders ≡ labelled new.names orders)) × KeepsState new (step s (machine_event e))) →
+    list_all (is_known new.names) orders ≡ true → IsNumbered new → old.reading.up ≤ MAX_UP → Carried orders before after told told' → Happens (machine_event e) None old new before after told told'
+took e old new answer orders before after told told' stay names out known numbered range carried = go (stay answer old new names) where
+  here : AreNumbered new.names new
+  here = record { once = numbered.once; named = numbered.named }
 
--- an unload that is taken in at once is one without -w
-without-w : (job : Label) (writes_setting store : Bool) → is_taken_in (journaled.Unload job writes_setting store) ≡ true → UnloadJob job false true ≡ UnloadJob job writes_setting store
-without-w job false true taken = refl
-without-w job false false taken = absurd (false≢true taken)
-without-w job true store taken = absurd (false≢true taken)
+  go : (new.names ≡ row_names old.rows) ⊎ ((new ≡ old) × ((s : State) → taken s (machine_event e) ≡ s)) → Happens (machine_event e) None old new before after told told'
+  go (inl is) = λ s keeps.
+      let did = out s keeps in
+      let all : list_all (is_known (row_names old.rows)) orders ≡ true = subst (λ ns. list_all (is_known ns) orders ≡ true) is known in
+      let ordered : labelled (row_names old.rows) orders ≡ (outcome s (machine_event e)).orders = ap (λ ns. labelled ns orders) (sym is) ∙ sym did.0.1 in
+      let before_it : AreNumbered new.names old = record { once = numbered.once; named = subst (λ (x : List Name). AreNamed x old.rows) (sym is) (rows-named old.rows (subst IsOnce is numbered.once)) } in
+      record {
+        begins = record {
+          orders = orders;
+          carried = carried;
+          kept = did.1;
+          replies = did.0.0;
+          own = λ none. here;
+          labels = sym did.0.1;
+          known = known;
+        };
+        loaded = λ none. before_it;
+        stays = keeps-numbers new.names old new before_it here;
+        by_label = λ ns numbers.
+            let theirs = orders-known ns old.rows numbers.named orders all in (
+              record { once = numbers.once; named = named-next ns old.rows new.rows numbers.named (subst (λ (x : List Name). AreNamed x new.rows) is numbered.named) },
+              theirs.0 ∙ ordered,
+              theirs.1,
+            );
+      }
+  go (inr (same, rests)) = λ s keeps.
+      let did = out s keeps in
+      let none : (outcome s (machine_event e)).orders ≡ [] = orders-none old s (machine_event e) range keeps (rests s) in
+      let empty : orders ≡ [] = labelled-none new.names orders (sym did.0.1 ∙ none) in
+      record {
+        begins = record {
+          orders = orders;
+          carried = carried;
+          kept = did.1;
+          replies = did.0.0;
+          own = λ none. here;
+          labels = sym did.0.1;
+          known = known;
+        };
+        loaded = λ none. subst (AreNumbered new.names) same here;
+        stays = same-numbers old new (ap (λ (t : Table). t.rows) same);
+        by_label = λ ns numbers. (
+          subst (AreNumbered ns) (sym same) numbers,
+          ap (labelled ns) empty ∙ sym none,
+          ap (list_all (is_known ns)) empty,
+        );
+      }
 
-pub unload-taken : (e : journal.Event) (job : Label) (writes_setting store : Bool) → e ≡ journaled.Unload job writes_setting store → is_taken_in e ≡ true → UnloadJob job false true ≡ machine_event e
-unload-taken e job writes_setting store is taken =
-    without-w job writes_setting store (subst (λ (x : journal.Event). is_taken_in x ≡ true) is taken) ∙ ap machine_event (sym is)
+-- what was refused carried out nothing
+pub refused-taking : (e : Event) (refusal : Refusal) (old new : Table) (before : List Unheard) (told : Option (List ToldCall)) → new.rows ≡ old.rows → Steps e old (refused refusal) new → Happens e (Some refusal) old new before before told told
+refused-taking e refusal old new before told rows steps = λ s keeps.
+    let did = steps s keeps in
+    record {
+      begins = record {
+        orders = [];
+        carried = none_carried before told;
+        kept = did.1;
+        replies = ap (λ (o : Outcome). o.refusal) did.0;
+        own = λ none. cc;
+        labels = sym (ap (λ (o : Outcome). o.orders) did.0);
+        known = refl;
+      };
+      loaded = λ none. cc;
+      stays = same-numbers old new rows;
+      by_label = λ ns numbers. (record { once = numbers.once; named = subst (AreNamed ns) (sym rows) numbers.named }, sym (ap (λ (o : Outcome). o.orders) did.0), refl);
+    }
 
--- an event that needs no memory does not answer that there is none
-pub needs-none : {X : Type 0} (lent : Result Step Refusal) (result : Result (Unit {0}) Refusal) → refused_with result ≡ refused_with lent → NeedsNoMemory lent → result ≡ Err NoMemory → X
-needs-none (Ok lent) result same needs is = let none : Some NoMemory ≡ None = ap refused_with (sym is) ∙ same in cc
-needs-none (Err refusal) result same needs is = let none : Some NoMemory ≡ Some refusal = ap refused_with (sym is) ∙ same in let memory : refusal ≡ NoMemory = cc in absurd (subst (λ r. NeedsNoMemory {A = Step} (Err r)) memory needs)
+pub not-taken : (e : Event) (refusal : Refusal) (old new : Table) (before : List Unheard) (told : Option (List ToldCall)) → new.rows ≡ old.rows → Takes e old (Err refusal) new →
+    UnlessMemory {A = List ℕ} (Err refusal) (Happens e (Some refusal) old new before before told told)
+not-taken e NoMemory old new before told rows takes = tt
+not-taken e _ old new before told rows takes = refused-taking e _ old new before told rows takes
 
-pub ok-needs-none : (lent : Result Step Refusal) → IsOk lent → NeedsNoMemory lent
-ok-needs-none (Ok lent) ok = tt
-ok-needs-none (Err refusal) ok = absurd (false≢true ok)
+-- an answer that is this refusal
+abbrev pub refusing : Refusal → Result (List ℕ) Refusal
+refusing refusal = Err refusal
+
+same-refusal : (a b : Refusal) → refusing a ≡ refusing b → a ≡ b
+same-refusal a b is = let both : Some a ≡ Some b = ap refused_with is in cc
+
+-- want of memory is told of no step
+pub not-called : (e : Event) (refusal : Refusal) (old new : Table) (told : Option (List ToldCall)) → new.rows ≡ old.rows → Takes e old (Err refusal) new → refusing refusal ≡ refusing NoMemory → IsUncalled old new told told
+not-called e refusal old new told rows takes is =
+    record { same = subst (λ r. Takes e old (Err r) new) (same-refusal refusal NoMemory is) takes; rows = rows; tells = tells_nothing told }
+
+-- and only of an event that takes memory
+wants : (e : journal.Event) (table : Table) (result : Result Taken Refusal) → WantsMemory e table result → result ≡ Err NoMemory → takes_none e ≡ false
+wants (journaled.Load def writes_setting force bind store) table result want is = refl
+wants (journaled.Unload job writes_setting store) table result want is = refl
+wants (journaled.Set job disabled store) table result want is = refl
+wants journaled.List table result want is = refl
+wants (journaled.Print job) table result want is = refl
+wants journaled.Shutdown table result want is = refl
+wants (journaled.Clock at) table result want is = refl
+wants (journaled.Saw path obs) table result want is = absurd (subst NeedsNoMemory is want)
+wants (journaled.OfJob job item) table result want is = absurd (subst NeedsNoMemory is want)
+
+pub wanted : (e : journal.Event) (table : Table) (refusal : Refusal) → WantsMemory e table (Err refusal) → refusing refusal ≡ refusing NoMemory → takes_none e ≡ false
+wanted e table refusal want is = wants e table (Err refusal) want (ap Err (same-refusal refusal NoMemory is))
 
 -- what is handed on of an answer, which needs no memory
 pub answer-on : (e : Event) (old new : Table) (lent : Result Step Refusal) (result : Result (Unit {0}) Refusal) (before after : List Unheard) (told told' : Option (List ToldCall)) →
@@ -149,15 +227,6 @@ pub refused-rows : (old new : Table) (lent : Result Step Refusal) (result : Resu
 refused-rows old new lent (Ok done) same visits = tt
 refused-rows old new (Ok lent) (Err refusal) same visits = cc
 refused-rows old new (Err refusal) (Err other) same visits = visits.0
-
--- a reading that found no memory was not taken in
-pub not-read : (e : Event) (old new : Table) (lent : Result Step Refusal) (result : Result (Unit {0}) Refusal) (before after : List Unheard) (told told' : Option (List ToldCall)) →
-    refused_with result ≡ refused_with lent → IsNextTableUnless lent e old new → Visits lent old new → Carried (orders_lent lent) before after told told' → result ≡ Err NoMemory → IsUncalled old new told told'
-not-read e old new (Ok lent) result before after told told' same next visits carried is = let none : Some NoMemory ≡ None = ap refused_with (sym is) ∙ same in cc
-not-read e old new (Err refusal) result before after told told' same next visits carried is =
-    let none : Some NoMemory ≡ Some refusal = ap refused_with (sym is) ∙ same in
-    let memory : refusal ≡ NoMemory = cc in
-    record { same = subst (λ r. IsNextTableUnless {A = Step} (Err r) e old new) memory next; rows = visits.0; tells = none-called [] before after told told' refl carried }
 
 -- ---- what the machine is in the midst of a turn
 

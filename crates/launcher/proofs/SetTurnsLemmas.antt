@@ -17,7 +17,7 @@ use Rattle.launcher.specs.Journals.{JournalState, Grows}
 use Rattle.launcher.specs.HostTurns.{IsLed, NamesLabel}
 use Rattle.launcher.proofs.NumbersLemmas.{same-numbers}
 use Rattle.launcher.specs.JournaledLines.{set_line}
-use Rattle.launcher.specs.LoadTurns.{AsksStore, SetTurnOf, set_request, standing}
+use Rattle.launcher.specs.LoadTurns.{AsksStore, SetTurnOf, standing}
 use Rattle.launcher.proofs.LoadTurnsLemmas.{nothing_done}
 use Rattle.child_edge.specs.Calls.{ToldCall}
 use Rattle.loaded_jobs.proofs.ChangesLemmas.{set_same}
@@ -39,7 +39,7 @@ bad_label s label disabled false store is = ap (λ b. refused_if (not b) BadRequ
 -- a setting that was refused before the store was asked
 pub never_set : (s : State) (label : Label) (disabled unload : Bool) (r : Refusal) (old new : Table) (a : Option (List ToldCall)) (t : Option (List StoreCall)) (k n : JournalState) → new.rows ≡ old.rows →
     ((store : Bool) → refusal_in s (set_of label disabled unload store) ≡ Some r) → Grows k n (set_line label disabled unload true) → KeepsState new s → IsLed s →
-    SetTurnOf s (set_request label disabled unload) true (Some r) (standing old a t k) (standing new a t n)
+    SetTurnOf s label disabled unload true (Some r) (standing old a t k) (standing new a t n)
 never_set s label disabled unload r old new a t k n same is noted keeps led = record {
   asks = subst (λ o. AsksStore o (set_call label (disabled || unload) s.reading.wall true) t t) (sym (is true)) (refl, told_nothing t);
   turn = nothing_done s (set_of label disabled unload true) (set_line label disabled unload true) new r a k n (is true) noted keeps led;

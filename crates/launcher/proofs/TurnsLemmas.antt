@@ -1,11 +1,9 @@
 -- A whole turn of the launcher: its first event, and then the answers.
-use Rattle.std.proofs.Common.{◌≡◌, ℕ, ◌*◌, ◌≤◌, List, [], ◌∷◌, ◌++◌, map, length, Option, Some, None, refl, sym, ap, subst, ◌∙◌, arith, true, false}
-use Rattle.std.proofs.lemmas.Bool.{false≢true}
+use Rattle.std.proofs.Common.{◌≡◌, ℕ, ◌*◌, ◌≤◌, List, [], ◌∷◌, ◌++◌, map, length, Option, Some, None, refl, sym, ap, subst, ◌∙◌, arith}
 use Rattle.std.specs.Prelude.{Result, Ok, Err}
 use Rattle.std.specs.List.{AllByRecursion}
 use Rattle.std.proofs.lemmas.List.{append-nil, length-map, map-append}
 use Rattle.std.proofs.lemmas.List.Elements.{filter_map-append}
-use Rattle.history_model.specs.declared.Order.{Order}
 use Rattle.history_model.specs.declared.Refusal.{Refusal}
 use Rattle.history_model.specs.declared.Ask.TheVariants.{Unload, Shutdown}
 use Rattle.history_model.specs.Items.{Loaded, Read, Saw, Asked, Answered}
@@ -17,7 +15,7 @@ use Rattle.history_model.specs.Step.{outcome, outcome_by, step, step_by, taken, 
 use Rattle.history_model.specs.MachineLaws.{labels_of}
 use Rattle.history_model.proofs.StepLemmas.{good-step}
 use Rattle.loaded_jobs.specs.Tables.{Table, Name, label_of}
-use Rattle.loaded_jobs.specs.StandsFor.{KeepsState, labelled}
+use Rattle.loaded_jobs.specs.StandsFor.{KeepsState}
 use Rattle.loaded_jobs.specs.TableOutcomes.{UnlessMemory}
 use Rattle.history_model.specs.declared.Refusal.TheVariants.{NoMemory}
 use Rattle.outside.specs.declared.unheard.Unheard.{Unheard}
@@ -29,16 +27,15 @@ use Rattle.history_model.proofs.TurnBoundLemmas.{turning-start, within-step, len
 use Rattle.launcher.specs.HostTurns.{answer_event, answer_events, AreTheirs, IsWaiting, Begins, Happens, Settled, NamesLabel, IsLabel, IsNamedIn, IsLed, TurnsOf, Turns, trace}
 use Rattle.loaded_jobs.specs.Loads.{refused_with}
 use Rattle.job_table.specs.Taking.{machine_event}
-use Rattle.launcher.specs.Inputs.{is_taken_in}
+use Rattle.launcher.specs.AtOnce.{NamesStay}
 use Rattle.ctl_protocol.specs.EventWriter.{event_line}
 use Rattle.launcher.specs.Journals.{JournalState, Grows}
 use Rattle.launcher.proofs.JournalsLemmas.{grows_append}
 use Rattle.launcher.specs.JournaledLines.{answer_texts}
 use Rattle.history_model.specs.declared.event.Event as journal
-use Rattle.history_model.specs.declared.event.Event.TheVariants as journaled
 use Rattle.launcher.proofs.CarryLemmas.{none-called}
 use Rattle.launcher.proofs.NumbersLemmas.{keeps-numbers, made-theirs}
-use Rattle.launcher.proofs.OneEventLemmas.{good, orderly-next}
+use Rattle.launcher.proofs.OneEventLemmas.{good, labelled-none, orderly-next}
 use Rattle.launcher.proofs.SettlingLemmas.{same-length}
 use Rattle.history_model.specs.declared.TheConstants.{MAX_JOBS}
 use Rattle.child_edge.specs.Calls.{ToldCall}
@@ -88,10 +85,6 @@ refused-orders s e refusal is = go (refusal_in s e) is where
   go : (o : Option Refusal) → (outcome_by o s e).refusal ≡ Some refusal → (outcome_by o s e).orders ≡ []
   go None is = cc
   go (Some other) is = refl
-
-labelled-none : (names : List Name) (orders : List Order) → labelled names orders ≡ [] → orders ≡ []
-labelled-none names [] is = refl
-labelled-none names (order ∷ orders) is = cc
 
 -- its orders were carried out, and their answers wait
 pub begun : (s : State) (e : Event) (old new : Table) (after : List Unheard) (told told' : Option (List ToldCall)) → NamesLabel e → IsLed s → KeepsState old s →
@@ -181,43 +174,30 @@ refused-turn e line refusal old new first a b k n is noted happened = λ s led k
 
 -- ---- as the functions have it
 
--- what happens names no label that comes
-pub label-event : (e : journal.Event) → is_taken_in e ≡ true → NamesLabel (machine_event e)
-label-event (journaled.Clock at) taken = tt
-label-event (journaled.Saw path obs) taken = tt
-label-event (journaled.OfJob job item) taken = tt
-label-event (journaled.Unload job false true) taken = tt
-label-event journaled.Shutdown taken = tt
-label-event (journaled.Load def writes_setting force bind store) taken = absurd (false≢true taken)
-label-event (journaled.Unload job true store) taken = absurd (false≢true taken)
-label-event (journaled.Unload job false false) taken = absurd (false≢true taken)
-label-event (journaled.Set job disabled store) taken = absurd (false≢true taken)
-label-event journaled.List taken = absurd (false≢true taken)
-label-event (journaled.Print job) taken = absurd (false≢true taken)
-
 -- the answer of the turn is that of its event
-pub turned-from : (what : journal.Event) → is_taken_in what ≡ true → (result : Result (Unit {0}) Refusal) (old mid new : Table) (before first after : List Unheard) (a b c : Option (List ToldCall)) (k m n : JournalState) → result ≡ Ok tt → before ≡ [] →
-    UnlessMemory result (Happens (machine_event what) (refused_with result) old mid before first a b) → Grows k m (event_line what) → Settles mid first after new b c m n → Turns (machine_event what) (event_line what) None old new (trace a k) (trace c n)
+pub turned-from : (what : journal.Event) (result : Result (List ℕ) Refusal) (text : List ℕ) (old mid new : Table) (before first after : List Unheard) (a b c : Option (List ToldCall)) (k m n : JournalState) → result ≡ Ok text → before ≡ [] →
+    (NamesStay what → UnlessMemory result (Happens (machine_event what) (refused_with result) old mid before first a b)) → Grows k m (event_line what) → Settles mid first after new b c m n →
+    NamesLabel (machine_event what) → NamesStay what → Turns (machine_event what) (event_line what) None old new (trace a k) (trace c n)
 unfolding turned-at
-turned-from what taken (Err refusal) old mid new before first after a b c k m n ok empty happened noted settles = cc
-turned-from what taken (Ok done) old mid new before first after a b c k m n ok empty happened noted settles = λ s led keeps.
-    let did = happened s keeps in
+turned-from what (Err refusal) text old mid new before first after a b c k m n ok empty happened noted settles label stay = cc
+turned-from what (Ok done) text old mid new before first after a b c k m n ok empty happened noted settles label stay = λ s led keeps.
+    let did = happened stay s keeps in
     let turn : TurnsOf s (machine_event what) (event_line what) None new (trace a k) (trace c n) =
-    turned-at s (machine_event what) (event_line what) old mid new first after a b c k m n (label-event what taken) led keeps (subst (λ ps. Begins s (machine_event what) None mid ps first a b) empty did.begins) noted settles in (
+    turned-at s (machine_event what) (event_line what) old mid new first after a b c k m n label led keeps (subst (λ ps. Begins s (machine_event what) None mid ps first a b) empty did.begins) noted settles in (
       turn,
       did.loaded,
       keeps-numbers turn.names old new (did.loaded refl) (turn.numbers refl),
     )
 
 -- what follows unless memory ran out
-unless-memory : {P Q : Type 0} (refusal : Refusal) → (P → Q) → UnlessMemory {A = Unit {0}} (Err refusal) P → UnlessMemory {A = Unit {0}} (Err refusal) Q
+unless-memory : {P Q : Type 0} (refusal : Refusal) → (P → Q) → UnlessMemory {A = List ℕ} (Err refusal) P → UnlessMemory {A = List ℕ} (Err refusal) Q
 unless-memory NoMemory follows holds = tt
 unless-memory _ follows holds = follows holds
 
-pub refused-from : (what : journal.Event) → is_taken_in what ≡ true → (result : Result (Unit {0}) Refusal) (refusal : Refusal) (old new : Table) (before first : List Unheard) (a b : Option (List ToldCall)) (k n : JournalState) →
-    result ≡ Err refusal → before ≡ [] → Grows k n (event_line what) → UnlessMemory result (Happens (machine_event what) (refused_with result) old new before first a b) →
-    UnlessMemory {A = Unit {0}} (Err refusal) (Turns (machine_event what) (event_line what) (Some refusal) old new (trace a k) (trace b n))
-refused-from what taken result refusal old new before first a b k n is empty noted happened =
+pub refused-from : (what : journal.Event) (result : Result (List ℕ) Refusal) (refusal : Refusal) (old new : Table) (before first : List Unheard) (a b : Option (List ToldCall)) (k n : JournalState) → result ≡ Err refusal → before ≡ [] →
+    Grows k n (event_line what) → (NamesStay what → UnlessMemory result (Happens (machine_event what) (refused_with result) old new before first a b)) → NamesLabel (machine_event what) → NamesStay what →
+    UnlessMemory {A = List ℕ} (Err refusal) (Turns (machine_event what) (event_line what) (Some refusal) old new (trace a k) (trace b n))
+refused-from what result refusal old new before first a b k n is empty noted happened label stay =
     unless-memory refusal
-    (λ did. refused-turn (machine_event what) (event_line what) refusal old new first a b k n (label-event what taken) noted (subst (λ ps. Happens (machine_event what) (Some refusal) old new ps first a b) empty did))
-    (subst (λ r. UnlessMemory r (Happens (machine_event what) (refused_with r) old new before first a b)) is happened)
+    (λ did. refused-turn (machine_event what) (event_line what) refusal old new first a b k n label noted (subst (λ ps. Happens (machine_event what) (Some refusal) old new ps first a b) empty did))
+    (subst (λ r. UnlessMemory r (Happens (machine_event what) (refused_with r) old new before first a b)) is (happened stay))

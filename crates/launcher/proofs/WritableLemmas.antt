@@ -1,6 +1,6 @@
 -- What comes can be written: what clients ask by the shapes of their lines, all else by its type.
-use Rattle.std.proofs.Common.{◌≡◌, ℕ, ◌<◌, ◌^◌, List, Bool, true, false, nat_lt, Option, Some, None, refl, sym, subst, arith}
-use Rattle.std.specs.Prelude.{IfSome, IsUtf8, codes, if◌then◌else◌, option_and_then}
+use Rattle.std.proofs.Common.{◌≡◌, ℕ, ◌<◌, ◌^◌, List, [], ◌∷◌, Bool, true, false, nat_lt, Option, Some, None, refl, sym, subst, arith}
+use Rattle.std.specs.Prelude.{IfSome, IsUtf8, codes, if◌then◌else◌, option_and_then, option_map}
 use Rattle.std.specs.Str.{bytes_eq}
 use Rattle.std.proofs.lemmas.Bool.{and_from}
 use Rattle.std.proofs.lemmas.Bool.Decides.{nat_tests}
@@ -11,7 +11,6 @@ use Rattle.history_model.specs.declared.Obs.{Obs}
 use Rattle.history_model.specs.declared.Ended.TheVariants.{Code, Signal}
 use Rattle.history_model.specs.declared.event.Event.{Event}
 use Rattle.history_model.specs.declared.event.Event.TheVariants as events
-use Rattle.history_model.specs.declared.event.JobItem.{JobItem}
 use Rattle.history_model.specs.declared.event.JobItem.TheVariants as happens
 use Rattle.history_model.specs.declared.Ask.{Ask}
 use Rattle.history_model.specs.declared.Ask.TheVariants as asks
@@ -21,11 +20,14 @@ use Rattle.ctl_protocol.specs.declared.members.Form.{Form}
 use Rattle.ctl_protocol.specs.declared.members.Form.TheVariants as forms
 use Rattle.ctl_protocol.specs.Targets.{if_label as label_if, behind_domain, label_named}
 use Rattle.ctl_protocol.specs.Members.{◌>>=◌, text_key, flag_or, label_key, target_key, tag_of}
-use Rattle.ctl_protocol.specs.EventLines.{has_load_keys, load_shape, unload_shape, job_shape, target_shape, setting_shape, kickstart_shape, bare_shape, asked_shape, request_shape_of, request_at}
-use Rattle.ctl_protocol.specs.EventWriter.{is_writable}
+use Rattle.ctl_protocol.specs.EventLines.{has_load_keys, load_shape, unload_shape, job_shape, target_shape, kickstart_shape, bare_shape, asked_shape, request_shape_of, request_at}
+use Rattle.ctl_protocol.specs.EventWriter.{is_request}
+use Rattle.ctl_protocol.specs.declared.request.Request.{Request}
+use Rattle.ctl_protocol.specs.declared.request.Request.TheVariants as requests
+use Rattle.ctl_protocol.specs.Requests.{event_with, unasked}
 use Rattle.launcher.specs.declared.input.Input.TheVariants as inputs
-use Rattle.launcher.specs.Inputs.{asked_in, event_if_label, is_asked_of_a_job}
-use Rattle.launcher.specs.Writable.{SaysFitIf, IsWritable, IsWritableIf, IsWritableInput}
+use Rattle.launcher.specs.Inputs.{asked, event_if_label, happened}
+use Rattle.launcher.specs.Writable.{SaysFit, IsWritable, IsWritableIf, IsWritableInput}
 
 -- ---- what is read of a request names a label
 
@@ -44,8 +46,8 @@ among P false o rest has other = other
 abbrev IsNamed : List ℕ → Type 0
 IsNamed job = is_label job ≡ true
 
-abbrev HasLabel : Event → Type 0
-HasLabel e = is_writable e ≡ true
+abbrev HasLabel : Request → Type 0
+HasLabel r = is_request r ≡ true
 
 labelled_if : (text : List ℕ) → IfSome (label_if text) IsNamed
 labelled_if text = go (is_label text) refl where
@@ -73,35 +75,30 @@ unfolding load_shape
 load_labels form d =
     among HasLabel (has_load_keys form d) _ None
     (after HasLabel (text_key (codes "def") d) _ (λ def. after HasLabel (flag_or (codes "w") false d) _ (λ w. after HasLabel (flag_or (codes "F") false d) _
-    (λ force. after HasLabel (flag_or (codes "bind") true d) _ (λ bind. after HasLabel (flag_or (codes "store") true d) _ (λ store. refl)))))) tt
+    (λ force. refl)))) tt
 
 unload_labels : (form : Form) (d : Data) → IfSome (unload_shape form d) HasLabel
 unfolding unload_shape
 unload_labels form d =
     among HasLabel _ _ None (bound IsNamed HasLabel (label_key (codes "job") d) _ (labelled_key (codes "job") d)
-    (λ job is. after HasLabel (flag_or (codes "w") false d) _ (λ w. after HasLabel (flag_or (codes "store") true d) _ (λ store. is)))) tt
+    (λ job is. after HasLabel (flag_or (codes "w") false d) _ (λ w. is))) tt
 
-job_labels : (ask : Ask) (form : Form) (d : Data) → ((job : List ℕ) → IsNamed job → HasLabel (events.OfJob job (happens.Asked ask))) → IfSome (job_shape ask form d) HasLabel
+job_labels : (ask : Ask) (form : Form) (d : Data) → ((job : List ℕ) → IsNamed job → HasLabel (requests.Ask job ask)) → IfSome (job_shape ask form d) HasLabel
 unfolding job_shape
 job_labels ask form d has = among HasLabel _ _ None (bound IsNamed HasLabel (label_key (codes "job") d) _ (labelled_key (codes "job") d) has) tt
 
-target_labels : (form : Form) (d : Data) → IfSome (target_shape form d) IsNamed
+target_labels : (answers : List (List ℕ)) (form : Form) (d : Data) → IfSome (target_shape answers form d) IsNamed
 unfolding target_shape
-target_labels form d = among IsNamed _ _ None (labelled_target (codes "job") d) tt
-
-setting_labels : (disabled : Bool) (form : Form) (d : Data) → IfSome (setting_shape disabled form d) HasLabel
-unfolding setting_shape
-setting_labels disabled form d =
-    among HasLabel _ _ None (bound IsNamed HasLabel (target_key (codes "job") d) _ (labelled_target (codes "job") d) (λ job is. after HasLabel (flag_or (codes "store") true d) _ (λ store. is))) tt
+target_labels answers form d = among IsNamed _ _ None (labelled_target (codes "job") d) tt
 
 kickstart_labels : (form : Form) (d : Data) → IfSome (kickstart_shape form d) HasLabel
 unfolding kickstart_shape
 kickstart_labels form d =
     among HasLabel _ _ None (bound IsNamed HasLabel (target_key (codes "job") d) _ (labelled_target (codes "job") d) (λ job is. after HasLabel (flag_or (codes "k") false d) _ (λ k. and_from (is_label job) true is refl))) tt
 
-bare_labels : (e : Event) (form : Form) (d : Data) → HasLabel e → IfSome (bare_shape e form d) HasLabel
+bare_labels : (r : Request) (form : Form) (d : Data) → HasLabel r → IfSome (bare_shape r form d) HasLabel
 unfolding bare_shape
-bare_labels e form d is = among HasLabel _ (Some e) None is tt
+bare_labels r form d is = among HasLabel _ (Some r) None is tt
 
 asked_labels : (name : List ℕ) (form : Form) (d : Data) → IfSome (asked_shape name form d) HasLabel
 unfolding asked_shape
@@ -111,58 +108,39 @@ asked_labels name form d =
     (among HasLabel (bytes_eq name (codes "start")) _ _ (job_labels asks.Start form d (λ job is. and_from (is_label job) true is refl))
     (among HasLabel (bytes_eq name (codes "stop")) _ _ (job_labels asks.Stop form d (λ job is. and_from (is_label job) true is refl))
     (among HasLabel (bytes_eq name (codes "kickstart")) _ _ (kickstart_labels form d)
-    (among HasLabel (bytes_eq name (codes "enable")) _ _ (setting_labels false form d)
-    (among HasLabel (bytes_eq name (codes "disable")) _ _ (setting_labels true form d)
-    (among HasLabel (bytes_eq name (codes "list")) _ _ (bare_labels events.List form d refl)
-    (among HasLabel (bytes_eq name (codes "print")) _ _ (bound IsNamed HasLabel (target_shape form d) _ (target_labels form d) (λ job is. is))
-    (among HasLabel (bytes_eq name (codes "shutdown")) _ _ (bare_labels events.Shutdown form d refl) tt)))))))))
+    (among HasLabel (bytes_eq name (codes "enable")) _ _ (bound IsNamed HasLabel (target_shape (codes "store" ∷ []) form d) _ (target_labels (codes "store" ∷ []) form d) (λ job is. is))
+    (among HasLabel (bytes_eq name (codes "disable")) _ _ (bound IsNamed HasLabel (target_shape (codes "store" ∷ []) form d) _ (target_labels (codes "store" ∷ []) form d) (λ job is. is))
+    (among HasLabel (bytes_eq name (codes "list")) _ _ (bare_labels requests.List form d refl)
+    (among HasLabel (bytes_eq name (codes "print")) _ _ (bound IsNamed HasLabel (target_shape [] form d) _ (target_labels [] form d) (λ job is. is))
+    (among HasLabel (bytes_eq name (codes "shutdown")) _ _ (bare_labels requests.Shutdown form d refl) tt)))))))))
 
 request_labels : (line : List ℕ) → IfSome (request_at line) HasLabel
 unfolding request_at request_shape_of
 request_labels line = after HasLabel (json_in line) request_shape_of (λ d. after HasLabel (text_key (tag_of forms.Request) d) _ (λ name. asked_labels name forms.Request d))
 
-asked_writable : (e : Event) → HasLabel e → SaysFitIf (asked_in e) → IsWritableIf (asked_in e)
-asked_writable (events.Load def writes_setting force bind store) is fit = record { writable = is; fit = fit }
-asked_writable (events.Unload job writes_setting store) is fit = record { writable = is; fit = fit }
-asked_writable (events.Set job disabled store) is fit = record { writable = is; fit = fit }
-asked_writable events.List is fit = record { writable = is; fit = fit }
-asked_writable (events.Print job) is fit = record { writable = is; fit = fit }
-asked_writable events.Shutdown is fit = record { writable = is; fit = fit }
-asked_writable (events.Clock at) is fit = tt
-asked_writable (events.Saw path obs) is fit = tt
-asked_writable (events.OfJob job item) is fit = go (is_asked_of_a_job item) fit where
-  go : (b : Bool) → SaysFitIf (if b then Some (events.OfJob job item) else None) → IsWritableIf (if b then Some (events.OfJob job item) else None)
-  go true fits = record { writable = is; fit = fits }
-  go false fits = tt
-
 -- what a client asks of a job says no more than its label, and a flag
-pub ask_fits : (job : List ℕ) (item : JobItem) → IsUtf8 job → SaysFitIf (asked_in (events.OfJob job item))
-ask_fits job (happens.Asked asks.Start) text = (text, tt)
-ask_fits job (happens.Asked asks.Stop) text = (text, tt)
-ask_fits job (happens.Asked (asks.Kickstart kills_first)) text = (text, (tt, tt))
-ask_fits job (happens.Asked asks.Unload) text = tt
-ask_fits job (happens.Asked asks.Shutdown) text = tt
-ask_fits job (happens.Came conn) text = tt
-ask_fits job (happens.Left conn) text = tt
-ask_fits job (happens.Answered answer) text = tt
-ask_fits job (happens.Ended run how) text = tt
-ask_fits job (happens.WaitRefused run) text = tt
+pub ask_fits : (job : List ℕ) (ask : Ask) → IsUtf8 job → SaysFit (events.OfJob job (happens.Asked ask))
+ask_fits job asks.Start text = (text, tt)
+ask_fits job asks.Stop text = (text, tt)
+ask_fits job (asks.Kickstart kills_first) text = (text, (tt, tt))
+ask_fits job asks.Unload text = (text, tt)
+ask_fits job asks.Shutdown text = (text, tt)
 
 -- a line that asks for this can be written
-pub line_writable : (line : List ℕ) (e : Event) → request_at line ≡ Some e → SaysFitIf (asked_in e) → IsWritableIf (option_and_then asked_in (request_at line))
-line_writable line e is fit =
-    subst (λ (o : Option Event). IsWritableIf (option_and_then asked_in o)) (sym is) (asked_writable e (subst (λ (o : Option Event). IfSome o HasLabel) is (request_labels line)) fit)
+pub line_writable : (line : List ℕ) (r : Request) → request_at line ≡ Some r → SaysFit (event_with unasked r) → IsWritableIf (option_map asked (request_at line))
+line_writable line r is fit =
+    subst (λ (o : Option Request). IsWritableIf (option_map asked o)) (sym is) (record { writable = subst (λ (o : Option Request). IfSome o HasLabel) is (request_labels line); fit = fit })
 
 -- and so can one that asks for nothing
-pub no_line_writable : (line : List ℕ) → request_at line ≡ None → IsWritableIf (option_and_then asked_in (request_at line))
-no_line_writable line is = subst (λ (o : Option Event). IsWritableIf (option_and_then asked_in o)) (sym is) tt
+pub no_line_writable : (line : List ℕ) → request_at line ≡ None → IsWritableIf (option_map asked (request_at line))
+no_line_writable line is = subst (λ (o : Option Request). IsWritableIf (option_map asked o)) (sym is) tt
 
 -- ---- all else by its type
 
 -- under a name that is no label nothing is heard
 if_writable : (job : List ℕ) (e : Event) → (is_label job ≡ true → IsWritable e) → IsWritableIf (event_if_label job e)
 if_writable job e says = go (is_label job) refl where
-  go : (b : Bool) → is_label job ≡ b → IsWritableIf (if b then Some e else None)
+  go : (b : Bool) → is_label job ≡ b → IsWritableIf (if b then Some (happened e) else None)
   go true is = says is
   go false is = tt
 

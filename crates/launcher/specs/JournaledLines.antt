@@ -1,5 +1,5 @@
 -- The lines that a turn of the launcher writes to the journal.
-use Rattle.std.specs.Prelude.{ℕ, Bool, true, false, List, if◌then◌else◌}
+use Rattle.std.specs.Prelude.{ℕ, Bool, true, List, if◌then◌else◌}
 use Rattle.std.specs.List.{flat_map}
 use Rattle.history_model.specs.declared.Answer.{Answer}
 use Rattle.history_model.specs.declared.event.JobItem.TheVariants as happens
@@ -8,7 +8,11 @@ use Rattle.history_model.specs.declared.event.Event.TheVariants as journaled
 use Rattle.history_model.specs.Labels.{Label}
 use Rattle.ctl_protocol.specs.EventWriter.{event_line}
 use Rattle.loaded_jobs.specs.Tables.{Name, label_of}
-use Rattle.outside.specs.declared.asking.Outside.{Outside}
+use Rattle.ctl_protocol.specs.declared.request.LoadRequest.{LoadRequest}
+use Rattle.ctl_protocol.specs.declared.request.Outside.{Outside}
+use Rattle.ctl_protocol.specs.declared.request.Request.{Request}
+use Rattle.ctl_protocol.specs.declared.request.Request.TheVariants as requests
+use Rattle.ctl_protocol.specs.Requests.{event_with}
 use Rattle.outside.specs.declared.unheard.Unheard.{Unheard}
 
 -- the journal's event of the answer to an order of the label's job
@@ -26,22 +30,17 @@ answer_texts names pending = flat_map (answer_text names) pending
 
 -- ---- loads and settings
 
--- the journal's event of a load of a definition's bytes, with what the outside answered
-abbrev pub journaled_load : List ℕ → (writes_setting force : Bool) → Outside → journal.Event
-journaled_load bytes writes_setting force outside =
-    journaled.Load bytes writes_setting force outside.bind outside.store
+-- `enable` or `disable`, or an unload that disables the label
+abbrev pub setting_asked : Label → (disabled unload : Bool) → Request
+setting_asked label disabled unload =
+    if unload then requests.Unload label true else requests.Set label disabled
 
--- of `enable` or `disable`, or of an unload that disables the label
-abbrev pub journaled_set : Label → (disabled unload store : Bool) → journal.Event
-journaled_set label disabled unload store =
-    if unload then journaled.Unload label true store
-    else journaled.Set label disabled store
+-- the journal's line of a load, with what the outside answered
+abbrev pub load_line : LoadRequest → Outside → List ℕ
+load_line load outside = event_line (event_with outside (requests.Load load))
 
--- the journal's line of such a load
-abbrev pub load_line : List ℕ → (writes_setting force : Bool) → Outside → List ℕ
-load_line bytes writes_setting force outside =
-    event_line (journaled_load bytes writes_setting force outside)
-
--- and of such a setting
+-- and of such a setting, with what the store answered
 abbrev pub set_line : Label → (disabled unload store : Bool) → List ℕ
-set_line label disabled unload store = event_line (journaled_set label disabled unload store)
+set_line label disabled unload store =
+    event_line
+    (event_with (record { bind = true; store = store }) (setting_asked label disabled unload))

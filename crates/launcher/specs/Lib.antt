@@ -1,4 +1,5 @@
 pub mod Accepting
+pub mod AtOnce
 pub mod TurnFaults
 pub mod Hosts
 pub mod Inputs

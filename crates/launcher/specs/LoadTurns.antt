@@ -13,12 +13,15 @@ use Rattle.job_defs.specs.Keys.{def_of}
 use Rattle.loaded_jobs.specs.Tables.{Table, Name, definition_of_number}
 use Rattle.loaded_jobs.specs.StandsFor.{KeepsState, acts_in}
 use Rattle.loaded_jobs.specs.Loads.{refusal_outside, described_in, number_in, new_setting_in}
-use Rattle.job_table.specs.LoadOfBytes.{load_of_bytes}
+use Rattle.job_table.specs.Taking.{machine_event}
 use Rattle.loaded_jobs.specs.declared.loading.Ready.{Ready}
 use Rattle.loaded_jobs.specs.SettingChanges.{set_of}
 use Rattle.loaded_jobs.specs.TableOutcomes.{IsSameFor}
 use Rattle.child_edge.specs.Calls.{Tells, ToldCall}
-use Rattle.outside.specs.declared.asking.Outside.{Outside}
+use Rattle.ctl_protocol.specs.declared.request.LoadRequest.{LoadRequest}
+use Rattle.ctl_protocol.specs.declared.request.Outside.{Outside}
+use Rattle.ctl_protocol.specs.declared.request.Request.TheVariants as requests
+use Rattle.ctl_protocol.specs.Requests.{event_with, unasked}
 use Rattle.outside.specs.Asking.{Asks, Told, told_of}
 use Rattle.outside.specs.Stores.{Stamp, StoreCall, AreTold, set_call}
 use Rattle.launcher.specs.Journals.{JournalState, Grows}
@@ -91,21 +94,9 @@ abbrev pub standing :
 standing table calls stores journal =
     record { table = table; calls = calls; stores = stores; journal = journal }
 
--- what a client asked for with `load`: the text of a definition, with -w and -F or without
-pub record LoadRequest : Type 0 where
-  pub bytes : List ℕ
-  pub writes_setting : Bool
-  pub force : Bool
-
--- the request with these
-abbrev pub load_request : List ℕ → Bool → Bool → LoadRequest
-load_request bytes writes_setting force =
-    record { bytes = bytes; writes_setting = writes_setting; force = force }
-
--- the machine's event of it, with these answers of the outside
-abbrev pub event_of_load : LoadRequest → Outside → Event
-event_of_load request outside =
-    load_of_bytes request.bytes request.writes_setting request.force outside.bind outside.store
+-- the machine's event of a load, with these answers of the outside
+abbrev pub load_event : Outside → LoadRequest → Event
+load_event outside load = machine_event (event_with outside (requests.Load load))
 
 -- the label that the text defines, if it does
 abbrev pub label_read : Result Described Fault → Option Label
@@ -115,39 +106,22 @@ label_read (Err fault) = None
 -- the label whose setting a load writes
 abbrev pub label_written : LoadRequest → Option Label
 label_written request =
-    if request.writes_setting then label_read (def_of request.bytes) else None
-
--- what a client asked for with `enable`, `disable` or `unload -w`
-pub record SetRequest : Type 0 where
-  pub label : Label
-  pub disabled : Bool
-  pub unload : Bool
-
--- the request with these
-abbrev pub set_request : Label → Bool → Bool → SetRequest
-set_request label disabled unload =
-    record { label = label; disabled = disabled; unload = unload }
-
--- the machine's event of it, with this answer of the store
-abbrev pub event_of_set : SetRequest → Bool → Event
-event_of_set request kept = set_of request.label request.disabled request.unload kept
+    if request.writes_setting then label_read (def_of request.def) else None
 
 -- The turn of a load: first it asked the outside, in the reading's second, for the job with the
 -- number that it then has; the load with these answers, and the answers to what it orders, are a
 -- turn of the machine, whose first line tells these answers. The numbers in its calls are those of
 -- the jobs that were loaded before it, and of the new one; a job that stays loaded keeps its number.
-pub record LoadTurnOf (s : State) (request : LoadRequest) (outside : Outside)
+pub record LoadTurnOf (s : State) (load : LoadRequest) (outside : Outside)
     (reply : Option Refusal) (before after : Standing) : Type 0 where
   pub job : ℕ
   pub mid : Option (List ToldCall)
-  pub asks : AsksFor
-      (refusal_in s (event_of_load request (record { bind = true; store = true })))
-      (def_of request.bytes) job request.writes_setting s.reading.wall outside
+  pub asks : AsksFor (refusal_in s (load_event unasked load))
+      (def_of load.def) job load.writes_setting s.reading.wall outside
       (told_of before.calls before.stores) (told_of mid after.stores)
-  pub turn : TurnsOf s (event_of_load request outside)
-      (load_line request.bytes request.writes_setting request.force outside) reply after.table
+  pub turn : TurnsOf s (load_event outside load) (load_line load outside) reply after.table
       (trace mid before.journal) (trace after.calls after.journal)
-  pub own : reply ≡ None → (d : Described) → def_of request.bytes ≡ Ok d →
+  pub own : reply ≡ None → (d : Described) → def_of load.def ≡ Ok d →
       definition_of_number turn.names job ≡ Some d
   pub numbers : reply ≡ None → AreNumbered turn.names before.table
   pub stays : KeepsNumbers before.table after.table
@@ -155,13 +129,13 @@ pub record LoadTurnOf (s : State) (request : LoadRequest) (outside : Outside)
 -- The turn of a setting: first the store was asked; the setting with its answer, and the answers to
 -- what it orders, are a turn of the machine, whose first line tells this answer. The numbers in its
 -- calls are those of the jobs that were loaded before it; a job that stays loaded keeps its number.
-pub record SetTurnOf (s : State) (request : SetRequest) (kept : Bool)
+pub record SetTurnOf (s : State) (label : Label) (disabled unload kept : Bool)
     (reply : Option Refusal) (before after : Standing) : Type 0 where
-  pub asks : AsksStore (refusal_in s (event_of_set request true))
-      (set_call request.label (request.disabled || request.unload) s.reading.wall kept)
+  pub asks : AsksStore (refusal_in s (set_of label disabled unload true))
+      (set_call label (disabled || unload) s.reading.wall kept)
       before.stores after.stores
-  pub turn : TurnsOf s (event_of_set request kept)
-      (set_line request.label request.disabled request.unload kept) reply after.table
+  pub turn : TurnsOf s (set_of label disabled unload kept)
+      (set_line label disabled unload kept) reply after.table
       (trace before.calls before.journal) (trace after.calls after.journal)
   pub numbers : reply ≡ None → AreNumbered turn.names before.table
   pub stays : KeepsNumbers before.table after.table

@@ -3,6 +3,7 @@ use Rattle.std.specs.Prelude.{◌≡◌, ◌<◌, ◌^◌, Option, Some, None, t
 use Rattle.std.specs.List.{AllByRecursion}
 use Rattle.history_model.specs.declared.Refusal.{Refusal}
 use Rattle.history_model.specs.declared.event.Event.{Event}
+use Rattle.ctl_protocol.specs.Requests.{unasked}
 use Rattle.ctl_protocol.specs.Objects.{Plain, text, flag, count, whole}
 use Rattle.ctl_protocol.specs.EventWriter.{line_members, is_writable}
 use Rattle.ctl_protocol.specs.declared.header.Header.{Header}
@@ -11,7 +12,7 @@ use Rattle.ctl_protocol.specs.HeaderLines.{plain_members, setting_members, zone_
 use Rattle.launcher.specs.LoadTurns.{is_memory}
 use Rattle.launcher.specs.declared.input.Input.{Input}
 use Rattle.launcher.specs.declared.input.Input.TheVariants as inputs
-use Rattle.launcher.specs.Inputs.{input_event}
+use Rattle.launcher.specs.Inputs.{Incoming, event_of, input_event}
 
 -- a text is UTF-8, and a number has 64 bits
 abbrev pub IsFit : Plain → Type 0
@@ -30,19 +31,14 @@ pub record IsWritable (e : Event) : Type 0 where
   pub writable : is_writable e ≡ true
   pub fit : SaysFit e
 
--- if there is an event, all that it says is such a text or number
-abbrev pub SaysFitIf : Option Event → Type 0
-SaysFitIf None = ⊤
-SaysFitIf (Some e) = SaysFit e
-
--- if there is an event, it can be written
-abbrev pub IsWritableIf : Option Event → Type 0
+-- if something came, it can be written
+abbrev pub IsWritableIf : Option Incoming → Type 0
 IsWritableIf None = ⊤
-IsWritableIf (Some e) = IsWritable e
+IsWritableIf (Some incoming) = IsWritable (event_of unasked incoming)
 
 -- what was heard, if memory was not wanting, can be written
-abbrev pub WritesWhat : Option Refusal → Option Event → Type 0
-WritesWhat refusal event = is_memory refusal ≡ false → IsWritableIf event
+abbrev pub WritesWhat : Option Refusal → Option Incoming → Type 0
+WritesWhat refusal incoming = is_memory refusal ≡ false → IsWritableIf incoming
 
 -- the same of an input by its type alone, which says nothing of a line
 abbrev pub IsWritableInput : Input → Type 0

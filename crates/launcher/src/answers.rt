@@ -11,7 +11,7 @@ ghost use Rattle.launcher.specs.HostTurns.{IsWaiting, Handled, Settled, trace};
 
 use crate::events::hear_answer;
 use crate::host::Host;
-use crate::lent_facts::{lend_numbers, lend_text};
+use crate::lent_facts::{lend_table, lend_text};
 use child_edge::{ChildEdge, SocketEdge};
 use history_model::{Event, JobItem, TextRef};
 use outside::{SettingStore, Unheard};
@@ -30,7 +30,7 @@ impl<T: SettingStore, E: ChildEdge + SocketEdge, W: Write> Host<T, E, W> {
             (trace (E.told self.new.edge) self.new.journal) }
         ensures store { self.new.store ≡ self.old.store }
     {
-        lend_numbers(&self.table); // for the proof
+        lend_table(&self.table); // for the proof
         let _accepted = hear_answer(&mut self.table, &mut self.edge, pending, &mut self.answers);
         let label = self.table.last_step().label(pending.job);
         lend_text(label); // for the proof

@@ -1,52 +1,55 @@
 //! Tells the table what happens, and carries out what it orders.
 
-ghost use Rattle.std.specs.Prelude.{◌≡◌, Err, OnErr, true};
+ghost use Rattle.std.specs.Prelude.{◌≡◌, Err, IfOk, OnErr, false};
 ghost use Rattle.history_model.specs.declared.Refusal.TheVariants.{NoMemory};
+ghost use Rattle.history_model.specs.Machine.{State};
+ghost use Rattle.history_model.specs.Step.{outcome};
+ghost use Rattle.loaded_jobs.specs.StandsFor.{KeepsState};
 ghost use Rattle.loaded_jobs.specs.TableOutcomes.{UnlessMemory};
 ghost use Rattle.job_table.specs.Taking.{machine_event};
-ghost use Rattle.launcher.specs.Inputs.{is_clock, is_taken_in};
+ghost use Rattle.launcher.specs.AtOnce.{NamesStay};
+ghost use Rattle.launcher.specs.Inputs.{takes_none};
 ghost use Rattle.launcher.specs.HostTurns.{Happens, IsUncalled, answer_event};
 ghost use Rattle.loaded_jobs.specs.Loads.{refused_with};
 
 use crate::answer_queue::AnswerQueue;
-use crate::orders::carry_step;
+use crate::lent_facts::lend_table;
+use crate::orders::{carry_all, carry_step};
 use child_edge::{ChildEdge, SocketEdge};
-use history_model::{Event, Refusal};
-use job_table::JobTable;
+use history_model::{Event, Refusal, Text};
+use job_table::{JobTable, Taken};
 use outside::Unheard;
 use std::alloc::Global;
 
-/// Tells the table what happens, and carries out what it orders. NoMemory only to a reading of the clocks, before anything was
-/// carried out. The caller's condition: nothing outside is first asked for it.
+/// Tells the table what happens, and carries out what it orders; a question orders nothing. The answer is the event's text. After
+/// NoMemory nothing was carried out.
 pub(crate) fn hear<E: ChildEdge + SocketEdge>(
     table: &mut JobTable,
     edge: &mut E,
     alloc: Global,
     what: &Event<'_>,
     answers: &mut AnswerQueue,
-) -> Result<(), Refusal>
-    requires { is_taken_in what.now ≡ true }
-    ensures happens { UnlessMemory result
+) -> Result<Text, Refusal>
+    ensures happens { NamesStay what.now → UnlessMemory result
         (Happens (machine_event what.now) (refused_with result) table.old table.new
         answers.old answers.new (E.told edge.old) (E.told edge.new)) }
-    ensures memory { result ≡ Err NoMemory →
-        (is_clock what.now ≡ true) × IsUncalled table.old table.new
-        (E.told edge.old) (E.told edge.new) }
+    ensures text { IfOk result (λ text. (s : State) → KeepsState table.old s →
+        (outcome s (machine_event what.now)).text ≡ text) }
+    ensures uncalled { result ≡ Err NoMemory →
+        IsUncalled table.old table.new (E.told edge.old) (E.told edge.new) }
+    ensures memory { result ≡ Err NoMemory → takes_none what.now ≡ false }
 {
-    match what {
-        Event::Clock(at) => carry_step(edge, table.clock(alloc, *at), answers),
-        Event::Saw { path, obs } => carry_step(edge, table.saw(path.as_str(), *obs), answers),
-        Event::OfJob { job, item } => carry_step(edge, table.hear(job.as_str(), *item), answers),
-        Event::Unload {
-            job,
-            writes_setting: _writes_setting,
-            store: _store,
-        } => carry_step(edge, table.unload(job.as_str()), answers),
-        Event::Shutdown => carry_step(edge, table.shutdown(), answers),
-        Event::Load { .. } => unreachable!(),
-        Event::Set { .. } => unreachable!(),
-        Event::List => unreachable!(),
-        Event::Print { .. } => unreachable!(),
+    lend_table(table); // for the proof
+    match table.take(alloc, what) {
+        Ok(Taken::Made(text)) => {
+            carry_all(edge, &table.last_step(), answers);
+            Ok(text)
+        }
+        Ok(Taken::Told(text)) => {
+            lend_table(table); // for the proof
+            Ok(text)
+        }
+        Err(refusal) => Err(refusal),
     }
 }
 

@@ -1,23 +1,26 @@
 //! Facts that a proof needs, and that a type or the table says: texts are UTF-8, numbers have 64 bits, each number of a job stands for its
 //! definition. Nothing is done.
 
-ghost use Rattle.std.specs.Prelude.{◌≡◌, ◌<◌, ◌^◌, IsUtf8, nat_lt, true};
+ghost use Rattle.std.specs.Prelude.{◌≡◌, ◌<◌, ◌≤◌, ◌^◌, IsUtf8, nat_lt, true};
 ghost use Rattle.std.specs.List.{list_all};
 ghost use Rattle.ctl_protocol.specs.Objects.{whole};
+ghost use Rattle.history_model.specs.declared.TheConstants.{MAX_UP};
 ghost use Rattle.loaded_jobs.specs.Numbers.{IsNumbered};
-ghost use Rattle.launcher.specs.Inputs.{asked_in};
-ghost use Rattle.launcher.specs.Writable.{IsFit, IsFitZone, IsWritableInput, SaysFitIf};
+ghost use Rattle.ctl_protocol.specs.Requests.{event_with, unasked};
+ghost use Rattle.launcher.specs.Writable.{IsFit, IsFitZone, IsWritableInput, SaysFit};
 
 use crate::input::Input;
-use ctl_protocol::ZoneText;
-use history_model::{Ended, Event, TextRef};
+use ctl_protocol::{Request, ZoneText};
+use history_model::{Ended, TextRef};
 use job_table::JobTable;
 
-/// The numbers of the table's jobs stand for their definitions. Nothing is done.
-pub(crate) fn lend_numbers(table: &JobTable)
-    ensures { IsNumbered table.now }
+/// The numbers of the table's jobs stand for their definitions, and its reading is within its limit. Nothing is done.
+pub(crate) fn lend_table(table: &JobTable)
+    ensures numbered { IsNumbered table.now }
+    ensures range { table.now.reading.up ≤ MAX_UP }
 {
     let _step = table.last_step();
+    let _at = table.reading();
 }
 
 /// A text is UTF-8.
@@ -36,16 +39,16 @@ fn lend_borrowed(text: &TextRef<'_>)
 
 /// All texts of what a client asks are UTF-8.
 #[tactic(auto, using(crate::proofs::WritableLemmas::ask_fits))]
-pub(crate) fn lend_request(event: &Event<'_>)
-    ensures { SaysFitIf (asked_in event.now) }
+pub(crate) fn lend_request(request: &Request<'_>)
+    ensures { SaysFit (event_with unasked request.now) }
 {
-    match event {
-        Event::Load { def, .. } => lend_borrowed(def),
-        Event::Unload { job, .. } | Event::Set { job, .. } | Event::Print { job } => {
+    match request {
+        Request::Load(load) => lend_borrowed(&load.def),
+        Request::Unload { job, .. } | Request::Set { job, .. } | Request::Print { job } => {
             lend_borrowed(job)
         }
-        Event::OfJob { job, .. } => lend_borrowed(job),
-        _ => {}
+        Request::Ask { job, .. } => lend_borrowed(job),
+        Request::List | Request::Shutdown => {}
     }
 }
 

@@ -16,7 +16,6 @@ pub mod laws;
 mod lent_facts;
 mod loading;
 mod orders;
-mod questions;
 mod replies;
 mod request_lines;
 mod setting;

@@ -7,23 +7,25 @@ ghost use Rattle.history_model.specs.Acceptance.{refusal_in};
 ghost use Rattle.history_model.specs.Labels.{is_label};
 ghost use Rattle.history_model.specs.Machine.{State};
 ghost use Rattle.history_model.specs.Step.{outcome, set_if};
+ghost use Rattle.ctl_protocol.specs.Requests.{unasked};
 ghost use Rattle.loaded_jobs.specs.StandsFor.{KeepsState};
-ghost use Rattle.loaded_jobs.specs.Loads.{refusal_outside, IsReady, described_in, refused_with};
+ghost use Rattle.loaded_jobs.specs.Loads.{IsReady, described_in, refused_with};
 ghost use Rattle.launcher.specs.Journals.{JournalState, Grows};
 ghost use Rattle.outside.specs.Asking.{told_of};
 ghost use Rattle.outside.specs.Stores.{HoldsAfter, stamp_if};
 ghost use Rattle.launcher.specs.Hosts.{stands};
 ghost use Rattle.launcher.specs.HostTurns.{IsLed, trace};
 ghost use Rattle.launcher.specs.JournaledLines.{load_line};
-ghost use Rattle.launcher.specs.LoadTurns.{LoadTurnOf, IsUntouched, Makes, EndsLoad, event_of_load, is_memory, label_written, load_request, ready_load, settings_after, stamps_after};
+ghost use Rattle.launcher.specs.LoadTurns.{LoadTurnOf, IsUntouched, Makes, EndsLoad, is_memory, label_written, load_event, ready_load, settings_after, stamps_after};
 
 use crate::host::Host;
 use crate::request_lines::{note_load, note_load_refused};
 use child_edge::{ChildEdge, SocketEdge};
-use history_model::Refusal;
-use job_defs::{Def, loaded};
-use job_table::Ready;
-use outside::{Outside, SettingStore, ask_outside};
+use ctl_protocol::{LoadRequest, Outside};
+use history_model::{Refusal, Text};
+use job_defs::loaded;
+use job_table::{Ready, refused_outside};
+use outside::{SettingStore, ask_outside};
 use std::alloc::Global;
 use std::io::Write;
 
@@ -33,7 +35,7 @@ pub(crate) struct Loaded {
     /// What the outside answered. What it was not asked counts as true.
     pub outside: Outside,
     /// The text of a load that was made, or why it was refused.
-    pub reply: Result<String, Refusal>,
+    pub reply: Result<Text, Refusal>,
 }
 
 /// What the outside answered, and what it refused.
@@ -43,32 +45,15 @@ struct Answered {
     refusal: Option<Refusal>,
 }
 
-/// What the outside refuses of a load: the sockets of a job that has any, then the store, if a setting is written.
-fn refused_outside(def: &Def, writes_setting: bool, outside: Outside) -> Option<Refusal>
-    ensures { result ≡ refusal_outside def.now writes_setting outside.bind outside.store }
-{
-    if def.has_sockets() && !outside.bind {
-        return Some(Refusal::SocketRefused);
-    }
-    if writes_setting && !outside.store {
-        return Some(Refusal::StoreRefused);
-    }
-    None
-}
-
 /// Lets a load go that was made ready.
 fn discard(_ready: Ready) {}
 
 /// A load that was refused before the outside was asked.
 fn uncalled(refusal: Refusal) -> Loaded
-    ensures { result
-        ≡ record { outside = record { bind = true; store = true }; reply = Err refusal } }
+    ensures { result ≡ record { outside = unasked; reply = Err refusal } }
 {
     Loaded {
-        outside: Outside {
-            bind: true,
-            store: true,
-        },
+        outside: Outside::unasked(),
         reply: Err(refusal),
     }
 }
@@ -77,11 +62,11 @@ fn uncalled(refusal: Refusal) -> Loaded
 fn reply_to(answered: Answered, text: String) -> Loaded
     ensures outside { result.outside ≡ answered.outside }
     ensures reply { refused_with result.reply ≡ answered.refusal }
-    ensures text { IfOk result.reply (λ said. string_bytes said ≡ string_bytes text) }
+    ensures text { IfOk result.reply (λ said. said ≡ string_bytes text) }
 {
     let reply = match answered.refusal {
         Some(refusal) => Err(refusal),
-        None => Ok(text),
+        None => Ok(Text::new(text)),
     };
     Loaded {
         outside: answered.outside,
@@ -109,27 +94,19 @@ impl<T: SettingStore, E: ChildEdge + SocketEdge, W: Write> Host<T, E, W> {
     }
 
     /// Asks the outside about the load that was made ready, writes its line, and makes it if the outside answered well.
-    fn ask_and_load(
-        &mut self,
-        alloc: Global,
-        ready: Ready,
-        def: &str,
-        writes_setting: bool,
-        force: bool,
-    ) -> Answered
+    fn ask_and_load(&mut self, alloc: Global, ready: Ready, load: &LoadRequest<'_>) -> Answered
         requires ready { IsReady self.old.table ready }
         requires label { is_label (described_in ready).label ≡ true }
         requires empty { self.old.answers ≡ [] }
-        ensures ends { EndsLoad ready writes_setting self.old.table.reading.wall result.outside
-            result.refusal
-            (load_line def.now writes_setting force result.outside)
+        ensures ends { EndsLoad ready load.now.writes_setting self.old.table.reading.wall result.outside
+            result.refusal (load_line load.now result.outside)
             (stands E.told T.told self.old) (stands E.told T.told self.new) }
         ensures stored { HoldsAfter T.holds
-            (set_if (writes_setting && (result.outside.bind && result.outside.store))
+            (set_if (load.now.writes_setting && (result.outside.bind && result.outside.store))
             (described_in ready).label false)
             self.old.store self.new.store }
         ensures stamped { HoldsAfter T.stamped
-            (stamp_if (writes_setting && (result.outside.bind && result.outside.store))
+            (stamp_if (load.now.writes_setting && (result.outside.bind && result.outside.store))
             (described_in ready).label self.old.table.reading.wall)
             self.old.store self.new.store }
     {
@@ -139,18 +116,16 @@ impl<T: SettingStore, E: ChildEdge + SocketEdge, W: Write> Host<T, E, W> {
             &mut self.store,
             ready.job(),
             ready.def(),
-            writes_setting,
+            load.writes_setting,
             changed,
         );
-        note_load(
-            &mut self.journal,
-            alloc,
-            def,
-            writes_setting,
-            force,
-            outside,
+        note_load(&mut self.journal, alloc, load, outside);
+        let refusal = refused_outside(
+            ready.def(),
+            load.writes_setting,
+            outside.bind,
+            outside.store,
         );
-        let refusal = refused_outside(ready.def(), writes_setting, outside);
         match refusal {
             Some(_) => discard(ready),
             None => self.load_ready(alloc, ready),
@@ -158,21 +133,14 @@ impl<T: SettingStore, E: ChildEdge + SocketEdge, W: Write> Host<T, E, W> {
         Answered { outside, refusal }
     }
 
-    /// A turn that begins with a load, as `load` of launchctl(1): with `writes_setting` its label is also enabled, with `force`
-    /// a disabled one is loaded too. All memory is taken before the outside is asked, but for that of the journal's lines: want
+    /// A turn that begins with a load, as `load` of launchctl(1). All memory is taken before the outside is asked, but for that of the journal's lines: want
     /// of it closes the journal and changes nothing else. The journal gets the line of the load with what the outside answered,
     /// also if it is refused, and then the line of each answer.
     ///
     /// Refusals, in this order: ShuttingDown, BadDefinition, Removing or AlreadyLoaded, TooManyJobs (1,024), Disabled; NoMemory;
     /// SocketRefused, if the sockets were not bound, StoreRefused, if the setting was not stored: what was bound is then
     /// given up. A refused load leaves the table standing for what it stood for. One that found no memory has no line.
-    pub(crate) fn load(
-        &mut self,
-        alloc: Global,
-        def: &str,
-        writes_setting: bool,
-        force: bool,
-    ) -> Loaded
+    pub(crate) fn load(&mut self, alloc: Global, load: &LoadRequest<'_>) -> Loaded
         ensures memory { is_memory (refused_with result.reply) ≡ true →
             IsUntouched self.old.table self.new.table
             (told_of (E.told self.old.edge) (T.told self.old.store))
@@ -181,30 +149,28 @@ impl<T: SettingStore, E: ChildEdge + SocketEdge, W: Write> Host<T, E, W> {
             self.new.journal ≡ self.old.journal }
         ensures turn { is_memory (refused_with result.reply) ≡ false → (s : State) → IsLed s →
             KeepsState self.old.table s
-            → LoadTurnOf s (load_request def.now writes_setting force) result.outside
-            (refused_with result.reply)
+            → LoadTurnOf s load.now result.outside (refused_with result.reply)
             (stands E.told T.told self.old) (stands E.told T.told self.new) }
         ensures stored { (s : State) → KeepsState self.old.table s
             → T.holds self.old.store s.settings
             → T.holds self.new.store (settings_after (refused_with result.reply) s
-            (event_of_load (load_request def.now writes_setting force) result.outside)) }
+            (load_event result.outside load.now)) }
         ensures stamped { (s : State) → KeepsState self.old.table s → HoldsAfter T.stamped
-            (stamps_after (label_written (load_request def.now writes_setting force))
-            (refused_with result.reply) s.reading.wall)
+            (stamps_after (label_written load.now) (refused_with result.reply) s.reading.wall)
             self.old.store self.new.store }
         ensures text { IfOk result.reply (λ text. (s : State) → KeepsState self.old.table s
-            → (outcome s
-            (event_of_load (load_request def.now writes_setting force) result.outside)).text
-            ≡ string_bytes text) }
+            → (outcome s (load_event result.outside load.now)).text ≡ text) }
     {
         self.answers.clear();
-        match self
-            .table
-            .prepare_load(alloc, def.as_bytes(), writes_setting, force)
-        {
+        match self.table.prepare_load(
+            alloc,
+            load.def.as_str().as_bytes(),
+            load.writes_setting,
+            load.force,
+        ) {
             Ok(ready) => match loaded(alloc, ready.def().not_acted_on()) {
                 Ok(text) => {
-                    let ended = self.ask_and_load(alloc, ready, def, writes_setting, force);
+                    let ended = self.ask_and_load(alloc, ready, load);
                     reply_to(ended, text)
                 }
                 Err(_) => {
@@ -213,14 +179,7 @@ impl<T: SettingStore, E: ChildEdge + SocketEdge, W: Write> Host<T, E, W> {
                 }
             },
             Err(refusal) => {
-                note_load_refused(
-                    &mut self.journal,
-                    alloc,
-                    def,
-                    writes_setting,
-                    force,
-                    refusal,
-                );
+                note_load_refused(&mut self.journal, alloc, load, refusal);
                 uncalled(refusal)
             }
         }

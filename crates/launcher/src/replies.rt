@@ -1,7 +1,6 @@
 //! What a launcher replies to an input.
 
 ghost use Rattle.std.specs.Prelude.{◌≡◌, IfOk, Some, [], is_some, true};
-ghost use Rattle.std.specs.String.{string_bytes};
 ghost use Rattle.loaded_jobs.specs.Loads.{refused_with};
 ghost use Rattle.launcher.specs.LoadTurns.{is_memory};
 
@@ -46,15 +45,15 @@ pub(crate) fn done(alloc: Global, answer: Result<(), Refusal>) -> Reply
 }
 
 /// The reply to what is answered by a text.
-pub(crate) fn told(alloc: Global, answer: Result<String, Refusal>) -> Reply
+pub(crate) fn told(alloc: Global, answer: Result<Text, Refusal>) -> Reply
     ensures refusal { result.refusal ≡ refused_with answer }
-    ensures text { IfOk answer (λ text. result.text ≡ string_bytes text) }
+    ensures text { IfOk answer (λ text. result.text ≡ text) }
     ensures quiet { is_some result.refusal ≡ true → result.text ≡ [] }
 {
     match answer {
         Ok(text) => Reply {
             refusal: None,
-            text: Text::new(text),
+            text,
         },
         Err(refusal) => Reply {
             refusal: Some(refusal),

@@ -1,68 +1,45 @@
-//! The line of a load, and of a setting, with what the outside answered; and of a question.
+//! The line of a load, and of a setting, with what the outside answered.
 
 ghost use Rattle.std.specs.Prelude.{◌≡◌, Some, true, false};
-ghost use Rattle.history_model.specs.declared.event.Event.TheVariants as journaled;
-ghost use Rattle.ctl_protocol.specs.EventWriter.{event_line};
+ghost use Rattle.ctl_protocol.specs.Requests.{unasked};
 ghost use Rattle.launcher.specs.Journals.{Grows};
-ghost use Rattle.launcher.specs.JournaledLines.{journaled_set, load_line, set_line};
+ghost use Rattle.launcher.specs.JournaledLines.{load_line, set_line, setting_asked};
 ghost use Rattle.launcher.specs.LoadTurns.{is_memory};
 
 use crate::journal::Journal;
-use history_model::{Event, Refusal, TextRef};
-use outside::Outside;
+use ctl_protocol::{LoadRequest, Outside, Request};
+use history_model::{Refusal, TextRef};
 use std::alloc::Global;
 use std::io::Write;
-
-/// Writes the line of `print`.
-pub(crate) fn note_print<W: Write>(journal: &mut Journal<W>, alloc: Global, label: &str)
-    ensures { Grows journal.old journal.new (event_line (journaled.Print label.now)) }
-{
-    let job = TextRef::new(label);
-    journal.note(alloc, &Event::Print { job });
-}
 
 /// Writes the line of a load with these answers.
 pub(crate) fn note_load<W: Write>(
     journal: &mut Journal<W>,
     alloc: Global,
-    def: &str,
-    writes_setting: bool,
-    force: bool,
+    load: &LoadRequest<'_>,
     outside: Outside,
 )
-    ensures { Grows journal.old journal.new (load_line def.now writes_setting force outside) }
+    ensures { Grows journal.old journal.new (load_line load.now outside) }
 {
-    let load = Event::Load {
-        def: TextRef::new(def),
-        writes_setting,
-        force,
-        bind: outside.bind,
-        store: outside.store,
-    };
-    journal.note(alloc, &load);
+    journal.note(alloc, &load.with(outside));
 }
 
-/// The journal's event of a setting; with `unload`, of an unload that disables the label.
-fn set_event(label: &str, disabled: bool, unload: bool, store: bool) -> Event<'_>
-    ensures { result ≡ journaled_set label.now disabled unload store }
+/// The request of a setting; with `unload`, of an unload that disables the label.
+fn setting_request(label: &str, disabled: bool, unload: bool) -> Request<'_>
+    ensures { result ≡ setting_asked label.now disabled unload }
 {
     let job = TextRef::new(label);
     if unload {
-        Event::Unload {
+        Request::Unload {
             job,
             writes_setting: true,
-            store,
         }
     } else {
-        Event::Set {
-            job,
-            disabled,
-            store,
-        }
+        Request::Set { job, disabled }
     }
 }
 
-/// Writes the line of a setting with this answer.
+/// Writes the line of a setting with this answer of the store.
 pub(crate) fn note_set<W: Write>(
     journal: &mut Journal<W>,
     alloc: Global,
@@ -73,7 +50,8 @@ pub(crate) fn note_set<W: Write>(
 )
     ensures { Grows journal.old journal.new (set_line label.now disabled unload store) }
 {
-    journal.note(alloc, &set_event(label, disabled, unload, store));
+    let request = setting_request(label, disabled, unload);
+    journal.note(alloc, &request.with(Outside { bind: true, store }));
 }
 
 /// Whether a refusal tells of want of memory.
@@ -91,24 +69,17 @@ fn is_want(refusal: Refusal) -> bool
 pub(crate) fn note_load_refused<W: Write>(
     journal: &mut Journal<W>,
     alloc: Global,
-    def: &str,
-    writes_setting: bool,
-    force: bool,
+    load: &LoadRequest<'_>,
     refusal: Refusal,
 )
     ensures noted { is_memory (Some refusal) ≡ false →
-        Grows journal.old journal.new
-        (load_line def.now writes_setting force (record { bind = true; store = true })) }
+        Grows journal.old journal.new (load_line load.now unasked) }
     ensures silent { is_memory (Some refusal) ≡ true → journal.new ≡ journal.old }
 {
     if is_want(refusal) {
         return;
     }
-    let outside = Outside {
-        bind: true,
-        store: true,
-    };
-    note_load(journal, alloc, def, writes_setting, force, outside);
+    note_load(journal, alloc, load, Outside::unasked());
 }
 
 /// Writes the line of a setting that was refused before the store was asked. One that found no memory is no event and gets no

@@ -12,7 +12,7 @@ ghost use Rattle.outside.specs.Stores.{HoldsAfter};
 ghost use Rattle.launcher.specs.Hosts.{stands};
 ghost use Rattle.launcher.specs.HostTurns.{IsLed, trace};
 ghost use Rattle.loaded_jobs.specs.Loads.{refused_with};
-ghost use Rattle.launcher.specs.LoadTurns.{SetTurnOf, Sets, IsUntouched, is_memory, set_request, settings_after, stamps_after};
+ghost use Rattle.launcher.specs.LoadTurns.{SetTurnOf, Sets, IsUntouched, is_memory, settings_after, stamps_after};
 
 use crate::host::Host;
 use crate::request_lines::{note_set, note_set_refused};
@@ -78,8 +78,7 @@ impl<T: SettingStore, E: ChildEdge + SocketEdge, W: Write> Host<T, E, W> {
             self.new.journal ≡ self.old.journal }
         ensures turn { is_memory (refused_with result.reply) ≡ false → (s : State) → IsLed s →
             KeepsState self.old.table s
-            → SetTurnOf s (set_request label.now disabled unload) result.stored
-            (refused_with result.reply)
+            → SetTurnOf s label.now disabled unload result.stored (refused_with result.reply)
             (stands E.told T.told self.old) (stands E.told T.told self.new) }
         ensures stored { (s : State) → KeepsState self.old.table s
             → T.holds self.old.store s.settings

@@ -1,26 +1,30 @@
 //! A turn of the launcher, by what comes to it: what happens is one event, and the answers to all that it orders are the next.
 
-ghost use Rattle.std.specs.Prelude.{◌≡◌, Err, Some, [], is_some, true, false};
+ghost use Rattle.std.specs.Prelude.{◌≡◌, Err, IfOk, Some, [], is_some, true, false};
 ghost use Rattle.history_model.specs.declared.Refusal.TheVariants.{NoMemory};
 ghost use Rattle.history_model.specs.declared.event.Event.TheVariants as journaled;
 ghost use Rattle.ctl_protocol.specs.EventWriter.{event_line};
 ghost use Rattle.loaded_jobs.specs.Loads.{refused_with};
+ghost use Rattle.history_model.specs.Machine.{State};
+ghost use Rattle.history_model.specs.Step.{outcome};
+ghost use Rattle.loaded_jobs.specs.StandsFor.{KeepsState};
 ghost use Rattle.loaded_jobs.specs.TableOutcomes.{UnlessMemory};
 ghost use Rattle.job_table.specs.Taking.{machine_event};
 ghost use Rattle.launcher.specs.Hosts.{HostHears, HostStamps};
 ghost use Rattle.launcher.specs.Accepting.{is_accepted_load};
-ghost use Rattle.launcher.specs.Inputs.{input_event, event_if_label, is_clock, is_taken_in, wants_memory};
+ghost use Rattle.launcher.specs.Inputs.{Incoming, event_if_label, happened, input_event, takes_none, wants_memory};
 ghost use Rattle.launcher.specs.LoadTurns.{is_memory};
-ghost use Rattle.launcher.specs.HostTurns.{Turns, IsUncalled, trace};
+ghost use Rattle.launcher.specs.AtOnce.{IsAtOnce, NamesStay, is_happening};
+ghost use Rattle.launcher.specs.HostTurns.{Turns, IsUncalled, NamesLabel, trace};
 ghost use Rattle.launcher.specs.Writable.{WritesWhat};
 
 use crate::events::hear;
 use crate::host::Host;
 use crate::input::Input;
 use crate::lent_facts::lend_input;
-use crate::replies::{done, is_want, refused};
+use crate::replies::{is_want, refused, told};
 use child_edge::{ChildEdge, SocketEdge};
-use history_model::{Event, JobItem, Refusal, Reply, TextRef};
+use history_model::{Event, JobItem, Refusal, Reply, Text, TextRef};
 use job_defs::is_label;
 use outside::SettingStore;
 use std::alloc::Global;
@@ -105,38 +109,51 @@ impl<T: SettingStore, E: ChildEdge + SocketEdge, W: Write> Host<T, E, W> {
         }
     }
 
-    /// What happens, with its reply. The caller's condition: nothing outside is first asked for it.
+    /// What happens, with its reply.
     pub(crate) fn happen(&mut self, alloc: Global, what: &Event<'_>) -> Reply
-        requires { is_taken_in what.now ≡ true }
-        ensures hears { HostHears E.told T.told T.holds (Some what.now)
+        requires { is_happening what.now ≡ true }
+        ensures hears { HostHears E.told T.told T.holds (Some (happened what.now))
             result.refusal result.text self.old self.new }
-        ensures stamped { HostStamps T.stamped (Some what.now)
+        ensures stamped { HostStamps T.stamped (Some (happened what.now))
             result.refusal self.old self.new }
-        ensures memory { is_memory result.refusal ≡ true → is_clock what.now ≡ true }
+        ensures memory { is_memory result.refusal ≡ true → takes_none what.now ≡ false }
+        ensures quiet { is_some result.refusal ≡ true → result.text ≡ [] }
+        ensures loaded { self.new.has_loaded ≡ false }
+    {
+        self.hear_at_once(alloc, what)
+    }
+
+    /// What comes and is this event at once, with its reply: nothing outside is first asked for it.
+    pub(crate) fn hear_at_once(&mut self, alloc: Global, what: &Event<'_>) -> Reply
+        ensures hears { (incoming : Incoming) → IsAtOnce incoming what.now →
+            HostHears E.told T.told T.holds (Some incoming)
+            result.refusal result.text self.old self.new }
+        ensures stamped { (incoming : Incoming) → IsAtOnce incoming what.now →
+            HostStamps T.stamped (Some incoming) result.refusal self.old self.new }
+        ensures memory { is_memory result.refusal ≡ true → takes_none what.now ≡ false }
         ensures quiet { is_some result.refusal ≡ true → result.text ≡ [] }
         ensures loaded { self.new.has_loaded ≡ false }
     {
         let answer = self.take_in(alloc, what);
         self.has_loaded = false;
-        done(alloc, answer)
+        told(alloc, answer)
     }
 
-    /// Makes what happens an event, carries out what it orders, each order by its one call of the edge, and makes each answer the
-    /// next event, first in first out, until none remains. The journal gets the line of each event. The refusals are those of the
-    /// event, and then no call was made: BadRequest (the name is no label), NoSuchJob, Removing, NotRunning, TooManyConnections,
-    /// Stale, ClockRefused, ShuttingDown. NoMemory only to a reading of the clocks, which is then not taken in: nothing was carried
-    /// out, and no line was written. The caller's condition: nothing outside is first asked for it.
-    pub(crate) fn take_in(&mut self, alloc: Global, what: &Event<'_>) -> Result<(), Refusal>
-        requires { is_taken_in what.now ≡ true }
-        ensures turn { UnlessMemory result
+    /// Makes what comes an event, carries out what it orders, each order by its one call of the edge, and makes each answer the next
+    /// event, first in first out, until none remains. The journal gets the line of each event. The answer is the event's text, or its
+    /// refusal, and then no call was made. After NoMemory it is no event: nothing was carried out, and no line was written.
+    pub(crate) fn take_in(&mut self, alloc: Global, what: &Event<'_>) -> Result<Text, Refusal>
+        ensures turn { NamesLabel (machine_event what.now) → NamesStay what.now → UnlessMemory result
             (Turns (machine_event what.now) (event_line what.now)
             (refused_with result) self.old.table self.new.table
             (trace (E.told self.old.edge) self.old.journal)
             (trace (E.told self.new.edge) self.new.journal)) }
-        ensures memory { result ≡ Err NoMemory →
-            (is_clock what.now ≡ true) × IsUncalled self.old.table self.new.table
-            (E.told self.old.edge) (E.told self.new.edge)
+        ensures text { IfOk result (λ text. (s : State) → KeepsState self.old.table s →
+            (outcome s (machine_event what.now)).text ≡ text) }
+        ensures uncalled { result ≡ Err NoMemory →
+            IsUncalled self.old.table self.new.table (E.told self.old.edge) (E.told self.new.edge)
             × (self.new.journal ≡ self.old.journal) }
+        ensures memory { result ≡ Err NoMemory → takes_none what.now ≡ false }
         ensures store { self.new.store ≡ self.old.store }
     {
         self.answers.clear();
@@ -147,10 +164,10 @@ impl<T: SettingStore, E: ChildEdge + SocketEdge, W: Write> Host<T, E, W> {
             what,
             &mut self.answers,
         ) {
-            Ok(()) => {
+            Ok(text) => {
                 self.journal.note(alloc, what);
                 self.settle(alloc);
-                Ok(())
+                Ok(text)
             }
             Err(Refusal::NoMemory) => Err(Refusal::NoMemory),
             Err(refusal) => {

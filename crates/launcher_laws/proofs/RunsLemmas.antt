@@ -26,7 +26,8 @@ use Rattle.launcher.specs.HostTurns.{IsLed, answer_event, answer_events}
 use Rattle.launcher.proofs.StoredSettingsLemmas.{turn_settings}
 use Rattle.launcher.specs.LoadTurns.{is_memory}
 use Rattle.job_table.specs.Taking.{machine_event}
-use Rattle.launcher.specs.Inputs.{answered}
+use Rattle.ctl_protocol.specs.Requests.{unasked}
+use Rattle.launcher.specs.Inputs.{Incoming, event_of}
 use Rattle.launcher.specs.Hosts.{HostTurnOf, IsSpared, HearsBy}
 use Rattle.launcher.specs.Writable.{IsWritable, IsWritableIf}
 use Rattle.launcher_laws.specs.TurnRuns.{answer_told, Snapshot, Turn, IsBetween, WasHeard, AreTurns, IsPartOf, AreParts, Part, outcomes_in, events_in as parts_events}
@@ -80,9 +81,9 @@ module _ {T : Type 0} (holds : T → List Setting → Type 0) (s : State) (turn 
     noted = spared.silent;
   }
 
-  turned_was : (event : journal.Event) → turn.event ≡ Some event → IsWritable event → HostTurnOf s event turn.refusal turn.words turn.before.stands turn.after.stands (holds turn.before.store) (holds turn.after.store) → Was holds s turn
-  turned_was event came writable t =
-      let first = answered t.outside event in
+  turned_was : (incoming : Incoming) → turn.incoming ≡ Some incoming → IsWritable (event_of unasked incoming) → HostTurnOf s incoming turn.refusal turn.words turn.before.stands turn.after.stands (holds turn.before.store) (holds turn.after.store) → Was holds s turn
+  turned_was incoming came writable t =
+      let first = event_of t.outside incoming in
       let input = machine_event first in
       let names = t.turn.names in
       let ps = answers_in t.turn.entries in
@@ -91,7 +92,7 @@ module _ {T : Type 0} (holds : T → List Setting → Type 0) (s : State) (turn 
         events = first ∷ map (answer_told names) ps;
         outs = outcomes (input ∷ answer_events names t.turn.entries) s;
         is_part = inr (record {
-          event = event;
+          incoming = incoming;
           came = came;
           writable = writable;
           outside = t.outside;
@@ -121,12 +122,12 @@ module _ {T : Type 0} (holds : T → List Setting → Type 0) (s : State) (turn 
       }
 
   was : IsLed s → KeepsState turn.before.stands.table s → WasHeard holds turn → Was holds s turn
-  was led keeps heard = go (is_memory turn.refusal) turn.event refl refl heard.0 where
-    go : (b : Bool) (event : Option journal.Event) → is_memory turn.refusal ≡ b → turn.event ≡ event →
-        HearsBy b event turn.refusal turn.words turn.before.stands turn.after.stands (holds turn.before.store) (holds turn.after.store) → Was holds s turn
-    go true event memory is heard' = spared_was led keeps (inl (inl memory, refl, refl)) heard'.0
+  was led keeps heard = go (is_memory turn.refusal) turn.incoming refl refl heard.0 where
+    go : (b : Bool) (incoming : Option Incoming) → is_memory turn.refusal ≡ b → turn.incoming ≡ incoming →
+        HearsBy b incoming turn.refusal turn.words turn.before.stands turn.after.stands (holds turn.before.store) (holds turn.after.store) → Was holds s turn
+    go true incoming memory is heard' = spared_was led keeps (inl (inl memory, refl, refl)) heard'.0
     go false None memory is heard' = spared_was led keeps (inl (inr (is, heard'.0), refl, refl)) heard'.1
-    go false (Some event) memory is heard' = turned_was event is (subst IsWritableIf is (heard.1 memory)) (heard' s led keeps)
+    go false (Some incoming) memory is heard' = turned_was incoming is (subst IsWritableIf is (heard.1 memory)) (heard' s led keeps)
 
 -- ---- the journal, while it is open
 

@@ -6,7 +6,6 @@ use Rattle.std.proofs.lemmas.Bool.Decides.{nat_tests}
 use Rattle.history_model.specs.declared.Answer.{Answer}
 use Rattle.history_model.specs.declared.Answer.TheVariants.{Spawned, SpawnRefused, Termed, Killed}
 use Rattle.history_model.specs.declared.event.Event as journal
-use Rattle.history_model.specs.declared.event.Event.TheVariants as events
 use Rattle.history_model.specs.Labels.{Label, is_label}
 use Rattle.loaded_jobs.specs.Tables.{Name, label_of}
 use Rattle.outside.specs.declared.unheard.Unheard.{Unheard}
@@ -14,8 +13,10 @@ use Rattle.outside.specs.Orders.{answers_in, IsTellable, IsTellablePending}
 use Rattle.launcher.specs.JournaledLines.{journaled_answer}
 use Rattle.launcher.specs.HostTurns.{IsNamedIn, IsTextLabel}
 use Rattle.launcher_laws.specs.TurnRuns.{Turn, Part, IsPartOf, AreParts, answer_told, events_in}
-use Rattle.outside.specs.declared.asking.Outside.{Outside}
-use Rattle.launcher.specs.Inputs.{answered}
+use Rattle.ctl_protocol.specs.declared.request.Outside.{Outside}
+use Rattle.ctl_protocol.specs.declared.request.Request.TheVariants as requests
+use Rattle.ctl_protocol.specs.Requests.{unasked}
+use Rattle.launcher.specs.Inputs.{Incoming, asked, event_of, happened}
 use Rattle.launcher.specs.Writable.{IsWritable}
 
 numbered : (run pid : ℕ) → IsTellable (Spawned run pid) → nat_lt 0 pid && nat_lt pid (2 ^ 32) ≡ true
@@ -37,22 +38,21 @@ answers_writable names [] tellable named = tt
 answers_writable names (p ∷ ps) tellable named = (answer_writable (label_of names p.job) p.answer tellable.0 named.0, answers_writable names ps tellable.1 named.1)
 
 -- what the outside answered has no say in it
-answered_writable : (outside : Outside) (e : journal.Event) → IsWritable e → IsWritable (answered outside e)
-answered_writable outside (events.Load def writes_setting force bind store) is = record { writable = is.writable; fit = is.fit }
-answered_writable outside (events.Unload job writes_setting store) is = record { writable = is.writable; fit = is.fit }
-answered_writable outside (events.Set job disabled store) is = record { writable = is.writable; fit = is.fit }
-answered_writable outside events.List is = record { writable = is.writable; fit = is.fit }
-answered_writable outside (events.Print job) is = record { writable = is.writable; fit = is.fit }
-answered_writable outside events.Shutdown is = record { writable = is.writable; fit = is.fit }
-answered_writable outside (events.Clock at) is = record { writable = is.writable; fit = is.fit }
-answered_writable outside (events.Saw path obs) is = record { writable = is.writable; fit = is.fit }
-answered_writable outside (events.OfJob job item) is = record { writable = is.writable; fit = is.fit }
+answered_writable : (outside : Outside) (incoming : Incoming) → IsWritable (event_of unasked incoming) → IsWritable (event_of outside incoming)
+answered_writable outside (asked (requests.Load load)) is = record { writable = is.writable; fit = is.fit }
+answered_writable outside (asked (requests.Unload job writes_setting)) is = record { writable = is.writable; fit = is.fit }
+answered_writable outside (asked (requests.Set job disabled)) is = record { writable = is.writable; fit = is.fit }
+answered_writable outside (asked (requests.Ask job ask)) is = is
+answered_writable outside (asked requests.List) is = is
+answered_writable outside (asked (requests.Print job)) is = is
+answered_writable outside (asked requests.Shutdown) is = is
+answered_writable outside (happened event) is = is
 
 part_writable : {T : Type 0} (turn : Turn T) (part : Part) → IsPartOf turn part → AllByRecursion IsWritable part.0
 part_writable turn part (inl none) = subst (AllByRecursion IsWritable) (sym none.1) tt
 part_writable turn part (inr did) =
     subst (AllByRecursion IsWritable) (sym did.first)
-    (answered_writable did.outside did.event did.writable, subst (AllByRecursion IsWritable) (sym did.told) (answers_writable did.names (answers_in did.entries) did.tellable did.named))
+    (answered_writable did.outside did.incoming did.writable, subst (AllByRecursion IsWritable) (sym did.told) (answers_writable did.names (answers_in did.entries) did.tellable did.named))
 
 both : (xs ys : List journal.Event) → AllByRecursion IsWritable xs → AllByRecursion IsWritable ys → AllByRecursion IsWritable (xs ++ ys)
 both [] ys left right = right

@@ -7,6 +7,7 @@ use Rattle.history_model.specs.declared.Order.{Order}
 use Rattle.history_model.specs.declared.event.Event as journal
 use Rattle.history_model.specs.declared.event.Setting.{Setting}
 use Rattle.history_model.specs.Step.{Outcome}
+use Rattle.ctl_protocol.specs.Requests.{unasked}
 use Rattle.loaded_jobs.specs.Tables.{Name, label_of}
 use Rattle.loaded_jobs.specs.StandsFor.{labelled}
 use Rattle.child_edge.specs.Calls.{Tells, ToldCall}
@@ -15,9 +16,9 @@ use Rattle.outside.specs.Orders.{call_of, calls_in, answers_in, IsTellablePendin
 use Rattle.launcher.specs.Journals.{reported}
 use Rattle.launcher.specs.JournaledLines.{journaled_answer}
 use Rattle.launcher.specs.HostTurns.{IsNamedIn}
-use Rattle.outside.specs.declared.asking.Outside.{Outside}
+use Rattle.ctl_protocol.specs.declared.request.Outside.{Outside}
 use Rattle.launcher.specs.LoadTurns.{is_memory, Standing}
-use Rattle.launcher.specs.Inputs.{answered}
+use Rattle.launcher.specs.Inputs.{Incoming, event_of}
 use Rattle.launcher.specs.Hosts.{Hears}
 use Rattle.launcher.specs.Writable.{IsWritable, WritesWhat}
 
@@ -26,10 +27,10 @@ pub record Snapshot (T : Type 0) : Type 0 where
   pub stands : Standing
   pub store : T
 
--- A turn: the event that came, before the outside was asked, or none; the reply, a refusal or
+-- A turn: what came, before the outside was asked, or nothing that is heard; the reply, a refusal or
 -- words; and the moments before and after it.
 pub record Turn (T : Type 0) : Type 0 where
-  pub event : Option journal.Event
+  pub incoming : Option Incoming
   pub refusal : Option Refusal
   pub words : List ℕ
   pub before : Snapshot T
@@ -48,9 +49,9 @@ module _ {T : Type 0} (holds : T → List Setting → Type 0) where
   -- the turn was heard, as `Host::turn` promises
   abbrev pub WasHeard : Turn T → Type 0
   WasHeard turn =
-      Hears turn.event turn.refusal turn.words turn.before.stands turn.after.stands
+      Hears turn.incoming turn.refusal turn.words turn.before.stands turn.after.stands
       (holds turn.before.store) (holds turn.after.store)
-      × WritesWhat turn.refusal turn.event
+      × WritesWhat turn.refusal turn.incoming
 
   -- these turns, each heard, lead from the first moment to the last
   abbrev pub AreTurns : Snapshot T → List (Turn T) → Snapshot T → Type 0
@@ -63,7 +64,7 @@ module _ {T : Type 0} (holds : T → List Setting → Type 0) where
 -- a line that is no request, and what found no memory, is no event
 abbrev pub IsNoEvent : {T : Type 0} → Turn T → Type 0
 IsNoEvent turn =
-    (is_memory turn.refusal ≡ true) ⊎ ((turn.event ≡ None) × (turn.refusal ≡ Some BadRequest))
+    (is_memory turn.refusal ≡ true) ⊎ ((turn.incoming ≡ None) × (turn.refusal ≡ Some BadRequest))
 
 -- the journal's event of an answer; a number stands for its job's label
 abbrev pub answer_told : List Name → Unheard → journal.Event
@@ -76,12 +77,12 @@ answer_told names pending = journaled_answer (label_of names pending.job) pendin
 -- of each answer the numbers and the label of its job.
 pub record AreOutcomesOf {T : Type 0} (turn : Turn T) (events : List journal.Event)
     (outs : List Outcome) : Type 0 where
-  pub event : journal.Event
-  pub came : turn.event ≡ Some event
-  pub writable : IsWritable event
+  pub incoming : Incoming
+  pub came : turn.incoming ≡ Some incoming
+  pub writable : IsWritable (event_of unasked incoming)
   pub outside : Outside
   pub answers : List journal.Event
-  pub first : events ≡ answered outside event ∷ answers
+  pub first : events ≡ event_of outside incoming ∷ answers
   pub reply : Outcome
   pub others : List Outcome
   pub all : outs ≡ reply ∷ others

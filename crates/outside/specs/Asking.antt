@@ -6,7 +6,7 @@ use Rattle.child_edge.specs.declared.plain.Scripted.{Scripted}
 use Rattle.child_edge.specs.declared.plain.Scripted.TheVariants.{Done}
 use Rattle.history_model.specs.Described.{Described}
 use Rattle.history_model.specs.Definitions.{has_sockets}
-use Rattle.outside.specs.declared.asking.Outside.{Outside}
+use Rattle.ctl_protocol.specs.declared.request.Outside.{Outside}
 use Rattle.outside.specs.Stores.{StoreCall, AreTold, store_calls}
 
 -- The calls of a load, with this answer to the bind: none for a job without sockets. Sockets that

@@ -9,17 +9,9 @@ ghost use Rattle.outside.specs.Stores.{AreTold, HoldsAfter, stamp_if, store_call
 
 use crate::SettingStore;
 use child_edge::SocketEdge;
+use ctl_protocol::Outside;
 use history_model::JobNo;
 use history_model::definition::Def;
-
-/// What the outside answered. What it was not asked counts as true.
-#[derive(Clone, Copy)]
-pub struct Outside {
-    /// The job's sockets are bound.
-    pub bind: bool,
-    /// The setting of its label is stored.
-    pub store: bool,
-}
 
 /// Stores that the label is enabled, if that is wanted. Tells whether it was stored; what is not wanted counts as stored.
 fn ask_store<T: SettingStore>(

@@ -7,7 +7,7 @@ mod order;
 mod store;
 mod unheard;
 
-pub use asking::{Outside, ask_outside};
+pub use asking::ask_outside;
 pub use order::carry;
 pub use store::{SettingStore, StoreFault};
 pub use unheard::Unheard;

@@ -47,9 +47,9 @@ pub fn again(alloc: Global, kind: Kind, line: &str) -> Result<Vec<u8>, ReadFault
             Err(fault) => return Err(fault),
         },
         Kind::Request => match read_request(alloc, line.as_bytes(), &mut room) {
-            Ok(event) => {
-                let line = request_line(alloc, &event);
-                drop(event);
+            Ok(request) => {
+                let line = request_line(alloc, &request);
+                drop(request);
                 line
             }
             Err(fault) => return Err(fault),

@@ -1,60 +1,41 @@
--- The table hears what happens, and its answer is handed on.
-use Rattle.std.proofs.Common.{false, sym, ap, ◌∙◌}
-use Rattle.history_model.specs.JobItems.{item_of}
-use Rattle.history_model.specs.Machine.{OfJob, UnloadJob, ShutDown, Tick, Sight}
-use Rattle.std.specs.Prelude.{true}
-use Rattle.job_table.specs.Taking.{machine_event}
-use Rattle.launcher.specs.Inputs.{is_clock}
-use Rattle.launcher.proofs.OneEventLemmas.{unload-taken, handed-on, read-on, needs-none, not-read, ok-needs-none}
+-- The table takes the event in, and what it ordered is carried out.
+use Rattle.std.proofs.Common.{◌≡◌, true, [], refl, sym, ap, subst, ◌∙◌}
+use Rattle.std.specs.Prelude.{Ok}
+use Rattle.std.specs.List.{list_all}
+use Rattle.history_model.specs.Step.{Outcome}
+use Rattle.loaded_jobs.specs.Tables.{is_known}
+use Rattle.loaded_jobs.specs.StandsFor.{labelled}
+use Rattle.job_table.specs.Taking.{Takes, machine_event}
+use Rattle.job_table.specs.declared.take.Taken.{Taken}
+use Rattle.launcher.proofs.CarryLemmas.{none_carried}
+use Rattle.launcher.proofs.OneEventLemmas.{not-called, not-taken, took, wanted}
 use Rattle.launcher.proofs.events.hear.Goals as goal
 
-pub returns-in-Clock-clause-happens : goal.returns-in-Clock-clause-happens
-returns-in-Clock-clause-happens g c =
-    let ends = c.clock.follows.holds-at-none in
-    read-on (Tick c.in-Clock.at) (machine_event c.args.what.now) c.args.table.now c.clock.follows.lender-at-none c.clock.result c.carry_step.result _ _ _ _ (ap machine_event (sym c.in-Clock.is))
-    c.carry_step.ensures.answer c.clock.ensures.answer c.clock.ensures.known (ends.0, ends.1, ends.2) c.carry_step.ensures.carried
+pub returns-in-Ok-Made-clause-happens : goal.returns-in-Ok-Made-clause-happens
+returns-in-Ok-Made-clause-happens g c = λ stay.
+    let lent = c.last_step.result in
+    let takes = subst (λ (a : Taken). Takes (machine_event c.args.what.now) c.args.table.now (Ok a) c.take.new.self) c.in-Ok-Made.field-0-is c.in-Ok-Made.ensures.takes in
+    took c.args.what.now c.args.table.now c.take.new.self c.in-Ok-Made.field-0 lent.orders.now _ _ _ _ stay c.in-Ok-Made.ensures.names
+    (λ s keeps.
+    let did = takes s keeps in
+    ((ap (λ (o : Outcome). o.refusal) did.0, ap (λ (o : Outcome). o.orders) did.0 ∙ sym c.last_step.ensures.orders ∙ ap (λ ns. labelled ns lent.orders.now) c.last_step.ensures.names), did.1))
+    (subst (λ ns. list_all (is_known ns) lent.orders.now ≡ true) c.last_step.ensures.names c.last_step.ensures.known)
+    c.last_step.ensures.numbered c.lend_table.ensures.range c.carry_all.ensures
 
-pub returns-in-Saw-clause-happens : goal.returns-in-Saw-clause-happens
-returns-in-Saw-clause-happens g c =
-    let ends = c.saw.follows.holds-at-none in
-    handed-on (Sight c.as_str.result.now c.in-Saw.obs) (machine_event c.args.what.now) c.args.table.now c.saw.follows.lender-at-none c.saw.result c.carry_step-in-Saw.result _ _ _ _
-    (ap (λ path. Sight path c.in-Saw.obs) c.as_str.ensures ∙ ap machine_event (sym c.in-Saw.is))
-    c.carry_step-in-Saw.ensures.answer c.saw.ensures.answer c.saw.ensures.known (ends.0, ends.1, ends.2) c.carry_step-in-Saw.ensures.carried
+pub returns-in-Ok-Told-clause-happens : goal.returns-in-Ok-Told-clause-happens
+returns-in-Ok-Told-clause-happens g c = λ stay.
+    let takes = subst (λ (a : Taken). Takes (machine_event c.args.what.now) c.args.table.now (Ok a) c.take.new.self) c.in-Ok-Told.field-0-is c.in-Ok-Told.ensures.takes in
+    took c.args.what.now c.args.table.now c.take.new.self c.in-Ok-Told.field-0 [] _ _ _ _ stay c.in-Ok-Told.ensures.names
+    (λ s keeps.
+    let did = takes s keeps in
+    ((ap (λ (o : Outcome). o.refusal) did.0, ap (λ (o : Outcome). o.orders) did.0), did.1))
+    refl c.lend_table-in-Ok-Told.ensures.numbered c.lend_table.ensures.range (none_carried _ _)
 
-pub returns-in-OfJob-clause-happens : goal.returns-in-OfJob-clause-happens
-returns-in-OfJob-clause-happens g c =
-    let ends = c.hear.follows.holds-at-none in
-    handed-on (OfJob c.as_str-in-OfJob.result.now (item_of c.in-OfJob.item)) (machine_event c.args.what.now) c.args.table.now c.hear.follows.lender-at-none c.hear.result c.carry_step-in-OfJob.result _ _ _ _
-    (ap (λ job. OfJob job (item_of c.in-OfJob.item)) c.as_str-in-OfJob.ensures ∙ ap machine_event (sym c.in-OfJob.is))
-    c.carry_step-in-OfJob.ensures.answer c.hear.ensures.answer c.hear.ensures.known (ends.0, ends.1, ends.2) c.carry_step-in-OfJob.ensures.carried
+pub returns-in-Err-clause-happens : goal.returns-in-Err-clause-happens
+returns-in-Err-clause-happens g c = λ stay. not-taken (machine_event c.args.what.now) c.in-Err.refusal c.args.table.now c.take.new.self _ _ c.in-Err.ensures.rows c.in-Err.ensures.takes
 
-pub returns-in-Unload-clause-happens : goal.returns-in-Unload-clause-happens
-returns-in-Unload-clause-happens g c =
-    let ends = c.unload.follows.holds-at-none in
-    handed-on (UnloadJob c.as_str-in-Unload.result.now false true) (machine_event c.args.what.now) c.args.table.now c.unload.follows.lender-at-none c.unload.result c.carry_step-in-Unload.result _ _ _ _
-    (ap (λ job. UnloadJob job false true) c.as_str-in-Unload.ensures ∙ unload-taken c.args.what.now c.in-Unload.job c.in-Unload._writes_setting c.in-Unload._store c.in-Unload.is c.requires)
-    c.carry_step-in-Unload.ensures.answer (c.unload.ensures.answer true) c.unload.ensures.known (ends.0, ends.1, ends.2) c.carry_step-in-Unload.ensures.carried
+pub returns-in-Err-clause-uncalled : goal.returns-in-Err-clause-uncalled
+returns-in-Err-clause-uncalled g c = λ is. not-called (machine_event c.args.what.now) c.in-Err.refusal c.args.table.now c.take.new.self _ c.in-Err.ensures.rows c.in-Err.ensures.takes is
 
-pub returns-in-Shutdown-clause-happens : goal.returns-in-Shutdown-clause-happens
-returns-in-Shutdown-clause-happens g c =
-    let ends = c.shutdown.follows.holds-at-none in
-    handed-on ShutDown (machine_event c.args.what.now) c.args.table.now c.shutdown.follows.lender-at-none c.shutdown.result c.carry_step-in-Shutdown.result _ _ _ _ (ap machine_event (sym c.in-Shutdown.is))
-    c.carry_step-in-Shutdown.ensures.answer c.shutdown.ensures.answer c.shutdown.ensures.known (ends.0, ends.1, ends.2) c.carry_step-in-Shutdown.ensures.carried
-
-pub returns-in-Clock-clause-memory : goal.returns-in-Clock-clause-memory
-returns-in-Clock-clause-memory g c = λ none. (
-  ap is_clock c.in-Clock.is,
-  not-read (Tick c.in-Clock.at) c.args.table.now c.clock.follows.lender-at-none c.clock.result c.carry_step.result _ _ _ _ c.carry_step.ensures.answer c.clock.follows.holds-at-none.0 c.clock.follows.holds-at-none.1 c.carry_step.ensures.carried none,
-)
-
-pub returns-in-Saw-clause-memory : goal.returns-in-Saw-clause-memory
-returns-in-Saw-clause-memory g c = λ none. needs-none c.saw.result c.carry_step-in-Saw.result c.carry_step-in-Saw.ensures.answer (ok-needs-none c.saw.result c.saw.ensures.ok) none
-
-pub returns-in-OfJob-clause-memory : goal.returns-in-OfJob-clause-memory
-returns-in-OfJob-clause-memory g c = λ none. needs-none c.hear.result c.carry_step-in-OfJob.result c.carry_step-in-OfJob.ensures.answer c.hear.ensures.memory none
-
-pub returns-in-Unload-clause-memory : goal.returns-in-Unload-clause-memory
-returns-in-Unload-clause-memory g c = λ none. needs-none c.unload.result c.carry_step-in-Unload.result c.carry_step-in-Unload.ensures.answer c.unload.ensures.memory none
-
-pub returns-in-Shutdown-clause-memory : goal.returns-in-Shutdown-clause-memory
-returns-in-Shutdown-clause-memory g c = λ none. needs-none c.shutdown.result c.carry_step-in-Shutdown.result c.carry_step-in-Shutdown.ensures.answer c.shutdown.ensures.memory none
+pub returns-in-Err-clause-memory : goal.returns-in-Err-clause-memory
+returns-in-Err-clause-memory g c = λ is. wanted c.args.what.now c.args.table.now c.in-Err.refusal c.in-Err.ensures.memory is

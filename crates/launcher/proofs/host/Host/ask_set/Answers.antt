@@ -3,8 +3,9 @@ use Rattle.std.proofs.Common.{[], Option, Some, true, sym, subst}
 use Rattle.history_model.specs.declared.Refusal.{Refusal}
 use Rattle.history_model.specs.Labels.{Label}
 use Rattle.loaded_jobs.specs.Loads.{refused_with}
-use Rattle.launcher.specs.JournaledLines.{journaled_set}
+use Rattle.launcher.specs.JournaledLines.{setting_asked}
 use Rattle.launcher.specs.LoadTurns.{stamps_after, standing}
+use Rattle.launcher.specs.Inputs.{asked}
 use Rattle.launcher.proofs.HostsLemmas.{as_replied}
 use Rattle.launcher.proofs.SettingAskingLemmas.{changed}
 use Rattle.launcher.proofs.StampsLemmas.{set_asked}
@@ -17,7 +18,7 @@ returns-clause-hears g c =
     let new = standing c.set-changed.new.self.table (g.E.Edge.told c.set-changed.new.self.edge) (g.T.SettingStore.told c.set-changed.new.self.store) c.set-changed.new.self.journal in
     let before = g.T.SettingStore.holds c.args.self.now.store in
     let after = g.T.SettingStore.holds c.set-changed.new.self.store in
-    as_replied (Some (journaled_set c.args.job.now c.args.disabled c.args.unload true)) c.done.result.refusal (refused_with did.reply) c.done.result.text [] old new before after c.done.ensures.refusal c.done.ensures.text
+    as_replied (Some (asked (setting_asked c.args.job.now c.args.disabled c.args.unload))) c.done.result.refusal (refused_with did.reply) c.done.result.text [] old new before after c.done.ensures.refusal c.done.ensures.text
     (changed c.args.job.now c.args.disabled c.args.unload did.stored (refused_with did.reply) old new before after c.set-changed.ensures.memory c.set-changed.ensures.silent c.set-changed.ensures.turn c.set-changed.ensures.stored)
 
 pub returns-clause-stamped : goal.returns-clause-stamped

@@ -4,10 +4,10 @@ use Rattle.launcher.proofs.host.Host.take_in.Goals as goal
 
 pub returns-in-Ok-clause-turn : goal.returns-in-Ok-clause-turn
 returns-in-Ok-clause-turn g c =
-    turned-from c.args.what.now c.requires c.hear.result c.args.self.now.table c.hear.new.table c.settle.new.self.table _ _ _ _ _ _ _ _ _ c.in-Ok.is c.clear.ensures c.hear.ensures.happens
+    turned-from c.args.what.now c.hear.result c.in-Ok.text c.args.self.now.table c.hear.new.table c.settle.new.self.table _ _ _ _ _ _ _ _ _ c.in-Ok.is c.clear.ensures c.hear.ensures.happens
     c.note.ensures c.settle.ensures.settled
 
 pub returns-in-Err-clause-turn : goal.returns-in-Err-clause-turn
 returns-in-Err-clause-turn g c =
-    refused-from c.args.what.now c.requires c.hear.result c.in-Err.refusal c.args.self.now.table c.hear.new.table _ _ _ _ _ _ c.in-Err.is c.clear.ensures
+    refused-from c.args.what.now c.hear.result c.in-Err.refusal c.args.self.now.table c.hear.new.table _ _ _ _ _ _ c.in-Err.is c.clear.ensures
     c.note-in-Err.ensures c.hear.ensures.happens
